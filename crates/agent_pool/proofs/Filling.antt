@@ -9,7 +9,7 @@ use Rattle.txn_core.specs.Agents.{has_sense}
 use Rattle.agent_pool.specs.declared.work.Done.{Done}
 use Rattle.agent_pool.specs.declared.work.Seat.{Seat}
 use Rattle.agent_pool.specs.declared.work.Worked.{Worked}
-use Rattle.agent_pool.specs.declared.workshop.NamedJob.{NamedJob}
+use Rattle.agent_pool.specs.declared.pool_context.NamedJob.{NamedJob}
 use Rattle.agent_pool.specs.declared.outcome.JobOutcome.{JobOutcome}
 use Rattle.agent_pool.specs.code.Gathering.{AllRan}
 use Rattle.agent_pool.specs.Pools.{AreOutcomes, IsOf, IsOutcome, begun_by}

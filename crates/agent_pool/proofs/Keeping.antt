@@ -5,44 +5,44 @@ use Rattle.rep_core.specs.declared.request.Request.{Request}
 use Rattle.txn_core.specs.declared.ending.Ending.{Ending}
 use Rattle.txn_core.specs.declared.job.Job.{Job}
 use Rattle.txn_core.specs.declared.job.Job.TheVariants.{Transaction, Sweep}
-use Rattle.txn_core.specs.declared.word.Word.{Word}
-use Rattle.txn_core.specs.Doing.{Fixed, Doing, Running, Rounding, After, GoesOn, Ends}
+use Rattle.txn_core.specs.declared.response.Response.{Response}
+use Rattle.txn_core.specs.Doing.{Fixed, Doing, Running, RunningSweep, After, GoesOn, Ends}
 use Rattle.txn_core.specs.Agents.{Agent, begin, begins, end_of, is_idle, left, next_of, started, take, take_in}
 
 ended_idle : {D : Type 0} (as_doing : D → Doing) (after : After D) (ending : Ending) → end_of after ≡ Some ending → is_idle (left as_doing after) ≡ true
 ended_idle as_doing (GoesOn more) ending ends = cc
 ended_idle as_doing (Ends how) ending ends = refl
 
-taken_index : (fixed : Fixed) (agent : Agent) (word : Word) (doing : Option Doing) (asked : Option (ℕ × Request)) → (take_in fixed agent word doing asked).agent.index ≡ agent.index
-taken_index fixed agent word None asked = refl
-taken_index fixed agent word (Some (Running running)) None = refl
-taken_index fixed agent word (Some (Rounding round)) None = refl
-taken_index fixed agent word (Some (Running running)) (Some asked) = refl
-taken_index fixed agent word (Some (Rounding round)) (Some asked) = refl
+taken_index : (fixed : Fixed) (agent : Agent) (response : Response) (doing : Option Doing) (asked : Option (ℕ × Request)) → (take_in fixed agent response doing asked).agent.index ≡ agent.index
+taken_index fixed agent response None asked = refl
+taken_index fixed agent response (Some (Running running)) None = refl
+taken_index fixed agent response (Some (RunningSweep sweep_run)) None = refl
+taken_index fixed agent response (Some (Running running)) (Some asked) = refl
+taken_index fixed agent response (Some (RunningSweep sweep_run)) (Some asked) = refl
 
-taken_count : (fixed : Fixed) (agent : Agent) (word : Word) (doing : Option Doing) (asked : Option (ℕ × Request)) → (take_in fixed agent word doing asked).agent.count ≡ agent.count
-taken_count fixed agent word None asked = refl
-taken_count fixed agent word (Some (Running running)) None = refl
-taken_count fixed agent word (Some (Rounding round)) None = refl
-taken_count fixed agent word (Some (Running running)) (Some asked) = refl
-taken_count fixed agent word (Some (Rounding round)) (Some asked) = refl
+taken_count : (fixed : Fixed) (agent : Agent) (response : Response) (doing : Option Doing) (asked : Option (ℕ × Request)) → (take_in fixed agent response doing asked).agent.count ≡ agent.count
+taken_count fixed agent response None asked = refl
+taken_count fixed agent response (Some (Running running)) None = refl
+taken_count fixed agent response (Some (RunningSweep sweep_run)) None = refl
+taken_count fixed agent response (Some (Running running)) (Some asked) = refl
+taken_count fixed agent response (Some (RunningSweep sweep_run)) (Some asked) = refl
 
-taken_idle : (fixed : Fixed) (agent : Agent) (word : Word) (doing : Option Doing) (asked : Option (ℕ × Request)) (ending : Ending) → (take_in fixed agent word doing asked).ending ≡ Some ending
-    → is_idle (take_in fixed agent word doing asked).agent.doing ≡ true
-taken_idle fixed agent word None asked ending ends = cc
-taken_idle fixed agent word (Some (Running running)) None ending ends = cc
-taken_idle fixed agent word (Some (Rounding round)) None ending ends = cc
-taken_idle fixed agent word (Some (Running running)) (Some asked) ending ends = ended_idle Running _ ending ends
-taken_idle fixed agent word (Some (Rounding round)) (Some asked) ending ends = ended_idle Rounding _ ending ends
+taken_idle : (fixed : Fixed) (agent : Agent) (response : Response) (doing : Option Doing) (asked : Option (ℕ × Request)) (ending : Ending) → (take_in fixed agent response doing asked).ending ≡ Some ending
+    → is_idle (take_in fixed agent response doing asked).agent.doing ≡ true
+taken_idle fixed agent response None asked ending ends = cc
+taken_idle fixed agent response (Some (Running running)) None ending ends = cc
+taken_idle fixed agent response (Some (RunningSweep sweep_run)) None ending ends = cc
+taken_idle fixed agent response (Some (Running running)) (Some asked) ending ends = ended_idle Running _ ending ends
+taken_idle fixed agent response (Some (RunningSweep sweep_run)) (Some asked) ending ends = ended_idle RunningSweep _ ending ends
 
-pub take_index : (fixed : Fixed) (agent : Agent) (word : Word) → (take fixed agent word).agent.index ≡ agent.index
-take_index fixed agent word = taken_index fixed agent word agent.doing (next_of fixed agent)
+pub take_index : (fixed : Fixed) (agent : Agent) (response : Response) → (take fixed agent response).agent.index ≡ agent.index
+take_index fixed agent response = taken_index fixed agent response agent.doing (next_of fixed agent)
 
-pub take_count : (fixed : Fixed) (agent : Agent) (word : Word) → (take fixed agent word).agent.count ≡ agent.count
-take_count fixed agent word = taken_count fixed agent word agent.doing (next_of fixed agent)
+pub take_count : (fixed : Fixed) (agent : Agent) (response : Response) → (take fixed agent response).agent.count ≡ agent.count
+take_count fixed agent response = taken_count fixed agent response agent.doing (next_of fixed agent)
 
-pub take_idle : (fixed : Fixed) (agent : Agent) (word : Word) (ending : Ending) → (take fixed agent word).ending ≡ Some ending → is_idle (take fixed agent word).agent.doing ≡ true
-take_idle fixed agent word ending ends = taken_idle fixed agent word agent.doing (next_of fixed agent) ending ends
+pub take_idle : (fixed : Fixed) (agent : Agent) (response : Response) (ending : Ending) → (take fixed agent response).ending ≡ Some ending → is_idle (take fixed agent response).agent.doing ≡ true
+take_idle fixed agent response ending ends = taken_idle fixed agent response agent.doing (next_of fixed agent) ending ends
 
 started_index : (fixed : Fixed) (agent : Agent) (job : Job) → (started fixed agent job).index ≡ agent.index
 started_index fixed agent (Transaction caller site ops) = refl

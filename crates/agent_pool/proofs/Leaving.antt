@@ -22,7 +22,7 @@ use Rattle.agent_pool.specs.declared.asking.Came.{Came}
 use Rattle.agent_pool.specs.declared.asking.Came.TheVariants as came
 use Rattle.agent_pool.specs.declared.asking.Told.{Told}
 use Rattle.agent_pool.specs.code.Steps.{AsksNobody, CannotGoOn, DidJob, DidMore, HasSeen, Hears, Leaves, RanTo, end_entry, told_by}
-use Rattle.agent_pool.specs.Transcripts.{Played, AreAsks, At, Does, GoesOn, IsLonger, Leads, after_word, at_rest, begins, is_ask, number_of}
+use Rattle.agent_pool.specs.Transcripts.{Played, AreAsks, At, Does, GoesOn, IsLonger, Leads, after_response, at_rest, begins, is_ask, number_of}
 use Rattle.agent_pool.proofs.Begins.{begins-append, goes-append}
 
 asks-append : (xs ys : List Entry) → AreAsks xs → AreAsks ys → AreAsks (xs ++ ys)
@@ -66,11 +66,11 @@ same_rest a b same = ap (λ (s : Standing). at_rest s.state) same
 
 -- what is written down of an answer is what the agent does, which asked and is told
 pub does_told : (fixed : Fixed) (agent : Agent) (server : ℕ) (request : Request) (reply : Result (Stamped Reply) Miss) (told : Told) → told_by server reply ≡ Some told → next_of fixed agent ≡ Some (server, request)
-    → IfOk reply (λ reply. IsTrue (fits request reply.value)) → Does fixed (at_rest agent) told.entry (after_word fixed (at_rest agent) told.word)
+    → IfOk reply (λ reply. IsTrue (fits request reply.value)) → Does fixed (at_rest agent) told.entry (after_response fixed (at_rest agent) told.response)
 does_told fixed agent server request (Ok reply) told is asks suits =
-    subst (λ (t : Told). Does fixed (at_rest agent) t.entry (after_word fixed (at_rest agent) t.word)) (same_Some _ told is) (request, reply.value, refl, asks, suits, refl)
+    subst (λ (t : Told). Does fixed (at_rest agent) t.entry (after_response fixed (at_rest agent) t.response)) (same_Some _ told is) (request, reply.value, refl, asks, suits, refl)
 does_told fixed agent server request (Err (Lack lack)) told is asks suits =
-    subst (λ (t : Told). Does fixed (at_rest agent) t.entry (after_word fixed (at_rest agent) t.word)) (same_Some _ told is) (request, refl, asks, refl)
+    subst (λ (t : Told). Does fixed (at_rest agent) t.entry (after_response fixed (at_rest agent) t.response)) (same_Some _ told is) (request, refl, asks, refl)
 does_told fixed agent server request (Err Stale) told is asks suits = cc
 
 abbrev at_of : Agent → Option Ending → At
@@ -130,13 +130,13 @@ told_asks server (Err Stale) told is = cc
 
 -- what an agent does that is told something
 abbrev DoesTold : Told → Standing → Type 0
-DoesTold told agent = Does agent.fixed (at_rest agent.state) told.entry (after_word agent.fixed (at_rest agent.state) told.word)
+DoesTold told agent = Does agent.fixed (at_rest agent.state) told.entry (after_response agent.fixed (at_rest agent.state) told.response)
 
 -- an agent heard, and what it had done before is counted
 pub heard : (servers begun : ℕ) (told : Told) (old new : Played) (p q : Held) (what : Came) → old.agent.state.count ≡ begins old.entries → is_ask told.entry ≡ true → GoesOn (told.entry ∷ []) p q → DoesTold told old.agent
     → Hears (number_of old) begun told old.agent old.entries new.agent new.entries what → DidMore servers begun old new p q what
 heard servers begun told old new p q came.On counted asks goes does h =
-    let is : after_word old.agent.fixed (at_rest old.agent.state) told.word ≡ at_rest new.agent.state = took (take old.agent.fixed old.agent.state told.word) new.agent.state None h.3.1.0 h.3.1.1 in
+    let is : after_response old.agent.fixed (at_rest old.agent.state) told.response ≡ at_rest new.agent.state = took (take old.agent.fixed old.agent.state told.response) new.agent.state None h.3.1.0 h.3.1.1 in
     record {
       longer = record { fixed = h.0; number = h.1; rest = told.entry ∷ []; entries = h.3.0 };
       went = goes;
@@ -156,7 +156,7 @@ heard servers begun told old new p q (came.Ended ran) counted asks goes does h =
     let on = h.3 in
     let ending = on.0 in
     let due : At = record { agent = new.agent.state; due = Some ending } in
-    let is : after_word old.agent.fixed (at_rest old.agent.state) told.word ≡ due = took (take old.agent.fixed old.agent.state told.word) new.agent.state (Some ending) on.5.0 on.5.1 in
+    let is : after_response old.agent.fixed (at_rest old.agent.state) told.response ≡ due = took (take old.agent.fixed old.agent.state told.response) new.agent.state (Some ending) on.5.0 on.5.1 in
     let end = end_entry (number_of old) ran.count (length old.entries + 1 - begun) ending in
     record {
       longer = record { fixed = h.0; number = h.1; rest = told.entry ∷ end ∷ []; entries = on.1 };

@@ -7,7 +7,7 @@ use Rattle.agent_pool.specs.declared.fault.PoolFault.{PoolFault}
 use Rattle.agent_pool.specs.declared.pool.Pool.{Pool}
 use Rattle.agent_pool.specs.declared.work.Seat.{Seat}
 use Rattle.agent_pool.specs.declared.work.Worked.{Worked}
-use Rattle.agent_pool.specs.declared.workshop.NamedJob.{NamedJob}
+use Rattle.agent_pool.specs.declared.pool_context.NamedJob.{NamedJob}
 use Rattle.agent_pool.specs.code.Gathering.{IsGathered}
 use Rattle.agent_pool.specs.Pools.{AreOutcomes, IsPoolOf, begun_by}
 use Rattle.agent_pool.specs.code.Filled.{done_in, players_of}

@@ -7,7 +7,7 @@ use Rattle.std.proofs.lemmas.List.Elements.{All-cons, All-head, All-nil, All-tai
 use Rattle.suite_prefix.specs.SettingsRules.{Opening}
 use Rattle.server_lock.specs.Passes.{Held, agents_from, new_pass, passes_of}
 use Rattle.agent_pool.specs.declared.pool.Pool.{Pool}
-use Rattle.agent_pool.specs.declared.workshop.NamedJob.{NamedJob}
+use Rattle.agent_pool.specs.declared.pool_context.NamedJob.{NamedJob}
 use Rattle.agent_pool.specs.Pools.{IsPoolOf}
 use Rattle.agent_pool.specs.Seats.{AreDistinct, AreReady, HasPass, IsOther, WentOn, numbers_of, passes_for}
 use Rattle.agent_pool.specs.Transcripts.{Played, IsIdle, first_player, number_of, players_from}

@@ -9,7 +9,7 @@ use Rattle.run_certify.specs.declared.entry.Entry.{Entry}
 use Rattle.run_certify.specs.declared.entry.Entry.TheVariants.{Begun, Asked, Lacked, Forgot, Ended}
 use Rattle.agent_pool.specs.declared.work.Seat.{Seat}
 use Rattle.agent_pool.specs.declared.work.Worked.{Worked}
-use Rattle.agent_pool.specs.declared.workshop.NamedJob.{NamedJob}
+use Rattle.agent_pool.specs.declared.pool_context.NamedJob.{NamedJob}
 use Rattle.agent_pool.specs.code.Filled.{passes_of, players_of}
 use Rattle.agent_pool.specs.code.Gathering.{AllRan}
 use Rattle.agent_pool.specs.Seats.{AreDistinct, IsOther, WentOn, numbers_of, passes_for}

@@ -14,7 +14,7 @@ use Rattle.agent_pool.specs.declared.work.Halt.{Halt}
 use Rattle.agent_pool.specs.declared.work.Halt.TheVariants.{Lacked, Strange, Stuck}
 use Rattle.agent_pool.specs.declared.work.Seat.{Seat}
 use Rattle.agent_pool.specs.declared.work.Worked.{Worked}
-use Rattle.agent_pool.specs.declared.workshop.NamedJob.{NamedJob}
+use Rattle.agent_pool.specs.declared.pool_context.NamedJob.{NamedJob}
 use Rattle.agent_pool.specs.Gathers.{Gathers, HaveOne, IsDouble, IsHandedBack, IsMissing, NoneFailed, TellsOf, first_strange, first_stuck, lacked_or, lacks_memory, places, places_by, strange_or, stuck_or}
 use Rattle.agent_pool.specs.Pools.{IsFaultOf, job_numbers}
 use Rattle.agent_pool.specs.Seats.{AreDistinct, passes_for}

@@ -6,7 +6,7 @@ use Rattle.server_lock.specs.Passes.{Held}
 use Rattle.txn_core.specs.Agents.{has_sense}
 use Rattle.agent_pool.specs.declared.fault.PoolFault.{PoolFault}
 use Rattle.agent_pool.specs.declared.fault.PoolFault.TheVariants.{Double, Memory, Missing, Stranger}
-use Rattle.agent_pool.specs.declared.workshop.NamedJob.{NamedJob}
+use Rattle.agent_pool.specs.declared.pool_context.NamedJob.{NamedJob}
 use Rattle.agent_pool.specs.declared.outcome.JobOutcome.{JobOutcome}
 use Rattle.agent_pool.specs.declared.pool.Pool.{Pool}
 use Rattle.agent_pool.specs.Seats.{IsOther, WentOn}

@@ -7,8 +7,8 @@ use Rattle.rep_core.specs.Fits.{fits}
 use Rattle.server_lock.specs.Passes.{Held, after_item, front_at, sent_stamp}
 use Rattle.txn_core.specs.declared.ending.Ending.{Ending}
 use Rattle.txn_core.specs.declared.job.Job.{Job}
-use Rattle.txn_core.specs.declared.word.Word.{Word}
-use Rattle.txn_core.specs.declared.word.Word.TheVariants.{Replied, Lacked as NotServed}
+use Rattle.txn_core.specs.declared.response.Response.{Response}
+use Rattle.txn_core.specs.declared.response.Response.TheVariants.{Replied, Lacked as NotServed}
 use Rattle.txn_core.specs.Doing.{Fixed}
 use Rattle.txn_core.specs.Agents as agents
 use Rattle.txn_core.specs.Standing.{Standing}
@@ -66,8 +66,8 @@ abbrev pub at_rest : agents.Agent → At
 at_rest agent = record { agent = agent; due = None }
 
 -- the agent that was told something, and the end that it gives then
-abbrev pub after_word : Fixed → At → Word → At
-after_word fixed at word = record { agent = (agents.take fixed at.agent word).agent; due = (agents.take fixed at.agent word).ending }
+abbrev pub after_response : Fixed → At → Response → At
+after_response fixed at response = record { agent = (agents.take fixed at.agent response).agent; due = (agents.take fixed at.agent response).ending }
 
 -- An entry is what the agent function does: it begins a job that it may begin, it asks whom it asks next and is told a reply that fits, or what that
 -- server lacked, it forgets a site, or its job ends as is due.
@@ -75,9 +75,9 @@ abbrev pub Does : Fixed → At → Entry → At → Type 0
 Does fixed at (Begun job) next = (at.due ≡ None) × (agents.begins fixed at.agent job ≡ true) × (next ≡ at_rest (agents.begin fixed at.agent job))
 Does fixed at (Asked server stamp) next =
     (request : Request) × (reply : Reply) × (at.due ≡ None) × (agents.next_of fixed at.agent ≡ Some (server, request)) × IsTrue (fits request reply)
-    × (next ≡ after_word fixed at (Replied reply))
+    × (next ≡ after_response fixed at (Replied reply))
 Does fixed at (Lacked server lack) next =
-    (request : Request) × (at.due ≡ None) × (agents.next_of fixed at.agent ≡ Some (server, request)) × (next ≡ after_word fixed at (NotServed lack))
+    (request : Request) × (at.due ≡ None) × (agents.next_of fixed at.agent ≡ Some (server, request)) × (next ≡ after_response fixed at (NotServed lack))
 Does fixed at (Forgot site) next = (at.due ≡ None) × (next ≡ at_rest (agents.forget at.agent site))
 Does fixed at (Ended outcome) next =
     (at.due ≡ Some outcome.ending) × (outcome.agent ≡ at.agent.index) × (outcome.count ≡ at.agent.count - 1) × (next ≡ at_rest at.agent)

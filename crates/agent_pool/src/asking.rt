@@ -7,9 +7,9 @@ ghost use Rattle.txn_core.specs.Standing.{FitsAsked};
 ghost use Rattle.agent_pool.specs.code.Steps.{Hears, told_by};
 
 use run_certify::Entry;
-use run_core::Outcome;
+use run_core::EndedJob;
 use server_lock::{Answer, Miss};
-use txn_core::{Agent, Word};
+use txn_core::{Agent, Response};
 
 /// Where a job ended: the count of its agent's jobs before it, and the place of its end in the transcript.
 #[derive(Clone, Copy)]
@@ -35,7 +35,7 @@ pub enum Came {
 #[derive(Drop)]
 pub struct Told {
     pub(crate) entry: Entry,
-    pub(crate) word: Word,
+    pub(crate) response: Response,
 }
 
 /// The same, of this answer of this server. There is none where the pass was of other servers.
@@ -48,11 +48,11 @@ pub(crate) fn told_of(server: u8, answer: Answer) -> Option<Told>
                 server,
                 stamp: reply.stamp,
             },
-            word: Word::Replied(reply.value),
+            response: Response::Replied(reply.value),
         }),
         Err(Miss::Lack(lack)) => Some(Told {
             entry: Entry::Lacked { server, lack },
-            word: Word::Lacked(lack),
+            response: Response::Lacked(lack),
         }),
         Err(Miss::Stale) => None,
     }
@@ -68,14 +68,14 @@ pub(crate) fn hear(
     begun: usize,
 ) -> Came
     requires room { vec_len entries.old + 2 ≤ vec_capacity entries.old }
-    requires fits { FitsAsked (next_of agent.old.fixed agent.old.state) told.word }
+    requires fits { FitsAsked (next_of agent.old.fixed agent.old.state) told.response }
     requires begun { begun ≤ vec_len entries.old }
     ensures { Hears number begun told agent.old entries.old.items agent.new entries.new.items result }
 {
     let count = agent.count().saturating_sub(1);
-    let Told { entry, word } = told;
+    let Told { entry, response } = told;
     entries.push_reserved(entry);
-    let Ok(ending) = agent.take(&word) else {
+    let Ok(ending) = agent.take(&response) else {
         return Came::Lacked;
     };
     let Some(ending) = ending else {
@@ -83,7 +83,7 @@ pub(crate) fn hear(
     };
     let at = entries.len();
     let steps = (at - begun) as u64;
-    entries.push_reserved(Entry::Ended(Outcome {
+    entries.push_reserved(Entry::Ended(EndedJob {
         agent: number,
         count,
         steps,

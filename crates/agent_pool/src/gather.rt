@@ -18,8 +18,8 @@ use crate::fault::PoolFault;
 use crate::outcome::JobOutcome;
 use crate::player::Player;
 use crate::pool::Pool;
+use crate::pool_context::NamedJob;
 use crate::work::{Done, Halt, Seat, Worked};
-use crate::workshop::NamedJob;
 use server_lock::Pass;
 use std::alloc::{AllocError, Global};
 

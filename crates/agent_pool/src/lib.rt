@@ -31,16 +31,16 @@ mod outcome;
 mod passes;
 mod player;
 mod pool;
+mod pool_context;
 mod ready;
 mod start;
 mod work;
-mod workshop;
 
 pub use fault::PoolFault;
 pub use line::{EachOnce, Hand, Item};
 pub use outcome::{JobOutcome, end_at, ended};
 pub use player::{Player, first_players};
 pub use pool::{Pool, run_pool};
+pub use pool_context::NamedJob;
 pub use ready::are_ready;
 pub use run_certify::{CertifyFault, Decided, Decision, Entry, Transcript, Transcripts, certify};
-pub use workshop::NamedJob;

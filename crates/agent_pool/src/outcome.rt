@@ -7,7 +7,7 @@ ghost use Rattle.agent_pool.specs.Transcripts.{number_of};
 
 use crate::player::Player;
 use run_certify::Entry;
-use run_core::Outcome;
+use run_core::EndedJob;
 
 /// How a job ended: its number, the agent that carried it out and the count of the agent's jobs before it, and the
 /// place of its end in the agent's transcript.
@@ -20,7 +20,7 @@ pub struct JobOutcome {
 }
 
 /// The end that an outcome names, in the transcript of its agent, if it is there.
-pub fn ended<'a>(players: &'a [Player], outcome: &JobOutcome) -> Option<&'a Outcome>
+pub fn ended<'a>(players: &'a [Player], outcome: &JobOutcome) -> Option<&'a EndedJob>
     ensures { option_map (λ told. told.now) result ≡ ended_at players.now outcome.now }
 {
     match agent_of(players, outcome.agent) {
@@ -37,7 +37,7 @@ fn agent_of(players: &[Player], number: u8) -> Option<&Player>
 }
 
 /// The end at a place of a transcript, if one is there.
-pub fn end_at(entries: &[Entry], at: usize) -> Option<&Outcome>
+pub fn end_at(entries: &[Entry], at: usize) -> Option<&EndedJob>
     ensures { option_map (λ told. told.now) result ≡ end_at entries.now at }
 {
     match entries.get(at) {

@@ -7,7 +7,7 @@ ghost use Rattle.agent_pool.specs.code.Steps.{AsksNobody, DidMore};
 ghost use Rattle.agent_pool.specs.Transcripts.{first_player, number_of, players_from};
 
 use crate::asking::{Came, hear, told_of};
-use crate::workshop::Workshop;
+use crate::pool_context::PoolContext;
 use rep_core::Request;
 use run_certify::{Entry, Transcript};
 use server_lock::{Gate, Pass, Servers};
@@ -118,24 +118,24 @@ impl Player {
     pub(crate) fn step<R: Wait, G: Gate>(
         &mut self,
         rt: &R,
-        shop: &Workshop<'_, G>,
+        context: &PoolContext<'_, G>,
         pass: Pass,
         begun: usize,
     ) -> (Pass, Came)
         requires { begun ≤ length self.old.entries }
-        ensures { DidMore shop.now.servers.now.servers begun self.old self.new pass result.0 result.1 }
+        ensures { DidMore context.now.servers.now.servers begun self.old self.new pass result.0 result.1 }
     {
         if self.entries.reserve(2).is_err() {
             return (pass, Came::Lacked);
         }
-        let asked = match asked_next(&self.agent, shop.servers) {
+        let asked = match asked_next(&self.agent, context.servers) {
             Ok(asked) => asked,
             Err(_) => return (pass, Came::Lacked),
         };
         let Some((server, request)) = asked else {
             return (pass, Came::Stuck);
         };
-        let (pass, answer) = shop.servers.ask(rt, shop.gate, pass, server, request);
+        let (pass, answer) = context.servers.ask(rt, context.gate, pass, server, request);
         let Some(told) = told_of(server, answer) else {
             return (pass, Came::Stuck);
         };

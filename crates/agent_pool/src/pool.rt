@@ -18,9 +18,9 @@ use crate::line::{EachOnce, Hand, Item, Sender, Taking, Ticket, feed};
 use crate::outcome::JobOutcome;
 use crate::passes::seats;
 use crate::player::Player;
+use crate::pool_context::{NamedJob, PoolContext};
 use crate::start::{Start, begin_thread, join_all};
 use crate::work::{Seat, Worked};
-use crate::workshop::{NamedJob, Workshop};
 use crossbeam_channel::bounded_with;
 use server_lock::{Gate, Pass, Servers};
 use std::alloc::{AllocError, Global};
@@ -67,7 +67,7 @@ pub fn run_pool<R: Threads + Wait + Sync, G: Gate + Sync>(
     passes.reserve(count)?;
     let (sender, receiver, ticket) = bounded_with::<Item, Hand, EachOnce, Global>(alloc, count)?;
     let refused = AtomicU64::new(u64::MAX);
-    let shop = Workshop {
+    let context = PoolContext {
         alloc,
         gate,
         servers,
@@ -76,7 +76,7 @@ pub fn run_pool<R: Threads + Wait + Sync, G: Gate + Sync>(
         refused: &refused,
     };
     let giver = Giver { sender, ticket };
-    let worked = work_in_threads(rt, &shop, giver, seats)?;
+    let worked = work_in_threads(rt, &context, giver, seats)?;
     gather(jobs, worked, passes, room)
 }
 
@@ -90,17 +90,17 @@ struct Giver {
 /// What the agents did, in threads that have ended. Where none could be started, that is an error.
 fn work_in_threads<R: Threads + Wait + Sync, G: Gate + Sync>(
     rt: &R,
-    shop: &Workshop<'_, G>,
+    context: &PoolContext<'_, G>,
     giver: Giver,
     seats: Vec<Seat>,
 ) -> Result<Vec<Worked>, AllocError>
     requires seat { IsSeatAt (sends_on giver.sender) giver.ticket × (view giver.ticket ≡ feeder 0 0 0) }
-    requires same { receives_on shop.now.receiver.now ≡ sends_on giver.sender }
+    requires same { receives_on context.now.receiver.now ≡ sends_on giver.sender }
     requires idle { AreIdle seats.items }
-    ensures { IfOk result (λ worked. AllZip (IsWorkOf shop.now.jobs.now) seats.items worked.items) }
+    ensures { IfOk result (λ worked. AllZip (IsWorkOf context.now.jobs.now) seats.items worked.items) }
 {
-    let (alloc, gate, servers) = (shop.alloc, shop.gate, shop.servers);
-    let (jobs, receiver, refused) = (shop.jobs, shop.receiver, shop.refused);
+    let (alloc, gate, servers) = (context.alloc, context.gate, context.servers);
+    let (jobs, receiver, refused) = (context.jobs, context.receiver, context.refused);
     let Giver { sender, ticket } = giver;
     thread::scope(
         thread::scope_env(),
@@ -111,7 +111,7 @@ fn work_in_threads<R: Threads + Wait + Sync, G: Gate + Sync>(
             requires idle { AreIdle seats.items }
             ensures { IfOk result (λ worked. AllZip (IsWorkOf jobs.entry.now) seats.items worked.items) }
         {
-            let shop = Workshop {
+            let context = PoolContext {
                 alloc,
                 gate,
                 servers,
@@ -119,7 +119,7 @@ fn work_in_threads<R: Threads + Wait + Sync, G: Gate + Sync>(
                 receiver,
                 refused,
             };
-            in_scope(rt, scope, &shop, Giver { sender, ticket }, seats)
+            in_scope(rt, scope, &context, Giver { sender, ticket }, seats)
         },
     )
 }
@@ -129,22 +129,22 @@ fn work_in_threads<R: Threads + Wait + Sync, G: Gate + Sync>(
 fn in_scope<'s, E, R: Threads + Wait + Sync, G: Gate + Sync>(
     rt: &'s R,
     scope: &Scope<'s, E>,
-    shop: &Workshop<'s, G>,
+    context: &PoolContext<'s, G>,
     giver: Giver,
     seats: Vec<Seat>,
 ) -> Result<Vec<Worked>, AllocError>
     requires seat { IsSeatAt (sends_on giver.sender) giver.ticket × (view giver.ticket ≡ feeder 0 0 0) }
-    requires same { receives_on shop.now.receiver.now ≡ sends_on giver.sender }
+    requires same { receives_on context.now.receiver.now ≡ sends_on giver.sender }
     requires idle { AreIdle seats.items }
-    ensures { IfOk result (λ worked. AllZip (IsWorkOf shop.now.jobs.now) seats.items worked.items) }
+    ensures { IfOk result (λ worked. AllZip (IsWorkOf context.now.jobs.now) seats.items worked.items) }
 {
     let Giver { sender, mut ticket } = giver;
-    let mut starts = Vec::with_capacity(shop.alloc, seats.len())?;
-    let room = Vec::with_capacity(shop.alloc, seats.len())?;
+    let mut starts = Vec::with_capacity(context.alloc, seats.len())?;
+    let room = Vec::with_capacity(context.alloc, seats.len())?;
     let mut started = 0;
     for seat in seats {
         let taker = sender.another::<Taking>(&mut ticket);
-        let start = begin_thread(rt, scope, shop, taker, seat);
+        let start = begin_thread(rt, scope, context, taker, seat);
         if let Start::Started(_) = &start {
             started += 1;
         }
@@ -153,7 +153,7 @@ fn in_scope<'s, E, R: Threads + Wait + Sync, G: Gate + Sync>(
     if started == 0 {
         return Err(AllocError);
     }
-    let _fed = feed(rt, &sender, &mut ticket, shop.jobs.len(), started);
+    let _fed = feed(rt, &sender, &mut ticket, context.jobs.len(), started);
     drop(sender);
     Ok(join_all(rt, starts, room))
 }

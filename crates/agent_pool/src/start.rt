@@ -10,8 +10,8 @@ ghost use Rattle.agent_pool.specs.Transcripts.{IsIdle};
 ghost use Rattle.agent_pool.specs.code.Working.{IsWorked};
 
 use crate::line::Ticket;
+use crate::pool_context::{NamedJob, PoolContext};
 use crate::work::{Seat, Worked, work};
-use crate::workshop::{NamedJob, Workshop};
 use server_lock::Gate;
 use std::snapshot::Snapshot;
 use std::sync::Wait;
@@ -43,17 +43,17 @@ pub(crate) enum Start<'a> {
 pub(crate) fn begin_thread<'s, E, R: Threads + Wait + Sync, G: Gate + Sync>(
     rt: &'s R,
     scope: &Scope<'s, E>,
-    shop: &Workshop<'s, G>,
+    context: &PoolContext<'s, G>,
     ticket: Ticket,
     seat: Seat,
 ) -> Start<'s>
-    requires ticket { IsSeatAt (receives_on shop.now.receiver.now) ticket × ((view ticket).puts ≡ false) }
+    requires ticket { IsSeatAt (receives_on context.now.receiver.now) ticket × ((view ticket).puts ≡ false) }
     requires idle { IsIdle seat.player }
-    ensures { IsStart shop.now.jobs.now seat result }
+    ensures { IsStart context.now.jobs.now seat result }
 {
     let number = u64::from(seat.player.number());
-    let (alloc, gate, servers) = (shop.alloc, shop.gate, shop.servers);
-    let (jobs, receiver, refused) = (shop.jobs, shop.receiver, shop.refused);
+    let (alloc, gate, servers) = (context.alloc, context.gate, context.servers);
+    let (jobs, receiver, refused) = (context.jobs, context.receiver, context.refused);
     let works = Works {
         jobs,
         was: Snapshot::of(&seat),
@@ -69,7 +69,7 @@ pub(crate) fn begin_thread<'s, E, R: Threads + Wait + Sync, G: Gate + Sync>(
             if refused.load(Ordering::SeqCst) == number {
                 return Worked::new(alloc, seat);
             }
-            let shop = Workshop {
+            let context = PoolContext {
                 alloc,
                 gate,
                 servers,
@@ -77,7 +77,7 @@ pub(crate) fn begin_thread<'s, E, R: Threads + Wait + Sync, G: Gate + Sync>(
                 receiver,
                 refused,
             };
-            work(rt, &shop, ticket, seat)
+            work(rt, &context, ticket, seat)
         },
     );
     match spawned {

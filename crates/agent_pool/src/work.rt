@@ -10,7 +10,7 @@ ghost use Rattle.agent_pool.specs.Transcripts.{IsIdle};
 use crate::asking::{Came, Ran};
 use crate::line::{Item, Ticket, take};
 use crate::player::Player;
-use crate::workshop::{NamedJob, Workshop};
+use crate::pool_context::{NamedJob, PoolContext};
 use server_lock::{Gate, Pass};
 use std::alloc::Global;
 use std::snapshot::Snapshot;
@@ -90,17 +90,17 @@ impl Worked {
     fn carry_out<R: Wait, G: Gate>(
         mut self,
         rt: &R,
-        shop: &Workshop<'_, G>,
+        context: &PoolContext<'_, G>,
         place: usize,
         was: &Snapshot<Seat>,
     ) -> Worked
-        requires { IsWorkOf shop.now.jobs.now was.now.value self }
-        ensures { IsWorkOf shop.now.jobs.now was.now.value result }
+        requires { IsWorkOf context.now.jobs.now was.now.value self }
+        ensures { IsWorkOf context.now.jobs.now was.now.value result }
     {
         if self.halt.is_some() {
             return self;
         }
-        let Some(named) = shop.jobs.get(place) else {
+        let Some(named) = context.jobs.get(place) else {
             return self.halted(Halt::Strange(place));
         };
         if self.done.reserve(1).is_err() {
@@ -112,7 +112,7 @@ impl Worked {
             mut done,
             ..
         } = self;
-        let (pass, came) = run(rt, shop, &mut player, pass, named);
+        let (pass, came) = run(rt, context, &mut player, pass, named);
         let halt = match came {
             Came::Ended(ran) => {
                 done.push_reserved(Done { place, ran });
@@ -138,35 +138,35 @@ impl Worked {
 /// An agent carries out a job, from its begin to its end.
 fn run<R: Wait, G: Gate>(
     rt: &R,
-    shop: &Workshop<'_, G>,
+    context: &PoolContext<'_, G>,
     player: &mut Player,
     pass: Pass,
     named: &NamedJob,
 ) -> (Pass, Came)
-    ensures { DidJob shop.now.servers.now.servers named.now.job player.old player.new pass result.0 result.1 }
+    ensures { DidJob context.now.servers.now.servers named.now.job player.old player.new pass result.0 result.1 }
 {
     match player.begin(&named.job) {
         Ok(true) => {}
         Ok(false) => return (pass, Came::Stuck),
         Err(_) => return (pass, Came::Lacked),
     }
-    shop.gate.begun(player.number(), named.number);
-    go_on(rt, shop, player, pass)
+    context.gate.begun(player.number(), named.number);
+    go_on(rt, context, player, pass)
 }
 
 /// It asks until its job is at its end, or cannot go on.
 fn go_on<R: Wait, G: Gate>(
     rt: &R,
-    shop: &Workshop<'_, G>,
+    context: &PoolContext<'_, G>,
     player: &mut Player,
     pass: Pass,
 ) -> (Pass, Came)
-    ensures { DidMore shop.now.servers.now.servers (length player.old.entries) player.old player.new pass result.0 result.1 }
+    ensures { DidMore context.now.servers.now.servers (length player.old.entries) player.old player.new pass result.0 result.1 }
 {
     let begun = player.entries().len();
     let mut current = pass;
     for _ in rt.forever() {
-        let (next, came) = player.step(rt, shop, current, begun);
+        let (next, came) = player.step(rt, context, current, begun);
         current = next;
         match came {
             Came::On => {}
@@ -179,19 +179,19 @@ fn go_on<R: Wait, G: Gate>(
 /// Takes jobs until an end mark comes.
 pub(crate) fn work<R: Wait, G: Gate>(
     rt: &R,
-    shop: &Workshop<'_, G>,
+    context: &PoolContext<'_, G>,
     mut ticket: Ticket,
     seat: Seat,
 ) -> Worked
-    requires ticket { IsSeatAt (receives_on shop.now.receiver.now) ticket × ((view ticket).puts ≡ false) }
+    requires ticket { IsSeatAt (receives_on context.now.receiver.now) ticket × ((view ticket).puts ≡ false) }
     requires idle { IsIdle seat.player }
-    ensures { IsWorkOf shop.now.jobs.now seat result }
+    ensures { IsWorkOf context.now.jobs.now seat result }
 {
     let was = Snapshot::of(&seat);
-    let mut worked = Worked::new(shop.alloc, seat);
+    let mut worked = Worked::new(context.alloc, seat);
     for _ in rt.forever() {
-        match take(rt, shop.receiver, &mut ticket) {
-            Ok(Item::Job(place)) => worked = worked.carry_out(rt, shop, place, &was),
+        match take(rt, context.receiver, &mut ticket) {
+            Ok(Item::Job(place)) => worked = worked.carry_out(rt, context, place, &was),
             Ok(Item::End) => break,
             Err(_) => break,
         }

@@ -12,8 +12,8 @@ use Rattle.sorted_map.specs.SortedMap.{get}
 use Rattle.suite_prefix.specs.declared.lock_mode.LockMode.TheVariants.{Exclusive}
 use Rattle.file_ops.specs.Rows.{Row, row_of, with_content}
 use Rattle.file_exec.specs.declared.changes.Change.{Change}
-use Rattle.file_exec.specs.declared.log.Edit.{Edit}
-use Rattle.file_exec.specs.declared.log.Edit.TheVariants.{SetAcl, SetVotes, SetContent, Make}
+use Rattle.file_exec.specs.declared.edit_log.Edit.{Edit}
+use Rattle.file_exec.specs.declared.edit_log.Edit.TheVariants.{SetAcl, SetVotes, SetContent, Make}
 use Rattle.file_exec.specs.Changes.{touches, makes, sets_acl, sets_votes, some, change_of, changes_at, with_change}
 use Rattle.file_exec.specs.Following.{Edits, changed, seen, sets_content, is_set, emptied, head, content_in, with_edits}
 use Rattle.file_exec.specs.Known.{Known, known_of, known_rows, is_held, is_opened, is_held_for}

@@ -37,8 +37,8 @@ use Rattle.suite_content.specs.declared.content.Kind.TheVariants.{File, Folder}
 use Rattle.file_ops.specs.Lists.{gives_default, is_misplaced, lists_of}
 use Rattle.file_ops.specs.declared.answer.Answer.{Answer}
 use Rattle.file_ops.specs.declared.answer.Answer.TheVariants as answer
-use Rattle.file_exec.specs.declared.log.Edit.{Edit}
-use Rattle.file_exec.specs.declared.log.Edit.TheVariants.{SetAcl, SetVotes, SetContent, Make}
+use Rattle.file_exec.specs.declared.edit_log.Edit.{Edit}
+use Rattle.file_exec.specs.declared.edit_log.Edit.TheVariants.{SetAcl, SetVotes, SetContent, Make}
 use Rattle.file_exec.specs.Courses.{Course, Give, Refuse, Look, Read, Set, ◌>>=◌, ◌>>◌, rule, look, set, at_place}
 use Rattle.file_exec.specs.Following.{Edits, changed, seen, emptied, head, content_in, looked, content_read, Ended, ending, put, with_edits}
 use Rattle.file_exec.specs.Operations as asked

@@ -5,7 +5,7 @@ use Rattle.std.specs.Result.{IsErr, IsErrAnd}
 use Rattle.file_ops.specs.declared.refusal.Why.{Why}
 use Rattle.file_exec.specs.declared.stop.Stop.{Stop}
 use Rattle.file_exec.specs.declared.stop.Stop.TheVariants as stop
-use Rattle.file_exec.specs.declared.log.Edit.{Edit}
+use Rattle.file_exec.specs.declared.edit_log.Edit.{Edit}
 use Rattle.file_exec.specs.Courses.{Course, Give, Set, ◌>>=◌, ◌>>◌, rule, set}
 use Rattle.suite_prefix.specs.declared.lock_mode.LockMode.TheVariants.{Exclusive}
 use Rattle.file_exec.specs.declared.need.Need.TheVariants.{Hold}

@@ -14,8 +14,8 @@ use Rattle.file_ops.specs.Rows.{Row}
 use Rattle.file_exec.specs.declared.changes.Change.{Change}
 use Rattle.file_exec.specs.declared.executor.Outcome.{Outcome}
 use Rattle.file_exec.specs.declared.executor.Outcome.TheVariants as outcome
-use Rattle.file_exec.specs.declared.log.Edit.{Edit}
-use Rattle.file_exec.specs.declared.log.Edit.TheVariants.{SetAcl, SetVotes, SetContent, Make}
+use Rattle.file_exec.specs.declared.edit_log.Edit.{Edit}
+use Rattle.file_exec.specs.declared.edit_log.Edit.TheVariants.{SetAcl, SetVotes, SetContent, Make}
 use Rattle.file_exec.specs.Following.{Edits, Ended, changed, seen, is_set}
 use Rattle.file_exec.specs.Known.{Known, known_of, known_rows, is_held, Heard, Needs, Done, exec_of, is_held_for}
 use Rattle.file_exec.specs.Changes.{sets_acl, sets_votes, makes, touches, some, change_of, changes_of, answered}

@@ -27,8 +27,8 @@ use Rattle.file_ops.specs.Rows.{Row, root}
 use Rattle.file_ops.specs.Transactions.{is_miscounted}
 use Rattle.file_exec.specs.Changes.{sets_votes, some}
 use Rattle.file_exec.specs.Courses.{Course, Give, Refuse, Look, Read, Set, ◌>>=◌, rule, at_place}
-use Rattle.file_exec.specs.declared.log.Edit.{Edit}
-use Rattle.file_exec.specs.declared.log.Edit.TheVariants.{SetAcl, SetVotes, SetContent, Make}
+use Rattle.file_exec.specs.declared.edit_log.Edit.{Edit}
+use Rattle.file_exec.specs.declared.edit_log.Edit.TheVariants.{SetAcl, SetVotes, SetContent, Make}
 use Rattle.file_exec.specs.declared.need.Need.TheVariants.{Hold, Know}
 use Rattle.file_exec.specs.Following.{Edits, sets_content, is_set, looked, content_read, unless_set, needs, Ended, ending}
 use Rattle.file_exec.specs.Known.{Known, known_of, known_rows, is_opened, first_unmet, Done, exec_of}

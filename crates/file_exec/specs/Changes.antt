@@ -8,8 +8,8 @@ use Rattle.file_ops.specs.declared.refusal.Refusal.{Refusal}
 use Rattle.file_exec.specs.declared.changes.Change.{Change}
 use Rattle.file_exec.specs.declared.executor.Outcome.{Outcome}
 use Rattle.file_exec.specs.declared.executor.Outcome.TheVariants as outcome
-use Rattle.file_exec.specs.declared.log.Edit.{Edit}
-use Rattle.file_exec.specs.declared.log.Edit.TheVariants.{SetAcl, SetVotes, SetContent, Make}
+use Rattle.file_exec.specs.declared.edit_log.Edit.{Edit}
+use Rattle.file_exec.specs.declared.edit_log.Edit.TheVariants.{SetAcl, SetVotes, SetContent, Make}
 use Rattle.file_exec.specs.Following.{Edits, seen, is_set}
 use Rattle.file_exec.specs.Known.{Known, known_rows, Heard, Needs, Done}
 

@@ -4,7 +4,7 @@ use Rattle.suite_content.specs.declared.content.Content.{Content}
 use Rattle.file_ops.specs.declared.refusal.Refusal.{Refusal}
 use Rattle.file_ops.specs.declared.refusal.Why.{Why}
 use Rattle.file_ops.specs.Rows.{Row}
-use Rattle.file_exec.specs.declared.log.Edit.{Edit}
+use Rattle.file_exec.specs.declared.edit_log.Edit.{Edit}
 use Rattle.suite_prefix.specs.declared.lock_mode.LockMode.{LockMode}
 
 -- A course gives something or is refused in the end. On its way it looks at suites, each held in a mode before it is looked at,

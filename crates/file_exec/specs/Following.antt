@@ -6,8 +6,8 @@ use Rattle.suite_content.specs.declared.content.Content.{Content}
 use Rattle.suite_content.specs.Contents.{kind_of, empty_content}
 use Rattle.file_ops.specs.Rows.{Row, Rows, row_of, with_row, with_acl, with_votes, with_content}
 use Rattle.suite_prefix.specs.declared.lock_mode.LockMode.TheVariants.{Exclusive}
-use Rattle.file_exec.specs.declared.log.Edit.{Edit}
-use Rattle.file_exec.specs.declared.log.Edit.TheVariants.{SetAcl, SetVotes, SetContent, Make}
+use Rattle.file_exec.specs.declared.edit_log.Edit.{Edit}
+use Rattle.file_exec.specs.declared.edit_log.Edit.TheVariants.{SetAcl, SetVotes, SetContent, Make}
 use Rattle.file_exec.specs.declared.need.Need.{Need}
 use Rattle.file_exec.specs.declared.need.Need.TheVariants.{Hold, Know}
 use Rattle.file_exec.specs.Courses.{Course, Give, Refuse, Look, Read, Set}

@@ -29,7 +29,7 @@ use Rattle.file_ops.specs.Transactions.{is_miscounted}
 use Rattle.file_ops.specs.KnownVotes.{known_votes, votes_of_new}
 use Rattle.suite_prefix.specs.declared.lock_mode.LockMode.{LockMode}
 use Rattle.suite_prefix.specs.declared.lock_mode.LockMode.TheVariants.{Shared, Exclusive}
-use Rattle.file_exec.specs.declared.log.Edit.TheVariants.{SetAcl, SetVotes, SetContent, Make}
+use Rattle.file_exec.specs.declared.edit_log.Edit.TheVariants.{SetAcl, SetVotes, SetContent, Make}
 use Rattle.file_exec.specs.Courses.{Course, Give, Refuse, ◌>>=◌, ◌>>◌, rule, look, read, set, at_place}
 
 -- a suite with its row; a name that leads to no row is answered like a name that is not there

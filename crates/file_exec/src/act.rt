@@ -15,10 +15,10 @@ ghost use Rattle.file_exec.specs.code.Acting.{Acts, LeadsFor, operation_at, vote
 ghost use Rattle.file_exec.specs.code.Ways.{LeadsTo};
 ghost use Rattle.file_exec.specs.Reaching.{folders_in, walked};
 
+use crate::edit_log::{Edit, EditLog};
 use crate::known::Known;
-use crate::log::{Edit, Log};
 use crate::need::Need;
-use crate::progress::Way;
+use crate::progress::WalkPoint;
 use crate::row::KnownRow;
 use crate::seen::Seen;
 use crate::stop::Stop;
@@ -99,12 +99,17 @@ fn without_name(names: &FolderNames, name: &Name) -> Result<FolderNames, AllocEr
 }
 
 /// The bytes of a file.
-fn read(view: View<'_, '_>, caller: &Caller, names: &[Name], way: &mut Way) -> Result<Answer, Stop>
-    requires { LeadsTo view.known.now.suites view.log.now caller.now names.now way.old }
+fn read(
+    view: View<'_, '_>,
+    caller: &Caller,
+    names: &[Name],
+    point: &mut WalkPoint,
+) -> Result<Answer, Stop>
+    requires { LeadsTo view.known.now.suites view.log.now caller.now names.now point.old }
     ensures answer { Answers (λ answer. answer) result view.entry (bytes_read caller.now names.now) }
-    ensures way { LeadsTo view.entry.known.now.suites view.entry.log.now caller.now names.now way.new }
+    ensures point { LeadsTo view.entry.known.now.suites view.entry.log.now caller.now names.now point.new }
 {
-    let place = view.reach(caller, names, LockMode::Shared, way)?;
+    let place = view.reach(caller, names, LockMode::Shared, point)?;
     place.permit(caller, Perms::READ)?;
     place.require_file()?;
     let bytes = view.bytes_of(place.suite, place.row)?;
@@ -112,12 +117,17 @@ fn read(view: View<'_, '_>, caller: &Caller, names: &[Name], way: &mut Way) -> R
 }
 
 /// The names of a folder.
-fn list(view: View<'_, '_>, caller: &Caller, names: &[Name], way: &mut Way) -> Result<Answer, Stop>
-    requires { LeadsTo view.known.now.suites view.log.now caller.now names.now way.old }
+fn list(
+    view: View<'_, '_>,
+    caller: &Caller,
+    names: &[Name],
+    point: &mut WalkPoint,
+) -> Result<Answer, Stop>
+    requires { LeadsTo view.known.now.suites view.log.now caller.now names.now point.old }
     ensures answer { Answers (λ answer. answer) result view.entry (names_listed caller.now names.now) }
-    ensures way { LeadsTo view.entry.known.now.suites view.entry.log.now caller.now names.now way.new }
+    ensures point { LeadsTo view.entry.known.now.suites view.entry.log.now caller.now names.now point.new }
 {
-    let place = view.reach(caller, names, LockMode::Shared, way)?;
+    let place = view.reach(caller, names, LockMode::Shared, point)?;
     place.permit(caller, Perms::READ)?;
     place.require_folder()?;
     let entries = view.names_of(place.suite, place.row)?;
@@ -130,13 +140,13 @@ fn get_acl(
     view: View<'_, '_>,
     caller: &Caller,
     names: &[Name],
-    way: &mut Way,
+    point: &mut WalkPoint,
 ) -> Result<Answer, Stop>
-    requires { LeadsTo view.known.now.suites view.log.now caller.now names.now way.old }
+    requires { LeadsTo view.known.now.suites view.log.now caller.now names.now point.old }
     ensures answer { Answers (λ answer. answer) result view.entry (list_shown caller.now names.now) }
-    ensures way { LeadsTo view.entry.known.now.suites view.entry.log.now caller.now names.now way.new }
+    ensures point { LeadsTo view.entry.known.now.suites view.entry.log.now caller.now names.now point.new }
 {
-    let place = view.shown(caller, names, way)?;
+    let place = view.shown(caller, names, point)?;
     let acl = place.row.acl.clone()?;
     Ok(Answer::Acl(acl))
 }
@@ -146,18 +156,18 @@ fn get_votes(
     view: View<'_, '_>,
     caller: &Caller,
     names: &[Name],
-    way: &mut Way,
+    point: &mut WalkPoint,
 ) -> Result<Answer, Stop>
-    requires { LeadsTo view.known.now.suites view.log.now caller.now names.now way.old }
+    requires { LeadsTo view.known.now.suites view.log.now caller.now names.now point.old }
     ensures answer { Answers (λ answer. answer) result view.entry (votes_shown caller.now names.now) }
-    ensures way { LeadsTo view.entry.known.now.suites view.entry.log.now caller.now names.now way.new }
+    ensures point { LeadsTo view.entry.known.now.suites view.entry.log.now caller.now names.now point.new }
 {
-    let place = view.shown(caller, names, way)?;
+    let place = view.shown(caller, names, point)?;
     Ok(Answer::Votes(*place.row.votes))
 }
 
 /// Sets something of a suite, which is to be held exclusively.
-fn set(known: &Known<'_>, log: &mut Log, suite: u64, edit: Edit) -> Result<(), Stop>
+fn set(known: &Known<'_>, log: &mut EditLog, suite: u64, edit: Edit) -> Result<(), Stop>
     ensures set { Runs (λ done. done) result known.now.suites log.old log.new (set suite edit) }
     ensures kept { OnErr result (log.new ≡ log.old) }
 {
@@ -172,7 +182,7 @@ fn set(known: &Known<'_>, log: &mut Log, suite: u64, edit: Edit) -> Result<(), S
 /// second one is.
 fn set_both(
     known: &Known<'_>,
-    log: &mut Log,
+    log: &mut EditLog,
     first: (u64, Edit),
     second: (u64, Edit),
 ) -> Result<(), Stop>
@@ -193,19 +203,19 @@ fn set_both(
 /// Puts other bytes in a file.
 fn write(
     transaction: Transaction<'_, '_>,
-    log: &mut Log,
+    log: &mut EditLog,
     names: &[Name],
     bytes: &FileBytes,
-    way: &mut Way,
+    point: &mut WalkPoint,
 ) -> Result<Answer, Stop>
-    requires { LeadsFor transaction log.old names.now way.old }
+    requires { LeadsFor transaction log.old names.now point.old }
     ensures answer { Acts result transaction.entry log.old log.new (bytes_written transaction.entry.caller.now names.now bytes.now) }
     ensures kept { OnErr result (log.new ≡ log.old) }
-    ensures way { LeadsFor transaction.entry log.old names.now way.new }
+    ensures point { LeadsFor transaction.entry log.old names.now point.new }
 {
     let Transaction { known, caller, .. } = transaction;
     require_fit(bytes)?;
-    let place = View { known, log }.reach(caller, names, LockMode::Exclusive, way)?;
+    let place = View { known, log }.reach(caller, names, LockMode::Exclusive, point)?;
     place.permit(caller, Perms::WRITE)?;
     place.require_file()?;
     let suite = place.suite;
@@ -217,18 +227,18 @@ fn write(
 /// Gives a file or folder other lists.
 fn set_acl(
     transaction: Transaction<'_, '_>,
-    log: &mut Log,
+    log: &mut EditLog,
     names: &[Name],
     acl: &Lists,
-    way: &mut Way,
+    point: &mut WalkPoint,
 ) -> Result<Answer, Stop>
-    requires { LeadsFor transaction log.old names.now way.old }
+    requires { LeadsFor transaction log.old names.now point.old }
     ensures answer { Acts result transaction.entry log.old log.new (list_set transaction.entry.caller.now names.now acl.now) }
     ensures kept { OnErr result (log.new ≡ log.old) }
-    ensures way { LeadsFor transaction.entry log.old names.now way.new }
+    ensures point { LeadsFor transaction.entry log.old names.now point.new }
 {
     let Transaction { known, caller, .. } = transaction;
-    let place = View { known, log }.owned(caller, names, way)?;
+    let place = View { known, log }.owned(caller, names, point)?;
     place.require_placed(acl.default.is_some())?;
     let suite = place.suite;
     let acl = acl.clone()?;
@@ -240,21 +250,21 @@ fn set_acl(
 /// copy.
 fn set_votes(
     transaction: Transaction<'_, '_>,
-    log: &mut Log,
+    log: &mut EditLog,
     names: &[Name],
     given: &Votes,
-    way: &mut Way,
+    point: &mut WalkPoint,
 ) -> Result<Answer, Stop>
-    requires { LeadsFor transaction log.old names.now way.old }
+    requires { LeadsFor transaction log.old names.now point.old }
     ensures answer { Acts result transaction.entry log.old log.new (votes_set_for transaction.entry names.now given.now) }
     ensures kept { OnErr result (log.new ≡ log.old) }
-    ensures way { LeadsFor transaction.entry log.old names.now way.new }
+    ensures point { LeadsFor transaction.entry log.old names.now point.new }
 {
     let Transaction { known, caller, .. } = transaction;
     let service = known.service();
     let votes = service.known_votes(given)?;
     let view = View { known, log };
-    let place = view.owned(caller, names, way)?;
+    let place = view.owned(caller, names, point)?;
     let suite = place.suite;
     view.content_of(suite, place.row)?;
     set(known, log, suite, Edit::SetVotes(votes))?;
@@ -273,22 +283,22 @@ struct New<'a> {
 /// Puts a name in a folder, for a new file or folder.
 fn make(
     transaction: Transaction<'_, '_>,
-    log: &mut Log,
+    log: &mut EditLog,
     names: &[Name],
     new: New<'_>,
-    way: &mut Way,
+    point: &mut WalkPoint,
 ) -> Result<Answer, Stop>
-    requires { LeadsFor transaction log.old (folders_in (last_name names.now)) way.old }
+    requires { LeadsFor transaction log.old (folders_in (last_name names.now)) point.old }
     ensures answer { Acts result transaction.entry log.old log.new (made_for transaction.entry names.now new.entry) }
     ensures kept { OnErr result (log.new ≡ log.old) }
-    ensures way { LeadsFor transaction.entry log.old (folders_in (last_name names.now)) way.new }
+    ensures point { LeadsFor transaction.entry log.old (folders_in (last_name names.now)) point.new }
 {
     let Transaction { known, caller, .. } = transaction;
     let (name, folders) = last_name(names)?;
     let votes = known.service().votes_of_new(new.given)?;
     require_placed(new.kind, new.init.gives_default())?;
     let view = View { known, log };
-    let parent = view.parent_of(caller, folders, way)?;
+    let parent = view.parent_of(caller, folders, point)?;
     require_absent(parent.names, name)?;
     require_room(parent.names)?;
     view.look(new.number, LockMode::Exclusive)?;
@@ -358,19 +368,19 @@ fn refuse_used(view: View<'_, '_>, suite: u64) -> Result<(), Stop>
 /// Takes a name out of a folder.
 fn drop(
     transaction: Transaction<'_, '_>,
-    log: &mut Log,
+    log: &mut EditLog,
     names: &[Name],
-    way: &mut Way,
+    point: &mut WalkPoint,
 ) -> Result<Answer, Stop>
-    requires { LeadsFor transaction log.old (folders_in (last_name names.now)) way.old }
+    requires { LeadsFor transaction log.old (folders_in (last_name names.now)) point.old }
     ensures answer { Acts result transaction.entry log.old log.new (dropped transaction.entry.caller.now names.now) }
     ensures kept { OnErr result (log.new ≡ log.old) }
-    ensures way { LeadsFor transaction.entry log.old (folders_in (last_name names.now)) way.new }
+    ensures point { LeadsFor transaction.entry log.old (folders_in (last_name names.now)) point.new }
 {
     let Transaction { known, caller, .. } = transaction;
     let (name, folders) = last_name(names)?;
     let view = View { known, log };
-    let parent = view.parent_of(caller, folders, way)?;
+    let parent = view.parent_of(caller, folders, point)?;
     let number = number_in(parent.names, name)?;
     refuse_used(view, number)?;
     let folder = parent.place.suite;
@@ -387,16 +397,16 @@ fn drop(
 /// An operation of a transaction, at a place counted from 0.
 pub(crate) fn operate(
     transaction: Transaction<'_, '_>,
-    log: &mut Log,
+    log: &mut EditLog,
     at: u8,
     op: &Op,
-    way: &mut Way,
+    point: &mut WalkPoint,
 ) -> Result<Answer, Stop>
     requires number { transaction.t < 2 ^ 60 }
-    requires way { LeadsFor transaction log.old (walked op.now) way.old }
+    requires point { LeadsFor transaction log.old (walked op.now) point.old }
     ensures answer { Acts result transaction.entry log.old log.new (operation_at transaction.entry at op.now) }
     ensures kept { OnErr result (log.new ≡ log.old) }
-    ensures way { LeadsFor transaction.entry log.old (walked op.now) way.new }
+    ensures point { LeadsFor transaction.entry log.old (walked op.now) point.new }
 {
     let names = op.path.names().ok_or(Why::BadPath)?;
     let Transaction {
@@ -406,14 +416,14 @@ pub(crate) fn operate(
         ..
     } = transaction;
     match &op.action {
-        Action::Read => read(View { known, log }, caller, names, way),
-        Action::List => list(View { known, log }, caller, names, way),
-        Action::GetAcl => get_acl(View { known, log }, caller, names, way),
-        Action::GetVotes => get_votes(View { known, log }, caller, names, way),
-        Action::Write(bytes) => write(transaction, log, names, bytes, way),
-        Action::SetAcl(acl) => set_acl(transaction, log, names, acl, way),
-        Action::SetVotes(votes) => set_votes(transaction, log, names, votes, way),
-        Action::Drop => drop(transaction, log, names, way),
+        Action::Read => read(View { known, log }, caller, names, point),
+        Action::List => list(View { known, log }, caller, names, point),
+        Action::GetAcl => get_acl(View { known, log }, caller, names, point),
+        Action::GetVotes => get_votes(View { known, log }, caller, names, point),
+        Action::Write(bytes) => write(transaction, log, names, bytes, point),
+        Action::SetAcl(acl) => set_acl(transaction, log, names, acl, point),
+        Action::SetVotes(votes) => set_votes(transaction, log, names, votes, point),
+        Action::Drop => drop(transaction, log, names, point),
         Action::Make(kind, init, votes) => {
             let new = New {
                 number: made_number(t, at),
@@ -421,7 +431,7 @@ pub(crate) fn operate(
                 init,
                 given: votes,
             };
-            make(transaction, log, names, new, way)
+            make(transaction, log, names, new, point)
         }
     }
 }

@@ -4,8 +4,8 @@ ghost use Rattle.std.specs.Prelude.{◌≡◌, IfOk};
 ghost use Rattle.std.specs.Option.{option_copied};
 ghost use Rattle.file_exec.specs.Changes.{changes_at, change_of};
 
+use crate::edit_log::{Edit, EditLog, makes, seen, sets_acl, sets_content, sets_votes};
 use crate::known::Known;
-use crate::log::{Edit, Log, makes, seen, sets_acl, sets_content, sets_votes};
 use crate::row::KnownRow;
 use sorted_map::SortedMap;
 use std::alloc::{AllocError, Global};
@@ -43,7 +43,7 @@ impl Changes {
     ghost use Rattle.file_exec.specs.Changes.{changes_of};
 
     /// The changes that a log comes to.
-    pub(crate) fn of(alloc: Global, known: &Known<'_>, log: &Log) -> Result<Changes, AllocError>
+    pub(crate) fn of(alloc: Global, known: &Known<'_>, log: &EditLog) -> Result<Changes, AllocError>
         ensures { IfOk result (λ changes. changes ≡ changes_of known.now.suites log.now) }
     {
         let changes = gather(alloc, known, log, log.as_slice())?;
@@ -70,7 +70,7 @@ impl Changes {
 fn gather(
     alloc: Global,
     known: &Known<'_>,
-    log: &Log,
+    log: &EditLog,
     edits: &[(u64, Edit)],
 ) -> Result<SortedMap<u64, Change>, AllocError>
     ensures { IfOk result (λ changes. changes ≡ changes_at (change_of known.now.suites log.now) edits.now) }
@@ -90,7 +90,7 @@ fn gather(
 fn change_of(
     alloc: Global,
     known: &Known<'_>,
-    log: &Log,
+    log: &EditLog,
     suite: u64,
 ) -> Result<Option<Change>, AllocError>
     ensures { IfOk result (λ change. change ≡ change_of known.now.suites log.now suite) }

@@ -16,7 +16,7 @@ use crate::changes::Changes;
 use crate::known::Known;
 use crate::laws::unbegun_is_reached;
 use crate::need::Need;
-use crate::progress::{Progress, Stage, Way};
+use crate::progress::{Progress, Stage, WalkPoint};
 use crate::stop::Stop;
 use acl_core::Caller;
 use file_ops::{Answers, MAX_OPERATIONS, Op, Refusal, Why};
@@ -98,7 +98,7 @@ fn play_on(
     while usize::from(stage.at) < ops.len() {
         let at = stage.at;
         let op = &ops[usize::from(at)];
-        match operate(transaction, &mut stage.log, at, op, &mut stage.way) {
+        match operate(transaction, &mut stage.log, at, op, &mut stage.point) {
             Ok(answer) => stage.answers.push(answer)?,
             Err(stop) => {
                 let outcome = end(at, stop)?;
@@ -106,7 +106,7 @@ fn play_on(
             }
         }
         stage.at = at + 1;
-        stage.way = Way::new();
+        stage.point = WalkPoint::new();
     }
     Ok(None)
 }

@@ -4,7 +4,7 @@ ghost use Rattle.std.specs.Prelude.{◌≡◌};
 ghost use Rattle.file_exec.specs.Reaching.{unbegun};
 ghost use Rattle.file_exec.specs.code.Ways.{reached_of};
 
-use crate::log::Log;
+use crate::edit_log::EditLog;
 use file_ops::Answer;
 use std::alloc::Global;
 use std::marker::Model;
@@ -15,18 +15,18 @@ const ROOT: u64 = 0;
 
 /// How far the walk of an operation came: to this suite, by so many names.
 #[derive(Clone, Copy)]
-pub(crate) struct Way {
+pub(crate) struct WalkPoint {
     pub(crate) suite: u64,
     pub(crate) depth: usize,
 }
 
-impl Way {
+impl WalkPoint {
     /// Nothing was walked yet.
-    pub(crate) fn new() -> Way
+    pub(crate) fn new() -> WalkPoint
         ensures suite { result.suite ≡ 0 }
         ensures depth { result.depth ≡ 0 }
     {
-        Way {
+        WalkPoint {
             suite: ROOT,
             depth: 0,
         }
@@ -39,8 +39,8 @@ impl Way {
 pub(crate) struct Stage {
     pub(crate) at: u8,
     pub(crate) answers: Vec<Answer>,
-    pub(crate) log: Log,
-    pub(crate) way: Way,
+    pub(crate) log: EditLog,
+    pub(crate) point: WalkPoint,
 }
 
 impl Stage {
@@ -51,8 +51,8 @@ impl Stage {
         Stage {
             at: 0,
             answers: Vec::new(alloc),
-            log: Log::new(alloc),
-            way: Way::new(),
+            log: EditLog::new(alloc),
+            point: WalkPoint::new(),
         }
     }
 

@@ -14,10 +14,10 @@ ghost use Rattle.file_exec.specs.code.Overlay.{seen_head, seen_place, seen_paren
 ghost use Rattle.file_exec.specs.code.Steps.{Answers, Sees};
 ghost use Rattle.file_exec.specs.code.Ways.{LeadsTo};
 
+use crate::edit_log::{EditLog, seen};
 use crate::known::Known;
-use crate::log::{Log, seen};
 use crate::need::Need;
-use crate::progress::Way;
+use crate::progress::WalkPoint;
 use crate::seen::{Seen, SeenContent};
 use crate::stop::Stop;
 use acl_core::{Caller, Perms};
@@ -29,7 +29,7 @@ use suite_prefix::LockMode;
 #[derive(Clone, Copy)]
 pub(crate) struct View<'a, 'k> {
     pub(crate) known: &'a Known<'k>,
-    pub(crate) log: &'a Log,
+    pub(crate) log: &'a EditLog,
 }
 
 /// A suite with its row.
@@ -188,17 +188,17 @@ impl<'a, 'k> View<'a, 'k> {
     }
 
     /// The suite that names lead to from the root folder: the walk goes on where it came.
-    fn walk(self, caller: &Caller, names: &[Name], way: &mut Way) -> Result<u64, Stop>
-        requires { LeadsTo self.known.now.suites self.log.now caller.now names.now way.old }
+    fn walk(self, caller: &Caller, names: &[Name], point: &mut WalkPoint) -> Result<u64, Stop>
+        requires { LeadsTo self.known.now.suites self.log.now caller.now names.now point.old }
         ensures suite { Sees (λ suite. suite) result self.entry (walk caller.now root names.now) }
-        ensures way { LeadsTo self.entry.known.now.suites self.entry.log.now caller.now names.now way.new }
+        ensures point { LeadsTo self.entry.known.now.suites self.entry.log.now caller.now names.now point.new }
     {
-        while way.depth < names.len() {
-            let next = self.step(caller, way.suite, &names[way.depth])?;
-            way.suite = next;
-            way.depth += 1;
+        while point.depth < names.len() {
+            let next = self.step(caller, point.suite, &names[point.depth])?;
+            point.suite = next;
+            point.depth += 1;
         }
-        Ok(way.suite)
+        Ok(point.suite)
     }
 
     /// The file or folder that names lead to from the root folder, which is to be held in this mode.
@@ -207,14 +207,14 @@ impl<'a, 'k> View<'a, 'k> {
         caller: &Caller,
         names: &[Name],
         mode: LockMode,
-        way: &mut Way,
+        point: &mut WalkPoint,
     ) -> Result<Place<'a>, Stop>
-        requires { LeadsTo self.known.now.suites self.log.now caller.now names.now way.old }
+        requires { LeadsTo self.known.now.suites self.log.now caller.now names.now point.old }
         ensures place { Sees seen_place result self.entry (reach caller.now names.now mode) }
         ensures seen { IfOk result (λ place. IsSeenAt self.entry place.suite (Some place.row)) }
-        ensures way { LeadsTo self.entry.known.now.suites self.entry.log.now caller.now names.now way.new }
+        ensures point { LeadsTo self.entry.known.now.suites self.entry.log.now caller.now names.now point.new }
     {
-        let suite = self.walk(caller, names, way)?;
+        let suite = self.walk(caller, names, point)?;
         self.held(suite, mode)
     }
 
@@ -223,14 +223,14 @@ impl<'a, 'k> View<'a, 'k> {
         self,
         caller: &Caller,
         names: &[Name],
-        way: &mut Way,
+        point: &mut WalkPoint,
     ) -> Result<Place<'a>, Stop>
-        requires { LeadsTo self.known.now.suites self.log.now caller.now names.now way.old }
+        requires { LeadsTo self.known.now.suites self.log.now caller.now names.now point.old }
         ensures place { Sees seen_place result self.entry (shown caller.now names.now) }
         ensures seen { IfOk result (λ place. IsSeenAt self.entry place.suite (Some place.row)) }
-        ensures way { LeadsTo self.entry.known.now.suites self.entry.log.now caller.now names.now way.new }
+        ensures point { LeadsTo self.entry.known.now.suites self.entry.log.now caller.now names.now point.new }
     {
-        let place = self.reach(caller, names, LockMode::Shared, way)?;
+        let place = self.reach(caller, names, LockMode::Shared, point)?;
         place.permit_others(caller, Perms::READ)?;
         Ok(place)
     }
@@ -240,14 +240,14 @@ impl<'a, 'k> View<'a, 'k> {
         self,
         caller: &Caller,
         names: &[Name],
-        way: &mut Way,
+        point: &mut WalkPoint,
     ) -> Result<Place<'a>, Stop>
-        requires { LeadsTo self.known.now.suites self.log.now caller.now names.now way.old }
+        requires { LeadsTo self.known.now.suites self.log.now caller.now names.now point.old }
         ensures place { Sees seen_place result self.entry (owned caller.now names.now) }
         ensures seen { IfOk result (λ place. IsSeenAt self.entry place.suite (Some place.row)) }
-        ensures way { LeadsTo self.entry.known.now.suites self.entry.log.now caller.now names.now way.new }
+        ensures point { LeadsTo self.entry.known.now.suites self.entry.log.now caller.now names.now point.new }
     {
-        let place = self.reach(caller, names, LockMode::Exclusive, way)?;
+        let place = self.reach(caller, names, LockMode::Exclusive, point)?;
         place.owner_only(caller)?;
         Ok(place)
     }
@@ -257,13 +257,13 @@ impl<'a, 'k> View<'a, 'k> {
         self,
         caller: &Caller,
         folders: &[Name],
-        way: &mut Way,
+        point: &mut WalkPoint,
     ) -> Result<Parent<'a>, Stop>
-        requires { LeadsTo self.known.now.suites self.log.now caller.now folders.now way.old }
+        requires { LeadsTo self.known.now.suites self.log.now caller.now folders.now point.old }
         ensures parent { Sees seen_parent result self.entry (parent_of caller.now folders.now) }
-        ensures way { LeadsTo self.entry.known.now.suites self.entry.log.now caller.now folders.now way.new }
+        ensures point { LeadsTo self.entry.known.now.suites self.entry.log.now caller.now folders.now point.new }
     {
-        let place = self.reach(caller, folders, LockMode::Exclusive, way)?;
+        let place = self.reach(caller, folders, LockMode::Exclusive, point)?;
         place.require_folder()?;
         place.permit(caller, to_change())?;
         let names = self.names_of(place.suite, place.row)?;

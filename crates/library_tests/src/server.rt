@@ -305,7 +305,11 @@ fn copies_and_intentions_have_4096_places(rt: HostRuntime) {
 /// What was only evaluated was not served: the reply has this stamp.
 fn refused(rt: &(impl Abort + AllocGlobal), server: &mut Server, ask: &str, stamp: u64) {
     let outcome = evaluated(server, stamped(rt, 0, ask));
-    holds(rt, matches!(&outcome, Ok(reply) if reply.stamp == stamp), ask);
+    holds(
+        rt,
+        matches!(&outcome, Ok(reply) if reply.stamp == stamp),
+        ask,
+    );
 }
 
 #[test]

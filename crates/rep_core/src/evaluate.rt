@@ -15,14 +15,14 @@ ghost use Rattle.rep_core.specs.Service as service;
 ghost use Rattle.rep_core.specs.Service.{after_upgrade, prepares, after_prepare};
 ghost use Rattle.rep_core.specs.Serving as serving;
 ghost use Rattle.rep_core.specs.State.{State, record_of};
-ghost use Rattle.rep_core.specs.declared.holdings.Holdings.{Holdings};
+ghost use Rattle.rep_core.specs.declared.server_state.ServerState.{ServerState};
 ghost use Rattle.rep_core.specs.Store as store;
 ghost use Rattle.std.specs.Vec.{vec_len, vec_capacity};
 
-use crate::holdings::Holdings;
 use crate::locks;
 use crate::reply::{LockList, Reply, Verdict};
 use crate::request::{Decision, Part, Request};
+use crate::server_state::ServerState;
 use crate::stamped::{Lack, Stamped};
 use crate::step::Change;
 use crate::takes::is_used_up;
@@ -30,7 +30,7 @@ use file_ops::{AuditItem, Why};
 use std::alloc::AllocError;
 use suite_prefix::LockMode;
 
-impl Holdings {
+impl ServerState {
     /// What a request changes, once its reply is written into a place of the caller's; with all room that the change
     /// takes. Nothing of the server has changed.
     #[inline(always)]
@@ -265,7 +265,7 @@ impl Holdings {
 fn fill_down(request: &Request, reply: &mut Reply) -> Change
     ensures reply { reply.new ≡ service.reply_down request.now }
     ensures change { (st : State) → stepping.applied result request.now st ≡ service.after_down st request.now }
-    ensures room { (held : Holdings) → stepping.HasRoom result request.now (stepping.roomed_of held) }
+    ensures room { (held : ServerState) → stepping.HasRoom result request.now (stepping.roomed_of held) }
 {
     match request {
         Request::Return => {

@@ -11,10 +11,10 @@ ghost use Rattle.rep_core.specs.code.Planning.{copies_in};
 ghost use Rattle.rep_core.specs.Serving as serving;
 ghost use Rattle.rep_core.specs.Store as store;
 
-use crate::holdings::Holdings;
 use crate::lock::Lock;
 use crate::reply::Reply;
 use crate::request::Request;
+use crate::server_state::ServerState;
 use crate::stamped::{Lack, Stamped};
 use crate::step::Step;
 use file_ops::AuditItem;
@@ -25,7 +25,7 @@ use suite_prefix::{Form, Settings, StoredCopy};
 /// A server: copies, locks, intentions, verdicts, the denials that it recorded, and its stamp.
 #[derive(Drop)]
 pub struct Server {
-    held: Holdings,
+    held: ServerState,
 }
 
 impl Model for Server {
@@ -44,7 +44,7 @@ impl Server {
     pub fn opening(alloc: Global, index: u8, settings: &Settings) -> Result<Server, AllocError>
         ensures { IfOk result (λ server. server.state ≡ opening index settings.now) }
     {
-        let held = Holdings::opening(alloc, index, settings)?;
+        let held = ServerState::opening(alloc, index, settings)?;
         Ok(Server { held })
     }
 

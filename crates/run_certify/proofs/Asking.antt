@@ -7,7 +7,7 @@ use Rattle.txn_core.specs.Doing.{Fixed}
 use Rattle.txn_core.specs.Agents.{fixed_of}
 use Rattle.run_core.specs.Asking.{asked_by}
 use Rattle.run_core.specs.declared.done.Done.{Done}
-use Rattle.run_core.specs.declared.done.Outcome.{Outcome}
+use Rattle.run_core.specs.declared.done.EndedJob.{EndedJob}
 use Rattle.run_core.specs.declared.done.Served.{Served}
 use Rattle.run_core.specs.declared.event.Event.TheVariants.{Step}
 use Rattle.run_core.specs.Decisions.{decided}
@@ -117,7 +117,7 @@ asked_served old mid noted now agent server stamp one done of at told played ser
     let fixed : Fixed = fixed_of was.given in
     let same : noted.unused ≡ mid.unused = ap (λ (w : Walked). w.unused) decides in
     let stepped : step fixed was.world (Step agent) ≡ record { world = mid.world; done = done } = sym (ap (λ (w : Walked). step (fixed_of w.given) w.world (Step agent)) it.kept) ∙ played.is in
-    let outcome : Option Outcome = (step fixed was.world (Step agent)).done.outcome in
+    let outcome : Option EndedJob = (step fixed was.world (Step agent)).done.outcome in
     let shown : served_as (Some agent) (step fixed was.world (Step agent)).done.served ≡ Some one =
     ap (λ (s : Stepped). served_as (Some agent) s.done.served) stepped ∙ ap (λ who. served_as who done.served) (sym of) ∙ served in
     let what = some_what (Some agent) (step fixed was.world (Step agent)).done.served one shown in

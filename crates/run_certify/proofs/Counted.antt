@@ -10,8 +10,8 @@ use Rattle.rep_core.specs.declared.request.Request.TheVariants as request
 use Rattle.rep_core.specs.declared.stamped.Lack.TheVariants as lack
 use Rattle.rep_core.specs.State.{State}
 use Rattle.txn_core.specs.declared.job.Job.{Job}
-use Rattle.txn_core.specs.declared.word.Word.{Word}
-use Rattle.txn_core.specs.declared.word.Word.TheVariants.{Lacked, Replied}
+use Rattle.txn_core.specs.declared.response.Response.{Response}
+use Rattle.txn_core.specs.declared.response.Response.TheVariants.{Lacked, Replied}
 use Rattle.txn_core.specs.Doing.{Fixed}
 use Rattle.txn_core.specs.Agents as agents
 use Rattle.txn_core.specs.Agents.{Agent, begin, begins, forget, is_idle, max_jobs, next_of, started, take}
@@ -20,9 +20,9 @@ use Rattle.run_core.specs.declared.event.Event.TheVariants.{Begin, Step, Crash, 
 use Rattle.run_core.specs.declared.done.Served.{Served}
 use Rattle.run_core.specs.Senses.{can_begin, has_sense}
 use Rattle.run_core.specs.Worlds.{Actor, World, actor_at, answered, asks, asks_at, becomes, has_no_job, lacks, lacks_for, moved, opening, operated, operates, serve, server_at, step, steps_once}
-use Rattle.run_laws.proofs.Agents.{take_keeps}
-use Rattle.run_machine.proofs.Kept.{actor_opens}
-use Rattle.run_machine.proofs.Turned as turned
+use Rattle.law_runs.proofs.Agents.{take_keeps}
+use Rattle.law_run_machine.proofs.Kept.{actor_opens}
+use Rattle.law_run_machine.proofs.Turned as turned
 use Rattle.run_certify.specs.Deciding.{AreCounted, IsCounted, count_at, counts_after}
 use Rattle.run_certify.proofs.Lists.{same_or, set_apart, set_here}
 
@@ -49,8 +49,8 @@ as_many_put actors i was now there same j one at = ⊎_elim
     (same_or j i)
 
 module _ (fixed : Fixed) (world : World) where
-  took : (actor : Actor) (word : Word) → (take fixed actor.agent word).agent.count ≡ actor.agent.count
-  took actor word = (take_keeps fixed actor.agent word actor.agent.doing (next_of fixed actor.agent)).1
+  took : (actor : Actor) (response : Response) → (take fixed actor.agent response).agent.count ≡ actor.agent.count
+  took actor response = (take_keeps fixed actor.agent response actor.agent.doing (next_of fixed actor.agent)).1
 
   many_forget : (number site : ℕ) (found : Option Actor) → actor_at world number ≡ found → AsMany world.agents (becomes world number (λ agent. forget agent site) found).world.agents
   many_forget number site (Some actor) there = as_many_put world.agents number actor (record actor { agent = forget actor.agent site }) there refl
@@ -73,13 +73,13 @@ module _ (fixed : Fixed) (world : World) where
   many_step number (Some actor) there = many_ask number actor (next_of fixed actor.agent) there
   many_step number None there = as_many world.agents
 
-  many_lack : (number : ℕ) (actor : Actor) (word : Word) (asked : Option (ℕ × Request)) → actor_at world number ≡ Some actor → AsMany world.agents (lacks_for fixed world number actor word asked).world.agents
-  many_lack number actor word (Some asked) there = as_many_put world.agents number actor (moved actor actor.stamp (take fixed actor.agent word)) there (took actor word)
-  many_lack number actor word None there = as_many world.agents
+  many_lack : (number : ℕ) (actor : Actor) (response : Response) (asked : Option (ℕ × Request)) → actor_at world number ≡ Some actor → AsMany world.agents (lacks_for fixed world number actor response asked).world.agents
+  many_lack number actor response (Some asked) there = as_many_put world.agents number actor (moved actor actor.stamp (take fixed actor.agent response)) there (took actor response)
+  many_lack number actor response None there = as_many world.agents
 
-  many_lacks : (number : ℕ) (word : Word) (found : Option Actor) → actor_at world number ≡ found → AsMany world.agents (lacks fixed world number word found).world.agents
-  many_lacks number word (Some actor) there = many_lack number actor word (next_of fixed actor.agent) there
-  many_lacks number word None there = as_many world.agents
+  many_lacks : (number : ℕ) (response : Response) (found : Option Actor) → actor_at world number ≡ found → AsMany world.agents (lacks fixed world number response found).world.agents
+  many_lacks number response (Some actor) there = many_lack number actor response (next_of fixed actor.agent) there
+  many_lacks number response None there = as_many world.agents
 
   many_operated : (st : State) (what : Option Served) → AsMany world.agents (operated world st what).world.agents
   many_operated st (Some what) = as_many world.agents

@@ -16,7 +16,7 @@ use Rattle.rep_core.specs.Service.{recorded, reply_of, verdict_of}
 use Rattle.rep_core.specs.Serving.{answer_of, is_full}
 use Rattle.txn_core.specs.declared.job.Job.{Job}
 use Rattle.txn_core.specs.declared.job.Job.TheVariants.{Transaction, Sweep}
-use Rattle.txn_core.specs.Doing.{Fixed, Task, Course, Doing, Running, Rounding}
+use Rattle.txn_core.specs.Doing.{Fixed, Task, TransactionRun, Doing, Running, RunningSweep}
 use Rattle.txn_core.specs.Transactions.{decision_of, execute}
 use Rattle.txn_core.specs.Laws.{is_decide}
 use Rattle.txn_core.specs.Agents.{Agent, begin, begins, fixed_of, is_idle, max_jobs, next_in, next_of, started}
@@ -30,17 +30,17 @@ use Rattle.run_core.specs.Runs.{run}
 use Rattle.run_core.specs.Senses.{can_begin, has_sense}
 use Rattle.run_core.specs.Worlds.{Actor, World, actor_at, answered, asks, asks_at, opening, server_at, step, steps_once}
 use Rattle.run_core.proofs.Appending.{after-append}
-use Rattle.run_laws.specs.Claims.{ended}
-use Rattle.run_laws.proofs.Agents.{IsAt}
-use Rattle.run_laws.proofs.Asking.{decides, sweep_decides_none}
-use Rattle.run_laws.proofs.Conclusions.{holds_of, rest_of}
-use Rattle.run_laws.proofs.Places.{same_or}
-use Rattle.run_laws.proofs.Standing.{NotIn, Recorded, Stands}
-use Rattle.run_laws.proofs.Turns.{no_decide}
-use Rattle.run_laws.proofs.Words.{Tells}
-use Rattle.run_laws.proofs.Worlds.{Holds, agent_of}
-use Rattle.run_machine.proofs.Kept.{actor_opens}
-use Rattle.headline.proofs.Asked.{AllHave, Has, becomes_all, event_all, on_course, stays_begin}
+use Rattle.law_runs.specs.Claims.{ended}
+use Rattle.law_runs.proofs.Agents.{IsAt}
+use Rattle.law_runs.proofs.Asking.{decides, sweep_decides_none}
+use Rattle.law_runs.proofs.Conclusions.{holds_of, rest_of}
+use Rattle.law_runs.proofs.Places.{same_or}
+use Rattle.law_runs.proofs.Standing.{NotIn, Recorded, Stands}
+use Rattle.law_runs.proofs.Turns.{no_decide}
+use Rattle.law_runs.proofs.Words.{Tells}
+use Rattle.law_runs.proofs.Worlds.{Holds, agent_of}
+use Rattle.law_run_machine.proofs.Kept.{actor_opens}
+use Rattle.law_headline.proofs.Asked.{AllHave, Has, becomes_all, event_all, on_course, stays_begin}
 use Rattle.run_certify.specs.Deciding.{HasPlace, IsOfJob, IsPlayed, decision_as, decision_by, job_at, job_of, jobs_after}
 
 -- ---- the job that an agent began last
@@ -68,9 +68,9 @@ set_others (y ∷ xs) (suc i) (suc j) x d apart = set_others xs i j x d (λ same
 
 -- an agent's number is that of its transaction
 number_of_task : (ds : List Decided) (i count : ℕ) (doing : Option Doing) (task : Task) → IsAt ds i count doing → i < 64 → task_of doing ≡ Some task → task.t % 64 ≡ i
-number_of_task ds i count (Some (Running course)) task at small is =
-    ap (λ (task : Task). task.t % 64) (sym (same_Some course.task task is)) ∙ ap (λ t. t % 64) at.numbered ∙ rest_of at.place i small
-number_of_task ds i count (Some (Rounding round)) task at small is = absurd (none-some task is)
+number_of_task ds i count (Some (Running txn_run)) task at small is =
+    ap (λ (task : Task). task.t % 64) (sym (same_Some txn_run.task task is)) ∙ ap (λ t. t % 64) at.numbered ∙ rest_of at.place i small
+number_of_task ds i count (Some (RunningSweep sweep_run)) task at small is = absurd (none-some task is)
 number_of_task ds i count None task at small is = absurd (none-some task is)
 
 no_job : (doing : Option Doing) (task : Task) → is_idle doing ≡ true → task_of doing ≡ Some task → ⊥
@@ -191,12 +191,12 @@ module _ (given : Opening) (accepted : IsAccepted given) (world : World) (jobs :
     as_begun task None is = refl
 
     module _ (actor : Actor) (there : actor_at world number ≡ Some actor) (server : ℕ) (st : State) (at : server_at world server ≡ Some st) where
-      running : (course : Course) (asked : Request) → actor.agent.doing ≡ Some (Running course) → next_in fixed (Some (Running course)) ≡ Some (server, asked) → (b : Bool) → is_decide asked ≡ b → decides_so st (Some course.task) asked
-      running course asked doing next false other = quiet st (Some course.task) asked other
-      running course asked doing next true decide =
-          let task = course.task in
-          let does = decides fixed course.task course.suites course.phase server asked next decide in
-          let stood : IsAt ds number actor.agent.count (Some (Running course)) = subst (IsAt ds number actor.agent.count) doing (holds.agents.at number actor.agent (ap agent_of there)) in
+      running : (txn_run : TransactionRun) (asked : Request) → actor.agent.doing ≡ Some (Running txn_run) → next_in fixed (Some (Running txn_run)) ≡ Some (server, asked) → (b : Bool) → is_decide asked ≡ b → decides_so st (Some txn_run.task) asked
+      running txn_run asked doing next false other = quiet st (Some txn_run.task) asked other
+      running txn_run asked doing next true decide =
+          let task = txn_run.task in
+          let does = decides fixed txn_run.task txn_run.suites txn_run.phase server asked next decide in
+          let stood : IsAt ds number actor.agent.count (Some (Running txn_run)) = subst (IsAt ds number actor.agent.count) doing (holds.agents.at number actor.agent (ap agent_of there)) in
           let aborted : stood.said ≡ verdict.Aborted = subst (Tells stood.said) does.deciding stood.tells in
           let none : NotIn ds task.t = subst (Stands ds task.t) aborted stood.stands in
           let index : task.t % 64 ≡ number = number_is number actor task there (ap task_of doing) in
@@ -207,9 +207,9 @@ module _ (given : Opening) (accepted : IsAccepted given) (world : World) (jobs :
 
       by_doing : (doing : Option Doing) (asked : Request) → actor.agent.doing ≡ doing → next_in fixed doing ≡ Some (server, asked) → decides_so st (task_of doing) asked
       by_doing None asked doing next = cc
-      by_doing (Some (Running course)) asked doing next = running course asked doing next (is_decide asked) refl
-      by_doing (Some (Rounding round)) asked doing next =
-          quiet st None asked (ap is_decide (sym (asks_same _ server _ asked next)) ∙ sweep_decides_none fixed.service round round.now)
+      by_doing (Some (Running txn_run)) asked doing next = running txn_run asked doing next (is_decide asked) refl
+      by_doing (Some (RunningSweep sweep_run)) asked doing next =
+          quiet st None asked (ap is_decide (sym (asks_same _ server _ asked next)) ∙ sweep_decides_none fixed.service sweep_run sweep_run.now)
 
     abbrev shows : Option Task → Option Served → Type 0
     shows task what = decided_by world task what ≡ decision_by (job_at jobs number) what

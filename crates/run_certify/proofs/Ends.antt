@@ -4,25 +4,25 @@ use Rattle.std.specs.Prelude.{slice_index_or, Option, Some, None}
 use Rattle.std.specs.List.{cons_option}
 use Rattle.run_certify.specs.declared.entry.Entry.{Entry}
 use Rattle.run_certify.specs.declared.entry.Entry.TheVariants.{Ended}
-use Rattle.run_core.specs.declared.done.Outcome.{Outcome}
+use Rattle.run_core.specs.declared.done.EndedJob.{EndedJob}
 use Rattle.server_lock.specs.declared.item.Item.{Item}
 use Rattle.run_certify.specs.Merges.{ItemAt, IsMerge, history_of}
 use Rattle.run_certify.specs.Weaves.{event_of, events_of, events_at, operated, past_stamp, rest_from, transcript_of, unused_at, up_to_stamp, weave}
 use Rattle.run_certify.proofs.Lists.{cons_append, long_set, no_cons, same_or, set_again, set_apart, set_commute, set_here}
 use Rattle.run_certify.proofs.Picking.{here_of}
 
-rest_ended : (from : ℕ) (unused : List (List Entry)) (agent : ℕ) (outcome : Outcome) (rest : List Entry) → slice_index_or unused agent [] ≡ Ended outcome ∷ rest → rest_from from unused ≡ rest_from from (slice_set unused agent rest)
+rest_ended : (from : ℕ) (unused : List (List Entry)) (agent : ℕ) (outcome : EndedJob) (rest : List Entry) → slice_index_or unused agent [] ≡ Ended outcome ∷ rest → rest_from from unused ≡ rest_from from (slice_set unused agent rest)
 rest_ended from [] agent outcome rest at = refl
 rest_ended from (entries ∷ unused) zero outcome rest at = ap (λ es. events_of from es ++ rest_from (from + 1) unused) at
 rest_ended from (entries ∷ unused) (suc agent) outcome rest at = ap (λ es. events_of from entries ++ es) (rest_ended (from + 1) unused agent outcome rest at)
 
 -- the end of a job may be left out
-pub weave_ended : (items : List ItemAt) (unused : List (List Entry)) (agent : ℕ) (outcome : Outcome) (rest : List Entry) → agent < length unused → transcript_of unused agent ≡ Ended outcome ∷ rest → weave items unused ≡ weave items (slice_set unused agent rest)
+pub weave_ended : (items : List ItemAt) (unused : List (List Entry)) (agent : ℕ) (outcome : EndedJob) (rest : List Entry) → agent < length unused → transcript_of unused agent ≡ Ended outcome ∷ rest → weave items unused ≡ weave items (slice_set unused agent rest)
 weave_ended [] unused agent outcome rest low at = rest_ended 0 unused agent outcome rest at
 weave_ended (one ∷ items) unused agent outcome rest low at =
     by_who items unused agent outcome rest one one.item.agent low at (λ next long h. weave_ended items next agent outcome rest long h)
   where
-    by_who : (items : List ItemAt) (unused : List (List Entry)) (agent : ℕ) (outcome : Outcome) (rest : List Entry) (one : ItemAt) (who : Option ℕ) → agent < length unused → transcript_of unused agent ≡ Ended outcome ∷ rest
+    by_who : (items : List ItemAt) (unused : List (List Entry)) (agent : ℕ) (outcome : EndedJob) (rest : List Entry) (one : ItemAt) (who : Option ℕ) → agent < length unused → transcript_of unused agent ≡ Ended outcome ∷ rest
         → ((next : List (List Entry)) → agent < length next → transcript_of next agent ≡ Ended outcome ∷ rest → weave items next ≡ weave items (slice_set next agent rest))
         → events_at unused one who ++ weave items (unused_at unused who) ≡ events_at (slice_set unused agent rest) one who ++ weave items (unused_at (slice_set unused agent rest) who)
     by_who items unused agent outcome rest one None low at more = ap (λ es. operated one.server one.item.request.value ++ es) (more unused low at)

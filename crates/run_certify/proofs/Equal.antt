@@ -5,7 +5,7 @@ use Rattle.std.specs.Bool.{Decides}
 use Rattle.std.proofs.lemmas.Bool.Decides.{Decides-and, Decides-eqb, Decides-like}
 use Rattle.rep_core.specs.code.Equality.{same_reply, same_reply_decides, same_request, same_request_decides, same_stamped, same_stamped_decides}
 use Rattle.run_core.specs.code.Equality.{same_outcome, same_outcome_decides}
-use Rattle.run_core.specs.declared.done.Outcome.{Outcome}
+use Rattle.run_core.specs.declared.done.EndedJob.{EndedJob}
 use Rattle.run_core.specs.declared.done.Served.{Served}
 use Rattle.server_lock.specs.declared.item.Item.{Item}
 use Rattle.run_certify.specs.declared.entry.Entry.{Entry}
@@ -27,11 +27,11 @@ same_item_decides served server item =
     (Decides-and _ _ (Decides-and _ _ (Decides-eqb served.server server) (Decides-eqb served.reply.stamp item.stamp)) (same_stamped_decides same_request_decides served.request item.request))
     (same_reply_decides served.reply.value item.reply))
 
-outcome_in : Outcome → Entry → Outcome
+outcome_in : EndedJob → Entry → EndedJob
 outcome_in other (Ended outcome) = outcome
 outcome_in other entry = other
 
-pub same_end_decides : (told outcome : Outcome) → Decides (same_outcome told outcome) (◌≡◌ {A = Entry} (Ended told) (Ended outcome))
+pub same_end_decides : (told outcome : EndedJob) → Decides (same_outcome told outcome) (◌≡◌ {A = Entry} (Ended told) (Ended outcome))
 unfolding outcome_in
 same_end_decides told outcome =
     let decides = same_outcome_decides told outcome in

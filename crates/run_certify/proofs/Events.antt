@@ -4,7 +4,7 @@ use Rattle.std.specs.Prelude.{Option, Some}
 use Rattle.txn_core.specs.declared.job.Job.{Job}
 use Rattle.txn_core.specs.Agents.{fixed_of}
 use Rattle.run_core.specs.declared.done.Done.{Done}
-use Rattle.run_core.specs.declared.done.Outcome.{Outcome}
+use Rattle.run_core.specs.declared.done.EndedJob.{EndedJob}
 use Rattle.run_core.specs.declared.event.Event.{Event}
 use Rattle.run_core.specs.declared.event.Event.TheVariants.{Begin}
 use Rattle.run_core.specs.Decisions.{Decided}
@@ -29,7 +29,7 @@ module _ (old mid : Walked) (event : Event) (done : Done) (played : IsEvent old 
   }
 
   -- something was decided, and the end of a job was used, if it ended
-  pub end_after : (noted now : Walked) (ds : List Decided) (agent : ℕ) (outcome : Option Outcome) → jobs_after old.begun.jobs event ≡ old.begun.jobs → counts_after old.begun.counts event ≡ old.begun.counts
+  pub end_after : (noted now : Walked) (ds : List Decided) (agent : ℕ) (outcome : Option EndedJob) → jobs_after old.begun.jobs event ≡ old.begun.jobs → counts_after old.begun.counts event ≡ old.begun.counts
       → noted ≡ record mid { made = mid.made ++ ds } → IsEnd noted agent outcome now → IsAfter old event now.unused ds now
   end_after noted now ds agent outcome jobs counts decided end = record {
     settings = ap (λ (w : Walked). w.settings) end.kept ∙ ap (λ (w : Walked). w.settings) decided ∙ ap (λ (w : Walked). w.settings) played.kept;

@@ -12,13 +12,13 @@ use Rattle.rep_core.specs.declared.stamped.Stamped.{Stamped}
 use Rattle.rep_core.specs.State.{State}
 use Rattle.rep_core.specs.Serving.{answer_of, is_full}
 use Rattle.txn_core.specs.declared.job.Job.{Job}
-use Rattle.txn_core.specs.declared.word.Word.{Word}
-use Rattle.txn_core.specs.declared.word.Word.TheVariants.{Lacked as LackedWord}
+use Rattle.txn_core.specs.declared.response.Response.{Response}
+use Rattle.txn_core.specs.declared.response.Response.TheVariants.{Lacked as LackedResponse}
 use Rattle.txn_core.specs.Doing.{Fixed}
 use Rattle.txn_core.specs.Agents.{Agent, begin, forget, next_of}
 use Rattle.run_core.specs.Asking.{asked_at, asked_by}
 use Rattle.run_core.specs.declared.done.Done.{Done}
-use Rattle.run_core.specs.declared.done.Outcome.{Outcome}
+use Rattle.run_core.specs.declared.done.EndedJob.{EndedJob}
 use Rattle.run_core.specs.declared.done.Served.{Served}
 use Rattle.run_core.specs.declared.event.Event.{Event}
 use Rattle.run_core.specs.declared.event.Event.TheVariants.{Begin, Step, Crash, Return, Forget, Lack}
@@ -89,16 +89,16 @@ module _ (fixed : Fixed) (world : World) where
   pub forget_quiet : (agent site : ℕ) → (step fixed world (Forget agent site)).done ≡ nothing
   forget_quiet agent site = becomes_quiet agent (λ one. forget one site) (actor_at world agent)
 
-  lacks_none : (number : ℕ) (word : Word) (found : Option Actor) → (lacks fixed world number word found).done.served ≡ None
-  lacks_none number word None = refl
-  lacks_none number word (Some actor) = of (next_of fixed actor.agent)
+  lacks_none : (number : ℕ) (response : Response) (found : Option Actor) → (lacks fixed world number response found).done.served ≡ None
+  lacks_none number response None = refl
+  lacks_none number response (Some actor) = of (next_of fixed actor.agent)
     where
-      of : (asked : Option (ℕ × Request)) → (lacks_for fixed world number actor word asked).done.served ≡ None
+      of : (asked : Option (ℕ × Request)) → (lacks_for fixed world number actor response asked).done.served ≡ None
       of (Some asked) = refl
       of None = refl
 
   pub lack_serves_none : (agent : ℕ) (why : Why) → (step fixed world (Lack agent why)).done.served ≡ None
-  lack_serves_none agent why = lacks_none agent (LackedWord why) (actor_at world agent)
+  lack_serves_none agent why = lacks_none agent (LackedResponse why) (actor_at world agent)
 
   -- ---- forgets
 
@@ -221,32 +221,32 @@ module _ (fixed : Fixed) (world : World) where
   asks_as event what is = asked_it (asker event) (step fixed world event).done.served what is
 
   -- what is put down begins with no end
-  asked_no_end : (one : ℕ × Request) (what : Option Served) (more : List Entry) (outcome : Outcome) (rest : List Entry) → asked (Some one) what ++ more ≡ Ended outcome ∷ rest → ⊥
+  asked_no_end : (one : ℕ × Request) (what : Option Served) (more : List Entry) (outcome : EndedJob) (rest : List Entry) → asked (Some one) what ++ more ≡ Ended outcome ∷ rest → ⊥
   asked_no_end one (Some what) more outcome rest same = let kinds = same_kind (Asked what.server what.reply.stamp) (Ended outcome) more rest same in omega arith
   asked_no_end one None more outcome rest same = let kinds = same_kind (Lacked one.0 Full) (Ended outcome) more rest same in omega arith
 
-  next_no_end : (number : ℕ) (actor : Actor) (next : Option (ℕ × Request)) (outcome : Outcome) (rest : List Entry)
+  next_no_end : (number : ℕ) (actor : Actor) (next : Option (ℕ × Request)) (outcome : EndedJob) (rest : List Entry)
       → asked next (asks fixed world number actor next).done.served ++ ended (asks fixed world number actor next).done.outcome ≡ Ended outcome ∷ rest → ⊥
   next_no_end number actor (Some one) outcome rest same = asked_no_end one (asks fixed world number actor (Some one)).done.served (ended (asks fixed world number actor (Some one)).done.outcome) outcome rest same
   next_no_end number actor None outcome rest same = nothing_first (Ended outcome) rest same
 
-  step_no_end : (number : ℕ) (found : Option Actor) (outcome : Outcome) (rest : List Entry)
+  step_no_end : (number : ℕ) (found : Option Actor) (outcome : EndedJob) (rest : List Entry)
       → asked (asked_by fixed found) (steps_once fixed world number found).done.served ++ ended (steps_once fixed world number found).done.outcome ≡ Ended outcome ∷ rest → ⊥
   step_no_end number (Some actor) outcome rest same = next_no_end number actor (next_of fixed actor.agent) outcome rest same
   step_no_end number None outcome rest same = nothing_first (Ended outcome) rest same
 
-  lacking_no_end : (number : ℕ) (actor : Actor) (why : Why) (next : Option (ℕ × Request)) (outcome : Outcome) (rest : List Entry)
-      → lacked why next ++ ended (lacks_for fixed world number actor (LackedWord why) next).done.outcome ≡ Ended outcome ∷ rest → ⊥
+  lacking_no_end : (number : ℕ) (actor : Actor) (why : Why) (next : Option (ℕ × Request)) (outcome : EndedJob) (rest : List Entry)
+      → lacked why next ++ ended (lacks_for fixed world number actor (LackedResponse why) next).done.outcome ≡ Ended outcome ∷ rest → ⊥
   lacking_no_end number actor why (Some one) outcome rest same =
-      let kinds = same_kind (Lacked one.0 why) (Ended outcome) (ended (lacks_for fixed world number actor (LackedWord why) (Some one)).done.outcome) rest same in omega arith
+      let kinds = same_kind (Lacked one.0 why) (Ended outcome) (ended (lacks_for fixed world number actor (LackedResponse why) (Some one)).done.outcome) rest same in omega arith
   lacking_no_end number actor why None outcome rest same = nothing_first (Ended outcome) rest same
 
-  lack_no_end : (number : ℕ) (why : Why) (found : Option Actor) (outcome : Outcome) (rest : List Entry)
-      → lacked why (asked_by fixed found) ++ ended (lacks fixed world number (LackedWord why) found).done.outcome ≡ Ended outcome ∷ rest → ⊥
+  lack_no_end : (number : ℕ) (why : Why) (found : Option Actor) (outcome : EndedJob) (rest : List Entry)
+      → lacked why (asked_by fixed found) ++ ended (lacks fixed world number (LackedResponse why) found).done.outcome ≡ Ended outcome ∷ rest → ⊥
   lack_no_end number why (Some actor) outcome rest same = lacking_no_end number actor why (next_of fixed actor.agent) outcome rest same
   lack_no_end number why None outcome rest same = nothing_first (Ended outcome) rest same
 
-  pub no_end : (event : Event) (outcome : Outcome) (rest : List Entry) → entries_by fixed world event (step fixed world event).done ≡ Ended outcome ∷ rest → ⊥
+  pub no_end : (event : Event) (outcome : EndedJob) (rest : List Entry) → entries_by fixed world event (step fixed world event).done ≡ Ended outcome ∷ rest → ⊥
   no_end (Begin number job) outcome rest same = let kinds = same_kind (Begun job) (Ended outcome) [] rest same in omega arith
   no_end (Step number) outcome rest same = step_no_end number (actor_at world number) outcome rest same
   no_end (Lack number why) outcome rest same = lack_no_end number why (actor_at world number) outcome rest same

@@ -4,7 +4,7 @@ use Rattle.std.specs.Prelude.{slice_index_or, Option, Some, None, Result, Err}
 use Rattle.suite_prefix.specs.SettingsRules.{Opening, IsAccepted}
 use Rattle.txn_core.specs.Doing.{Fixed}
 use Rattle.txn_core.specs.Agents.{fixed_of}
-use Rattle.run_core.specs.declared.done.Outcome.{Outcome}
+use Rattle.run_core.specs.declared.done.EndedJob.{EndedJob}
 use Rattle.run_core.specs.declared.done.Served.{Served}
 use Rattle.run_core.specs.declared.event.Event.TheVariants.{Begin, Step, Forget, Lack}
 use Rattle.run_core.specs.Decisions.{Decided, decisions}
@@ -92,10 +92,10 @@ other_than_asked (Forgot site) other = refl
 other_than_asked (Ended outcome) other = refl
 
 -- an end is no entry to be played
-pub no_play : (old : Walked) (agent : ℕ) (entry : Entry) → is_asked entry ≡ false → ((server : ℕ) × (stamp : ℕ) × (entry ≡ Asked server stamp)) ⊎ ((outcome : Outcome) × (entry ≡ Ended outcome)) → EntryFails agent entry old
+pub no_play : (old : Walked) (agent : ℕ) (entry : Entry) → is_asked entry ≡ false → ((server : ℕ) × (stamp : ℕ) × (entry ≡ Asked server stamp)) ⊎ ((outcome : EndedJob) × (entry ≡ Ended outcome)) → EntryFails agent entry old
 no_play old agent entry other is was taken it turn = ⊎_elim
     (λ (h : (server : ℕ) × (stamp : ℕ) × (entry ≡ Asked server stamp)). absurd (true≢false (sym (ap is_asked h.2) ∙ other)))
-    (λ (h : (outcome : Outcome) × (entry ≡ Ended outcome)). ended_fails was old agent h.0 taken (subst (λ e. IsUse was agent e old) h.1 it))
+    (λ (h : (outcome : EndedJob) × (entry ≡ Ended outcome)). ended_fails was old agent h.0 taken (subst (λ e. IsUse was agent e old) h.1 it))
     is
 
 -- up to an item of the agent's

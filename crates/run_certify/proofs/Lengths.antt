@@ -3,7 +3,7 @@ use Rattle.std.proofs.Common.{◌≡◌, List, length, Option, ap, ◌∙◌}
 use Rattle.suite_prefix.specs.SettingsRules.{Opening}
 use Rattle.txn_core.specs.declared.job.Job.{Job}
 use Rattle.run_core.specs.Worlds.{World}
-use Rattle.run_laws.proofs.Lengths.{so_many}
+use Rattle.law_runs.proofs.Lengths.{so_many}
 use Rattle.run_certify.specs.Deciding.{IsPlayed}
 
 pub counts : (given : Opening) (world : World) (jobs : List (Option Job)) → IsPlayed given world jobs → (length world.servers ≡ given.servers) × (length world.agents ≡ given.agents)

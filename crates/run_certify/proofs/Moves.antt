@@ -2,7 +2,7 @@
 use Rattle.std.proofs.Common.{◌≡◌, ◌≢◌, ◌⊎◌, ⊎_elim, ℕ, ◌<◌, Bool, true, false, List, [], ◌∷◌, ◌++◌, length, slice_set, subst, refl, ap, ◌∙◌, sym, arith}
 use Rattle.std.specs.Prelude.{Option, Some, None}
 use Rattle.std.specs.List.{cons_option}
-use Rattle.run_core.specs.declared.done.Outcome.{Outcome}
+use Rattle.run_core.specs.declared.done.EndedJob.{EndedJob}
 use Rattle.run_core.specs.declared.event.Event.{Event}
 use Rattle.run_core.specs.declared.event.Event.TheVariants.{Step}
 use Rattle.server_lock.specs.declared.item.Item.{Item}
@@ -29,11 +29,11 @@ turn_of_rest histories unused agent empty before low = λ y ys at other items me
     ap (λ xs. weave xs unused) none ∙ weave_rest unused agent y ys before low at ∙ ap (λ xs. cons_option (event_of agent y) (weave xs (slice_set unused agent ys))) (sym none)
 
 -- a job that ended is put down next, or none ended
-pub same_after : (unused : List (List Entry)) (agent : ℕ) (ys rest : List Entry) → agent < length unused → (ys ≡ rest) ⊎ ((outcome : Outcome) × (ys ≡ Ended outcome ∷ rest)) → (items : List ItemAt)
+pub same_after : (unused : List (List Entry)) (agent : ℕ) (ys rest : List Entry) → agent < length unused → (ys ≡ rest) ⊎ ((outcome : EndedJob) × (ys ≡ Ended outcome ∷ rest)) → (items : List ItemAt)
     → weave items (slice_set unused agent ys) ≡ weave items (slice_set unused agent rest)
 same_after unused agent ys rest low how items = ⊎_elim
     (λ (e : ys ≡ rest). ap (λ es. weave items (slice_set unused agent es)) e)
-    (λ (h : (outcome : Outcome) × (ys ≡ Ended outcome ∷ rest)).
+    (λ (h : (outcome : EndedJob) × (ys ≡ Ended outcome ∷ rest)).
     weave_ended items (slice_set unused agent ys) agent h.0 rest (let l = long_set unused agent ys in omega arith) (set_here unused agent ys [] low ∙ h.1) ∙ ap (λ us. weave items us) (set_again unused agent ys rest))
     how
 
@@ -87,7 +87,7 @@ module _ {W D : Type 0} (next : W → Event → W) (sense : W → Event → Bool
     pub quiet : serves w event ≡ None
     pub silent : decides w event ≡ None
     pub told : transcript_of unused agent ≡ puts w event ++ rest
-    pub past : (ys ≡ rest) ⊎ ((outcome : Outcome) × (ys ≡ Ended outcome ∷ rest))
+    pub past : (ys ≡ rest) ⊎ ((outcome : EndedJob) × (ys ≡ Ended outcome ∷ rest))
 
   fits : (w : W) (unused : List (List Entry)) (agent : ℕ) (y : Entry) (ys : List Entry) (event : Event) (rest : List Entry) (items : List ItemAt) → Plays w unused agent y ys event rest
       → Fits next sense serves puts decides w event agent items items unused rest
@@ -160,7 +160,7 @@ module _ {W D : Type 0} (next : W → Event → W) (sense : W → Event → Bool
 
   pub asked_back : (w : W) (one : ItemAt) (histories : List (List Item)) (unused : List (List Entry)) (agent server stamp : ℕ) (ys rest : List Entry) (ds : List D)
       → one.item.agent ≡ Some agent → agent < length unused → transcript_of unused agent ≡ Asked server stamp ∷ ys → sense w (Step agent) ≡ true → serves w (Step agent) ≡ Some one
-      → transcript_of unused agent ≡ puts w (Step agent) ++ rest → (ys ≡ rest) ⊎ ((outcome : Outcome) × (ys ≡ Ended outcome ∷ rest))
+      → transcript_of unused agent ≡ puts w (Step agent) ++ rest → (ys ≡ rest) ⊎ ((outcome : EndedJob) × (ys ≡ Ended outcome ∷ rest))
       → IsLeft (next w (Step agent)) [] histories (slice_set unused agent rest) ds → IsLeft w (one ∷ []) histories unused (cons_option (decides w (Step agent)) ds)
   asked_back w one histories unused agent server stamp ys rest ds of low at sense_is served told past left =
       let e : weave (one ∷ left.items) unused ≡ Step agent ∷ weave left.items (slice_set unused agent rest) =
@@ -175,7 +175,7 @@ module _ {W D : Type 0} (next : W → Event → W) (sense : W → Event → Bool
 
   pub asked_on : (w : W) (one : ItemAt) (histories : List (List Item)) (unused : List (List Entry)) (agent server stamp : ℕ) (ys rest : List Entry) (ds : List D)
       → one.item.agent ≡ Some agent → agent < length unused → transcript_of unused agent ≡ Asked server stamp ∷ ys → sense w (Step agent) ≡ true → serves w (Step agent) ≡ Some one
-      → transcript_of unused agent ≡ puts w (Step agent) ++ rest → (ys ≡ rest) ⊎ ((outcome : Outcome) × (ys ≡ Ended outcome ∷ rest))
+      → transcript_of unused agent ≡ puts w (Step agent) ++ rest → (ys ≡ rest) ⊎ ((outcome : EndedJob) × (ys ≡ Ended outcome ∷ rest))
       → IsLeft w (one ∷ []) histories unused ds → (later : List D) × (ds ≡ cons_option (decides w (Step agent)) later) × IsLeft (next w (Step agent)) [] histories (slice_set unused agent rest) later
   asked_on w one histories unused agent server stamp ys rest ds of low at sense_is served told past left =
       let e : weave (one ∷ left.items) unused ≡ Step agent ∷ weave left.items (slice_set unused agent rest) =
@@ -256,7 +256,7 @@ module _ {W D : Type 0} (next : W → Event → W) (sense : W → Event → Bool
 
   -- ---- what is never left
 
-  pub ended_first : ((w : W) (event : Event) (what : ItemAt) → serves w event ≡ Some what → what.item.agent ≡ asker event) → ((w : W) (event : Event) (outcome : Outcome) (rest : List Entry) → puts w event ≢ Ended outcome ∷ rest) → (w : W) (taken : List ItemAt) (histories : List (List Item)) (unused : List (List Entry)) (agent : ℕ) (outcome : Outcome) (rest : List Entry) (ds : List D)
+  pub ended_first : ((w : W) (event : Event) (what : ItemAt) → serves w event ≡ Some what → what.item.agent ≡ asker event) → ((w : W) (event : Event) (outcome : EndedJob) (rest : List Entry) → puts w event ≢ Ended outcome ∷ rest) → (w : W) (taken : List ItemAt) (histories : List (List Item)) (unused : List (List Entry)) (agent : ℕ) (outcome : EndedJob) (rest : List Entry) (ds : List D)
       → transcript_of unused agent ≡ Ended outcome ∷ rest → ¬ (IsLeft w taken histories unused ds)
   ended_first asks each w taken histories unused agent outcome rest ds at left =
       refuting.no_end_first next sense serves puts decides asks each w (weave (taken ++ left.items) unused) (taken ++ left.items) unused agent outcome rest at left.run

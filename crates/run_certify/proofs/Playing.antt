@@ -9,7 +9,7 @@ use Rattle.txn_core.specs.Agents as agents
 use Rattle.txn_core.specs.Agents.{fixed_of, max_jobs}
 use Rattle.run_core.specs.Asking.{asked_at, asked_by}
 use Rattle.run_core.specs.declared.done.Done.{Done}
-use Rattle.run_core.specs.declared.done.Outcome.{Outcome}
+use Rattle.run_core.specs.declared.done.EndedJob.{EndedJob}
 use Rattle.run_core.specs.declared.event.Event.{Event}
 use Rattle.run_core.specs.declared.event.Event.TheVariants.{Begin, Lack, Forget}
 use Rattle.run_core.specs.Decisions.{Decided}
@@ -113,13 +113,13 @@ forget_fails old agent site why was taken it turn =
 -- ---- what is not served
 
 -- what was put down next, and what is left once the end of the job was used, if it ended
-pub record Ends (was : List (List Entry)) (agent : ℕ) (ys : List Entry) (outcome : Option Outcome) (now : List (List Entry)) : Type 0 where
+pub record Ends (was : List (List Entry)) (agent : ℕ) (ys : List Entry) (outcome : Option EndedJob) (now : List (List Entry)) : Type 0 where
   pub rest : List Entry
-  pub past : (ys ≡ rest) ⊎ ((one : Outcome) × (ys ≡ Ended one ∷ rest))
+  pub past : (ys ≡ rest) ⊎ ((one : EndedJob) × (ys ≡ Ended one ∷ rest))
   pub parts : ys ≡ ended outcome ++ rest
   pub set : now ≡ slice_set was agent rest
 
-pub ends : (was old now : List (List Entry)) (agent : ℕ) (ys : List Entry) (outcome : Option Outcome) → agent < length was → old ≡ slice_set was agent ys → HasEnded old agent outcome now → Ends was agent ys outcome now
+pub ends : (was old now : List (List Entry)) (agent : ℕ) (ys : List Entry) (outcome : Option EndedJob) → agent < length was → old ≡ slice_set was agent ys → HasEnded old agent outcome now → Ends was agent ys outcome now
 ends was old now agent ys None low set so = record { rest = ys; past = inl refl; parts = refl; set = so ∙ set }
 ends was old now agent ys (Some outcome) low set so =
     let at : ys ≡ Ended outcome ∷ so.rest = sym (set_here was agent ys [] low) ∙ sym (ap (λ us. transcript_of us agent) set) ∙ so.first in
@@ -161,7 +161,7 @@ lack_fails old agent server why other was taken it turn =
     (λ rest sense told. lack_other fixed was.world agent server why why other' sense (ended (step fixed was.world event).done.outcome ++ rest) it.used.rest
     (sym (append_assoc (lacked why (asked_by fixed (actor_at was.world agent))) (ended (step fixed was.world event).done.outcome) rest) ∙ sym told ∙ it.used.first))
 
-pub otherwise : (was old : List (List Entry)) (agent : ℕ) (ys rest : List Entry) (outcome : Option Outcome) → agent < length was → old ≡ slice_set was agent ys → EndsOtherwise old agent outcome → ys ≡ ended outcome ++ rest → ⊥
+pub otherwise : (was old : List (List Entry)) (agent : ℕ) (ys rest : List Entry) (outcome : Option EndedJob) → agent < length was → old ≡ slice_set was agent ys → EndsOtherwise old agent outcome → ys ≡ ended outcome ++ rest → ⊥
 otherwise was old agent ys rest None low set not parts = not
 otherwise was old agent ys rest (Some outcome) low set not parts = not rest (ap (λ us. transcript_of us agent) set ∙ set_here was agent ys [] low ∙ parts)
 
@@ -212,7 +212,7 @@ no_longer old now agent histories unused = record {
   short = omega arith;
 }
 
-pub ended_shorter : (old now : Walked) (agent : ℕ) (outcome : Option Outcome) → now.histories ≡ old.histories → HasEnded old.unused agent outcome now.unused → IsShorter old agent now
+pub ended_shorter : (old now : Walked) (agent : ℕ) (outcome : Option EndedJob) → now.histories ≡ old.histories → HasEnded old.unused agent outcome now.unused → IsShorter old agent now
 ended_shorter old now agent None histories so = no_longer old now agent histories so
 ended_shorter old now agent (Some outcome) histories so = record {
   histories = histories;

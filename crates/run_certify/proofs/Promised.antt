@@ -5,8 +5,8 @@ use Rattle.suite_prefix.specs.SettingsRules.{IsAccepted, Opening}
 use Rattle.rep_core.specs.declared.request.Request.{Request}
 use Rattle.rep_core.specs.declared.request.Request.TheVariants as request
 use Rattle.server_lock.specs.declared.item.Item.{Item}
-use Rattle.headline.specs.Premises.{VotesAreValid}
-use Rattle.headline.proofs.Promised.{both, front, promised}
+use Rattle.law_headline.specs.Premises.{VotesAreValid}
+use Rattle.law_headline.proofs.Promised.{both, front, promised}
 use Rattle.run_certify.specs.declared.entry.Entry.{Entry}
 use Rattle.run_certify.specs.declared.entry.Entry.TheVariants.{Asked, Begun, Ended, Forgot, Lacked}
 use Rattle.run_certify.specs.Merges.{ItemAt}

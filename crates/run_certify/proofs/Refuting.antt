@@ -5,7 +5,7 @@ use Rattle.std.specs.List.{cons_option}
 use Rattle.run_core.specs.declared.event.Event.{Event}
 use Rattle.run_certify.specs.declared.entry.Entry.{Entry}
 use Rattle.run_certify.specs.declared.entry.Entry.TheVariants.{Ended}
-use Rattle.run_core.specs.declared.done.Outcome.{Outcome}
+use Rattle.run_core.specs.declared.done.EndedJob.{EndedJob}
 use Rattle.run_certify.specs.Merges.{ItemAt}
 use Rattle.run_certify.specs.Weaves.{transcript_of, weave}
 use Rattle.run_certify.specs.Shown.{agent_of, asker, if_of}
@@ -50,7 +50,7 @@ module _ {W D : Type 0} (next : W → Event → W) (sense : W → Event → Bool
 
   -- what an event puts down does not begin with an end: so no transcript does
   abbrev NoEnd : List Entry → Type 0
-  NoEnd entries = (outcome : Outcome) (rest : List Entry) → entries ≢ Ended outcome ∷ rest
+  NoEnd entries = (outcome : EndedJob) (rest : List Entry) → entries ≢ Ended outcome ∷ rest
 
   no_end : ((w : W) (event : Event) → NoEnd (puts w event)) → (agent : ℕ) (w : W) (events : List Event) → NoEnd (told_in next sense serves puts decides agent w events)
   no_end each agent w [] = λ outcome rest e. let h = ap length e in omega arith
@@ -68,6 +68,6 @@ module _ {W D : Type 0} (next : W → Event → W) (sense : W → Event → Bool
       by_agent None later more = more
       by_agent (Some other) later more = first (if_of (Some other) agent (puts w event)) later (by_test (nat_eq other agent)) more
 
-  pub no_end_first : ((w : W) (event : Event) → NoEnd (puts w event)) → (w : W) (events : List Event) (items : List ItemAt) (unused : List (List Entry)) (agent : ℕ) (outcome : Outcome) (rest : List Entry) → transcript_of unused agent ≡ Ended outcome ∷ rest
+  pub no_end_first : ((w : W) (event : Event) → NoEnd (puts w event)) → (w : W) (events : List Event) (items : List ItemAt) (unused : List (List Entry)) (agent : ℕ) (outcome : EndedJob) (rest : List Entry) → transcript_of unused agent ≡ Ended outcome ∷ rest
       → ¬ (Of w events items unused)
   no_end_first each w events items unused agent outcome rest at is = no_end each agent w events outcome rest (is.told agent ∙ at)

@@ -7,7 +7,7 @@ use Rattle.suite_prefix.specs.SettingsRules.{IsAccepted}
 use Rattle.txn_core.specs.Doing.{Fixed}
 use Rattle.txn_core.specs.Agents.{fixed_of}
 use Rattle.txn_core.specs.declared.job.Job.{Job}
-use Rattle.run_core.specs.declared.done.Outcome.{Outcome}
+use Rattle.run_core.specs.declared.done.EndedJob.{EndedJob}
 use Rattle.run_core.specs.declared.event.Event.{Event}
 use Rattle.run_core.specs.declared.event.Event.TheVariants.{Begin, Step, Crash, Return, Forget, Lack}
 use Rattle.run_core.specs.Decisions.{Decided, decided}
@@ -180,7 +180,7 @@ seat_of : (seats agent : ℕ) (event : Event) → agent_of event ≡ Some agent 
 seat_of seats agent event of low other is = let e : agent ≡ other = same_Some agent other (sym of ∙ is) in omega arith
 
 pub entry_goes : (was old now : Walked) (agent : ℕ) (entry : Entry) (event : Event) (ys rest : List Entry) (taken : List ItemAt) → IsUse was agent entry old → IsTurn taken was.histories was.unused agent
-    → transcript_of was.unused agent ≡ entry ∷ ys → (ys ≡ rest) ⊎ ((outcome : Outcome) × (ys ≡ Ended outcome ∷ rest)) → IsEntryPlayed was agent entry event rest → IsAfter was event (slice_set was.unused agent rest) [] now → Goes was taken now taken
+    → transcript_of was.unused agent ≡ entry ∷ ys → (ys ≡ rest) ⊎ ((outcome : EndedJob) × (ys ≡ Ended outcome ∷ rest)) → IsEntryPlayed was agent entry event rest → IsAfter was event (slice_set was.unused agent rest) [] now → Goes was taken now taken
 entry_goes was old now agent entry event ys rest taken it turn at past played after =
     let fixed : Fixed = fixed_of was.given in
     let plays : IsSound was → moves.Plays (next fixed) (sense fixed) (serves fixed) (puts fixed) (decides fixed) was.world was.unused agent entry ys event rest = λ sound. record {
@@ -229,7 +229,7 @@ entry_so was old agent entry event taken it turn other spells of none = λ sound
     none h.1.0 h.0 h.1.1
 
 -- no transcript begins with an end
-pub ended_fails : (was old : Walked) (agent : ℕ) (outcome : Outcome) (taken : List ItemAt) → IsUse was agent (Ended outcome) old → Fails was taken
+pub ended_fails : (was old : Walked) (agent : ℕ) (outcome : EndedJob) (taken : List ItemAt) → IsUse was agent (Ended outcome) old → Fails was taken
 ended_fails was old agent outcome taken it = λ sound total run.
     let fixed : Fixed = fixed_of was.given in
     moves.ended_first (next fixed) (sense fixed) (serves fixed) (puts fixed) (decides fixed) (λ w. asks_as fixed w) (λ w. no_end fixed w) was.world taken was.histories was.unused agent outcome it.used.rest run.later it.used.first
@@ -320,7 +320,7 @@ nothing_fails was one agent of none = λ sound total run.
 -- an agent's item is served
 pub asked_goes : (was now : Walked) (one : ItemAt) (agent server stamp : ℕ) (ys rest : List Entry) → one.item.agent ≡ Some agent → agent < length was.unused → transcript_of was.unused agent ≡ Asked server stamp ∷ ys
     → has_sense (fixed_of was.given) was.world (Step agent) ≡ true → served_as (Some agent) (step (fixed_of was.given) was.world (Step agent)).done.served ≡ Some one
-    → transcript_of was.unused agent ≡ entries_by (fixed_of was.given) was.world (Step agent) (step (fixed_of was.given) was.world (Step agent)).done ++ rest → (ys ≡ rest) ⊎ ((outcome : Outcome) × (ys ≡ Ended outcome ∷ rest))
+    → transcript_of was.unused agent ≡ entries_by (fixed_of was.given) was.world (Step agent) (step (fixed_of was.given) was.world (Step agent)).done ++ rest → (ys ≡ rest) ⊎ ((outcome : EndedJob) × (ys ≡ Ended outcome ∷ rest))
     → (new : IsSound was → IsAfter was (Step agent) (slice_set was.unused agent rest) (cons_option (decided (fixed_of was.given) was.world (Step agent)) []) now) → Goes was (one ∷ []) now []
 asked_goes was now one agent server stamp ys rest of low at has served told past after =
     let fixed : Fixed = fixed_of was.given in

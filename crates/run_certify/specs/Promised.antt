@@ -3,7 +3,7 @@ use Rattle.std.specs.Prelude.{◌≡◌, List, ◌++◌}
 use Rattle.suite_prefix.specs.SettingsRules.{Opening}
 use Rattle.run_core.specs.declared.event.Event.{Event}
 use Rattle.server_lock.specs.declared.item.Item.{Item}
-use Rattle.headline.specs.Promises.{IsPromised}
+use Rattle.law_headline.specs.Promises.{IsPromised}
 use Rattle.run_certify.specs.declared.entry.Entry.{Entry}
 use Rattle.run_certify.specs.Certified.{IsCertified}
 use Rattle.run_certify.specs.Weaves.{weave}

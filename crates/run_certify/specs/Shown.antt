@@ -6,7 +6,7 @@ use Rattle.rep_core.specs.declared.stamped.Lack.{Lack}
 use Rattle.rep_core.specs.declared.stamped.Lack.TheVariants.{Full}
 use Rattle.txn_core.specs.Doing.{Fixed}
 use Rattle.run_core.specs.declared.done.Done.{Done}
-use Rattle.run_core.specs.declared.done.Outcome.{Outcome}
+use Rattle.run_core.specs.declared.done.EndedJob.{EndedJob}
 use Rattle.run_core.specs.declared.done.Served.{Served}
 use Rattle.run_core.specs.declared.event.Event.{Event}
 use Rattle.run_core.specs.declared.event.Event.TheVariants as event
@@ -40,7 +40,7 @@ items_from fixed world (event ∷ events) =
 -- ---- what an agent puts down
 
 -- that its job ended, if it did
-abbrev pub ended : Option Outcome → List Entry
+abbrev pub ended : Option EndedJob → List Entry
 ended (Some outcome) = Ended outcome ∷ []
 ended None = []
 

@@ -3,7 +3,7 @@
 ghost use Rattle.std.specs.Prelude.{◌≡◌};
 
 use rep_core::Lack;
-use run_core::Outcome;
+use run_core::EndedJob;
 use std::marker::Model;
 use txn_core::Job;
 
@@ -19,7 +19,7 @@ pub enum Entry {
     /// It forgot what its cache kept for a site.
     Forgot { site: u8 },
     /// Its job ended so.
-    Ended(Outcome),
+    Ended(EndedJob),
 }
 
 /// What an agent did, in its order.

@@ -8,7 +8,7 @@ ghost use Rattle.run_certify.specs.declared.fault.CertifyFault.TheVariants.{Memo
 
 use crate::entry::{Entry, Transcript};
 use crate::fault::CertifyFault;
-use run_core::Outcome;
+use run_core::EndedJob;
 use std::alloc::{AllocError, Global};
 use std::marker::Model;
 
@@ -66,7 +66,7 @@ impl<'a> Unused<'a> {
     }
 
     /// That a job ended is used, if one did: it has to come next.
-    pub(crate) fn end(&mut self, agent: u8, outcome: &Option<Outcome>) -> Result<(), CertifyFault>
+    pub(crate) fn end(&mut self, agent: u8, outcome: &Option<EndedJob>) -> Result<(), CertifyFault>
         ensures ok { OnOk result (HasEnded self.old agent outcome.now self.new) }
         ensures mismatch { OnErr result (EndsOtherwise self.old agent outcome.now) }
         ensures memory { result ≢ Err Memory }
@@ -86,7 +86,7 @@ impl<'a> Unused<'a> {
 }
 
 /// Whether an entry says that a job ended so.
-fn is_end(entry: &Entry, outcome: &Outcome) -> bool
+fn is_end(entry: &Entry, outcome: &EndedJob) -> bool
     ensures { IsTrue result ↔ (entry.now ≡ Ended outcome.now) }
 {
     match entry {

@@ -3,7 +3,7 @@
 ghost use Rattle.run_certify.specs.code.ValidVotes.{AllBegunAreValid, EntriesGiveValidVotes, EntryGivesValidVotes};
 
 use crate::entry::{Entry, Transcript};
-use headline::job_is_valid;
+use law_headline::job_is_valid;
 
 /// A law: the votes of all jobs that were begun are valid. It does nothing.
 pub(crate) fn begun_are_valid(transcripts: &[Transcript])

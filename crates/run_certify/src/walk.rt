@@ -28,7 +28,7 @@ use crate::sense::{begin_event, has_sense};
 use crate::unused::Unused;
 use crate::verdicts::decision_of;
 use rep_core::Lack;
-use run_core::{Done, Event, Outcome, World};
+use run_core::{Done, EndedJob, Event, World};
 use server_lock::{History, Item};
 use std::alloc::{AllocError, Global};
 use std::marker::Model;
@@ -154,7 +154,7 @@ impl<'a> Walk<'a> {
             {
                 return self.ask(agent, (*asked, *stamp), server, item);
             }
-            self.play(agent, entry)?;
+            self.replay(agent, entry)?;
         }
     }
 
@@ -213,14 +213,14 @@ impl<'a> Walk<'a> {
             let Ok(number) = u8::try_from(agent) else {
                 return Err(CertifyFault::Mismatch);
             };
-            self.play(number, entry)?;
+            self.replay(number, entry)?;
         }
         Ok(())
     }
 
     /// Plays an entry that was used, and the end of the agent's job after it, if that ended. One that has a stamp and
     /// one that is an end is no entry to be played.
-    fn play(&mut self, agent: u8, entry: &'a Entry) -> Result<(), CertifyFault>
+    fn replay(&mut self, agent: u8, entry: &'a Entry) -> Result<(), CertifyFault>
         ensures ok { OnOk result (EntryGoes agent entry.now self.old self.new) }
         ensures shorter { OnOk result (IsShorter self.old agent self.new) }
         ensures mismatch { result ≡ Err Mismatch → is_asked entry.now ≡ false → EntryFails agent entry.now self.old }
@@ -313,7 +313,7 @@ impl<'a> Walk<'a> {
     }
 
     /// That a job ended is used, if one did: it has to come next.
-    fn end(&mut self, agent: u8, outcome: &Option<Outcome>) -> Result<(), CertifyFault>
+    fn end(&mut self, agent: u8, outcome: &Option<EndedJob>) -> Result<(), CertifyFault>
         ensures ok { OnOk result (IsEnd self.old agent outcome.now self.new) }
         ensures mismatch { result ≡ Err Mismatch → EndsOtherwise self.old.unused agent outcome.now }
     {

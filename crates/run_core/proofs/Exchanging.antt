@@ -8,12 +8,12 @@ use Rattle.rep_core.specs.declared.stamped.Lack.TheVariants.{Full}
 use Rattle.rep_core.specs.State.{State}
 use Rattle.rep_core.specs.Service.{reply_of}
 use Rattle.rep_core.specs.Serving.{answer_of, served, is_full}
-use Rattle.txn_core.specs.declared.word.Word.TheVariants.{Replied, Lacked}
+use Rattle.txn_core.specs.declared.response.Response.TheVariants.{Replied, Lacked}
 use Rattle.txn_core.specs.Agents.{take}
-use Rattle.run_core.specs.declared.done.Outcome.{Outcome}
+use Rattle.run_core.specs.declared.done.EndedJob.{EndedJob}
 use Rattle.run_core.specs.declared.done.Served.{Served}
 use Rattle.run_core.specs.Worlds.{with_actor, answered, outcome_of}
-use Rattle.run_core.specs.code.Seats.{Seated, after_word, ending_by}
+use Rattle.run_core.specs.code.Seats.{Seated, after_response, ending_by}
 use Rattle.run_core.specs.code.Exchanges.{IsExchange, IsExchangeOf}
 
 pub not_true : (b : Bool) → (b ≡ true → ⊥) → b ≡ false
@@ -38,7 +38,7 @@ abbrev of_it : State → Seated → ℕ → Request → Served
 of_it host seat server asked = record { server = server; request = stamped seat asked; reply = answer_of host (stamped seat asked) }
 
 pub was_served : (host : State) (seat : Seated) (server number : ℕ) (asked : Request) → is_full host (stamped seat asked) ≡ false
-    → IsExchange host (served host (stamped seat asked)) seat (after_word seat (answer_of host (stamped seat asked)).stamp (Replied (reply_of host asked))) server number asked
+    → IsExchange host (served host (stamped seat asked)) seat (after_response seat (answer_of host (stamped seat asked)).stamp (Replied (reply_of host asked))) server number asked
     (record { served = Some (of_it host seat server asked); outcome = outcome_of number seat.actor (take seat.fixed seat.actor.agent (Replied (reply_of host asked))).ending })
 was_served host seat server number asked not_full = record {
   fixed = refl;
@@ -46,20 +46,20 @@ was_served host seat server number asked not_full = record {
 }
 
 pub was_full : (host : State) (seat : Seated) (server number : ℕ) (asked : Request) → is_full host (stamped seat asked) ≡ true
-    → IsExchange host host seat (after_word seat seat.actor.stamp (Lacked Full)) server number asked
+    → IsExchange host host seat (after_response seat seat.actor.stamp (Lacked Full)) server number asked
     (record { served = None; outcome = outcome_of number seat.actor (take seat.fixed seat.actor.agent (Lacked Full)).ending })
 was_full host seat server number asked full = record {
   fixed = refl;
   step = λ world there.
       ap (λ (full : Bool). answered seat.fixed world number seat.actor host (cond full None (Some (of_it host seat server asked)))) full
-      ∙ sym (ap (λ (servers : List State). record { world = with_actor number (after_word seat seat.actor.stamp (Lacked Full)).actor (record world { servers = servers }); done = record { served = None; outcome = outcome_of number seat.actor (take seat.fixed seat.actor.agent (Lacked Full)).ending } }) (set_there world.servers server host there));
+      ∙ sym (ap (λ (servers : List State). record { world = with_actor number (after_response seat seat.actor.stamp (Lacked Full)).actor (record world { servers = servers }); done = record { served = None; outcome = outcome_of number seat.actor (take seat.fixed seat.actor.agent (Lacked Full)).ending } }) (set_there world.servers server host there));
 }
 
 -- ---- the same, and what is told of it
 
-pub full_exchange : (host host' : State) (seat seat' : Seated) (number : ℕ) (asked asked' : Served) (ended ended' : Option Outcome)
+pub full_exchange : (host host' : State) (seat seat' : Seated) (number : ℕ) (asked asked' : Served) (ended ended' : Option EndedJob)
     → asked.request.stamp ≡ seat.actor.stamp → is_full host asked.request ≡ true → host' ≡ host
-    → ended' ≡ option_or (ending_by number seat (Lacked Full)) ended → seat' ≡ after_word seat seat.actor.stamp (Lacked Full)
+    → ended' ≡ option_or (ending_by number seat (Lacked Full)) ended → seat' ≡ after_response seat seat.actor.stamp (Lacked Full)
     → IsExchangeOf host host' seat seat' number asked asked' ended ended' false
 full_exchange host host' seat seat' number asked asked' ended ended' stamp_is full host_is ended_is seat_is =
     let request = asked.request.value in
@@ -70,11 +70,11 @@ full_exchange host host' seat seat' number asked asked' ended ended' stamp_is fu
       told = record { ended_is = ended_is; served_is = refl };
     }
 
-pub served_exchange : (host host' : State) (seat seat' : Seated) (number : ℕ) (asked asked' : Served) (ended ended' : Option Outcome)
+pub served_exchange : (host host' : State) (seat seat' : Seated) (number : ℕ) (asked asked' : Served) (ended ended' : Option EndedJob)
     → asked.request.stamp ≡ seat.actor.stamp → (is_full host asked.request ≡ true → ⊥) → host' ≡ served host asked.request
     → asked' ≡ record { server = asked.server; request = asked.request; reply = answer_of host asked.request }
     → ended' ≡ option_or (ending_by number seat (Replied (answer_of host asked.request).value)) ended
-    → seat' ≡ after_word seat (answer_of host asked.request).stamp (Replied (answer_of host asked.request).value)
+    → seat' ≡ after_response seat (answer_of host asked.request).stamp (Replied (answer_of host asked.request).value)
     → IsExchangeOf host host' seat seat' number asked asked' ended ended' true
 served_exchange host host' seat seat' number asked asked' ended ended' stamp_is not_full host_is asked_is ended_is seat_is =
     let request = asked.request.value in

@@ -8,14 +8,14 @@ use Rattle.std.proofs.lemmas.List.Elements.{All-set, All-same}
 use Rattle.std.proofs.lemmas.Option.{slice_get-map, slice_get_within, get_or_from_slice_get}
 use Rattle.rep_core.specs.declared.request.Request.{Request}
 use Rattle.rep_core.specs.State.{State}
-use Rattle.txn_core.specs.declared.word.Word.{Word}
+use Rattle.txn_core.specs.declared.response.Response.{Response}
 use Rattle.txn_core.specs.Doing.{Fixed}
 use Rattle.txn_core.specs.Agents.{Agent, next_of, take}
 use Rattle.run_core.specs.declared.done.Done.{Done}
-use Rattle.run_core.specs.declared.done.Outcome.{Outcome}
+use Rattle.run_core.specs.declared.done.EndedJob.{EndedJob}
 use Rattle.run_core.specs.declared.done.Served.{Served}
 use Rattle.run_core.specs.Worlds.{Actor, World, Stepped, becomes, quiet, steps_once, asks, asks_at, answered, serve, lacks, lacks_for, lacked, outcome_of}
-use Rattle.run_core.specs.code.Seats.{Seated, changed, actors_in, world_of, AreOf, Becomes, after_word}
+use Rattle.run_core.specs.code.Seats.{Seated, changed, actors_in, world_of, AreOf, Becomes, after_response}
 use Rattle.run_core.specs.code.Exchanges.{IsExchange, IsExchangeOf, IsTold, ComesTo, served_if}
 use Rattle.run_core.proofs.Exchanging.{or_nothing, set_there}
 
@@ -116,21 +116,21 @@ asks_nobody server asked next same is = sym same ∙ ap (option_map (λ (server 
 pub asks_somebody : (server : Option ℕ) (asked : Request) (next : Option (ℕ × Request)) (one : ℕ) → option_map (λ (server : ℕ). (server, asked)) server ≡ next → server ≡ Some one → next ≡ Some (one, asked)
 asks_somebody server asked next one same is = sym same ∙ ap (option_map (λ (server : ℕ). (server, asked))) is
 
-pub comes_to : (stepped : Stepped) (world : World) (done : Done) (asked : Served) (ended ended' : Option Outcome) (is_served : Bool) → stepped ≡ record { world = world; done = done } → IsTold done asked ended ended' is_served → ComesTo stepped world asked ended ended' is_served
+pub comes_to : (stepped : Stepped) (world : World) (done : Done) (asked : Served) (ended ended' : Option EndedJob) (is_served : Bool) → stepped ≡ record { world = world; done = done } → IsTold done asked ended ended' is_served → ComesTo stepped world asked ended ended' is_served
 comes_to stepped world done asked ended ended' is_served is told = record {
   world_is = sym (ap (λ (one : Stepped). one.world) is);
   told = subst (λ (one : Stepped). IsTold one.done asked ended ended' is_served) (sym is) told;
 }
 
 -- nothing is told where nothing was done
-pub comes_to_nothing : (stepped : Stepped) (world : World) (asked : Served) (ended : Option Outcome) → stepped ≡ quiet world → ComesTo stepped world asked ended ended false
+pub comes_to_nothing : (stepped : Stepped) (world : World) (asked : Served) (ended : Option EndedJob) → stepped ≡ quiet world → ComesTo stepped world asked ended ended false
 comes_to_nothing stepped world asked ended is = comes_to stepped world _ asked ended ended false is (record { ended_is = refl; served_is = refl })
 
 -- no job ends where the operator asks
-pub comes_by_operator : (stepped : Stepped) (world : World) (asked : Served) (ended : Option Outcome) (is_served : Bool) → stepped ≡ record { world = world; done = record { served = served_if is_served asked; outcome = None } } → ComesTo stepped world asked ended ended is_served
+pub comes_by_operator : (stepped : Stepped) (world : World) (asked : Served) (ended : Option EndedJob) (is_served : Bool) → stepped ≡ record { world = world; done = record { served = served_if is_served asked; outcome = None } } → ComesTo stepped world asked ended ended is_served
 comes_by_operator stepped world asked ended is_served is = comes_to stepped world _ asked ended ended is_served is (record { ended_is = refl; served_is = refl })
 
-pub comes_there : (fixed : Fixed) (servers : List State) (seats : List Seated) (seat seat' : Seated) (host host' : State) (number : ℕ) (asked asked' : Served) (ended ended' : Option Outcome) (is_served : Bool)
+pub comes_there : (fixed : Fixed) (servers : List State) (seats : List Seated) (seat seat' : Seated) (host host' : State) (number : ℕ) (asked asked' : Served) (ended ended' : Option EndedJob) (is_served : Bool)
     → AreOf fixed seats → slice_get seats number ≡ Some seat → next_of seat.fixed seat.actor.agent ≡ Some (asked.server, asked.request.value) → slice_get servers asked.server ≡ Some host
     → IsExchangeOf host host' seat seat' number asked asked' ended ended' is_served
     → ComesTo (steps_once fixed (world_of servers seats) number (slice_get (actors_in seats) number)) (world_of (slice_set servers asked.server host') (slice_set seats number seat')) asked' ended ended' is_served
@@ -138,7 +138,7 @@ comes_there fixed servers seats seat seat' host host' number asked asked' ended 
     comes_to _ _ left.done asked' ended ended' is_served (ask_there fixed servers seats number asked.server seat seat' host host' asked.request.value left.done all is next there left.exchange) left.told
 
 -- whether it was served or not, the agent is of the same service
-pub of_exchange : (fixed : Fixed) (seats : List Seated) (place : ℕ) (seat seat' : Seated) (host host' : State) (asked asked' : Served) (ended ended' : Option Outcome) (told : Result Bool AllocError)
+pub of_exchange : (fixed : Fixed) (seats : List Seated) (place : ℕ) (seat seat' : Seated) (host host' : State) (asked asked' : Served) (ended ended' : Option EndedJob) (told : Result Bool AllocError)
     → AreOf fixed seats → slice_get seats place ≡ Some seat
     → IfOk told (IsExchangeOf host host' seat seat' place asked asked' ended ended') → OnErr told ((host' ≡ host) × (seat' ≡ seat) × (ended' ≡ ended))
     → AreOf fixed (slice_set seats place seat')
@@ -146,7 +146,7 @@ of_exchange fixed seats place seat seat' host host' asked asked' ended ended' (O
 of_exchange fixed seats place seat seat' host host' asked asked' ended ended' (Err why) all is told same = of_set fixed seats place seat seat' all is (ap (λ (one : Seated). one.fixed) same.1)
 
 -- a step, of what is told of it
-pub step_told : (stepped : Stepped) (world : World) (asked : Served) (outcome : Option Outcome) (is_served : Bool) → ComesTo stepped world asked None outcome is_served
+pub step_told : (stepped : Stepped) (world : World) (asked : Served) (outcome : Option EndedJob) (is_served : Bool) → ComesTo stepped world asked None outcome is_served
     → stepped ≡ record { world = world; done = record { served = served_if is_served asked; outcome = outcome } }
 step_told stepped world asked outcome is_served comes =
     let outcome_is = comes.told.ended_is ∙ or_nothing stepped.done.outcome in
@@ -154,28 +154,28 @@ step_told stepped world asked outcome is_served comes =
 
 -- ---- Lack
 
-pub lack_nobody : (fixed : Fixed) (servers : List State) (seats : List Seated) (place : ℕ) (word : Word) → slice_get seats place ≡ None
-    → lacks fixed (world_of servers seats) place word (slice_get (actors_in seats) place) ≡ quiet (world_of servers seats)
-lack_nobody fixed servers seats place word is = ap (lacks fixed (world_of servers seats) place word) (actor_there seats place None is)
+pub lack_nobody : (fixed : Fixed) (servers : List State) (seats : List Seated) (place : ℕ) (response : Response) → slice_get seats place ≡ None
+    → lacks fixed (world_of servers seats) place response (slice_get (actors_in seats) place) ≡ quiet (world_of servers seats)
+lack_nobody fixed servers seats place response is = ap (lacks fixed (world_of servers seats) place response) (actor_there seats place None is)
 
-lack_somebody : (fixed : Fixed) (servers : List State) (seats : List Seated) (place : ℕ) (word : Word) (seat : Seated) (asked : Option (ℕ × Request)) → AreOf fixed seats → slice_get seats place ≡ Some seat → next_of seat.fixed seat.actor.agent ≡ asked
-    → lacks fixed (world_of servers seats) place word (slice_get (actors_in seats) place) ≡ lacks_for fixed (world_of servers seats) place seat.actor word asked
-lack_somebody fixed servers seats place word seat asked all is next =
-    ap (lacks fixed (world_of servers seats) place word) (actor_there seats place (Some seat) is)
-    ∙ ap (λ (given : Fixed). lacks_for fixed (world_of servers seats) place seat.actor word (next_of given seat.actor.agent)) (sym (fixed_there fixed seats place seat all is))
-    ∙ ap (lacks_for fixed (world_of servers seats) place seat.actor word) next
+lack_somebody : (fixed : Fixed) (servers : List State) (seats : List Seated) (place : ℕ) (response : Response) (seat : Seated) (asked : Option (ℕ × Request)) → AreOf fixed seats → slice_get seats place ≡ Some seat → next_of seat.fixed seat.actor.agent ≡ asked
+    → lacks fixed (world_of servers seats) place response (slice_get (actors_in seats) place) ≡ lacks_for fixed (world_of servers seats) place seat.actor response asked
+lack_somebody fixed servers seats place response seat asked all is next =
+    ap (lacks fixed (world_of servers seats) place response) (actor_there seats place (Some seat) is)
+    ∙ ap (λ (given : Fixed). lacks_for fixed (world_of servers seats) place seat.actor response (next_of given seat.actor.agent)) (sym (fixed_there fixed seats place seat all is))
+    ∙ ap (lacks_for fixed (world_of servers seats) place seat.actor response) next
 
-pub lack_nothing : (fixed : Fixed) (servers : List State) (seats : List Seated) (place : ℕ) (word : Word) (seat : Seated) → AreOf fixed seats → slice_get seats place ≡ Some seat → next_of seat.fixed seat.actor.agent ≡ None
-    → lacks fixed (world_of servers seats) place word (slice_get (actors_in seats) place) ≡ quiet (world_of servers (slice_set seats place seat))
-lack_nothing fixed servers seats place word seat all is next = lack_somebody fixed servers seats place word seat None all is next ∙ put_back servers seats place seat is
+pub lack_nothing : (fixed : Fixed) (servers : List State) (seats : List Seated) (place : ℕ) (response : Response) (seat : Seated) → AreOf fixed seats → slice_get seats place ≡ Some seat → next_of seat.fixed seat.actor.agent ≡ None
+    → lacks fixed (world_of servers seats) place response (slice_get (actors_in seats) place) ≡ quiet (world_of servers (slice_set seats place seat))
+lack_nothing fixed servers seats place response seat all is next = lack_somebody fixed servers seats place response seat None all is next ∙ put_back servers seats place seat is
 
-pub lack_there : (fixed : Fixed) (servers : List State) (seats : List Seated) (place : ℕ) (word : Word) (seat seat' : Seated) (one : ℕ × Request) (asked : Served) (ended ended' : Option Outcome)
+pub lack_there : (fixed : Fixed) (servers : List State) (seats : List Seated) (place : ℕ) (response : Response) (seat seat' : Seated) (one : ℕ × Request) (asked : Served) (ended ended' : Option EndedJob)
     → AreOf fixed seats → slice_get seats place ≡ Some seat → next_of seat.fixed seat.actor.agent ≡ Some one
-    → seat' ≡ after_word seat seat.actor.stamp word → ended' ≡ option_or (outcome_of place seat.actor (take seat.fixed seat.actor.agent word).ending) ended
-    → ComesTo (lacks fixed (world_of servers seats) place word (slice_get (actors_in seats) place)) (world_of servers (slice_set seats place seat')) asked ended ended' false
-lack_there fixed servers seats place word seat seat' one asked ended ended' all is next seat'_is put =
-    comes_to _ _ (record { served = None; outcome = outcome_of place seat.actor (take seat.fixed seat.actor.agent word).ending }) asked ended ended' false
-    (lack_somebody fixed servers seats place word seat (Some one) all is next
-    ∙ ap (λ (given : Fixed). lacked given (world_of servers seats) place seat.actor word) (sym (fixed_there fixed seats place seat all is))
-    ∙ rw seat'_is (ap (λ (actors : List Actor). record { world = record { servers = servers; agents = actors }; done = record { served = None; outcome = outcome_of place seat.actor (take seat.fixed seat.actor.agent word).ending } }) (sym (actors_set seats place (after_word seat seat.actor.stamp word)))))
+    → seat' ≡ after_response seat seat.actor.stamp response → ended' ≡ option_or (outcome_of place seat.actor (take seat.fixed seat.actor.agent response).ending) ended
+    → ComesTo (lacks fixed (world_of servers seats) place response (slice_get (actors_in seats) place)) (world_of servers (slice_set seats place seat')) asked ended ended' false
+lack_there fixed servers seats place response seat seat' one asked ended ended' all is next seat'_is put =
+    comes_to _ _ (record { served = None; outcome = outcome_of place seat.actor (take seat.fixed seat.actor.agent response).ending }) asked ended ended' false
+    (lack_somebody fixed servers seats place response seat (Some one) all is next
+    ∙ ap (λ (given : Fixed). lacked given (world_of servers seats) place seat.actor response) (sym (fixed_there fixed seats place seat all is))
+    ∙ rw seat'_is (ap (λ (actors : List Actor). record { world = record { servers = servers; agents = actors }; done = record { served = None; outcome = outcome_of place seat.actor (take seat.fixed seat.actor.agent response).ending } }) (sym (actors_set seats place (after_response seat seat.actor.stamp response)))))
     (record { ended_is = put; served_is = refl })

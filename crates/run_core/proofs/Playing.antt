@@ -6,7 +6,7 @@ use Rattle.suite_prefix.specs.SettingsRules.{Opening}
 use Rattle.txn_core.specs.Doing.{Fixed}
 use Rattle.txn_core.specs.Agents.{fixed_of}
 use Rattle.run_core.specs.declared.event.Event.{Event}
-use Rattle.run_core.specs.declared.done.Outcome.{Outcome}
+use Rattle.run_core.specs.declared.done.EndedJob.{EndedJob}
 use Rattle.run_core.specs.Worlds.{World, step}
 use Rattle.run_core.specs.Runs.{after, dones, outcomes}
 use Rattle.run_core.proofs.Appending.{after-append, dones-append, outcomes-append}
@@ -34,7 +34,7 @@ world_played given given' world world' world'' events i played event within give
     ∙ sym (after_more (fixed_of given) world events i event within)
     ∙ ap (λ (n : ℕ). after (fixed_of given) world (take (n + 1) events)) (sym played_is)
 
-pub outcomes_played : (given given' : Opening) (world world' : World) (events : List Event) (i : ℕ) (event : Event) (outcome : Option Outcome) (kept kept' : List Outcome)
+pub outcomes_played : (given given' : Opening) (world world' : World) (events : List Event) (i : ℕ) (event : Event) (outcome : Option EndedJob) (kept kept' : List EndedJob)
     → i < length events → given' ≡ given → world' ≡ after (fixed_of given) world (take i events) → event ≡ get_or events i event
     → outcome ≡ (step (fixed_of given') world' event).done.outcome
     → kept ≡ outcomes (dones (fixed_of given) world (take i events)) → kept' ≡ kept ++ cons_option outcome []
@@ -42,7 +42,7 @@ pub outcomes_played : (given given' : Opening) (world world' : World) (events : 
 outcomes_played given given' world world' events i event outcome kept kept' within given'_is world'_is event_is stepped kept_is kept'_is =
     let there = rw (given'_is, world'_is) at stepped in
     kept'_is
-    ∙ ap (λ (before : List Outcome). before ++ cons_option outcome []) kept_is
-    ∙ ap (λ (one : Option Outcome). outcomes (dones (fixed_of given) world (take i events)) ++ cons_option one []) there
+    ∙ ap (λ (before : List EndedJob). before ++ cons_option outcome []) kept_is
+    ∙ ap (λ (one : Option EndedJob). outcomes (dones (fixed_of given) world (take i events)) ++ cons_option one []) there
     ∙ ap (λ (one : Event). outcomes (dones (fixed_of given) world (take i events)) ++ cons_option (step (fixed_of given) (after (fixed_of given) world (take i events)) one).done.outcome []) event_is
     ∙ sym (outcomes_more (fixed_of given) world events i event within)

@@ -9,8 +9,8 @@ use Rattle.rep_core.specs.State.{State}
 use Rattle.rep_core.proofs.Members.{Has, contains_from}
 use Rattle.weak_cache.specs.Entries.{Entry, Cache, forgotten}
 use Rattle.txn_core.specs.declared.job.Job.{Job}
-use Rattle.txn_core.specs.declared.word.Word.{Word}
-use Rattle.txn_core.specs.declared.word.Word.TheVariants.{Lacked}
+use Rattle.txn_core.specs.declared.response.Response.{Response}
+use Rattle.txn_core.specs.declared.response.Response.TheVariants.{Lacked}
 use Rattle.txn_core.specs.Doing.{Fixed}
 use Rattle.txn_core.specs.Agents.{Agent, begin, begins, started, forget, max_sites, next_of}
 use Rattle.run_core.specs.declared.done.Served.{Served}
@@ -68,9 +68,9 @@ steps_never : (fixed : Fixed) (world : World) (place : ℕ) (found : Option Acto
 steps_never fixed world place None none = refl
 steps_never fixed world place (Some actor) none = asks_none fixed world place actor (next_of fixed actor.agent) none
 
-lacks_never : (fixed : Fixed) (world : World) (place : ℕ) (word : Word) (found : Option Actor) → is_some (asked_by fixed found) ≡ false → lacks fixed world place word found ≡ quiet world
-lacks_never fixed world place word None none = refl
-lacks_never fixed world place word (Some actor) none = ap (lacks_for fixed world place actor word) (none_there (next_of fixed actor.agent) none)
+lacks_never : (fixed : Fixed) (world : World) (place : ℕ) (response : Response) (found : Option Actor) → is_some (asked_by fixed found) ≡ false → lacks fixed world place response found ≡ quiet world
+lacks_never fixed world place response None none = refl
+lacks_never fixed world place response (Some actor) none = ap (lacks_for fixed world place actor response) (none_there (next_of fixed actor.agent) none)
 
 -- ---- Crash and Return
 

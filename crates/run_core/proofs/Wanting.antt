@@ -13,7 +13,7 @@ use Rattle.txn_core.specs.Doing.{Fixed}
 use Rattle.txn_core.specs.Agents.{fixed_of, next_of}
 use Rattle.txn_core.specs.Wanting as agent
 use Rattle.txn_core.specs.Wanting.{by_job}
-use Rattle.run_core.specs.declared.done.Outcome.{Outcome}
+use Rattle.run_core.specs.declared.done.EndedJob.{EndedJob}
 use Rattle.run_core.specs.declared.event.Event.{Event}
 use Rattle.run_core.specs.Runs.{after, dones}
 use Rattle.run_core.specs.Worlds.{Actor, World, step}
@@ -107,7 +107,7 @@ some_true : {X : Type 0} (x : Option X) → IsSome x → is_some x ≡ true
 some_true (Some x) some = refl
 some_true None some = cc
 
-pub stops_behind : (given given' : Opening) (world world' : World) (events : List Event) (i played : ℕ) (event : Event) (outcome : Option Outcome)
+pub stops_behind : (given given' : Opening) (world world' : World) (events : List Event) (i played : ℕ) (event : Event) (outcome : Option EndedJob)
     → i < length events → given' ≡ given → played ≡ i → world' ≡ after (fixed_of given) world (take i events) → event ≡ get_or events i event
     → outcome ≡ (step (fixed_of given') world' event).done.outcome → IsSome outcome
     → by_stop (fixed_of given) world events (played + 1) ≡ true

@@ -13,7 +13,7 @@ use Rattle.rep_core.specs.declared.reply.Reply.TheVariants as reply
 use Rattle.rep_core.specs.declared.reply.Verdict.{Verdict}
 use Rattle.rep_core.specs.declared.reply.Verdict.TheVariants as verdict
 use Rattle.rep_core.specs.State.{State, record_of}
-use Rattle.txn_core.specs.Doing.{Fixed, Task, Doing, Running, Rounding}
+use Rattle.txn_core.specs.Doing.{Fixed, Task, Doing, Running, RunningSweep}
 use Rattle.txn_core.specs.Agents.{fixed_of}
 use Rattle.run_core.specs.declared.event.Event.{Event}
 use Rattle.run_core.specs.declared.event.Event.TheVariants.{Step}
@@ -31,8 +31,8 @@ pub record Decided : Type 0 where
 
 -- the transaction that an agent carries out
 abbrev pub task_of : Option Doing → Option Task
-task_of (Some (Running course)) = Some course.task
-task_of (Some (Rounding round)) = None
+task_of (Some (Running txn_run)) = Some txn_run.task
+task_of (Some (RunningSweep sweep_run)) = None
 task_of None = None
 
 abbrev pub task_at : Option Actor → Option Task

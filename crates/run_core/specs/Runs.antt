@@ -5,7 +5,7 @@ use Rattle.suite_prefix.specs.SettingsRules.{Opening}
 use Rattle.txn_core.specs.Doing.{Fixed}
 use Rattle.txn_core.specs.Agents.{fixed_of}
 use Rattle.run_core.specs.declared.event.Event.{Event}
-use Rattle.run_core.specs.declared.done.Outcome.{Outcome}
+use Rattle.run_core.specs.declared.done.EndedJob.{EndedJob}
 use Rattle.run_core.specs.declared.done.Done.{Done}
 use Rattle.run_core.specs.Worlds.{World, opening, step}
 
@@ -20,7 +20,7 @@ dones fixed world [] = []
 dones fixed world (event ∷ events) = (step fixed world event).done ∷ dones fixed (step fixed world event).world events
 
 -- the jobs that ended, in their order
-abbrev pub outcomes : List Done → List Outcome
+abbrev pub outcomes : List Done → List EndedJob
 outcomes done = filter_map (λ (one : Done). one.outcome) done
 
 -- the world of a run, and what was done in it

@@ -12,15 +12,15 @@ use Rattle.rep_core.specs.State as state
 use Rattle.rep_core.specs.State.{State}
 use Rattle.rep_core.specs.Serving.{answer_of, served, is_full}
 use Rattle.txn_core.specs.declared.ending.Ending.{Ending}
-use Rattle.txn_core.specs.declared.word.Word.{Word}
-use Rattle.txn_core.specs.declared.word.Word.TheVariants.{Replied, Lacked}
+use Rattle.txn_core.specs.declared.response.Response.{Response}
+use Rattle.txn_core.specs.declared.response.Response.TheVariants.{Replied, Lacked}
 use Rattle.txn_core.specs.Doing.{Fixed}
 use Rattle.txn_core.specs.Agents as agent
 use Rattle.txn_core.specs.Agents.{Agent, Taken, is_idle, next_of, take, begin, forget}
 use Rattle.run_core.specs.declared.event.Event.{Event}
 use Rattle.run_core.specs.declared.event.Event.TheVariants.{Begin, Step, Crash, Return, Forget, Lack}
 use Rattle.run_core.specs.declared.done.Served.{Served}
-use Rattle.run_core.specs.declared.done.Outcome.{Outcome}
+use Rattle.run_core.specs.declared.done.EndedJob.{EndedJob}
 use Rattle.run_core.specs.declared.done.Done.{Done}
 
 -- an agent in a world: its state, the last stamp that it was told, and how many steps its job has taken
@@ -111,12 +111,12 @@ abbrev pub steps_after : ℕ → Option Ending → ℕ
 steps_after steps None = one_more steps
 steps_after steps (Some ending) = 0
 
-abbrev pub outcome_of : ℕ → Actor → Option Ending → Option Outcome
+abbrev pub outcome_of : ℕ → Actor → Option Ending → Option EndedJob
 outcome_of number actor None = None
 outcome_of number actor (Some ending) =
     Some (record { agent = number; count = actor.agent.count - 1; steps = one_more actor.steps; ending = ending })
 
--- the agent once it took a word; it has this stamp from then on
+-- the agent once it took a response; it has this stamp from then on
 abbrev pub moved : Actor → ℕ → Taken → Actor
 moved actor stamp taken = record { agent = taken.agent; stamp = stamp; steps = steps_after actor.steps taken.ending }
 
@@ -127,8 +127,8 @@ took world number actor stamp taken what = record {
 }
 
 -- its request was not served
-abbrev pub lacked : Fixed → World → ℕ → Actor → Word → Stepped
-lacked fixed world number actor word = took world number actor actor.stamp (take fixed actor.agent word) None
+abbrev pub lacked : Fixed → World → ℕ → Actor → Response → Stepped
+lacked fixed world number actor response = took world number actor actor.stamp (take fixed actor.agent response) None
 
 -- its request was served, or the server is full
 abbrev pub answered : Fixed → World → ℕ → Actor → State → Option Served → Stepped
@@ -158,13 +158,13 @@ steps_once fixed world number (Some actor) = asks fixed world number actor (next
 steps_once fixed world number None = quiet world
 
 -- the agent is told that its request is not served
-abbrev pub lacks_for : Fixed → World → ℕ → Actor → Word → Option (ℕ × Request) → Stepped
-lacks_for fixed world number actor word (Some asked) = lacked fixed world number actor word
-lacks_for fixed world number actor word None = quiet world
+abbrev pub lacks_for : Fixed → World → ℕ → Actor → Response → Option (ℕ × Request) → Stepped
+lacks_for fixed world number actor response (Some asked) = lacked fixed world number actor response
+lacks_for fixed world number actor response None = quiet world
 
-abbrev pub lacks : Fixed → World → ℕ → Word → Option Actor → Stepped
-lacks fixed world number word (Some actor) = lacks_for fixed world number actor word (next_of fixed actor.agent)
-lacks fixed world number word None = quiet world
+abbrev pub lacks : Fixed → World → ℕ → Response → Option Actor → Stepped
+lacks fixed world number response (Some actor) = lacks_for fixed world number actor response (next_of fixed actor.agent)
+lacks fixed world number response None = quiet world
 
 -- the operator asks a server, with stamp 0
 abbrev pub operated : World → State → Option Served → Stepped

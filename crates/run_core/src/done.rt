@@ -41,21 +41,21 @@ impl Served {
 /// How a job of an agent ended: the agent's jobs are counted from 0, and `steps` of the job's own steps
 /// were taken.
 #[derive(Debug, Drop)]
-pub struct Outcome {
+pub struct EndedJob {
     pub agent: u8,
     pub count: u64,
     pub steps: u64,
     pub ending: Ending,
 }
 
-impl PartialEq for Outcome {
+impl PartialEq for EndedJob {
     ghost use Rattle.run_core.specs.code.Equality.{same_outcome, same_outcome_partial_laws};
 
     ghost eq = { same_outcome };
 
     ghost laws = { same_outcome_partial_laws };
 
-    fn eq(&self, other: &Outcome) -> bool {
+    fn eq(&self, other: &EndedJob) -> bool {
         self.agent == other.agent
             && self.count == other.count
             && self.steps == other.steps
@@ -63,7 +63,7 @@ impl PartialEq for Outcome {
     }
 }
 
-impl Eq for Outcome {
+impl Eq for EndedJob {
     ghost use Rattle.run_core.specs.code.Equality.{same_outcome_laws};
 
     ghost laws = { same_outcome_laws };
@@ -73,5 +73,5 @@ impl Eq for Outcome {
 #[derive(Drop)]
 pub struct Done {
     pub served: Option<Served>,
-    pub outcome: Option<Outcome>,
+    pub outcome: Option<EndedJob>,
 }

@@ -5,7 +5,7 @@ ghost use Rattle.txn_core.specs.Agents.{next_of};
 ghost use Rattle.run_core.specs.code.Exchanges.{IsExchangeOf};
 ghost use Rattle.run_core.specs.Wanting.{by_exchange};
 
-use crate::done::{Outcome, Served};
+use crate::done::{EndedJob, Served};
 use crate::host::Host;
 use crate::seat::Seat;
 use rep_core::Lack;
@@ -20,7 +20,7 @@ pub(crate) fn exchange(
     seat: &mut Seat,
     agent: u8,
     asked: &mut Served,
-    ended: &mut Option<Outcome>,
+    ended: &mut Option<EndedJob>,
 ) -> Result<bool, AllocError>
     requires asks { next_of seat.old.fixed seat.old.actor.agent ≡ Some (asked.old.server, asked.old.request.value) }
     requires stamp { asked.old.request.stamp ≡ seat.old.actor.stamp }

@@ -32,7 +32,7 @@ mod operator;
 mod seat;
 mod world;
 
-pub use done::{Done, Outcome, Served};
+pub use done::{Done, EndedJob, Served};
 pub use event::Event;
 pub use laws::{nothing_comes, runs_go_on, worked_runs};
 pub use world::{Stopped, World};

@@ -6,7 +6,7 @@ ghost use Rattle.txn_core.specs.Doing.{Fixed};
 ghost use Rattle.run_core.specs.code.Moves as moved;
 ghost use Rattle.run_core.specs.code.Seats.{AreOf, Becomes, changed};
 
-use crate::done::{Outcome, Served};
+use crate::done::{EndedJob, Served};
 use crate::exchange::exchange;
 use crate::host::Host;
 use crate::seat::Seat;
@@ -43,7 +43,7 @@ pub(crate) fn ask(
     seats: &mut Vec<Seat>,
     number: u8,
     asked: &mut Served,
-    ended: &mut Option<Outcome>,
+    ended: &mut Option<EndedJob>,
 ) -> Result<bool, AllocError>
     ensures of { (fixed : Fixed) → AreOf fixed seats.old.items → AreOf fixed seats.new.items }
     ensures ok { IfOk result (moved.IsAsked servers.old.items servers.new.items seats.old.items seats.new.items number asked.new ended.old ended.new) }
@@ -66,7 +66,7 @@ pub(crate) fn ask(
 
 /// The agent of this number is told that its request is not served, which takes no memory. How its job ended is put
 /// into a place of the caller's, which else keeps what it has.
-pub(crate) fn lack(seats: &mut Vec<Seat>, number: u8, lack: Lack, ended: &mut Option<Outcome>)
+pub(crate) fn lack(seats: &mut Vec<Seat>, number: u8, lack: Lack, ended: &mut Option<EndedJob>)
     ensures of { (fixed : Fixed) → AreOf fixed seats.old.items → AreOf fixed seats.new.items }
     ensures told { moved.IsLacked seats.old.items seats.new.items number lack ended.old ended.new }
 {

@@ -4,16 +4,16 @@ ghost use Rattle.std.specs.Prelude.{◌≡◌, ◌<◌, IfNone, IfOk, IfErr, IsT
 ghost use Rattle.std.specs.Option.{option_or};
 ghost use Rattle.txn_core.specs.Agents as agents;
 ghost use Rattle.txn_core.specs.Wanting as wanting;
-ghost use Rattle.txn_core.specs.declared.word.Word.TheVariants.{Lacked, Replied};
+ghost use Rattle.txn_core.specs.declared.response.Response.TheVariants.{Lacked, Replied};
 ghost use Rattle.run_core.specs.Worlds.{steps_after};
 ghost use Rattle.run_core.specs.code.Seats as seats;
 
-use crate::done::Outcome;
+use crate::done::EndedJob;
 use rep_core::{Lack, Reply, Request, Stamped};
 use std::alloc::{AllocError, Global};
 use std::marker::Model;
 use suite_prefix::Settings;
-use txn_core::{Agent, Ending, Job, Word};
+use txn_core::{Agent, Ending, Job, Response};
 
 /// An agent, with the last stamp that it was told, and how many steps its job has taken.
 #[derive(Drop)]
@@ -101,12 +101,12 @@ impl Seat {
         number: u8,
         server: u8,
         reply: &Stamped<Reply>,
-        ended: &mut Option<Outcome>,
+        ended: &mut Option<EndedJob>,
     ) -> Result<(), AllocError>
         requires asked { option_map (λ asked. asked.0) (agents.next_of self.old.fixed self.old.actor.agent) ≡ Some server }
         requires fits { seats.Fits self.old (Replied reply.now.value) }
         ensures ended { OnOk result (ended.new ≡ option_or (seats.ending_by number self.old (Replied reply.now.value)) ended.old) }
-        ensures state { OnOk result (self.new ≡ seats.after_word self.old reply.now.stamp (Replied reply.now.value)) }
+        ensures state { OnOk result (self.new ≡ seats.after_response self.old reply.now.stamp (Replied reply.now.value)) }
         ensures err { OnErr result ((self.new ≡ self.old) × (ended.new ≡ ended.old)) }
         ensures memory { IfErr result (λ _. IsTrue (wanting.by_taking (agents.next_of self.old.fixed self.old.actor.agent) (Replied reply.now.value))) }
     {
@@ -120,13 +120,13 @@ impl Seat {
 
     /// Its request was not served: it is told so, which takes no memory, and keeps its stamp. How its job
     /// ended is put into a place of the caller's, which else keeps what it has.
-    pub(crate) fn lack(&mut self, number: u8, lack: Lack, ended: &mut Option<Outcome>)
+    pub(crate) fn lack(&mut self, number: u8, lack: Lack, ended: &mut Option<EndedJob>)
         requires { seats.Fits self.old (Lacked lack) }
         ensures ended { ended.new ≡ option_or (seats.ending_by number self.old (Lacked lack)) ended.old }
-        ensures state { self.new ≡ seats.after_word self.old self.old.actor.stamp (Lacked lack) }
+        ensures state { self.new ≡ seats.after_response self.old self.old.actor.stamp (Lacked lack) }
     {
         let count = self.agent.count().saturating_sub(1);
-        let Ok(ending) = self.agent.take(&Word::Lacked(lack)) else {
+        let Ok(ending) = self.agent.take(&Response::Lacked(lack)) else {
             unreachable!();
         };
         self.move_on(number, count, ending, ended);
@@ -138,7 +138,7 @@ impl Seat {
         agent: u8,
         count: u64,
         ending: Option<Ending>,
-        ended: &mut Option<Outcome>,
+        ended: &mut Option<EndedJob>,
     )
         ensures ended { ended.new ≡ option_or (option_map (seats.ended_with agent count self.old.actor.steps) ending) ended.old }
         ensures state { self.new ≡ record self.old { actor = record self.old.actor { steps = steps_after self.old.actor.steps ending } } }
@@ -150,13 +150,13 @@ impl Seat {
     }
 
     /// Its job ended, with a step more.
-    fn end(&mut self, agent: u8, count: u64, ending: Ending, ended: &mut Option<Outcome>)
+    fn end(&mut self, agent: u8, count: u64, ending: Ending, ended: &mut Option<EndedJob>)
         ensures ended { ended.new ≡ Some (seats.ended_with agent count self.old.actor.steps ending) }
         ensures state { self.new ≡ record self.old { actor = record self.old.actor { steps = 0 } } }
     {
         let steps = self.steps.saturating_add(1);
         self.steps = 0;
-        let outcome = Outcome {
+        let outcome = EndedJob {
             agent,
             count,
             steps,

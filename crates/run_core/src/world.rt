@@ -10,7 +10,7 @@ ghost use Rattle.run_core.specs.Wanting as wanting;
 ghost use Rattle.run_core.specs.Worlds as worlds;
 ghost use Rattle.run_core.specs.code.Exchanges.{ComesTo};
 
-use crate::done::{Done, Outcome, Served};
+use crate::done::{Done, EndedJob, Served};
 use crate::event::Event;
 use crate::host::Host;
 use crate::moves;
@@ -90,7 +90,7 @@ impl World {
     /// Plays one event as `step` does, and tells only how a job ended, if one did: that is put into a place of
     /// the caller's, which else keeps what it has, and what was served is not kept. Where memory runs out nothing
     /// has changed, and the same event may be played again. It wants memory only where `step` may.
-    pub fn advance(&mut self, event: &Event, ended: &mut Option<Outcome>) -> Result<(), AllocError>
+    pub fn advance(&mut self, event: &Event, ended: &mut Option<EndedJob>) -> Result<(), AllocError>
         ensures given { self.new.given ≡ self.old.given }
         ensures world { OnOk result (self.new.world ≡ (worlds.step (fixed_of self.old.given) self.old.world event.now).world) }
         ensures ended { OnOk result (ended.new ≡ option_or (worlds.step (fixed_of self.old.given) self.old.world event.now).done.outcome ended.old) }
@@ -109,7 +109,7 @@ impl World {
         &mut self,
         event: &Event,
         asked: &mut Served,
-        ended: &mut Option<Outcome>,
+        ended: &mut Option<EndedJob>,
     ) -> Result<bool, AllocError>
         ensures given { self.new.given ≡ self.old.given }
         ensures ok { IfOk result (ComesTo (worlds.step (fixed_of self.old.given) self.old.world event.now) self.new.world asked.new ended.old ended.new) }
@@ -143,7 +143,7 @@ impl World {
     /// as after the events that are told, and the others may be played next: the first of them wants memory,
     /// or the last that was played ended a job, whose outcome is kept. The outcomes of that call are not
     /// handed out.
-    pub fn play(&mut self, events: &[Event]) -> Result<Vec<Outcome>, Stopped>
+    pub fn play(&mut self, events: &[Event]) -> Result<Vec<EndedJob>, Stopped>
         ensures given { self.new.given ≡ self.old.given }
         ensures outcomes { IfOk result (λ outcomes. outcomes.items ≡ runs.outcomes (runs.dones (fixed_of self.old.given) self.old.world events.now)) }
         ensures world { OnOk result (self.new.world ≡ runs.after (fixed_of self.old.given) self.old.world events.now) }
@@ -219,7 +219,7 @@ impl World {
 }
 
 /// How a job ended is kept, if one did.
-fn keep(outcomes: &mut Vec<Outcome>, outcome: Option<Outcome>) -> Result<(), AllocError>
+fn keep(outcomes: &mut Vec<EndedJob>, outcome: Option<EndedJob>) -> Result<(), AllocError>
     ensures ok { OnOk result (outcomes.new.items ≡ outcomes.old.items ++ cons_option outcome []) }
     ensures memory { IfErr result (λ _. IsSome outcome) }
 {

@@ -4,7 +4,7 @@
 //! lacks stops it.
 
 use acl_core::{Acl, Lists, Mode};
-use run_core::{Done, Event, Outcome, World};
+use run_core::{Done, EndedJob, Event, World};
 use std::alloc::AllocError;
 use std::process::Abort;
 use suite_prefix::Settings;
@@ -107,14 +107,14 @@ fn stepped(world: &mut World, event: &Event) -> Result<Done, AllocError> {
 }
 
 /// How a job ended, in words: its agent, its number, its steps, and the end.
-pub(crate) fn words(rt: &(impl Abort + AllocGlobal), outcome: &Outcome) -> String {
+pub(crate) fn words(rt: &(impl Abort + AllocGlobal), outcome: &EndedJob) -> String {
     let (agent, count, steps) = (outcome.agent, outcome.count, outcome.steps);
     let made = format!(in rt.alloc(); "{agent}.{count} {steps} {:?}", outcome.ending);
     had(rt, made)
 }
 
 /// How a job ended, in words; none, if none did.
-pub(crate) fn ending(rt: &(impl Abort + AllocGlobal), outcome: &Option<Outcome>) -> String {
+pub(crate) fn ending(rt: &(impl Abort + AllocGlobal), outcome: &Option<EndedJob>) -> String {
     match outcome {
         Some(outcome) => words(rt, outcome),
         None => String::new(rt.alloc()),

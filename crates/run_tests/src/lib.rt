@@ -46,6 +46,6 @@ mod runs;
 #[cfg(test)]
 mod sweeps;
 #[cfg(test)]
-mod town;
+mod test_cluster;
 #[cfg(test)]
 mod worlds;

@@ -1,7 +1,7 @@
 //! Lies about a run, which are found out.
 
 use crate::fixtures::{insert, same, settings};
-use crate::town::{Town, adds, count, judged, opened, play};
+use crate::test_cluster::{TestCluster, adds, count, judged, opened, play};
 use rep_core::{Lack, Reply, Request, Stamped};
 use run_certify::Entry;
 use server_lock::Item;
@@ -10,29 +10,42 @@ use suite_prefix::Settings;
 use txn_core::Job;
 
 /// A list beside a sweep: nine items.
-fn told(rt: &(impl Abort + AllocGlobal), settings: &Settings) -> Town {
-    let mut town = opened(rt, settings);
+fn told(rt: &(impl Abort + AllocGlobal), settings: &Settings) -> TestCluster {
+    let mut test_cluster = opened(rt, settings);
     play(
         rt,
-        &mut town,
+        &mut test_cluster,
         "begin 0 list /,begin 1 sweep 1,step 0,run 1,run 0",
     );
-    town
+    test_cluster
 }
 
 /// This is no run.
-fn found_out(rt: &(impl Abort + AllocGlobal), settings: &Settings, town: Town, about: &str) {
-    same(rt, &judged(rt, settings, town), "Mismatch", about);
+fn found_out(
+    rt: &(impl Abort + AllocGlobal),
+    settings: &Settings,
+    test_cluster: TestCluster,
+    about: &str,
+) {
+    same(rt, &judged(rt, settings, test_cluster), "Mismatch", about);
 }
 
 /// What a server served.
-fn items_of<'a>(rt: &impl Abort, town: &'a mut Town, server: usize) -> &'a mut Vec<Item> {
-    town.items.get_mut(server).expect(rt, "a server")
+fn items_of<'a>(
+    rt: &impl Abort,
+    test_cluster: &'a mut TestCluster,
+    server: usize,
+) -> &'a mut Vec<Item> {
+    test_cluster.items.get_mut(server).expect(rt, "a server")
 }
 
 /// What an agent put down.
-fn entries_of<'a>(rt: &impl Abort, town: &'a mut Town, agent: usize) -> &'a mut Vec<Entry> {
-    town.entries.get_mut(agent).expect(rt, "an agent")
+fn entries_of<'a>(
+    rt: &impl Abort,
+    test_cluster: &'a mut TestCluster,
+    agent: usize,
+) -> &'a mut Vec<Entry> {
+    test_cluster.entries.get_mut(agent).expect(rt, "an agent")
 }
 
 /// What is said of an item that is not so.
@@ -116,10 +129,10 @@ fn is_found_out(
     server: usize,
     place: usize,
 ) -> bool {
-    let mut town = told(rt, settings);
-    let is_told = tell_lie(rt, items_of(rt, &mut town, server), lie.0, place);
+    let mut test_cluster = told(rt, settings);
+    let is_told = tell_lie(rt, items_of(rt, &mut test_cluster, server), lie.0, place);
     if is_told {
-        found_out(rt, settings, town, lie.1);
+        found_out(rt, settings, test_cluster, lie.1);
     }
     is_told
 }
@@ -154,10 +167,10 @@ fn is_missed(
     agent: usize,
     place: usize,
 ) -> bool {
-    let mut town = told(rt, settings);
-    let is_there = leave_out(entries_of(rt, &mut town, agent), place);
+    let mut test_cluster = told(rt, settings);
+    let is_there = leave_out(entries_of(rt, &mut test_cluster, agent), place);
     if is_there {
-        found_out(rt, settings, town, "an entry less");
+        found_out(rt, settings, test_cluster, "an entry less");
     }
     is_there
 }
@@ -182,20 +195,20 @@ fn pop<T: Drop>(rt: &impl Abort, list: &mut Vec<T>) {
 }
 
 /// Leaves out the last step, by which agent 0 asked server 1 and its job ended.
-fn break_off(rt: &impl Abort, town: &mut Town) {
-    pop(rt, items_of(rt, town, 1));
-    pop(rt, entries_of(rt, town, 0));
-    pop(rt, entries_of(rt, town, 0));
-    assert!(rt; count(town) == 8);
+fn break_off(rt: &impl Abort, test_cluster: &mut TestCluster) {
+    pop(rt, items_of(rt, test_cluster, 1));
+    pop(rt, entries_of(rt, test_cluster, 0));
+    pop(rt, entries_of(rt, test_cluster, 0));
+    assert!(rt; count(test_cluster) == 8);
 }
 
 /// A run that was broken off one step earlier is a run too.
 #[test]
 fn a_last_step_was_not_taken(rt: HostRuntime) {
     let settings = settings(&rt, 2);
-    let mut town = told(&rt, &settings);
-    break_off(&rt, &mut town);
-    let verdict = judged(&rt, &settings, town);
+    let mut test_cluster = told(&rt, &settings);
+    break_off(&rt, &mut test_cluster);
+    let verdict = judged(&rt, &settings, test_cluster);
     let wanted = "0 by 1000: 1 of 1 answered. ";
     same(&rt, &verdict, wanted, "a step less");
 }
@@ -237,13 +250,13 @@ fn invented(which: usize) -> Entry {
 }
 
 /// Spoils a run in one way of several.
-fn spoil(rt: &impl Abort, town: &mut Town, which: usize) {
+fn spoil(rt: &impl Abort, test_cluster: &mut TestCluster, which: usize) {
     match which {
-        0 | 1 => miscount(entries_of(rt, town, which)),
-        2 => exchange(rt, items_of(rt, town, 0)),
-        3 => operate(items_of(rt, town, 1)),
-        4 | 5 => adds(rt, town, 0, invented(which)),
-        _ => adds(rt, town, 1, invented(which)),
+        0 | 1 => miscount(entries_of(rt, test_cluster, which)),
+        2 => exchange(rt, items_of(rt, test_cluster, 0)),
+        3 => operate(items_of(rt, test_cluster, 1)),
+        4 | 5 => adds(rt, test_cluster, 0, invented(which)),
+        _ => adds(rt, test_cluster, 1, invented(which)),
     }
 }
 
@@ -262,8 +275,8 @@ static SPOILED: [&str; 8] = [
 fn other_lies(rt: HostRuntime) {
     let settings = settings(&rt, 2);
     for (which, about) in SPOILED.iter().enumerate() {
-        let mut town = told(&rt, &settings);
-        spoil(&rt, &mut town, which);
-        found_out(&rt, &settings, town, about);
+        let mut test_cluster = told(&rt, &settings);
+        spoil(&rt, &mut test_cluster, which);
+        found_out(&rt, &settings, test_cluster, about);
     }
 }

@@ -1,14 +1,14 @@
 //! Who opens a world and plays events on it is promised what holds of every run, and what is available from each of its
-//! moments on: a caller of `headline::promise` and `run_recovers::promise`, and what came of its events.
+//! moments on: a caller of `law_headline::promise` and `law_run_recovers::promise`, and what came of its events.
 
 ghost use Rattle.std.specs.Prelude.{◌≡◌, Some};
-ghost use Rattle.headline.specs.Promises.{Promises};
+ghost use Rattle.law_headline.specs.Promises.{Promises};
 ghost use Rattle.run_core.specs.Opened.{Opened};
-ghost use Rattle.run_recovers.specs.Promises.{Lends};
+ghost use Rattle.law_run_recovers.specs.Promises.{Lends};
 
 use crate::events::events;
 use crate::fixtures::{ended_by, same, settings};
-use headline::{all_votes_are_valid, opens_a_run, plays_on, promise};
+use law_headline::{all_votes_are_valid, opens_a_run, plays_on, promise};
 use run_core::{Event, World};
 use std::alloc::Global;
 use suite_prefix::Settings;
@@ -30,7 +30,7 @@ fn promised(alloc: Global, settings: &Settings, events: &[Event]) -> Option<Worl
         return None;
     };
     promise(&world);
-    run_recovers::promise(&world);
+    law_run_recovers::promise(&world);
     Some(world)
 }
 

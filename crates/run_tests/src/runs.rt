@@ -3,7 +3,7 @@
 use crate::certified::{certified, histories, transcripts};
 use crate::events::job;
 use crate::fixtures::{same, settings, settings_of, three_votes};
-use crate::town::{Town, count, happens, judged, opened, play, put_together};
+use crate::test_cluster::{TestCluster, count, happens, judged, opened, play, put_together};
 use rep_core::Lack;
 use run_certify::Entry;
 use run_core::Event;
@@ -15,10 +15,10 @@ use vote_core::ServerSet;
 /// What a run on three servers comes to, by its lines.
 fn runs(rt: &(impl Abort + AllocGlobal), agents: usize, lines: &str, items: usize, want: &str) {
     let settings = settings(rt, agents);
-    let mut town = opened(rt, &settings);
-    play(rt, &mut town, lines);
-    assert!(rt; count(&town) == items);
-    same(rt, &judged(rt, &settings, town), want, lines);
+    let mut test_cluster = opened(rt, &settings);
+    play(rt, &mut test_cluster, lines);
+    assert!(rt; count(&test_cluster) == items);
+    same(rt, &judged(rt, &settings, test_cluster), want, lines);
 }
 
 /// No histories and no transcripts are certified too.
@@ -31,8 +31,8 @@ fn nobody_is_a_run(rt: &(impl Abort + AllocGlobal), settings: &Settings) {
 #[test]
 fn nothing_is_a_run(rt: HostRuntime) {
     let settings = settings(&rt, 2);
-    let town = opened(&rt, &settings);
-    same(&rt, &judged(&rt, &settings, town), "", "nothing");
+    let test_cluster = opened(&rt, &settings);
+    same(&rt, &judged(&rt, &settings, test_cluster), "", "nothing");
     nobody_is_a_run(&rt, &settings);
 }
 
@@ -92,48 +92,48 @@ fn job_at(rt: &(impl Abort + AllocGlobal), which: u8, seed: &mut u64) -> Job {
 }
 
 /// What an agent does next: begins a job, or takes a step of the one that it has.
-fn goes_on(rt: &(impl Abort + AllocGlobal), town: &mut Town, seed: &mut u64) {
+fn goes_on(rt: &(impl Abort + AllocGlobal), test_cluster: &mut TestCluster, seed: &mut u64) {
     let agent = below(seed, 4);
     let which = below(seed, 10);
-    let event = if town.world.idle(agent) {
+    let event = if test_cluster.world.idle(agent) {
         let job = job_at(rt, which, seed);
         Event::Begin { agent, job }
     } else {
         Event::Step { agent }
     };
-    happens(rt, town, event);
+    happens(rt, test_cluster, event);
 }
 
 /// What happens next: of a hundred things a crash, four returns, a cache that is forgotten, two requests that are not
 /// served, and else what an agent does.
-fn chance(rt: &(impl Abort + AllocGlobal), town: &mut Town, seed: &mut u64) {
+fn chance(rt: &(impl Abort + AllocGlobal), test_cluster: &mut TestCluster, seed: &mut u64) {
     let agent = below(seed, 4);
     let server = below(seed, 3);
     match below(seed, 100) {
-        0 => happens(rt, town, Event::Crash { server }),
-        1..=4 => happens(rt, town, Event::Return { server }),
-        5 => happens(rt, town, Event::Forget { agent, site: 0 }),
+        0 => happens(rt, test_cluster, Event::Crash { server }),
+        1..=4 => happens(rt, test_cluster, Event::Return { server }),
+        5 => happens(rt, test_cluster, Event::Forget { agent, site: 0 }),
         6 | 7 => {
-            if !town.world.idle(agent) {
+            if !test_cluster.world.idle(agent) {
                 let lack = Lack::Memory;
-                happens(rt, town, Event::Lack { agent, lack });
+                happens(rt, test_cluster, Event::Lack { agent, lack });
             }
         }
-        _ => goes_on(rt, town, seed),
+        _ => goes_on(rt, test_cluster, seed),
     }
 }
 
 /// A run of four agents with caches, of more than a thousand items, at the end of which nobody has a job.
-fn long_run(rt: &(impl Abort + AllocGlobal), settings: &Settings) -> Town {
-    let mut town = opened(rt, settings);
+fn long_run(rt: &(impl Abort + AllocGlobal), settings: &Settings) -> TestCluster {
+    let mut test_cluster = opened(rt, settings);
     let mut seed = 1u64;
     for _ in 0..4000u64 {
-        if count(&town) < 1000 {
-            chance(rt, &mut town, &mut seed);
+        if count(&test_cluster) < 1000 {
+            chance(rt, &mut test_cluster, &mut seed);
         }
     }
-    play(rt, &mut town, "run 0,run 1,run 2,run 3");
-    town
+    play(rt, &mut test_cluster, "run 0,run 1,run 2,run 3");
+    test_cluster
 }
 
 /// How many jobs of an agent were answered or refused.
@@ -156,26 +156,31 @@ fn is_answered(entry: &Entry) -> bool {
     }
 }
 
-fn all_answered(town: &Town) -> usize {
+fn all_answered(test_cluster: &TestCluster) -> usize {
     let mut all = 0usize;
-    for entries in &town.entries {
+    for entries in &test_cluster.entries {
         all = all.saturating_add(answered(entries));
     }
     all
 }
 
-/// So many decisions are certified of a town.
-fn decides(rt: &(impl Abort + AllocGlobal), settings: &Settings, town: Town, want: usize) {
-    let (histories, transcripts) = put_together(rt, town);
+/// So many decisions are certified of a test cluster.
+fn decides(
+    rt: &(impl Abort + AllocGlobal),
+    settings: &Settings,
+    test_cluster: TestCluster,
+    want: usize,
+) {
+    let (histories, transcripts) = put_together(rt, test_cluster);
     assert!(rt; certified(rt, settings, &histories, &transcripts) == Some(want));
 }
 
 #[test]
 fn a_thousand_items(rt: HostRuntime) {
     let settings = settings_of(&rt, three_votes(&rt), 4, (4096, 16), ServerSet::empty());
-    let town = long_run(&rt, &settings);
-    assert!(&rt; count(&town) >= 1000);
-    let ended = all_answered(&town);
+    let test_cluster = long_run(&rt, &settings);
+    assert!(&rt; count(&test_cluster) >= 1000);
+    let ended = all_answered(&test_cluster);
     assert!(&rt; ended > 20);
-    decides(&rt, &settings, town, ended);
+    decides(&rt, &settings, test_cluster, ended);
 }

@@ -2,7 +2,7 @@
 
 ghost use Rattle.std.specs.Prelude.{◌≡◌, true, Some};
 ghost use Rattle.txn_core.specs.Agents.{next_of};
-ghost use Rattle.txn_core.specs.Laws.{fits_word};
+ghost use Rattle.txn_core.specs.Laws.{fits_response};
 ghost use Rattle.txn_core.specs.Standing.{FitsAsked};
 
 use crate::fixtures::{had, number, push, same, settings_of, votes};
@@ -10,7 +10,7 @@ use rep_core::{Lock, LockList, Reply, Request, Verdict};
 use std::alloc::AllocError;
 use std::process::Abort;
 use suite_prefix::LockMode;
-use txn_core::{Agent, Ending, Job, Word};
+use txn_core::{Agent, Ending, Job, Response};
 use vote_core::ServerSet;
 
 /// What an agent asks, and of which server.
@@ -51,8 +51,8 @@ fn lock(rt: &impl Abort, text: &str) -> Lock {
 
 fn locks(rt: &(impl Abort + AllocGlobal), text: &str) -> LockList {
     let mut locks = Vec::new(rt.alloc());
-    for word in text.split(' ') {
-        push(rt, &mut locks, lock(rt, word));
+    for response in text.split(' ') {
+        push(rt, &mut locks, lock(rt, response));
     }
     had(rt, LockList::from_vec(locks))
 }
@@ -68,18 +68,18 @@ fn reply(rt: &(impl Abort + AllocGlobal), text: &str) -> Reply {
 }
 
 /// A reply as a word, where it fits what was asked.
-fn fitting(rt: &impl Abort, request: &Request, reply: Reply) -> Word
-    ensures { fits_word request.now result ≡ true }
+fn fitting(rt: &impl Abort, request: &Request, reply: Reply) -> Response
+    ensures { fits_response request.now result ≡ true }
 {
     assert!(rt; request.fits(&reply));
-    Word::Replied(reply)
+    Response::Replied(reply)
 }
 
 /// An agent takes what came of what it asked.
-fn told(rt: &impl Abort, agent: &mut Agent, word: &Word) -> Option<Ending>
-    requires { FitsAsked (next_of agent.old.fixed agent.old.state) word.now }
+fn told(rt: &impl Abort, agent: &mut Agent, response: &Response) -> Option<Ending>
+    requires { FitsAsked (next_of agent.old.fixed agent.old.state) response.now }
 {
-    had(rt, agent.take(word))
+    had(rt, agent.take(response))
 }
 
 /// The agent asks this, and is told that.
@@ -91,8 +91,8 @@ fn tells(
 ) -> Option<Ending> {
     let (at, request) = asked(rt, agent);
     asks(rt, at, &request, wanted);
-    let word = fitting(rt, &request, reply(rt, said));
-    told(rt, agent, &word)
+    let response = fitting(rt, &request, reply(rt, said));
+    told(rt, agent, &response)
 }
 
 static TALK: &str = "

@@ -9,7 +9,7 @@ use crate::fixtures::{
     ended_by, ending, had, number, opening, push, same, settings, settings_of, small, three_votes,
     words,
 };
-use run_core::{Event, Outcome, World, runs_go_on, worked_runs};
+use run_core::{EndedJob, Event, World, runs_go_on, worked_runs};
 use std::alloc::AllocError;
 use std::process::Abort;
 use suite_prefix::{Form, Settings};
@@ -37,7 +37,7 @@ fn both(rt: &(impl Abort + AllocGlobal), settings: &Settings) -> Pair {
 fn advanced(
     world: &mut World,
     event: &Event,
-    ended: &mut Option<Outcome>,
+    ended: &mut Option<EndedJob>,
 ) -> Result<(), AllocError> {
     world.advance(event, ended)
 }
@@ -291,7 +291,7 @@ fn old_and_new_copies(rt: HostRuntime) {
 }
 
 /// The outcomes of events; or, where memory is refused, how many were played.
-fn played(world: &mut World, events: &[Event]) -> Result<Vec<Outcome>, usize> {
+fn played(world: &mut World, events: &[Event]) -> Result<Vec<EndedJob>, usize> {
     match world.play(events) {
         Ok(outcomes) => Ok(outcomes),
         Err(stopped) => Err(stopped.done),
@@ -300,7 +300,7 @@ fn played(world: &mut World, events: &[Event]) -> Result<Vec<Outcome>, usize> {
 
 /// From which place on events were played to the end, and their outcomes: from the first one on, or where memory was
 /// refused once.
-fn plays_on(rt: &impl Abort, world: &mut World, events: &[Event]) -> (usize, Vec<Outcome>) {
+fn plays_on(rt: &impl Abort, world: &mut World, events: &[Event]) -> (usize, Vec<EndedJob>) {
     match played(world, events) {
         Ok(outcomes) => (0, outcomes),
         Err(done) => {
@@ -388,7 +388,7 @@ fn told_by(rt: &(impl Abort + AllocGlobal), text: &'static str) -> EventsAndEnds
 }
 
 /// The outcome at this place is there, and is this.
-fn ends_so(rt: &(impl Abort + AllocGlobal), outcomes: &[Outcome], at: usize, want: &str) {
+fn ends_so(rt: &(impl Abort + AllocGlobal), outcomes: &[EndedJob], at: usize, want: &str) {
     let outcome = outcomes.get(at).expect(rt, "an end");
     same(rt, &words(rt, outcome), want, want);
 }
@@ -398,7 +398,7 @@ fn ends(
     rt: &(impl Abort + AllocGlobal),
     wanted: &[(usize, &'static str)],
     from: usize,
-    outcomes: &[Outcome],
+    outcomes: &[EndedJob],
 ) {
     let mut next = 0usize;
     for (place, end) in wanted {

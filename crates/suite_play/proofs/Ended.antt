@@ -8,13 +8,13 @@ use Rattle.rep_core.specs.declared.request.Request.{Request}
 use Rattle.rep_core.specs.declared.stamped.Lack.TheVariants as lack
 use Rattle.rep_core.specs.State.{State}
 use Rattle.txn_core.specs.declared.ending.Ending.{Ending}
-use Rattle.txn_core.specs.declared.word.Word.{Word}
-use Rattle.txn_core.specs.declared.word.Word.TheVariants.{Replied, Lacked}
-use Rattle.txn_core.specs.Doing.{After, Doing, Ends, Fixed, GoesOn, Rounding, Running}
+use Rattle.txn_core.specs.declared.response.Response.{Response}
+use Rattle.txn_core.specs.declared.response.Response.TheVariants.{Replied, Lacked}
+use Rattle.txn_core.specs.Doing.{After, Doing, Ends, Fixed, GoesOn, RunningSweep, Running}
 use Rattle.txn_core.specs.Agents.{Agent, end_of, fixed_of, is_idle, left, next_of, take, take_in}
 use Rattle.txn_core.specs.Sweeps as sweep
-use Rattle.txn_core.specs.Transactions as course
-use Rattle.run_core.specs.declared.done.Outcome.{Outcome}
+use Rattle.txn_core.specs.Transactions as txn_run
+use Rattle.run_core.specs.declared.done.EndedJob.{EndedJob}
 use Rattle.run_core.specs.declared.done.Served.{Served}
 use Rattle.run_core.specs.declared.event.Event.TheVariants.{Step}
 use Rattle.run_core.specs.Opened.{Opened}
@@ -30,12 +30,12 @@ ended_after : {D : Type 0} (as_doing : D → Doing) (after : After D) → is_som
 ended_after as_doing (GoesOn more) some = cc
 ended_after as_doing (Ends ending) some = refl
 
-ended_take : (fixed : Fixed) (agent : Agent) (word : Word) (doing : Option Doing) (asked : Option (ℕ × Request)) → is_some (take_in fixed agent word doing asked).ending ≡ true → is_idle (take_in fixed agent word doing asked).agent.doing ≡ true
-ended_take fixed agent word (Some (Running running)) (Some asked) some = ended_after Running (course.after_word fixed running agent.cache asked.0 asked.1 word).after some
-ended_take fixed agent word (Some (Rounding round)) (Some asked) some = ended_after Rounding (sweep.after_word fixed.service round asked.0 word) some
-ended_take fixed agent word (Some (Running running)) None some = cc
-ended_take fixed agent word (Some (Rounding round)) None some = cc
-ended_take fixed agent word None asked some = cc
+ended_take : (fixed : Fixed) (agent : Agent) (response : Response) (doing : Option Doing) (asked : Option (ℕ × Request)) → is_some (take_in fixed agent response doing asked).ending ≡ true → is_idle (take_in fixed agent response doing asked).agent.doing ≡ true
+ended_take fixed agent response (Some (Running running)) (Some asked) some = ended_after Running (txn_run.after_response fixed running agent.cache asked.0 asked.1 response).after some
+ended_take fixed agent response (Some (RunningSweep sweep_run)) (Some asked) some = ended_after RunningSweep (sweep.after_response fixed.service sweep_run asked.0 response) some
+ended_take fixed agent response (Some (Running running)) None some = cc
+ended_take fixed agent response (Some (RunningSweep sweep_run)) None some = cc
+ended_take fixed agent response None asked some = cc
 
 ended_outcome : (number : ℕ) (actor : Actor) (ending : Option Ending) → is_some (outcome_of number actor ending) ≡ true → is_some ending ≡ true
 ended_outcome number actor None some = cc
@@ -47,12 +47,12 @@ put_there [] place was now is = cc
 put_there (actor ∷ actors) zero was now is = refl
 put_there (actor ∷ actors) (suc place) was now is = put_there actors place was now is
 
-ended_took : (fixed : Fixed) (world : World) (number : ℕ) (actor : Actor) (stamp : ℕ) (word : Word) (what : Option Served) → actor_at world number ≡ Some actor
-    → is_some (took world number actor stamp (take fixed actor.agent word) what).done.outcome ≡ true
-    → has_no_job (actor_at (took world number actor stamp (take fixed actor.agent word) what).world number) ≡ true
-ended_took fixed world number actor stamp word what there some =
-    ap has_no_job (put_there world.agents number actor (moved actor stamp (take fixed actor.agent word)) there)
-    ∙ ended_take fixed actor.agent word actor.agent.doing (next_of fixed actor.agent) (ended_outcome number actor (take fixed actor.agent word).ending some)
+ended_took : (fixed : Fixed) (world : World) (number : ℕ) (actor : Actor) (stamp : ℕ) (response : Response) (what : Option Served) → actor_at world number ≡ Some actor
+    → is_some (took world number actor stamp (take fixed actor.agent response) what).done.outcome ≡ true
+    → has_no_job (actor_at (took world number actor stamp (take fixed actor.agent response) what).world number) ≡ true
+ended_took fixed world number actor stamp response what there some =
+    ap has_no_job (put_there world.agents number actor (moved actor stamp (take fixed actor.agent response)) there)
+    ∙ ended_take fixed actor.agent response actor.agent.doing (next_of fixed actor.agent) (ended_outcome number actor (take fixed actor.agent response).ending some)
 
 ended_answered : (fixed : Fixed) (world : World) (number : ℕ) (actor : Actor) (st : State) (what : Option Served) → actor_at world number ≡ Some actor
     → is_some (answered fixed world number actor st what).done.outcome ≡ true → has_no_job (actor_at (answered fixed world number actor st what).world number) ≡ true
@@ -80,7 +80,7 @@ ended_step fixed world number some = ended_once fixed world number (actor_at wor
 -- ---- steps that are played one by one
 
 -- so many steps are left, and what they come to with what was put down is what all of them come to
-pub record SoFar (start : Opened) (agent count : ℕ) (now : Opened) (left : ℕ) (ended : Option Outcome) : Type 0 where
+pub record SoFar (start : Opened) (agent count : ℕ) (now : Opened) (left : ℕ) (ended : Option EndedJob) : Type 0 where
   pub given : now.given ≡ start.given
   pub printed : outcome_text ended ++ (steps (fixed_of now.given) now.world agent left).text ≡ (steps (fixed_of start.given) start.world agent count).text
   pub world : (steps (fixed_of now.given) now.world agent left).world ≡ (steps (fixed_of start.given) start.world agent count).world
@@ -93,7 +93,7 @@ on_some : {X : Type 0} (o : Option X) {P : Type 0} → (is_some o ≡ true → P
 on_some None holds = tt
 on_some (Some x) holds = holds refl
 
-pub one_more : (start now now' : Opened) (agent count left : ℕ) (ended ended' : Option Outcome) → 0 < left → ended ≡ None
+pub one_more : (start now now' : Opened) (agent count left : ℕ) (ended ended' : Option EndedJob) → 0 < left → ended ≡ None
     → now'.given ≡ now.given → now'.world ≡ (step (fixed_of now.given) now.world (Step agent)).world → ended' ≡ option_or (step (fixed_of now.given) now.world (Step agent)).done.outcome ended
     → SoFar start agent count now left ended → SoFar start agent count now' (left - 1) ended'
 one_more start now now' agent count left ended ended' some none given world put so_far =
@@ -104,11 +104,11 @@ one_more start now now' agent count left ended ended' some none given world put 
     record {
       given = given ∙ so_far.given;
       printed =
-          ap (λ (put : Option Outcome). outcome_text put ++ (steps (fixed_of now'.given) now'.world agent (left - 1)).text) ended'_is
+          ap (λ (put : Option EndedJob). outcome_text put ++ (steps (fixed_of now'.given) now'.world agent (left - 1)).text) ended'_is
           ∙ ap (λ (with : Opening). outcome_text once.done.outcome ++ (steps (fixed_of with) now'.world agent (left - 1)).text) given
           ∙ ap (λ (after : World). outcome_text once.done.outcome ++ (steps fixed after agent (left - 1)).text) world
           ∙ ap (λ (all : Printed). all.text) (sym more)
-          ∙ ap (λ (put : Option Outcome). outcome_text put ++ (steps fixed now.world agent left).text) (sym none)
+          ∙ ap (λ (put : Option EndedJob). outcome_text put ++ (steps fixed now.world agent left).text) (sym none)
           ∙ so_far.printed;
       world =
           ap (λ (with : Opening). (steps (fixed_of with) now'.world agent (left - 1)).world) given
@@ -134,18 +134,18 @@ NothingLeft now agent left = steps (fixed_of now.given) now.world agent left ≡
 pub none_left : (now : Opened) (agent left : ℕ) → left ≡ 0 → NothingLeft now agent left
 none_left now agent left none = ap (steps (fixed_of now.given) now.world agent) none ∙ no_steps (fixed_of now.given) now.world agent
 
-is_idle_now : (ended : Option Outcome) {P : Type 0} → is_some ended ≡ true → OnSome ended P → P
+is_idle_now : (ended : Option EndedJob) {P : Type 0} → is_some ended ≡ true → OnSome ended P → P
 is_idle_now None some holds = cc
 is_idle_now (Some outcome) some holds = holds
 
-pub has_ended : (start now : Opened) (agent count left : ℕ) (ended : Option Outcome) → is_some ended ≡ true → SoFar start agent count now left ended → NothingLeft now agent left
+pub has_ended : (start now : Opened) (agent count left : ℕ) (ended : Option EndedJob) → is_some ended ≡ true → SoFar start agent count now left ended → NothingLeft now agent left
 has_ended start now agent count left ended some so_far = steps_idle (fixed_of now.given) now.world agent left (is_idle_now ended some so_far.idle)
 
-pub all_text : (start now : Opened) (agent count left : ℕ) (ended : Option Outcome) → NothingLeft now agent left → SoFar start agent count now left ended
+pub all_text : (start now : Opened) (agent count left : ℕ) (ended : Option EndedJob) → NothingLeft now agent left → SoFar start agent count now left ended
     → outcome_text ended ≡ (steps (fixed_of start.given) start.world agent count).text
 all_text start now agent count left ended none so_far = sym (append-nil (outcome_text ended)) ∙ ap (λ (all : Printed). outcome_text ended ++ all.text) (sym none) ∙ so_far.printed
 
-pub all_world : (start now : Opened) (agent count left : ℕ) (ended : Option Outcome) → NothingLeft now agent left → SoFar start agent count now left ended
+pub all_world : (start now : Opened) (agent count left : ℕ) (ended : Option EndedJob) → NothingLeft now agent left → SoFar start agent count now left ended
     → now ≡ record { given = start.given; world = (steps (fixed_of start.given) start.world agent count).world }
 all_world start now agent count left ended none so_far =
     let given = so_far.given in

@@ -10,13 +10,13 @@ use Rattle.txn_core.specs.Doing.{Fixed}
 use Rattle.run_core.specs.declared.event.Event.{Event}
 use Rattle.run_core.specs.declared.event.Event.TheVariants.{Step}
 use Rattle.run_core.specs.declared.done.Done.{Done}
-use Rattle.run_core.specs.declared.done.Outcome.{Outcome}
+use Rattle.run_core.specs.declared.done.EndedJob.{EndedJob}
 use Rattle.run_core.specs.Worlds.{World, step}
 use Rattle.run_core.specs.Runs.{after, dones, outcomes}
 use Rattle.run_core.proofs.Appending.{dones-append, outcomes-append}
-use Rattle.headline.specs.Premises.{VotesAreValid}
-use Rattle.headline.specs.Promises.{IsPromised}
-use Rattle.headline.proofs.Promised.{front, promised}
+use Rattle.law_headline.specs.Premises.{VotesAreValid}
+use Rattle.law_headline.specs.Promises.{IsPromised}
+use Rattle.law_headline.proofs.Promised.{front, promised}
 use Rattle.suite_script.specs.declared.fault.ScriptFault.{ScriptFault}
 use Rattle.suite_script.specs.Scripts.{Pending, Script, owns, script_of, scripted, whole}
 use Rattle.suite_play.specs.declared.command.Command.{Command}
@@ -43,7 +43,7 @@ line_world fixed world (line.Audit server) = refl
 
 -- ---- and what it prints
 
-one_text : (o : Option Outcome) (served : _) (later : List Done) → outcome_text o ++ flat_map outcome_line (outcomes later) ≡ flat_map outcome_line (outcomes (record { served = served; outcome = o } ∷ later))
+one_text : (o : Option EndedJob) (served : _) (later : List Done) → outcome_text o ++ flat_map outcome_line (outcomes later) ≡ flat_map outcome_line (outcomes (record { served = served; outcome = o } ∷ later))
 one_text None served later = refl
 one_text (Some outcome) served later = refl
 
@@ -66,7 +66,7 @@ line_jobs fixed world (line.Audit server) is = absurd (false≢true (sym is))
 abbrev printed : Fixed → World → List Event → List ℕ
 printed fixed world events = flat_map outcome_line (outcomes (dones fixed world events))
 
-texts_more : (jobs later : List Outcome) → flat_map outcome_line (jobs ++ later) ≡ flat_map outcome_line jobs ++ flat_map outcome_line later
+texts_more : (jobs later : List EndedJob) → flat_map outcome_line (jobs ++ later) ≡ flat_map outcome_line jobs ++ flat_map outcome_line later
 texts_more [] later = refl
 texts_more (job ∷ jobs) later =
     ap (λ text. outcome_line job ++ text) (texts_more jobs later)

@@ -6,8 +6,8 @@ use Rattle.acl_text.specs.Tables.{Tables}
 use Rattle.file_ops.specs.declared.operation.Action.{Action}
 use Rattle.file_ops.specs.declared.operation.Action.TheVariants as action
 use Rattle.file_ops.specs.declared.operation.Op.{Op}
-use Rattle.headline.proofs.Promised.{both}
-use Rattle.headline.specs.Premises.{AllGiveValidVotes, GivesValidVotes, VotesAreValid}
+use Rattle.law_headline.proofs.Promised.{both}
+use Rattle.law_headline.specs.Premises.{AllGiveValidVotes, GivesValidVotes, VotesAreValid}
 use Rattle.script_text.specs.Phrases.{is_semicolon}
 use Rattle.suite_prefix.specs.SettingsRules.{Opening}
 use Rattle.suite_script.proofs.Seen.{each_of}

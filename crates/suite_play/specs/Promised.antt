@@ -7,7 +7,7 @@ use Rattle.run_core.specs.declared.event.Event as happening
 use Rattle.run_core.specs.declared.event.Event.TheVariants.{Step}
 use Rattle.run_core.specs.Worlds.{World, audit_of}
 use Rattle.run_core.specs.Runs.{after, dones, outcomes}
-use Rattle.headline.specs.Promises.{IsPromised}
+use Rattle.law_headline.specs.Promises.{IsPromised}
 use Rattle.suite_script.specs.Scripts.{Script}
 use Rattle.suite_play.specs.declared.command.Command.{Command}
 use Rattle.suite_play.specs.declared.command.Command.TheVariants.{Event, Steps, Run, Audit}

@@ -2,7 +2,7 @@
 use Rattle.std.specs.Prelude.{ℕ, List, [], ◌++◌, codes, decimal, length, Option, Some, None}
 use Rattle.std.specs.List.{flat_map}
 use Rattle.file_ops.specs.declared.audit.AuditItem.{AuditItem}
-use Rattle.run_core.specs.declared.done.Outcome.{Outcome}
+use Rattle.run_core.specs.declared.done.EndedJob.{EndedJob}
 use Rattle.suite_script.specs.Faults.{line_feed}
 use Rattle.suite_script.specs.Texts.{answered_text, denial_text, refusal_text}
 use Rattle.txn_core.specs.declared.ending.Cause.{Cause}
@@ -27,12 +27,12 @@ ending_text (ending.Swept broken finished left) = codes "swept " ++ decimal brok
 ending_text (ending.Undecided cause) = codes "undecided " ++ cause_text cause
 
 -- which job of which agent has ended, after how many steps, and how
-abbrev pub outcome_line : Outcome → List ℕ
+abbrev pub outcome_line : EndedJob → List ℕ
 outcome_line outcome =
     decimal outcome.agent ++ codes "." ++ decimal outcome.count ++ codes " " ++ decimal outcome.steps ++ codes " " ++ ending_text outcome.ending ++ line_feed
 
 -- the line of a job that has ended, if one has
-abbrev pub outcome_text : Option Outcome → List ℕ
+abbrev pub outcome_text : Option EndedJob → List ℕ
 outcome_text (Some outcome) = outcome_line outcome
 outcome_text None = []
 

@@ -4,7 +4,7 @@ ghost use Rattle.std.specs.Prelude.{◌≡◌, ◌++◌, OnOk};
 ghost use Rattle.suite_play.specs.Texts.{cause_text, ending_text, item_line, outcome_line};
 
 use file_ops::AuditItem;
-use run_core::Outcome;
+use run_core::EndedJob;
 use script_text::push_number;
 use std::alloc::{AllocError, Global};
 use suite_script::{push_answered, push_denial, push_refused};
@@ -14,7 +14,7 @@ use txn_core::{Cause, Ending};
 pub(crate) fn push_outcome(
     alloc: Global,
     text: &mut Vec<u8>,
-    outcome: &Outcome,
+    outcome: &EndedJob,
 ) -> Result<(), AllocError>
     ensures { OnOk result (text.new.items ≡ text.old.items ++ outcome_line outcome.now) }
 {

@@ -17,7 +17,7 @@ use crate::outcome::{push_item, push_outcome};
 use crate::places::Places;
 use byte_streams::ByteOut;
 use file_ops::AuditItem;
-use run_core::{Event, Outcome, World};
+use run_core::{EndedJob, Event, World};
 use script_text::push_number;
 use std::alloc::{AllocError, Global};
 use suite_prefix::Settings;
@@ -27,7 +27,7 @@ use suite_script::{KEPT, PlayError, ScriptError, ScriptReader, write_gathered, w
 const FEW: usize = 1_024;
 
 /// Plays a script of events, and writes what it prints; nothing, where it has a fault. What is played is promised: of the
-/// run of its events, at each moment, all that `headline::promise` promises of a world. A line is played as it is read: so
+/// run of its events, at each moment, all that `law_headline::promise` promises of a world. A line is played as it is read: so
 /// nothing is written until the script is known to have no fault, which is at its end, or, where much is printed, once the
 /// rest was looked through. So what is printed and not written is never more than 4 MiB and what two lines print, of which
 /// an audit of more than 1,024 denials is none: it is written in pieces.
@@ -219,7 +219,7 @@ fn push_steps(
 pub fn push_ended(
     alloc: Global,
     text: &mut Vec<u8>,
-    ended: &Option<Outcome>,
+    ended: &Option<EndedJob>,
 ) -> Result<(), AllocError>
     ensures { OnOk result (text.new.items ≡ text.old.items ++ outcome_text ended.now) }
 {

@@ -4,7 +4,7 @@ use Rattle.server_lock.specs.declared.item.Item.{Item}
 use Rattle.run_certify.specs.declared.entry.Entry.{Entry}
 use Rattle.run_certify.specs.Certified.{IsCertified}
 use Rattle.agent_pool.specs.declared.outcome.JobOutcome.{JobOutcome}
-use Rattle.agent_pool.specs.declared.workshop.NamedJob.{NamedJob}
+use Rattle.agent_pool.specs.declared.pool_context.NamedJob.{NamedJob}
 use Rattle.suite_serve.specs.Scripts.{Plan}
 use Rattle.suite_serve.specs.Served.{AreApart, AreFirst, AreJobEnds, Came, IsServed, end_in, items_in}
 use Rattle.suite_serve.specs.code.Working.{AreDone, HaveEnded, named_from, transcripts_of}

@@ -4,11 +4,11 @@ use Rattle.std.proofs.lemmas.Option.{none-some, same_Some, slice_get-map}
 use Rattle.std.specs.Prelude.{Contains, slice_get, Option, Some}
 use Rattle.std.specs.Prelude.{option_map}
 use Rattle.txn_core.specs.declared.job.Job.{Job}
-use Rattle.run_core.specs.declared.done.Outcome.{Outcome}
+use Rattle.run_core.specs.declared.done.EndedJob.{EndedJob}
 use Rattle.run_certify.specs.declared.entry.Entry.{Entry}
 use Rattle.run_certify.specs.declared.entry.Entry.TheVariants.{Begun, Ended}
 use Rattle.agent_pool.specs.declared.outcome.JobOutcome.{JobOutcome}
-use Rattle.agent_pool.specs.declared.workshop.NamedJob.{NamedJob}
+use Rattle.agent_pool.specs.declared.pool_context.NamedJob.{NamedJob}
 use Rattle.agent_pool.specs.Endings.{end_of}
 use Rattle.agent_pool.specs.Transcripts.{Played, number_of}
 use Rattle.agent_pool.specs.Pools.{AreApart as ApartOutcomes}
@@ -27,7 +27,7 @@ transcript_at players are player has =
     ∙ slice_get-map (λ (p : Played). p.entries) players has.0
     ∙ ap (option_map (λ (p : Played). p.entries)) there
 
-ends_there : (before asked after : List Entry) (begun : Entry) (end : Outcome) → end_of (slice_get (before ++ begun ∷ (asked ++ Ended end ∷ after)) (length before + (length asked + 1))) ≡ Some end
+ends_there : (before asked after : List Entry) (begun : Entry) (end : EndedJob) → end_of (slice_get (before ++ begun ∷ (asked ++ Ended end ∷ after)) (length before + (length asked + 1))) ≡ Some end
 ends_there before asked after begun end =
     let next : length asked + 1 ≡ suc (length asked + 0) = omega arith in
     ap (λ n. end_of (slice_get (before ++ begun ∷ (asked ++ Ended end ∷ after)) (length before + n))) next
@@ -38,7 +38,7 @@ one_end : (players : List Played) → AreNumbered 0 players → (named : NamedJo
     → IsJobEnd (transcripts_of players) named.number named.job (end_in (transcripts_of players) outcome)
 one_end players are named outcome has =
     let told = has.told in
-    let end : Outcome = record { agent = number_of has.player; count = outcome.count; steps = length told.asked; ending = told.ending } in
+    let end : EndedJob = record { agent = number_of has.player; count = outcome.count; steps = length told.asked; ending = told.ending } in
     let there = transcript_at players are has.player has.there ∙ ap Some told.split in
     let name : named_end (transcripts_of players) outcome ≡ Some end =
     ap (λ n. end_there (slice_get (transcripts_of players) n) outcome.at) (sym has.number)

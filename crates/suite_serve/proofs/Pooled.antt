@@ -12,7 +12,7 @@ use Rattle.run_certify.specs.declared.entry.Entry.{Entry}
 use Rattle.run_certify.specs.declared.entry.Entry.TheVariants.{Begun, Asked, Lacked, Forgot, Ended}
 use Rattle.agent_pool.specs.declared.outcome.JobOutcome.{JobOutcome}
 use Rattle.agent_pool.specs.declared.pool.Pool.{Pool}
-use Rattle.agent_pool.specs.declared.workshop.NamedJob.{NamedJob}
+use Rattle.agent_pool.specs.declared.pool_context.NamedJob.{NamedJob}
 use Rattle.agent_pool.specs.Pools.{AreApart, IsOutcome, IsPoolOf, begun_by}
 use Rattle.agent_pool.specs.Seats.{AreReady, WentOn}
 use Rattle.agent_pool.specs.Transcripts.{IsLonger, IsTold, Played, begins, first_player, number_of, players_from}

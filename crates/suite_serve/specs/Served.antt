@@ -3,7 +3,7 @@ use Rattle.std.specs.Prelude.{◌≡◌, ℕ, ◌+◌, ◌<◌, List, [], ◌∷
 use Rattle.std.specs.List.{flat_map}
 use Rattle.std.specs.Option.{option_map}
 use Rattle.txn_core.specs.declared.job.Job.{Job}
-use Rattle.run_core.specs.declared.done.Outcome.{Outcome}
+use Rattle.run_core.specs.declared.done.EndedJob.{EndedJob}
 use Rattle.server_lock.specs.declared.item.Item.{Item}
 use Rattle.run_certify.specs.declared.entry.Entry.{Entry}
 use Rattle.run_certify.specs.declared.entry.Entry.TheVariants.{Begun, Ended}
@@ -18,7 +18,7 @@ use Rattle.suite_serve.specs.Scripts.{Plan}
 -- how a job ended, by its number; none, where that is not told
 pub record JobEnd : Type 0 where
   pub job : ℕ
-  pub told : Option Outcome
+  pub told : Option EndedJob
 
 -- what the jobs of a script came to, in the order of their numbers, and how many requests were served
 pub record Came : Type 0 where
@@ -28,7 +28,7 @@ pub record Came : Type 0 where
 -- ---- lines
 
 -- the number of a job, how many steps it took, and how it ended
-abbrev pub told_line : ℕ → Option Outcome → List ℕ
+abbrev pub told_line : ℕ → Option EndedJob → List ℕ
 told_line job (Some outcome) = decimal job ++ codes " " ++ decimal outcome.steps ++ codes " " ++ ending_text outcome.ending ++ line_feed
 told_line job None = []
 
@@ -40,12 +40,12 @@ job_lines ends = flat_map job_line ends
 
 -- ---- ends in transcripts
 
-abbrev pub end_there : Option (List Entry) → ℕ → Option Outcome
+abbrev pub end_there : Option (List Entry) → ℕ → Option EndedJob
 end_there (Some transcript) at = end_at transcript at
 end_there None at = None
 
 -- the end that a job's outcome names
-abbrev pub named_end : List (List Entry) → JobOutcome → Option Outcome
+abbrev pub named_end : List (List Entry) → JobOutcome → Option EndedJob
 named_end transcripts outcome = end_there (slice_get transcripts outcome.agent) outcome.at
 
 abbrev pub end_in : List (List Entry) → JobOutcome → JobEnd
@@ -59,7 +59,7 @@ items_in [] = 0
 items_in (history ∷ histories) = length history + items_in histories
 
 -- A job ended so: its agent's transcript has the job as its begin of that count, then as many requests as it took steps, and then this end.
-pub record EndedSo (transcripts : List (List Entry)) (job : Job) (told : Outcome) : Type 0 where
+pub record EndedSo (transcripts : List (List Entry)) (job : Job) (told : EndedJob) : Type 0 where
   pub before : List Entry
   pub asked : List Entry
   pub after : List Entry
@@ -70,7 +70,7 @@ pub record EndedSo (transcripts : List (List Entry)) (job : Job) (told : Outcome
 
 -- how the job of a number ended
 pub record IsJobEnd (transcripts : List (List Entry)) (number : ℕ) (job : Job) (end : JobEnd) : Type 0 where
-  pub told : Outcome
+  pub told : EndedJob
   pub is : end ≡ record { job = number; told = Some told }
   pub ended : EndedSo transcripts job told
 
@@ -82,7 +82,7 @@ AreJobEnds transcripts number _ _ = ⊥
 
 -- who did a job, and as which of its jobs
 abbrev pub done_as : JobEnd → Option (ℕ × ℕ)
-done_as end = option_map (λ (told : Outcome). (told.agent, told.count)) end.told
+done_as end = option_map (λ (told : EndedJob). (told.agent, told.count)) end.told
 
 -- no two were done by one agent as one job
 abbrev pub AreApart : List JobEnd → Type 0

@@ -7,7 +7,7 @@ ghost use Rattle.suite_serve.specs.Served.{end_in, items_in, job_lines, named_en
 use agent_pool::{JobOutcome, end_at};
 use byte_streams::ByteOut;
 use run_certify::Transcripts;
-use run_core::Outcome;
+use run_core::EndedJob;
 use script_text::push_number;
 use server_lock::Histories;
 use std::alloc::{AllocError, Global};
@@ -85,7 +85,7 @@ fn push_told(
     alloc: Global,
     text: &mut Vec<u8>,
     job: u64,
-    told: Option<&Outcome>,
+    told: Option<&EndedJob>,
 ) -> Result<(), AllocError>
     ensures { OnOk result (text.new.items ≡ text.old.items ++ told_line job (option_map (λ told. told.now) told.entry)) }
 {
@@ -101,7 +101,7 @@ fn push_told(
 }
 
 /// How a job ended, where that stands in its agent's transcript.
-fn ended<'a>(transcripts: &'a Transcripts, outcome: &JobOutcome) -> Option<&'a Outcome>
+fn ended<'a>(transcripts: &'a Transcripts, outcome: &JobOutcome) -> Option<&'a EndedJob>
     ensures { option_map (λ told. told.now) result ≡ named_end transcripts.now outcome.now }
 {
     let transcript = transcripts.as_slice().get(usize::from(outcome.agent))?;

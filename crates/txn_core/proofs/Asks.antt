@@ -5,7 +5,7 @@ use Rattle.suite_prefix.specs.declared.lock_mode.LockMode.{LockMode}
 use Rattle.rep_core.specs.declared.request.Request.{Request}
 use Rattle.rep_core.specs.declared.request.Request.TheVariants as request
 use Rattle.suite_collect.specs.Collecting.{Poll, Upgrade, Next, Ask, Current, Short, next}
-use Rattle.txn_core.specs.Suites.{First, Suite}
+use Rattle.txn_core.specs.Suites.{ReadPoint, Suite}
 use Rattle.txn_core.specs.Doing.{Task}
 use Rattle.txn_core.specs.Transactions.{asked_by, asked_for, fetched_at, fetched_for}
 
@@ -29,6 +29,6 @@ pub fetched_as : (p : Request → Bool) (b : Bool) (task : Task) (number : ℕ) 
 fetched_as p b task number None server asked fetches is = cc
 fetched_as p b task number (Some suite) server asked fetches is = of suite.first is
   where
-    of : (first : Option First) → fetched_at task number first ≡ Some (server, asked) → p asked ≡ b
+    of : (first : Option ReadPoint) → fetched_at task number first ≡ Some (server, asked) → p asked ≡ b
     of (Some first) is = ap p (sym (asks_same first.source server (request.Fetch task.t number) asked is)) ∙ fetches
     of None is = cc

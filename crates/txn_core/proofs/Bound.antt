@@ -11,9 +11,9 @@ use Rattle.rep_core.specs.declared.request.Request.{Request}
 use Rattle.rep_core.specs.declared.request.Request.TheVariants as request
 use Rattle.txn_core.specs.Suites.{Suites, suite_of}
 use Rattle.txn_core.specs.Writing.{parts_at}
-use Rattle.txn_core.specs.declared.word.Word.{Word}
+use Rattle.txn_core.specs.declared.response.Response.{Response}
 use Rattle.txn_core.specs.declared.job.Job.TheVariants.{Transaction}
-use Rattle.txn_core.specs.Doing.{Fixed, Task, home_of, Phase, Gathering, Fetching, Widening, Preparing, Deciding, Finishing, Doing, Running, Rounding}
+use Rattle.txn_core.specs.Doing.{Fixed, Task, home_of, Phase, Gathering, Fetching, Widening, Preparing, Deciding, Finishing, Doing, Running, RunningSweep}
 use Rattle.txn_core.specs.Transactions.{request_in, changes_of, decision_of}
 use Rattle.txn_core.specs.Agents.{Agent, Event, Take, Forget, next_in, next_of, take, begin, forget, is_idle}
 use Rattle.txn_core.specs.Laws.{Exchange, exchange_of, exchanges, of_job, locks, is_decide, count_of, among, asks_only, is_late, LateStepsAreFew, names_of, names_only, EndsInTime}
@@ -230,20 +230,20 @@ ours_in fixed task suites (Deciding outcome) server asked is = ap is_ours (sym (
 ours_in fixed task suites (Finishing [] v ending) server asked is = cc
 ours_in fixed task suites (Finishing (now ∷ left) v ending) server asked is = ap is_ours (sym (asks_same now server (request.Finish task.t v) asked is))
 
-ours_one : (fixed : Fixed) (doing : Option Doing) (asked : Option (ℕ × Request)) (word : Word) (past : List Exchange) → next_in fixed doing ≡ asked → IsNoRound doing → list_all (λ one. is_ours one.request) past ≡ true
-    → list_all (λ one. is_ours one.request) (exchange_of asked word ++ past) ≡ true
-ours_one fixed (Some (Running course)) (Some asked) word past is none rest = both (is_ours asked.1) (list_all (λ one. is_ours one.request) past) (ours_in fixed course.task course.suites course.phase asked.0 asked.1 is) rest
-ours_one fixed (Some (Running course)) None word past is none rest = rest
-ours_one fixed (Some (Rounding round)) asked word past is none rest = absurd none
-ours_one fixed None (Some asked) word past is none rest = cc
-ours_one fixed None None word past is none rest = rest
+ours_one : (fixed : Fixed) (doing : Option Doing) (asked : Option (ℕ × Request)) (response : Response) (past : List Exchange) → next_in fixed doing ≡ asked → IsNoRound doing → list_all (λ one. is_ours one.request) past ≡ true
+    → list_all (λ one. is_ours one.request) (exchange_of asked response ++ past) ≡ true
+ours_one fixed (Some (Running txn_run)) (Some asked) response past is none rest = both (is_ours asked.1) (list_all (λ one. is_ours one.request) past) (ours_in fixed txn_run.task txn_run.suites txn_run.phase asked.0 asked.1 is) rest
+ours_one fixed (Some (Running txn_run)) None response past is none rest = rest
+ours_one fixed (Some (RunningSweep sweep_run)) asked response past is none rest = absurd none
+ours_one fixed None (Some asked) response past is none rest = cc
+ours_one fixed None None response past is none rest = rest
 
 all_ours : (fixed : Fixed) (agent : Agent) (events : List Event) → IsNoRound agent.doing → list_all (λ one. is_ours one.request) (exchanges fixed agent events) ≡ true
 all_ours fixed agent [] none = refl
 all_ours fixed agent (Forget site ∷ events) none = all_ours fixed (forget agent site) events none
-all_ours fixed agent (Take word ∷ events) none =
-    ours_one fixed agent.doing (next_of fixed agent) word (exchanges fixed (take fixed agent word).agent events) refl none
-    (all_ours fixed (take fixed agent word).agent events (take_no_round fixed agent word agent.doing (next_of fixed agent) refl none))
+all_ours fixed agent (Take response ∷ events) none =
+    ours_one fixed agent.doing (next_of fixed agent) response (exchanges fixed (take fixed agent response).agent events) refl none
+    (all_ours fixed (take fixed agent response).agent events (take_no_round fixed agent response agent.doing (next_of fixed agent) refl none))
 
 -- ---- the laws
 

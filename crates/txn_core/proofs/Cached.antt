@@ -18,14 +18,14 @@ use Rattle.suite_collect.specs.Collecting.{tell, mode_of, Next, Ask, Current, Sh
 use Rattle.weak_cache.specs.Entries.{Entry, Cache}
 use Rattle.weak_cache.specs.Cache.{searched}
 use Rattle.weak_cache.proofs.Origins.{Has, put_has, searched_has}
-use Rattle.txn_core.specs.Suites.{First, Suite, Suites, suite_of, with_suite, settled}
-use Rattle.txn_core.specs.declared.word.Word.{Word}
-use Rattle.txn_core.specs.declared.word.Word.TheVariants.{Replied, Lacked}
+use Rattle.txn_core.specs.Suites.{ReadPoint, Suite, Suites, suite_of, with_suite, settled}
+use Rattle.txn_core.specs.declared.response.Response.{Response}
+use Rattle.txn_core.specs.declared.response.Response.TheVariants.{Replied, Lacked}
 use Rattle.txn_core.specs.declared.ending.Cause.{Cause}
 use Rattle.txn_core.specs.declared.ending.Cause.TheVariants.{Lost}
 use Rattle.txn_core.specs.declared.ending.Ending.{Ending}
 use Rattle.txn_core.specs.Doing.{Granted, Fixed, Task, Outcome, Phase, Gathering, Fetching, Widening, Preparing, Deciding, Finishing}
-use Rattle.txn_core.specs.Transactions.{Step, Gathered, tell_end, give_up, prepare, locked_at, short_cause, gather_by, widen_by, widen_one, widened, widen_all, opened, or_all, open_needed, open_suite, open_first, opened_with, free_content, heard_on, raised_or_new, keep_content, heard_of, said_to, proceed, execute, collected, hear, fetched, after_lack, after_word, given_in, lack_cause, verdict_in, ending_by, cause_of_abort}
+use Rattle.txn_core.specs.Transactions.{Step, Gathered, tell_end, give_up, prepare, locked_at, short_cause, gather_by, widen_by, widen_one, widened, widen_all, opened, or_all, open_needed, open_suite, open_first, opened_with, free_content, heard_on, raised_or_new, keep_content, heard_of, said_to, proceed, execute, collected, hear, fetched, after_lack, after_response, given_in, lack_cause, verdict_in, ending_by, cause_of_abort}
 
 -- ---- steps that leave it as it was
 
@@ -79,7 +79,7 @@ opened_has (suc n) fixed task all x has = of (heard_on fixed task all.suites) ha
     or' (Some more) back later has = back more refl (later more has)
     or' None back later has = has
 
-    with_content : (number : ℕ) (suite : Suite) (first : First) (content : Option Content) (more : Gathered) → opened_with task all number suite first content ≡ Some more → Has more.cache x → Has all.cache x
+    with_content : (number : ℕ) (suite : Suite) (first : ReadPoint) (content : Option Content) (more : Gathered) → opened_with task all number suite first content ≡ Some more → Has more.cache x → Has all.cache x
     with_content number suite first (Some content) more is has = at (first.dver == 0) (subst (λ (more : Gathered). Has more.cache x) (sym (same_Some _ more is)) has)
       where
         at : (b : Bool) → Has (cond b all.cache (searched task.site number first.dver all.cache)) x → Has all.cache x
@@ -87,7 +87,7 @@ opened_has (suc n) fixed task all x has = of (heard_on fixed task all.suites) ha
         at false has = searched_has task.site number first.dver all.cache x has
     with_content number suite first None more is has = cc
 
-    at_first : (number : ℕ) (suite : Suite) (first : Option First) (more : Gathered) → open_first task all number suite first ≡ Some more → Has more.cache x → Has all.cache x
+    at_first : (number : ℕ) (suite : Suite) (first : Option ReadPoint) (more : Gathered) → open_first task all number suite first ≡ Some more → Has more.cache x → Has all.cache x
     at_first number suite (Some first) more is has = with_content number suite first (free_content task all.cache number first) more is has
     at_first number suite None more is has = cc
 
@@ -109,19 +109,19 @@ execute_has fixed task all x has =
     let open' = opened (length all.suites) fixed task all in
     opened_has (length all.suites) fixed task all x (subst (λ cache. Has cache x) (same_proceed fixed task open'.cache open'.suites (heard_on fixed task open'.suites)) has)
 
--- ---- words
+-- ---- responses
 
--- an entry that a word puts
-pub record PutBy (fixed : Fixed) (task : Task) (suites : Suites) (phase : Phase) (word : Word) (x : Entry) : Type 0 where
+-- an entry that a response puts
+pub record PutBy (fixed : Fixed) (task : Task) (suites : Suites) (phase : Phase) (response : Response) (x : Entry) : Type 0 where
   pub number : ℕ
   pub fetching : phase ≡ Fetching number
   pub suite : Suite
   pub there : suite_of suites number ≡ Some suite
-  pub first : First
+  pub first : ReadPoint
   pub was : suite.first ≡ Some first
   pub dver : ℕ
   pub content : Content
-  pub told : word ≡ Replied (reply.Given dver content)
+  pub told : response ≡ Replied (reply.Given dver content)
   pub is : x ≡ record { site = task.site; suite = number; prefix = first.prefix; dver = first.dver; content = content }
 
 pub given_is : (said : Reply) (content : Content) → given_in said ≡ Some content → (dver : ℕ) × (said ≡ reply.Given dver content)
@@ -159,7 +159,7 @@ module _ (fixed : Fixed) (task : Task) (cache : Cache) (suites : Suites) (x : En
   fetched_has : (number : ℕ) (server : ℕ) (said : Reply) → Has (fetched fixed task cache suites number (suite_of suites number) server (given_in said)).cache x → Has cache x ⊎ PutBy fixed task suites (Fetching number) (Replied said) x
   fetched_has number server said has = of (suite_of suites number) refl (given_in said) refl has
     where
-      kept : (suite : Suite) (content : Content) (first : Option First) → suite_of suites number ≡ Some suite → suite.first ≡ first → given_in said ≡ Some content → Has (keep_content fixed task cache suites number suite content first server).cache x
+      kept : (suite : Suite) (content : Content) (first : Option ReadPoint) → suite_of suites number ≡ Some suite → suite.first ≡ first → given_in said ≡ Some content → Has (keep_content fixed task cache suites number suite content first server).cache x
           → Has cache x ⊎ PutBy fixed task suites (Fetching number) (Replied said) x
       kept suite content None there was given has = inl (back _ (same_give_up task cache suites (Lost server)) has)
       kept suite content (Some first) there was given has =
@@ -186,20 +186,20 @@ module _ (fixed : Fixed) (task : Task) (cache : Cache) (suites : Suites) (x : En
   lack_has (Finishing [] v ending) server lacked has = has
   lack_has (Finishing (now ∷ left) v ending) server lacked has = back _ (same_end task cache suites v ending left) has
 
-  pub word_has : (phase : Phase) (server : ℕ) (asked : Request) (word : Word) → Has (after_word fixed (record { task = task; suites = suites; phase = phase }) cache server asked word).cache x → Has cache x ⊎ PutBy fixed task suites phase word x
-  word_has phase server asked (Lacked lacked) has = inl (lack_has phase server lacked has)
-  word_has (Gathering number) server asked (Replied said) has =
+  pub response_has : (phase : Phase) (server : ℕ) (asked : Request) (response : Response) → Has (after_response fixed (record { task = task; suites = suites; phase = phase }) cache server asked response).cache x → Has cache x ⊎ PutBy fixed task suites phase response x
+  response_has phase server asked (Lacked lacked) has = inl (lack_has phase server lacked has)
+  response_has (Gathering number) server asked (Replied said) has =
       inl (heard_has (Gathering number) number (suite_of suites number) server asked said _ (λ suites has. execute_has fixed task (record { suites = suites; cache = cache }) x has) has)
-  word_has (Fetching number) server asked (Replied said) has = fetched_has number server said has
-  word_has (Widening [] granted) server asked (Replied said) has = inl (back _ (same_give_up task cache suites (Lost server)) has)
-  word_has (Widening (number ∷ left) granted) server asked (Replied said) has =
+  response_has (Fetching number) server asked (Replied said) has = fetched_has number server said has
+  response_has (Widening [] granted) server asked (Replied said) has = inl (back _ (same_give_up task cache suites (Lost server)) has)
+  response_has (Widening (number ∷ left) granted) server asked (Replied said) has =
       inl (heard_has (Widening (number ∷ left) granted) number (suite_of suites number) server asked said _ (λ suites has. back _ (same_widen task cache suites granted left) has) has)
-  word_has (Preparing [] outcome) server asked (Replied said) has = inl (back _ (same_give_up task cache suites (Lost server)) has)
-  word_has (Preparing (now ∷ left) outcome) server asked (Replied said) has = inl (of (is_prepared said) has)
+  response_has (Preparing [] outcome) server asked (Replied said) has = inl (back _ (same_give_up task cache suites (Lost server)) has)
+  response_has (Preparing (now ∷ left) outcome) server asked (Replied said) has = inl (of (is_prepared said) has)
     where
       of : (b : Bool) → Has (cond b (prepare task cache suites outcome left) (give_up task cache suites (Lost server))).cache x → Has cache x
       of true has = back _ (same_prepare task cache suites outcome left) has
       of false has = back _ (same_give_up task cache suites (Lost server)) has
-  word_has (Deciding outcome) server asked (Replied said) has = inl (back _ (same_end task cache suites (verdict_in said verdict.Aborted) (ending_by (verdict_in said verdict.Aborted) (cause_of_abort said)) (locked_at suites)) has)
-  word_has (Finishing [] v ending) server asked (Replied said) has = inl has
-  word_has (Finishing (now ∷ left) v ending) server asked (Replied said) has = inl (back _ (same_end task cache suites v ending left) has)
+  response_has (Deciding outcome) server asked (Replied said) has = inl (back _ (same_end task cache suites (verdict_in said verdict.Aborted) (ending_by (verdict_in said verdict.Aborted) (cause_of_abort said)) (locked_at suites)) has)
+  response_has (Finishing [] v ending) server asked (Replied said) has = inl has
+  response_has (Finishing (now ∷ left) v ending) server asked (Replied said) has = inl (back _ (same_end task cache suites v ending left) has)

@@ -5,25 +5,25 @@ use Rattle.std.proofs.lemmas.Option.{same_Some}
 use Rattle.rep_core.specs.declared.request.Request.{Request}
 use Rattle.weak_cache.specs.Entries.{Entry}
 use Rattle.weak_cache.proofs.Origins.{Has, has_from, has_to, entries_come_from_puts}
-use Rattle.txn_core.specs.Suites.{First}
-use Rattle.txn_core.specs.declared.word.Word.{Word}
+use Rattle.txn_core.specs.Suites.{ReadPoint}
+use Rattle.txn_core.specs.declared.response.Response.{Response}
 use Rattle.txn_core.specs.declared.job.Job.{Job}
 use Rattle.txn_core.specs.declared.job.Job.TheVariants.{Transaction, Sweep}
-use Rattle.txn_core.specs.Doing.{Fixed, Task, Fetching, Course, Doing, Running, Rounding}
+use Rattle.txn_core.specs.Doing.{Fixed, Task, Fetching, TransactionRun, Doing, Running, RunningSweep}
 use Rattle.txn_core.specs.Transactions.{request_in, fetched_for, fetched_at}
 use Rattle.txn_core.specs.Agents.{Agent, Event, Take, next_in, next_of, take_in, take, begin, started, is_idle, has_sense, max_jobs, after_all}
 use Rattle.txn_core.specs.Laws.{of_job, task_of}
 use Rattle.txn_core.specs.Caching.{FirstGave, IsFetched, CachesWhatWasFetched}
 use Rattle.txn_core.proofs.Gathers.{Kept}
 use Rattle.txn_core.proofs.Causes.{started_from, Stands}
-use Rattle.txn_core.proofs.Cached.{PutBy, execute_has, word_has}
+use Rattle.txn_core.proofs.Cached.{PutBy, execute_has, response_has}
 use Rattle.txn_core.proofs.Upheld.{Begins, Started, started_is, Runs, DoingStands, after-append, stands_after}
 
-module _ (fixed : Fixed) (agent : Agent) (job : Job) (events : List Event) (word : Word) where
-  -- what a word puts was fetched
-  put_fetched : (running : Course) (asked : ℕ × Request) (x : Entry) → next_of fixed (after_all fixed (begin fixed agent job) events) ≡ Some asked → request_in fixed running.task running.suites running.phase ≡ Some asked → Runs fixed agent job events running
-      → PutBy fixed running.task running.suites running.phase word x → IsFetched fixed agent job events word x
-  put_fetched running asked x next is runs put = subst (IsFetched fixed agent job events word) (sym put.is) (record {
+module _ (fixed : Fixed) (agent : Agent) (job : Job) (events : List Event) (response : Response) where
+  -- what a response puts was fetched
+  put_fetched : (running : TransactionRun) (asked : ℕ × Request) (x : Entry) → next_of fixed (after_all fixed (begin fixed agent job) events) ≡ Some asked → request_in fixed running.task running.suites running.phase ≡ Some asked → Runs fixed agent job events running
+      → PutBy fixed running.task running.suites running.phase response x → IsFetched fixed agent job events response x
+  put_fetched running asked x next is runs put = subst (IsFetched fixed agent job events response) (sym put.is) (record {
     caller = runs.caller;
     site = runs.site;
     ops = runs.ops;
@@ -40,7 +40,7 @@ module _ (fixed : Fixed) (agent : Agent) (job : Job) (events : List Event) (word
     told = (put.dver, put.told);
   })
     where
-      fetched_at' : Option First → Option (ℕ × Request)
+      fetched_at' : Option ReadPoint → Option (ℕ × Request)
       fetched_at' first = fetched_at running.task put.number first
 
       stands : Stands fixed running.task (Started fixed agent job events) (Started fixed agent job events) (Begins fixed agent job events) (of_job fixed agent job events) running.suites (Fetching put.number)
@@ -50,15 +50,15 @@ module _ (fixed : Fixed) (agent : Agent) (job : Job) (events : List Event) (word
       kept = stands.1 put.number put.suite put.there
 
   told_has : (doing : Option Doing) (asked : Option (ℕ × Request)) (x : Entry) → (after_all fixed (begin fixed agent job) events).doing ≡ doing → next_of fixed (after_all fixed (begin fixed agent job) events) ≡ asked → next_in fixed doing ≡ asked
-      → DoingStands fixed agent job events doing → Has (take_in fixed (after_all fixed (begin fixed agent job) events) word doing asked).agent.cache x → Has (after_all fixed (begin fixed agent job) events).cache x ⊎ IsFetched fixed agent job events word x
+      → DoingStands fixed agent job events doing → Has (take_in fixed (after_all fixed (begin fixed agent job) events) response doing asked).agent.cache x → Has (after_all fixed (begin fixed agent job) events).cache x ⊎ IsFetched fixed agent job events response x
   told_has (Some (Running running)) (Some asked) x was next is stands has =
-      elim (word_has fixed running.task (after_all fixed (begin fixed agent job) events).cache running.suites x running.phase asked.0 asked.1 word has) [
+      elim (response_has fixed running.task (after_all fixed (begin fixed agent job) events).cache running.suites x running.phase asked.0 asked.1 response has) [
         | inl before ↦ inl before
         | inr put ↦ inr (put_fetched running asked x next is stands put)
       ]
   told_has (Some (Running running)) None x was next is stands has = inl has
-  told_has (Some (Rounding round)) (Some asked) x was next is stands has = inl has
-  told_has (Some (Rounding round)) None x was next is stands has = inl has
+  told_has (Some (RunningSweep sweep_run)) (Some asked) x was next is stands has = inl has
+  told_has (Some (RunningSweep sweep_run)) None x was next is stands has = inl has
   told_has None (Some asked) x was next is stands has = inl has
   told_has None None x was next is stands has = inl has
 
@@ -76,10 +76,10 @@ begun_has fixed agent job x has = of (is_idle agent.doing && has_sense fixed job
 pub caches_what_was_fetched : CachesWhatWasFetched
 caches_what_was_fetched = record {
   begun = λ fixed agent job entry there. has_to agent.cache entry (begun_has fixed agent job entry (has_from _ entry there));
-  told = λ fixed agent job events word entry idle there.
+  told = λ fixed agent job events response entry idle there.
       let now = after_all fixed (begin fixed agent job) events in
-      let has : Has (take fixed now word).agent.cache entry = subst (λ (agent : Agent). Has agent.cache entry) (after-append fixed (begin fixed agent job) events (Take word)) (has_from _ entry there) in
-      elim (told_has fixed agent job events word now.doing (next_of fixed now) entry refl refl refl (stands_after fixed agent job events idle) has) [
+      let has : Has (take fixed now response).agent.cache entry = subst (λ (agent : Agent). Has agent.cache entry) (after-append fixed (begin fixed agent job) events (Take response)) (has_from _ entry there) in
+      elim (told_has fixed agent job events response now.doing (next_of fixed now) entry refl refl refl (stands_after fixed agent job events idle) has) [
         | inl before ↦ inl (has_to now.cache entry before)
         | inr fetched ↦ inr fetched
       ];

@@ -7,7 +7,7 @@ use Rattle.sorted_map.specs.SortedMap.{IsOrdered, replace}
 use Rattle.sorted_map.specs.Edits.{insert_present, replace_same}
 use Rattle.suite_content.specs.declared.content.Content.{Content}
 use Rattle.suite_collect.specs.Collecting.{raise}
-use Rattle.txn_core.specs.Suites.{First, Suite, Suites, suite_of, with_suite}
+use Rattle.txn_core.specs.Suites.{ReadPoint, Suite, Suites, suite_of, with_suite}
 use Rattle.txn_core.specs.Doing.{Task}
 use Rattle.txn_core.specs.Transactions.{Gathered}
 use Rattle.txn_core.specs.code.Plans.{opened_by, raised_at}
@@ -30,7 +30,7 @@ pub opens_none : (task : Task) (all : Gathered) (number : ℕ) (content : Conten
 opens_none task all number content suite is was =
     replace_same nat_cmp_total all.suites number suite (sym is) ∙ ap (λ (g : Gathered). g.suites) (sym (opens task all number content suite None (sym is) was))
 
-pub opens_some : (task : Task) (all : Gathered) (number : ℕ) (content : Content) (suite new : Suite) (first : First) → IsOrdered nat_cmp all.suites → Some suite ≡ suite_of all.suites number → suite.first ≡ Some first
+pub opens_some : (task : Task) (all : Gathered) (number : ℕ) (content : Content) (suite new : Suite) (first : ReadPoint) → IsOrdered nat_cmp all.suites → Some suite ≡ suite_of all.suites number → suite.first ≡ Some first
     → new ≡ record suite { content = Some content } → replace nat_cmp all.suites number new ≡ (opened_by task all (number, content)).suites
 opens_some task all number content suite new first ordered is was more =
     set_there all.suites number suite new ordered (sym is)

@@ -30,17 +30,17 @@ use Rattle.suite_collect.specs.Collecting as collecting
 use Rattle.suite_collect.specs.Collecting.{Collector, all_told, raise, tell, mode_of, request_for, Asked, Poll, Upgrade, Next, Ask, Current, Short, next}
 use Rattle.weak_cache.specs.Entries.{Cache}
 use Rattle.weak_cache.specs.Cache.{put}
-use Rattle.txn_core.specs.Suites.{First, Suite, Suites, suite_of, with_suite, settled, told_in}
+use Rattle.txn_core.specs.Suites.{ReadPoint, Suite, Suites, suite_of, with_suite, settled, told_in}
 use Rattle.txn_core.specs.Writing.{parts_at}
-use Rattle.txn_core.specs.declared.word.Word.{Word}
+use Rattle.txn_core.specs.declared.response.Response.{Response}
 use Rattle.txn_core.specs.declared.ending.Cause.{Cause}
 use Rattle.txn_core.specs.declared.ending.Ending.{Ending}
-use Rattle.txn_core.specs.declared.word.Word.TheVariants.{Replied, Lacked}
+use Rattle.txn_core.specs.declared.response.Response.TheVariants.{Replied, Lacked}
 use Rattle.txn_core.specs.declared.ending.Cause.TheVariants.{Unavailable, Busy, Lost, Overruled, HomeDown, Full, Memory}
 use Rattle.txn_core.specs.declared.ending.Ending.TheVariants.{Answered, Refused, Swept, Undecided}
-use Rattle.txn_core.specs.Doing.{Granted, home_of, Fixed, Task, Outcome, Phase, Gathering, Fetching, Widening, Preparing, Deciding, Finishing, Course, After, GoesOn, Ends}
-use Rattle.txn_core.specs.Transactions.{Step, Gathered, tell_end, give_up, prepare, locked_at, short_cause, gather_by, widen_by, widen_one, widened, widen_all, to_widen, opened, start_from, heard_on, raised_or_new, keep_content, heard_of, said_to, proceed, execute, collected, hear, fetched, prepared, after_lack, after_word, asked_by, asked_for, fetched_at, fetched_for, request_in, changes_of, decision_of, given_in, verdict_in, ending_by, cause_of_abort, lack_cause}
-use Rattle.txn_core.specs.Laws.{Exchange, locks, is_decide, told_of, told_by, more_told, fits_word, all_fit}
+use Rattle.txn_core.specs.Doing.{Granted, home_of, Fixed, Task, Outcome, Phase, Gathering, Fetching, Widening, Preparing, Deciding, Finishing, TransactionRun, After, GoesOn, Ends}
+use Rattle.txn_core.specs.Transactions.{Step, Gathered, tell_end, give_up, prepare, locked_at, short_cause, gather_by, widen_by, widen_one, widened, widen_all, to_widen, opened, start_from, heard_on, raised_or_new, keep_content, heard_of, said_to, proceed, execute, collected, hear, fetched, prepared, after_lack, after_response, asked_by, asked_for, fetched_at, fetched_for, request_in, changes_of, decision_of, given_in, verdict_in, ending_by, cause_of_abort, lack_cause}
+use Rattle.txn_core.specs.Laws.{Exchange, locks, is_decide, told_of, told_by, more_told, fits_response, all_fit}
 use Rattle.txn_core.specs.Undecided.{Was, loses, says_aborted, says_down, is_finish, stops}
 use Rattle.txn_core.proofs.Asks.{asks_same, asked_as, fetched_as}
 use Rattle.txn_core.proofs.Fetches.{exclusive_needed}
@@ -95,8 +95,8 @@ lost_prepare t parts (reply.Locked locks) fine none = cc
 
 -- ---- causes
 
-abbrev pub push : List Exchange → ℕ → Request → Word → List Exchange
-push past server asked word = past ++ record { server = server; request = asked; word = word } ∷ []
+abbrev pub push : List Exchange → ℕ → Request → Response → List Exchange
+push past server asked response = past ++ record { server = server; request = asked; response = response } ∷ []
 
 abbrev pub Tells : List Exchange → ℕ → List Told
 Tells past number = told_of number [] past
@@ -118,8 +118,8 @@ abbrev pub CausedBy : Fixed → Task → Base → (ℕ → Prefix → Type 0) �
 CausedBy fixed task Old Loose past (Unavailable suite got needed) = ShortBy fixed task Old Loose past suite got needed None
 CausedBy fixed task Old Loose past (Busy server holder) = (suite got needed : ℕ) × ShortBy fixed task Old Loose past suite got needed (Some (server, holder))
 CausedBy fixed task Old Loose past (Lost server) = Was past server loses
-CausedBy fixed task Old Loose past Overruled = (server : ℕ) × Was past server (λ asked word. is_decide asked && says_aborted word)
-CausedBy fixed task Old Loose past HomeDown = (server : ℕ) × Was past server (λ asked word. is_decide asked && says_down word)
+CausedBy fixed task Old Loose past Overruled = (server : ℕ) × Was past server (λ asked response. is_decide asked && says_aborted response)
+CausedBy fixed task Old Loose past HomeDown = (server : ℕ) × Was past server (λ asked response. is_decide asked && says_down response)
 CausedBy fixed task Old Loose past (Full server) = Was past server (stops lack.Full)
 CausedBy fixed task Old Loose past Memory = (server : ℕ) × Was past server (stops lack.Memory)
 
@@ -159,44 +159,44 @@ pub record Fresh (fixed : Fixed) (task : Task) (cache : Cache) (past : List Exch
 abbrev pub OrFresh : Fixed → Task → Cache → List Exchange → (ℕ → Prefix → Type 0) → ℕ → Prefix → Type 0
 OrFresh fixed task cache past Old number start = Old number start ⊎ Fresh fixed task cache past number start
 
-abbrev pub LeftOf : Fixed → Task → (Old : Base) (Loose : ℕ → Prefix → Type 0) → List Exchange → Cache → After Course → Type 0
-LeftOf fixed task Old Loose past cache (GoesOn course) =
-    (course.task ≡ task) × StandsOn fixed task Old (OrFresh fixed task cache past Old.start) (OrFresh fixed task cache past Loose) past course.suites course.phase
+abbrev pub LeftOf : Fixed → Task → (Old : Base) (Loose : ℕ → Prefix → Type 0) → List Exchange → Cache → After TransactionRun → Type 0
+LeftOf fixed task Old Loose past cache (GoesOn txn_run) =
+    (txn_run.task ≡ task) × StandsOn fixed task Old (OrFresh fixed task cache past Old.start) (OrFresh fixed task cache past Loose) past txn_run.suites txn_run.phase
 LeftOf fixed task Old Loose past cache (Ends ending) = EndCaused fixed task Old (OrFresh fixed task cache past Loose) past ending
 
 -- what a step leaves
 abbrev pub Leaves : Fixed → Task → (Old : Base) (Loose : ℕ → Prefix → Type 0) → List Exchange → Step → Type 0
 Leaves fixed task Old Loose past step = LeftOf fixed task Old Loose past step.cache step.after
 
-pub was_now : (past : List Exchange) (server : ℕ) (asked : Request) (word : Word) (kind : Request → Word → Bool) → kind asked word ≡ true → Was (push past server asked word) server kind
-was_now past server asked word kind is = record { one = record { server = server; request = asked; word = word }; there = Contains-push past (record { server = server; request = asked; word = word }); at = refl; is = is }
+pub was_now : (past : List Exchange) (server : ℕ) (asked : Request) (response : Response) (kind : Request → Response → Bool) → kind asked response ≡ true → Was (push past server asked response) server kind
+was_now past server asked response kind is = record { one = record { server = server; request = asked; response = response }; there = Contains-push past (record { server = server; request = asked; response = response }); at = refl; is = is }
 
-was_more : (past more : List Exchange) (server : ℕ) (kind : Request → Word → Bool) → Was past server kind → Was (past ++ more) server kind
+was_more : (past more : List Exchange) (server : ℕ) (kind : Request → Response → Bool) → Was past server kind → Was (past ++ more) server kind
 was_more past more server kind was = record { one = was.one; there = Contains-append_left past more was.one was.there; at = was.at; is = was.is }
 
-told-push : (number : ℕ) (before : List Told) (past : List Exchange) (one : Exchange) → told_of number before (past ++ one ∷ []) ≡ cond (locks number one.request) (told_by (told_of number before past) one one.word) (told_of number before past)
+told-push : (number : ℕ) (before : List Told) (past : List Exchange) (one : Exchange) → told_of number before (past ++ one ∷ []) ≡ cond (locks number one.request) (told_by (told_of number before past) one one.response) (told_of number before past)
 told-push number before [] one = refl
-told-push number before (first ∷ past) one = told-push number (cond (locks number first.request) (told_by before first first.word) before) past one
+told-push number before (first ∷ past) one = told-push number (cond (locks number first.request) (told_by before first first.response) before) past one
 
-told_same : (past : List Exchange) (server : ℕ) (asked : Request) (word : Word) → ((number : ℕ) → locks number asked ≡ false) → (number : ℕ) → Tells (push past server asked word) number ≡ Tells past number
-told_same past server asked word none number =
-    let one : Exchange = record { server = server; request = asked; word = word } in
-    told-push number [] past one ∙ ap (λ b. cond b (told_by (Tells past number) one word) (Tells past number)) (none number)
+told_same : (past : List Exchange) (server : ℕ) (asked : Request) (response : Response) → ((number : ℕ) → locks number asked ≡ false) → (number : ℕ) → Tells (push past server asked response) number ≡ Tells past number
+told_same past server asked response none number =
+    let one : Exchange = record { server = server; request = asked; response = response } in
+    told-push number [] past one ∙ ap (λ b. cond b (told_by (Tells past number) one response) (Tells past number)) (none number)
 
-are_quiet : (past : List Exchange) (suites : Suites) (server : ℕ) (asked : Request) (word : Word) → ((number : ℕ) → locks number asked ≡ false) → Are (Tells past) suites → Are (Tells (push past server asked word)) suites
-are_quiet past suites server asked word none are = (are.0, λ number. are.1 number ∙ sym (told_same past server asked word none number))
+are_quiet : (past : List Exchange) (suites : Suites) (server : ℕ) (asked : Request) (response : Response) → ((number : ℕ) → locks number asked ≡ false) → Are (Tells past) suites → Are (Tells (push past server asked response)) suites
+are_quiet past suites server asked response none are = (are.0, λ number. are.1 number ∙ sym (told_same past server asked response none number))
 
 -- ---- what fits
 
 pub both_fit : (past later : List Exchange) → all_fit (past ++ later) ≡ true → (all_fit past ≡ true) × (all_fit later ≡ true)
-both_fit past later fine = of (all_fit past) (all_fit later) (sym (list_all-append (λ (one : Exchange). fits_word one.request one.word) past later) ∙ fine)
+both_fit past later fine = of (all_fit past) (all_fit later) (sym (list_all-append (λ (one : Exchange). fits_response one.request one.response) past later) ∙ fine)
   where
     of : (a b : Bool) → (a && b) ≡ true → (a ≡ true) × (b ≡ true)
     of true b is = (refl, is)
     of false b is = cc
 
-pub last_fits : (past : List Exchange) (server : ℕ) (asked : Request) (word : Word) → all_fit (push past server asked word) ≡ true → fits_word asked word ≡ true
-last_fits past server asked word fine = of (fits_word asked word) (both_fit past (record { server = server; request = asked; word = word } ∷ []) fine).1
+pub last_fits : (past : List Exchange) (server : ℕ) (asked : Request) (response : Response) → all_fit (push past server asked response) ≡ true → fits_response asked response ≡ true
+last_fits past server asked response fine = of (fits_response asked response) (both_fit past (record { server = server; request = asked; response = response } ∷ []) fine).1
   where
     of : (a : Bool) → (a && true) ≡ true → a ≡ true
     of true is = refl
@@ -214,7 +214,7 @@ lost_asked task number (Short had wanting busy) server asked said is = cc
 tells_heard : (past : List Exchange) (number server : ℕ) (asked : Request) (said : Reply) (heard : Said) → ((other : ℕ) → locks other asked ≡ (number == other)) → said_to asked said ≡ Some heard
     → (other : ℕ) → Tells (push past server asked (Replied said)) other ≡ cond (number == other) (record { server = server; mode = mode_of asked; said = heard } ∷ Tells past other) (Tells past other)
 tells_heard past number server asked said heard lock was other =
-    told-push other [] past (record { server = server; request = asked; word = Replied said })
+    told-push other [] past (record { server = server; request = asked; response = Replied said })
     ∙ ap (λ b. cond b (more_told (Tells past other) server asked (said_to asked said)) (Tells past other)) (lock other)
     ∙ ap (λ heard. cond (number == other) (more_told (Tells past other) server asked heard) (Tells past other)) was
 
@@ -241,33 +241,33 @@ module _ (fixed : Fixed) (task : Task) (Old : Base) (Loose : ℕ → Prefix → 
   Keeps past number suite = Kept fixed task Old past number suite
 
   -- what no lock is asked for leaves causes as they were
-  short_still : (past : List Exchange) (cache : Cache) (server : ℕ) (asked : Request) (word : Word) → ((number : ℕ) → locks number asked ≡ false) → (suite had wanting : ℕ) (busy : Option (ℕ × ℕ)) → ShortBy fixed task Old Loose past suite had wanting busy
-      → ShortBy fixed task Old (OrFresh fixed task cache (push past server asked word) Loose) (push past server asked word) suite had wanting busy
-  short_still past cache server asked word none suite had wanting busy by = record {
+  short_still : (past : List Exchange) (cache : Cache) (server : ℕ) (asked : Request) (response : Response) → ((number : ℕ) → locks number asked ≡ false) → (suite had wanting : ℕ) (busy : Option (ℕ × ℕ)) → ShortBy fixed task Old Loose past suite had wanting busy
+      → ShortBy fixed task Old (OrFresh fixed task cache (push past server asked response) Loose) (push past server asked response) suite had wanting busy
+  short_still past cache server asked response none suite had wanting busy by = record {
     collector = by.collector;
-    told = by.told ∙ sym (told_same past server asked word none suite);
+    told = by.told ∙ sym (told_same past server asked response none suite);
     short = by.short;
     begun = elim by.begun [ inl old ↦ inl old | inr loose ↦ inr (inl loose.0, loose.1) ];
-    wide = λ w is. sets_more fixed task Old past (record { server = server; request = asked; word = word } ∷ []) suite w.votes (by.wide w is);
-    wanted = wants_more fixed task Old past (record { server = server; request = asked; word = word } ∷ []) suite by.collector.mode by.wanted;
+    wide = λ w is. sets_more fixed task Old past (record { server = server; request = asked; response = response } ∷ []) suite w.votes (by.wide w is);
+    wanted = wants_more fixed task Old past (record { server = server; request = asked; response = response } ∷ []) suite by.collector.mode by.wanted;
   }
 
-  still_caused : (past : List Exchange) (cache : Cache) (server : ℕ) (asked : Request) (word : Word) → ((number : ℕ) → locks number asked ≡ false) → (cause : Cause) → CausedBy fixed task Old Loose past cause
-      → CausedBy fixed task Old (OrFresh fixed task cache (push past server asked word) Loose) (push past server asked word) cause
-  still_caused past cache server asked word none (Unavailable suite had wanting) is = short_still past cache server asked word none suite had wanting None is
-  still_caused past cache server asked word none (Busy at holder) is = (is.0, is.1, is.2, short_still past cache server asked word none is.0 is.1 is.2 (Some (at, holder)) is.3)
-  still_caused past cache server asked word none (Lost at) is = was_more past _ at _ is
-  still_caused past cache server asked word none Overruled is = (is.0, was_more past _ is.0 _ is.1)
-  still_caused past cache server asked word none HomeDown is = (is.0, was_more past _ is.0 _ is.1)
-  still_caused past cache server asked word none (Full at) is = was_more past _ at _ is
-  still_caused past cache server asked word none Memory is = (is.0, was_more past _ is.0 _ is.1)
+  still_caused : (past : List Exchange) (cache : Cache) (server : ℕ) (asked : Request) (response : Response) → ((number : ℕ) → locks number asked ≡ false) → (cause : Cause) → CausedBy fixed task Old Loose past cause
+      → CausedBy fixed task Old (OrFresh fixed task cache (push past server asked response) Loose) (push past server asked response) cause
+  still_caused past cache server asked response none (Unavailable suite had wanting) is = short_still past cache server asked response none suite had wanting None is
+  still_caused past cache server asked response none (Busy at holder) is = (is.0, is.1, is.2, short_still past cache server asked response none is.0 is.1 is.2 (Some (at, holder)) is.3)
+  still_caused past cache server asked response none (Lost at) is = was_more past _ at _ is
+  still_caused past cache server asked response none Overruled is = (is.0, was_more past _ is.0 _ is.1)
+  still_caused past cache server asked response none HomeDown is = (is.0, was_more past _ is.0 _ is.1)
+  still_caused past cache server asked response none (Full at) is = was_more past _ at _ is
+  still_caused past cache server asked response none Memory is = (is.0, was_more past _ is.0 _ is.1)
 
-  still_ended : (past : List Exchange) (cache : Cache) (server : ℕ) (asked : Request) (word : Word) → ((number : ℕ) → locks number asked ≡ false) → (ending : Ending) → EndCaused fixed task Old Loose past ending
-      → EndCaused fixed task Old (OrFresh fixed task cache (push past server asked word) Loose) (push past server asked word) ending
-  still_ended past cache server asked word none (Undecided cause) is fine = still_caused past cache server asked word none cause (is (both_fit past (record { server = server; request = asked; word = word } ∷ []) fine).0)
-  still_ended past cache server asked word none (Answered answers) is fine = tt
-  still_ended past cache server asked word none (Refused refusal) is fine = tt
-  still_ended past cache server asked word none (Swept broken finished left) is fine = tt
+  still_ended : (past : List Exchange) (cache : Cache) (server : ℕ) (asked : Request) (response : Response) → ((number : ℕ) → locks number asked ≡ false) → (ending : Ending) → EndCaused fixed task Old Loose past ending
+      → EndCaused fixed task Old (OrFresh fixed task cache (push past server asked response) Loose) (push past server asked response) ending
+  still_ended past cache server asked response none (Undecided cause) is fine = still_caused past cache server asked response none cause (is (both_fit past (record { server = server; request = asked; response = response } ∷ []) fine).0)
+  still_ended past cache server asked response none (Answered answers) is fine = tt
+  still_ended past cache server asked response none (Refused refusal) is fine = tt
+  still_ended past cache server asked response none (Swept broken finished left) is fine = tt
 
   short_caused : (L : ℕ → Prefix → Type 0) (past : List Exchange) (number : ℕ) (collector : Collector) (had wanting : ℕ) (busy : Option (ℕ × ℕ)) → all_told collector ≡ Tells past number → next collector ≡ Short had wanting busy → Begun Old.start L number collector
       → ((w : collecting.Widening) → collector.widening ≡ Some w → Sets fixed task Old past number w.votes) → Wants fixed task Old past number collector.mode → CausedBy fixed task Old L past (short_cause number had wanting busy)
@@ -304,7 +304,7 @@ module _ (fixed : Fixed) (task : Task) (Old : Base) (Loose : ℕ → Prefix → 
 
   -- what is gathered: a suite that is there, or a new one
   gathers : (past : List Exchange) (cache : Cache) (number : ℕ) (mode : LockMode) (found : Option Suite) → ((suite : Suite) → found ≡ Some suite → Keeps past number suite) → (found ≡ None → told_of number [] past ≡ []) → Wants fixed task Old past number mode
-      → ((suite : Suite) (first : First) → found ≡ Some suite → suite.first ≡ Some first → mode ≡ Exclusive)
+      → ((suite : Suite) (first : ReadPoint) → found ≡ Some suite → suite.first ≡ Some first → mode ≡ Exclusive)
       → Asking fixed task Old (OrFresh fixed task cache past Old.start) past number (raised_or_new fixed task cache number mode found)
   gathers past cache number mode (Some suite) kept untold wants exclusive =
       let raised : Suite = record suite { collector = raise suite.collector } in
@@ -369,7 +369,7 @@ module _ (fixed : Fixed) (task : Task) (Old : Base) (Loose : ℕ → Prefix → 
       caused_proceed past open'.cache open'.suites (heard_on fixed task open'.suites) refl (are_opened (Tells past) (length all.suites) fixed task all are)
       (each_opened all.cache task (Keeps past) opens (length all.suites) fixed all (λ number dver. refl) each)
     where
-      opens : (number : ℕ) (suite : Suite) (first : First) (content : Content) → suite.first ≡ Some first → Free task all.cache first number content → Keeps past number suite → Keeps past number (record suite { content = Some content })
+      opens : (number : ℕ) (suite : Suite) (first : ReadPoint) (content : Content) → suite.first ≡ Some first → Free task all.cache first number content → Keeps past number suite → Keeps past number (record suite { content = Some content })
       opens number suite first content was found kept =
           kept_same fixed task Old past number suite (record suite { content = Some content }) refl refl
           (λ other at. (first, was, subst (Old.content number first) (same_Some content other at) (free number first content found)))
@@ -422,7 +422,7 @@ module _ (fixed : Fixed) (task : Task) (Old : Base) (Loose : ℕ → Prefix → 
           of (Some heard) was =
               let one : Told = record { server = server; mode = mode_of asked; said = heard } in
               let now : Suite = record suite { collector = tell one suite.collector } in
-              let x : Exchange = record { server = server; request = asked; word = Replied said } in
+              let x : Exchange = record { server = server; request = asked; response = Replied said } in
               let lock : (other : ℕ) → locks other asked ≡ (number == other) = asks_lock task number (Some suite) server asked (ap (asked_by task number) asks ∙ is) in
               let newly = tells_heard past number server asked said heard lock was in
               let same : all_told (tell one suite.collector) ≡ one ∷ Tells past number = all_told-tell one suite.collector ∙ ap (λ told. one ∷ told) (told_there past suites number (Some suite) there are) in
@@ -441,26 +441,26 @@ module _ (fixed : Fixed) (task : Task) (Old : Base) (Loose : ℕ → Prefix → 
                 more = more;
               }) refl
 
-  -- ---- other words
+  -- ---- other responses
 
   caused_fetched : (past : List Exchange) (cache : Cache) (suites : Suites) (number : ℕ) (found : Option Suite) (server : ℕ) (asked : Request) (said : Reply) → Are (Tells past) suites → Each (Keeps past) suites → suite_of suites number ≡ found
       → fetched_for task number found ≡ Some (server, asked) → GivenTo Old.content task server asked said → FreeIn Old.content task (fetched fixed task cache suites number found server (given_in said)).cache → Leaves fixed task Old Loose (push past server asked (Replied said)) (fetched fixed task cache suites number found server (given_in said))
   caused_fetched past cache suites number None server asked said are each there is given free = cc
   caused_fetched past cache suites number (Some suite) server asked said are each there is given free = of (given_in said) refl free
     where
-      what : (first : Option First) → fetched_at task number first ≡ Some (server, asked) → request.Fetch task.t number ≡ asked
+      what : (first : Option ReadPoint) → fetched_at task number first ≡ Some (server, asked) → request.Fetch task.t number ≡ asked
       what (Some first) is = asks_same first.source server (request.Fetch task.t number) asked is
       what None is = cc
 
       x : Exchange
-      x = record { server = server; request = asked; word = Replied said }
+      x = record { server = server; request = asked; response = Replied said }
 
       opens : (content : Content) → Knows Old.content number (record suite { content = Some content }) → Keeps (past ++ x ∷ []) number (record suite { content = Some content })
       opens content knows =
           let kept = kept_more fixed task Old past number (x ∷ []) suite (each number suite there) in
           kept_same fixed task Old (past ++ x ∷ []) number suite (record suite { content = Some content }) refl refl knows (λ w is. kept.wide w is) kept.wanted kept
 
-      kept : (content : Content) (first : Option First) → suite.first ≡ first → fetched_at task number first ≡ Some (server, asked) → given_in said ≡ Some content
+      kept : (content : Content) (first : Option ReadPoint) → suite.first ≡ first → fetched_at task number first ≡ Some (server, asked) → given_in said ≡ Some content
           → FreeIn Old.content task (keep_content fixed task cache suites number suite content first server).cache → Leaves fixed task Old Loose (push past server asked (Replied said)) (keep_content fixed task cache suites number suite content first server)
       kept content None was is told free = cc
       kept content (Some first) was is told free =
@@ -507,8 +507,8 @@ module _ (fixed : Fixed) (task : Task) (Old : Base) (Loose : ℕ → Prefix → 
   decided_caused L past server t decision (reply.Verdict (verdict.Answered answers)) fine = tt
   decided_caused L past server t decision (reply.Verdict (verdict.Refused refusal)) fine = tt
   decided_caused L past server t decision (reply.Verdict verdict.Aborted) fine =
-      (server, was_now past server (request.Decide t decision) (Replied (reply.Verdict verdict.Aborted)) (λ asked word. is_decide asked && says_aborted word) refl)
-  decided_caused L past server t decision reply.Down fine = (server, was_now past server (request.Decide t decision) (Replied reply.Down) (λ asked word. is_decide asked && says_down word) refl)
+      (server, was_now past server (request.Decide t decision) (Replied (reply.Verdict verdict.Aborted)) (λ asked response. is_decide asked && says_aborted response) refl)
+  decided_caused L past server t decision reply.Down fine = (server, was_now past server (request.Decide t decision) (Replied reply.Down) (λ asked response. is_decide asked && says_down response) refl)
   decided_caused L past server t decision (reply.Held prefix dver) fine = cc
   decided_caused L past server t decision (reply.Busy holder prepared) fine = cc
   decided_caused L past server t decision reply.Lost fine = cc
@@ -517,12 +517,12 @@ module _ (fixed : Fixed) (task : Task) (Old : Base) (Loose : ℕ → Prefix → 
   decided_caused L past server t decision reply.Done fine = cc
   decided_caused L past server t decision (reply.Locked locks) fine = cc
 
-  pub caused_word : (past : List Exchange) (cache : Cache) (suites : Suites) (phase : Phase) (server : ℕ) (asked : Request) (word : Word) → request_in fixed task suites phase ≡ Some (server, asked) → StandsOn fixed task Old Old.start Loose past suites phase
-      → FreeIn Old.content task cache → GivenIn Old.content task server asked word → FreeIn Old.content task (after_word fixed (record { task = task; suites = suites; phase = phase }) cache server asked word).cache
-      → Leaves fixed task Old Loose (push past server asked word) (after_word fixed (record { task = task; suites = suites; phase = phase }) cache server asked word)
-  caused_word past cache suites phase server asked (Lacked lacked) is stands free given then' = caused_lack past cache suites phase server asked lacked is stands
-  caused_word past cache suites (Gathering number) server asked (Replied said) is stands free given then' =
-      let x : Exchange = record { server = server; request = asked; word = Replied said } in
+  pub caused_response : (past : List Exchange) (cache : Cache) (suites : Suites) (phase : Phase) (server : ℕ) (asked : Request) (response : Response) → request_in fixed task suites phase ≡ Some (server, asked) → StandsOn fixed task Old Old.start Loose past suites phase
+      → FreeIn Old.content task cache → GivenIn Old.content task server asked response → FreeIn Old.content task (after_response fixed (record { task = task; suites = suites; phase = phase }) cache server asked response).cache
+      → Leaves fixed task Old Loose (push past server asked response) (after_response fixed (record { task = task; suites = suites; phase = phase }) cache server asked response)
+  caused_response past cache suites phase server asked (Lacked lacked) is stands free given then' = caused_lack past cache suites phase server asked lacked is stands
+  caused_response past cache suites (Gathering number) server asked (Replied said) is stands free given then' =
+      let x : Exchange = record { server = server; request = asked; response = Replied said } in
       let others : EachBut (Keeps (past ++ x ∷ [])) number suites = λ n suite other at. kept_more fixed task Old past n (x ∷ []) suite (stands.1 n suite other at) in
       caused_heard past cache suites (Gathering number) number (suite_of suites number) server asked said _ stands.0 refl is stands.2
       (λ suite one there heard are asking. (
@@ -531,10 +531,10 @@ module _ (fixed : Fixed) (task : Task) (Old : Base) (Loose : ℕ → Prefix → 
         λ found at. subst (Asking fixed task Old (OrFresh fixed task cache (past ++ x ∷ []) Old.start) (past ++ x ∷ []) number) (at_with number (record suite { collector = tell one suite.collector }) found suites at) (record { start = inl asking.start; first = asking.first; content = asking.content; wide = asking.wide; wanted = asking.wanted }),
       ))
       (λ it are kept. caused_execute (push past server asked (Replied said)) (record { suites = with_suite number it suites; cache = cache }) free are (each_with (Keeps (past ++ x ∷ [])) number suites it others kept))
-  caused_word past cache suites (Fetching number) server asked (Replied said) is stands free given then' = caused_fetched past cache suites number (suite_of suites number) server asked said stands.0 stands.1 refl is given then'
-  caused_word past cache suites (Widening [] granted) server asked (Replied said) is stands free given then' = cc
-  caused_word past cache suites (Widening (number ∷ left) granted) server asked (Replied said) is stands free given then' =
-      let x : Exchange = record { server = server; request = asked; word = Replied said } in
+  caused_response past cache suites (Fetching number) server asked (Replied said) is stands free given then' = caused_fetched past cache suites number (suite_of suites number) server asked said stands.0 stands.1 refl is given then'
+  caused_response past cache suites (Widening [] granted) server asked (Replied said) is stands free given then' = cc
+  caused_response past cache suites (Widening (number ∷ left) granted) server asked (Replied said) is stands free given then' =
+      let x : Exchange = record { server = server; request = asked; response = Replied said } in
       let others : EachBut (Keeps (past ++ x ∷ [])) number suites = λ n suite _ at. kept_more fixed task Old past n (x ∷ []) suite (stands.1 n suite at) in
       caused_heard past cache suites (Widening (number ∷ left) granted) number (suite_of suites number) server asked said _ stands.0 refl is (λ suite at. asking_of fixed task Old past number suite (stands.1 number suite at))
       (λ suite one there heard are asking. (
@@ -544,8 +544,8 @@ module _ (fixed : Fixed) (task : Task) (Old : Base) (Loose : ℕ → Prefix → 
         stands.3,
       ))
       (λ it are kept. caused_widen (push past server asked (Replied said)) cache (with_suite number it suites) granted left are (each_with (Keeps (past ++ x ∷ [])) number suites it others kept) (grants_more fixed task Old past (x ∷ []) granted.answers granted.changes stands.2) (λ n has. stands.3 n (inr has)))
-  caused_word past cache suites (Preparing [] outcome) server asked (Replied said) is stands free given then' = cc
-  caused_word past cache suites (Preparing (now ∷ left) outcome) server asked (Replied said) is stands free given then' =
+  caused_response past cache suites (Preparing [] outcome) server asked (Replied said) is stands free given then' = cc
+  caused_response past cache suites (Preparing (now ∷ left) outcome) server asked (Replied said) is stands free given then' =
       elim (is_prepared said) as (λ b. is_prepared said ≡ b → Leaves fixed task Old Loose (push past server asked (Replied said)) (cond b (prepare task cache suites outcome left) (give_up task cache suites (Lost server)))) [
         | true ↦ λ _. caused_prepare (push past server asked (Replied said)) cache suites outcome left
         | false ↦ λ not'. caused_give_up (push past server asked (Replied said)) cache suites (Lost server) (λ fine. was_now past server asked (Replied said) loses
@@ -554,11 +554,11 @@ module _ (fixed : Fixed) (task : Task) (Old : Base) (Loose : ℕ → Prefix → 
     where
       what : request.Prepare task.t (parts_at suites (changes_of outcome) now) ≡ asked
       what = asks_same now server (request.Prepare task.t (parts_at suites (changes_of outcome) now)) asked is
-  caused_word past cache suites (Deciding outcome) server asked (Replied said) is stands free given then' =
+  caused_response past cache suites (Deciding outcome) server asked (Replied said) is stands free given then' =
       caused_end (push past server asked (Replied said)) cache suites (verdict_in said verdict.Aborted) (ending_by (verdict_in said verdict.Aborted) (cause_of_abort said)) (locked_at suites)
       (λ fine. subst (λ asked. fits asked said ≡ true → EndIs fixed task Old (OrFresh fixed task cache (push past server asked (Replied said)) Loose) (push past server asked (Replied said)) (ending_by (verdict_in said verdict.Aborted) (cause_of_abort said)))
       (asks_same (home_of fixed.service task.t) server (request.Decide task.t (decision_of task outcome)) asked is)
       (decided_caused (OrFresh fixed task cache (push past server (request.Decide task.t (decision_of task outcome)) (Replied said)) Loose) past server task.t (decision_of task outcome) said) (last_fits past server asked (Replied said) fine))
-  caused_word past cache suites (Finishing [] v ending) server asked (Replied said) is stands free given then' = cc
-  caused_word past cache suites (Finishing (now ∷ left) v ending) server asked (Replied said) is stands free given then' =
+  caused_response past cache suites (Finishing [] v ending) server asked (Replied said) is stands free given then' = cc
+  caused_response past cache suites (Finishing (now ∷ left) v ending) server asked (Replied said) is stands free given then' =
       caused_end (push past server asked (Replied said)) cache suites v ending left (still_ended past cache server asked (Replied said) (λ number. ap (locks number) (sym (asks_same now server (request.Finish task.t v) asked is))) ending stands)

@@ -18,9 +18,9 @@ use Rattle.file_exec.specs.declared.executor.Outcome.TheVariants as exec
 use Rattle.weak_cache.specs.Entries.{Cache}
 use Rattle.weak_cache.specs.Cache.{content_at, searched}
 use Rattle.weak_cache.proofs.Origins.{search_keeps_all}
-use Rattle.txn_core.specs.Suites.{First, Suite, suite_of}
-use Rattle.txn_core.specs.declared.word.Word.{Word}
-use Rattle.txn_core.specs.declared.word.Word.TheVariants.{Replied, Lacked}
+use Rattle.txn_core.specs.Suites.{ReadPoint, Suite, suite_of}
+use Rattle.txn_core.specs.declared.response.Response.{Response}
+use Rattle.txn_core.specs.declared.response.Response.TheVariants.{Replied, Lacked}
 use Rattle.txn_core.specs.declared.job.Job.{Job}
 use Rattle.txn_core.specs.Doing.{Fixed, Task}
 use Rattle.txn_core.specs.Transactions.{Gathered, opened, or_all, open_needed, open_suite, open_first, opened_with, free_content, after_search, heard_on, execute}
@@ -42,7 +42,7 @@ opened_finds (suc n) fixed task all number dver = of (heard_on fixed task all.su
     or' (Some more) same later = later more ∙ same more refl
     or' None same later = refl
 
-    with_content : (other : ℕ) (suite : Suite) (first : First) (content : Option Content) (more : Gathered) → opened_with task all other suite first content ≡ Some more → content_at more.cache task.site number dver ≡ content_at all.cache task.site number dver
+    with_content : (other : ℕ) (suite : Suite) (first : ReadPoint) (content : Option Content) (more : Gathered) → opened_with task all other suite first content ≡ Some more → content_at more.cache task.site number dver ≡ content_at all.cache task.site number dver
     with_content other suite first (Some content) more is = subst (λ (more : Gathered). content_at more.cache task.site number dver ≡ content_at all.cache task.site number dver) (same_Some _ more is) (at (first.dver == 0))
       where
         at : (b : Bool) → content_at (cond b all.cache (searched task.site other first.dver all.cache)) task.site number dver ≡ content_at all.cache task.site number dver
@@ -50,7 +50,7 @@ opened_finds (suc n) fixed task all number dver = of (heard_on fixed task all.su
         at false = search_keeps_all.content task.site other first.dver task.site number dver all.cache
     with_content other suite first None more is = cc
 
-    at_first : (other : ℕ) (suite : Suite) (first : Option First) (more : Gathered) → open_first task all other suite first ≡ Some more → content_at more.cache task.site number dver ≡ content_at all.cache task.site number dver
+    at_first : (other : ℕ) (suite : Suite) (first : Option ReadPoint) (more : Gathered) → open_first task all other suite first ≡ Some more → content_at more.cache task.site number dver ≡ content_at all.cache task.site number dver
     at_first other suite (Some first) more is = with_content other suite first (free_content task all.cache other first) more is
     at_first other suite None more is = cc
 
@@ -71,10 +71,10 @@ opened_finds (suc n) fixed task all number dver = of (heard_on fixed task all.su
 -- ---- contents that are opened
 
 -- a content that is to be had without asking
-abbrev pub Free : Task → Cache → First → ℕ → Content → Type 0
+abbrev pub Free : Task → Cache → ReadPoint → ℕ → Content → Type 0
 Free task cache first number content = ((first.dver ≡ 0) × (content ≡ empty_content (held_by first.prefix.kind))) ⊎ (content_at cache task.site number first.dver ≡ Some content)
 
-pub free_is : (task : Task) (cache : Cache) (number : ℕ) (first : First) (content : Content) → free_content task cache number first ≡ Some content → Free task cache first number content
+pub free_is : (task : Task) (cache : Cache) (number : ℕ) (first : ReadPoint) (content : Content) → free_content task cache number first ≡ Some content → Free task cache first number content
 free_is task cache number first content is = of (first.dver == 0) refl is
   where
     of : (b : Bool) → (first.dver == 0) ≡ b → cond b (Some (empty_content (held_by first.prefix.kind))) (content_at cache task.site number first.dver) ≡ Some content → Free task cache first number content
@@ -83,7 +83,7 @@ free_is task cache number first content is = of (first.dver == 0) refl is
 
 -- contents are opened as they are found from the start on
 pub each_opened : (start : Cache) (task : Task) (K : ℕ → Suite → Type 0)
-    → ((number : ℕ) (suite : Suite) (first : First) (content : Content) → suite.first ≡ Some first → Free task start first number content → K number suite → K number (record suite { content = Some content }))
+    → ((number : ℕ) (suite : Suite) (first : ReadPoint) (content : Content) → suite.first ≡ Some first → Free task start first number content → K number suite → K number (record suite { content = Some content }))
     → (n : ℕ) (fixed : Fixed) (all : Gathered) → ((number dver : ℕ) → content_at all.cache task.site number dver ≡ content_at start task.site number dver) → Each K all.suites → Each K (opened n fixed task all).suites
 each_opened start task K opens zero fixed all same each = each
 each_opened start task K opens (suc n) fixed all same each = of (heard_on fixed task all.suites) (λ more same each. each_opened start task K opens n fixed more same each)
@@ -95,18 +95,18 @@ each_opened start task K opens (suc n) fixed all same each = of (heard_on fixed 
     or' (Some more) both later = let now = both more refl in later more now.0 now.1
     or' None both later = each
 
-    finds : (other : ℕ) (first : First) (number dver : ℕ) → content_at (after_search task all.cache other first) task.site number dver ≡ content_at start task.site number dver
+    finds : (other : ℕ) (first : ReadPoint) (number dver : ℕ) → content_at (after_search task all.cache other first) task.site number dver ≡ content_at start task.site number dver
     finds other first number dver = at (first.dver == 0) ∙ same number dver
       where
         at : (b : Bool) → content_at (cond b all.cache (searched task.site other first.dver all.cache)) task.site number dver ≡ content_at all.cache task.site number dver
         at true = refl
         at false = search_keeps_all.content task.site other first.dver task.site number dver all.cache
 
-    back : (first : First) (number : ℕ) (content : Content) → Free task all.cache first number content → Free task start first number content
+    back : (first : ReadPoint) (number : ℕ) (content : Content) → Free task all.cache first number content → Free task start first number content
     back first number content (inl none) = inl none
     back first number content (inr found) = inr (sym (same number first.dver) ∙ found)
 
-    with_content : (number : ℕ) (suite : Suite) (first : First) (content : Option Content) (more : Gathered) → suite_of all.suites number ≡ Some suite → suite.first ≡ Some first → free_content task all.cache number first ≡ content
+    with_content : (number : ℕ) (suite : Suite) (first : ReadPoint) (content : Option Content) (more : Gathered) → suite_of all.suites number ≡ Some suite → suite.first ≡ Some first → free_content task all.cache number first ≡ content
         → opened_with task all number suite first content ≡ Some more → ((number dver : ℕ) → content_at more.cache task.site number dver ≡ content_at start task.site number dver) × Each K more.suites
     with_content number suite first (Some content) more there was given is =
         subst (λ (more : Gathered). ((number dver : ℕ) → content_at more.cache task.site number dver ≡ content_at start task.site number dver) × Each K more.suites) (same_Some _ more is) (
@@ -116,7 +116,7 @@ each_opened start task K opens (suc n) fixed all same each = of (heard_on fixed 
         )
     with_content number suite first None more there was given is = cc
 
-    at_first : (number : ℕ) (suite : Suite) (first : Option First) (more : Gathered) → suite_of all.suites number ≡ Some suite → suite.first ≡ first → open_first task all number suite first ≡ Some more
+    at_first : (number : ℕ) (suite : Suite) (first : Option ReadPoint) (more : Gathered) → suite_of all.suites number ≡ Some suite → suite.first ≡ first → open_first task all number suite first ≡ Some more
         → ((number dver : ℕ) → content_at more.cache task.site number dver ≡ content_at start task.site number dver) × Each K more.suites
     at_first number suite (Some first) more there was is = with_content number suite first (free_content task all.cache number first) more there was refl is
     at_first number suite None more there was is = cc
@@ -138,11 +138,11 @@ each_opened start task K opens (suc n) fixed all same each = of (heard_on fixed 
     of heard later = or' (open_needed task all heard) (needed' heard) later
 
 -- all that is to be had without asking is so
-abbrev pub FreeIn : (ℕ → First → Content → Type 0) → Task → Cache → Type 0
-FreeIn C task cache = (number : ℕ) (first : First) (content : Content) → Free task cache first number content → C number first content
+abbrev pub FreeIn : (ℕ → ReadPoint → Content → Type 0) → Task → Cache → Type 0
+FreeIn C task cache = (number : ℕ) (first : ReadPoint) (content : Content) → Free task cache first number content → C number first content
 
 -- a step that executes leaves what is found as it was
-pub free_before : (C : ℕ → First → Content → Type 0) (fixed : Fixed) (task : Task) (all : Gathered) → FreeIn C task (execute fixed task all).cache → FreeIn C task all.cache
+pub free_before : (C : ℕ → ReadPoint → Content → Type 0) (fixed : Fixed) (task : Task) (all : Gathered) → FreeIn C task (execute fixed task all).cache → FreeIn C task all.cache
 free_before C fixed task all free number first content is =
     let open' = opened (length all.suites) fixed task all in
     let finds : (number dver : ℕ) → content_at (execute fixed task all).cache task.site number dver ≡ content_at all.cache task.site number dver = λ number dver.
@@ -152,21 +152,21 @@ free_before C fixed task all free number first content is =
 -- ---- contents that are given
 
 -- what a Given told
-abbrev pub GivenTo : (ℕ → First → Content → Type 0) → Task → ℕ → Request → Reply → Type 0
-GivenTo C task server asked said = (number : ℕ) (first : First) (content : Content) (dver : ℕ) → server ≡ first.source → asked ≡ request.Fetch task.t number → said ≡ reply.Given dver content → C number first content
+abbrev pub GivenTo : (ℕ → ReadPoint → Content → Type 0) → Task → ℕ → Request → Reply → Type 0
+GivenTo C task server asked said = (number : ℕ) (first : ReadPoint) (content : Content) (dver : ℕ) → server ≡ first.source → asked ≡ request.Fetch task.t number → said ≡ reply.Given dver content → C number first content
 
-abbrev pub GivenIn : (ℕ → First → Content → Type 0) → Task → ℕ → Request → Word → Type 0
+abbrev pub GivenIn : (ℕ → ReadPoint → Content → Type 0) → Task → ℕ → Request → Response → Type 0
 GivenIn C task server asked (Replied said) = GivenTo C task server asked said
 GivenIn C task server asked (Lacked lacked) = Unit {0}
 
 -- ---- after each event
 
 module _ (fixed : Fixed) (agent : Agent) (job : Job) where
-  abbrev pub Content_of : List Event → ℕ → ℕ → First → Content → Type 0
+  abbrev pub Content_of : List Event → ℕ → ℕ → ReadPoint → Content → Type 0
   Content_of events site number first content = IsContentOf fixed agent job events site number first content
 
   -- what is so stays so
-  pub content_more : (events : List Event) (event : Event) (one : List Exchange) → of_job fixed agent job (events ++ event ∷ []) ≡ of_job fixed agent job events ++ one → (site number : ℕ) (first : First) (content : Content)
+  pub content_more : (events : List Event) (event : Event) (one : List Exchange) → of_job fixed agent job (events ++ event ∷ []) ≡ of_job fixed agent job events ++ one → (site number : ℕ) (first : ReadPoint) (content : Content)
       → Content_of events site number first content → Content_of (events ++ event ∷ []) site number first content
   content_more events event one told site number first content (inl none) = inl none
   content_more events event one told site number first content (inr (inl cached)) =
@@ -174,7 +174,7 @@ module _ (fixed : Fixed) (agent : Agent) (job : Job) where
   content_more events event one told site number first content (inr (inr given)) = inr (inr (record {
     t = given.t;
     dver = given.dver;
-    there = subst (λ past. Contains past (record { server = first.source; request = request.Fetch given.t number; word = Replied (reply.Given given.dver content) })) (sym told)
+    there = subst (λ past. Contains past (record { server = first.source; request = request.Fetch given.t number; response = Replied (reply.Given given.dver content) })) (sym told)
         (Contains-append_left (of_job fixed agent job events) one _ given.there);
   }))
 
@@ -185,11 +185,11 @@ module _ (fixed : Fixed) (agent : Agent) (job : Job) where
       inr (inl (record { before = events; later = []; parts = sym (append-nil events); found = ap (λ cache. content_at cache task.site number first.dver) is ∙ found }))
 
   -- what was given is so once it was told
-  pub given_now : (events more : List Event) (task : Task) (server : ℕ) (asked : Request) (heard : Word) → of_job fixed agent job more ≡ of_job fixed agent job events ++ record { server = server; request = asked; word = heard } ∷ []
+  pub given_now : (events more : List Event) (task : Task) (server : ℕ) (asked : Request) (heard : Response) → of_job fixed agent job more ≡ of_job fixed agent job events ++ record { server = server; request = asked; response = heard } ∷ []
       → GivenIn (Content_of more task.site) task server asked heard
   given_now events more task server asked (Lacked lacked) told = tt
   given_now events more task server asked (Replied said) told = λ number first content dver at what says.
-      let with' : ℕ → Request → Reply → Exchange = λ server asked said. record { server = server; request = asked; word = Replied said } in
+      let with' : ℕ → Request → Reply → Exchange = λ server asked said. record { server = server; request = asked; response = Replied said } in
       let same : with' server asked said ≡ with' first.source (request.Fetch task.t number) (reply.Given dver content) =
       ap (λ server. with' server asked said) at ∙ ap (λ asked. with' first.source asked said) what ∙ ap (with' first.source (request.Fetch task.t number)) says in
       let there : Contains (of_job fixed agent job events ++ with' server asked said ∷ []) (with' server asked said) = Contains-push (of_job fixed agent job events) (with' server asked said) in

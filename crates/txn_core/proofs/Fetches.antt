@@ -33,17 +33,17 @@ use Rattle.suite_collect.specs.declared.told.Told.{Told}
 use Rattle.suite_collect.specs.declared.told.Said.{Said}
 use Rattle.suite_collect.specs.Collecting.{Next, Ask, Current, Short, next, tell, mode_of}
 use Rattle.weak_cache.specs.Entries.{Cache}
-use Rattle.txn_core.specs.Suites.{First, Suite, Suites, suite_of, with_suite, known_of, settled}
-use Rattle.txn_core.specs.declared.word.Word.{Word}
-use Rattle.txn_core.specs.declared.word.Word.TheVariants.{Replied, Lacked}
+use Rattle.txn_core.specs.Suites.{ReadPoint, Suite, Suites, suite_of, with_suite, known_of, settled}
+use Rattle.txn_core.specs.declared.response.Response.{Response}
+use Rattle.txn_core.specs.declared.response.Response.TheVariants.{Replied, Lacked}
 use Rattle.txn_core.specs.declared.ending.Cause.{Cause}
 use Rattle.txn_core.specs.declared.ending.Cause.TheVariants.{Lost}
 use Rattle.txn_core.specs.declared.ending.Ending.{Ending}
 use Rattle.txn_core.specs.declared.ending.Ending.TheVariants.{Undecided}
 use Rattle.txn_core.specs.declared.job.Job.TheVariants.{Transaction}
-use Rattle.txn_core.specs.Doing.{Granted, home_of, Fixed, Task, Outcome, Phase, Gathering, Fetching, Widening, Preparing, Deciding, Finishing, Course, Doing, Running, Rounding, After, GoesOn, Ends}
+use Rattle.txn_core.specs.Doing.{Granted, home_of, Fixed, Task, Outcome, Phase, Gathering, Fetching, Widening, Preparing, Deciding, Finishing, TransactionRun, Doing, Running, RunningSweep, After, GoesOn, Ends}
 use Rattle.txn_core.specs.Writing.{parts_at}
-use Rattle.txn_core.specs.Transactions.{Step, Gathered, tell_end, give_up, prepare, locked_at, short_cause, gather_by, widen_by, widen_one, widened, widen_all, opened, or_all, open_needed, open_suite, open_first, opened_with, free_content, heard_on, raised_or_new, keep_content, heard_of, said_to, proceed, execute, collected, hear, fetched, prepared, after_lack, after_word, asked_for, fetched_at, fetched_for, request_in, changes_of, decision_of, given_in, verdict_in, ending_by, cause_of_abort, lack_cause}
+use Rattle.txn_core.specs.Transactions.{Step, Gathered, tell_end, give_up, prepare, locked_at, short_cause, gather_by, widen_by, widen_one, widened, widen_all, opened, or_all, open_needed, open_suite, open_first, opened_with, free_content, heard_on, raised_or_new, keep_content, heard_of, said_to, proceed, execute, collected, hear, fetched, prepared, after_lack, after_response, asked_for, fetched_at, fetched_for, request_in, changes_of, decision_of, given_in, verdict_in, ending_by, cause_of_abort, lack_cause}
 use Rattle.txn_core.specs.Agents as agents
 use Rattle.txn_core.specs.Agents.{Agent, Event, Take, Forget, next_in, next_of, take_in, take, begin, started, forget, is_idle, has_sense, max_jobs}
 use Rattle.txn_core.specs.Laws.{Exchange, exchange_of, exchanges, of_job, count_of}
@@ -100,7 +100,7 @@ keeps_with before suites number found now there more keeps other =
 
 -- a suite whose content is not there is fetched
 abbrev IsAway : Suites → ℕ → Type 0
-IsAway suites number = (suite : Suite) (first : First) → suite_of suites number ≡ Some suite → suite.first ≡ Some first → is_some suite.content ≡ false
+IsAway suites number = (suite : Suite) (first : ReadPoint) → suite_of suites number ≡ Some suite → suite.first ≡ Some first → is_some suite.content ≡ false
 
 abbrev InPhase : (ℕ → ℕ) → Suites → Phase → Type 0
 InPhase before suites (Gathering number) = Keeps before suites
@@ -108,8 +108,8 @@ InPhase before suites (Fetching number) = Keeps before suites × IsAway suites n
 InPhase before suites (Widening left granted) = Keeps before suites
 InPhase before suites _ = Bounded before
 
-abbrev Leaves : (ℕ → ℕ) → After Course → Type 0
-Leaves before (GoesOn course) = InPhase before course.suites course.phase
+abbrev Leaves : (ℕ → ℕ) → After TransactionRun → Type 0
+Leaves before (GoesOn txn_run) = InPhase before txn_run.suites txn_run.phase
 Leaves before (Ends ending) = Bounded before
 
 l_end : (before : ℕ → ℕ) (task : Task) (cache : Cache) (suites : Suites) (v : Verdict) (ending : Ending) (servers : List ℕ) → Bounded before → Leaves before (tell_end task cache suites v ending servers).after
@@ -157,12 +157,12 @@ l_opened before (suc n) fixed task all keeps = of (heard_on fixed task all.suite
     or' (Some more) found_keeps later = later more (found_keeps more refl)
     or' None found_keeps later = keeps
 
-    with_content : (number : ℕ) (suite : Suite) (first : First) (content : Option Content) (more : Gathered) → suite_of all.suites number ≡ Some suite → opened_with task all number suite first content ≡ Some more → Keeps before more.suites
+    with_content : (number : ℕ) (suite : Suite) (first : ReadPoint) (content : Option Content) (more : Gathered) → suite_of all.suites number ≡ Some suite → opened_with task all number suite first content ≡ Some more → Keeps before more.suites
     with_content number suite first (Some content) more there is =
         subst (λ (more : Gathered). Keeps before more.suites) (same_Some _ more is) (keeps_with before all.suites number (Some suite) (record suite { content = Some content }) there (more_content suite content) keeps)
     with_content number suite first None more there is = cc
 
-    at_first : (number : ℕ) (suite : Suite) (first : Option First) (more : Gathered) → suite_of all.suites number ≡ Some suite → open_first task all number suite first ≡ Some more → Keeps before more.suites
+    at_first : (number : ℕ) (suite : Suite) (first : Option ReadPoint) (more : Gathered) → suite_of all.suites number ≡ Some suite → open_first task all number suite first ≡ Some more → Keeps before more.suites
     at_first number suite (Some first) more there is = with_content number suite first (free_content task all.cache number first) more there is
     at_first number suite None more there is = cc
 
@@ -198,7 +198,7 @@ away fixed task suites number is suite first there was =
     (needed_first (known_of suites) (known.exec_of fixed.service (known_of suites) task.t task.caller task.ops) (Know number) is)
 
 -- a lock that is needed on a suite that had a Current is an exclusive one
-pub exclusive_needed : (fixed : Fixed) (task : Task) (suites : Suites) (number : ℕ) (mode : LockMode) (suite : Suite) (first : First) → heard_on fixed task suites ≡ exec.Need (Hold number mode) → suite_of suites number ≡ Some suite → suite.first ≡ Some first → mode ≡ Exclusive
+pub exclusive_needed : (fixed : Fixed) (task : Task) (suites : Suites) (number : ℕ) (mode : LockMode) (suite : Suite) (first : ReadPoint) → heard_on fixed task suites ≡ exec.Need (Hold number mode) → suite_of suites number ≡ Some suite → suite.first ≡ Some first → mode ≡ Exclusive
 exclusive_needed fixed task suites number mode suite first is there was =
     of suite.mode mode (sym (ap (known.is_held mode) (known_at suites number suite first there was))
     ∙ needs_what_is_unmet fixed.service (known_of suites) task.t task.caller task.ops (Hold number mode)
@@ -227,7 +227,7 @@ l_execute before fixed task all keeps =
     let open' = opened (length all.suites) fixed task all in
     l_proceed before fixed task open'.cache open'.suites (heard_on fixed task open'.suites) refl (l_opened before (length all.suites) fixed task all keeps)
 
--- ---- one word
+-- ---- one response
 
 l_heard : (before : ℕ → ℕ) (task : Task) (cache : Cache) (suites : Suites) (phase : Phase) (number : ℕ) (found : Option Suite) (server : ℕ) (asked : Request) (said : Reply) (go_on : Suites → Step) → suite_of suites number ≡ found → Keeps before suites
     → ((suites : Suites) → Keeps before suites → InPhase before suites phase) → ((suites : Suites) → Keeps before suites → Leaves before (go_on suites).after) → Leaves before (heard_of task cache suites phase number found server asked said go_on).after
@@ -264,7 +264,7 @@ asks_no_content task number found server asked is other = asked_as (fetches othe
 -- a content that is fetched was not there
 record IsFetch (task : Task) (suites : Suites) (number : ℕ) (asked : Request) : Type 0 where
   suite : Suite
-  first : First
+  first : ReadPoint
   there : suite_of suites number ≡ Some suite
   was : suite.first ≡ Some first
   what : (other : ℕ) → fetches other asked ≡ (number == other)
@@ -273,7 +273,7 @@ is_fetch : (task : Task) (suites : Suites) (number : ℕ) (server : ℕ) (asked 
 is_fetch task suites number server asked None there is = cc
 is_fetch task suites number server asked (Some suite) there is = of suite.first refl is
   where
-    of : (first : Option First) → suite.first ≡ first → fetched_at task number first ≡ Some (server, asked) → IsFetch task suites number asked
+    of : (first : Option ReadPoint) → suite.first ≡ first → fetched_at task number first ≡ Some (server, asked) → IsFetch task suites number asked
     of (Some first) was is = record {
       suite = suite;
       first = first;
@@ -323,7 +323,7 @@ l_fetched before fixed task cache suites number found server asked given fetch k
     gives_up : Leaves (plus before asked) (give_up task cache suites (Lost server)).after
     gives_up = l_give_up (plus before asked) task cache suites (Lost server) (fetch_bounded before task suites number asked fetch keeps away')
 
-    at : (suite : Suite) (content : Content) (first : Option First) → Leaves (plus before asked) (keep_content fixed task cache suites number suite content first server).after
+    at : (suite : Suite) (content : Content) (first : Option ReadPoint) → Leaves (plus before asked) (keep_content fixed task cache suites number suite content first server).after
     at suite content (Some first) = l_execute (plus before asked) fixed task _ (fetch_keeps before task suites number asked suite content fetch keeps away')
     at suite content None = gives_up
 
@@ -343,18 +343,18 @@ l_lack before task cache suites (Finishing [] v ending) server lacked bounded = 
 l_lack before task cache suites (Finishing (now ∷ left) v ending) server lacked bounded = l_end before task cache suites v ending left bounded
 
 -- at most once, whatever is asked now
-word_bounded : (before : ℕ → ℕ) (fixed : Fixed) (task : Task) (suites : Suites) (phase : Phase) (server : ℕ) (asked : Request) → InPhase before suites phase → request_in fixed task suites phase ≡ Some (server, asked) → Bounded (plus before asked)
-word_bounded before fixed task suites (Gathering number) server asked in' is = bounded_quiet before asked (asks_no_content task number (suite_of suites number) server asked is) (bounded_by before suites in')
-word_bounded before fixed task suites (Fetching number) server asked in' is = fetch_bounded before task suites number asked (is_fetch task suites number server asked (suite_of suites number) refl is) in'.0 in'.1
-word_bounded before fixed task suites (Widening [] granted) server asked in' is = cc
-word_bounded before fixed task suites (Widening (number ∷ left) granted) server asked in' is = bounded_quiet before asked (asks_no_content task number (suite_of suites number) server asked is) (bounded_by before suites in')
-word_bounded before fixed task suites (Preparing [] outcome) server asked in' is = cc
-word_bounded before fixed task suites (Preparing (now ∷ left) outcome) server asked in' is =
+response_bounded : (before : ℕ → ℕ) (fixed : Fixed) (task : Task) (suites : Suites) (phase : Phase) (server : ℕ) (asked : Request) → InPhase before suites phase → request_in fixed task suites phase ≡ Some (server, asked) → Bounded (plus before asked)
+response_bounded before fixed task suites (Gathering number) server asked in' is = bounded_quiet before asked (asks_no_content task number (suite_of suites number) server asked is) (bounded_by before suites in')
+response_bounded before fixed task suites (Fetching number) server asked in' is = fetch_bounded before task suites number asked (is_fetch task suites number server asked (suite_of suites number) refl is) in'.0 in'.1
+response_bounded before fixed task suites (Widening [] granted) server asked in' is = cc
+response_bounded before fixed task suites (Widening (number ∷ left) granted) server asked in' is = bounded_quiet before asked (asks_no_content task number (suite_of suites number) server asked is) (bounded_by before suites in')
+response_bounded before fixed task suites (Preparing [] outcome) server asked in' is = cc
+response_bounded before fixed task suites (Preparing (now ∷ left) outcome) server asked in' is =
     bounded_quiet before asked (λ other. ap (fetches other) (sym (asks_same now server (request.Prepare task.t (parts_at suites (changes_of outcome) now)) asked is))) in'
-word_bounded before fixed task suites (Deciding outcome) server asked in' is =
+response_bounded before fixed task suites (Deciding outcome) server asked in' is =
     bounded_quiet before asked (λ other. ap (fetches other) (sym (asks_same (home_of fixed.service task.t) server (request.Decide task.t (decision_of task outcome)) asked is))) in'
-word_bounded before fixed task suites (Finishing [] v ending) server asked in' is = cc
-word_bounded before fixed task suites (Finishing (now ∷ left) v ending) server asked in' is =
+response_bounded before fixed task suites (Finishing [] v ending) server asked in' is = cc
+response_bounded before fixed task suites (Finishing (now ∷ left) v ending) server asked in' is =
     bounded_quiet before asked (λ other. ap (fetches other) (sym (asks_same now server (request.Finish task.t v) asked is))) in'
 
 l_prepared : (before : ℕ → ℕ) (task : Task) (cache : Cache) (suites : Suites) (outcome : Outcome) (server : ℕ) (left : List ℕ) (said : Reply) → Bounded before → Leaves before (prepared task cache suites outcome server left said).after
@@ -364,36 +364,36 @@ l_prepared before task cache suites outcome server left said bounded =
       | false ↦ l_give_up before task cache suites (Lost server) bounded
     ]
 
-l_word : (before : ℕ → ℕ) (fixed : Fixed) (task : Task) (cache : Cache) (suites : Suites) (phase : Phase) (server : ℕ) (asked : Request) (word : Word) → InPhase before suites phase → request_in fixed task suites phase ≡ Some (server, asked)
-    → Leaves (plus before asked) (after_word fixed (record { task = task; suites = suites; phase = phase }) cache server asked word).after
-l_word before fixed task cache suites phase server asked (Lacked lacked) in' is = l_lack (plus before asked) task cache suites phase server lacked (word_bounded before fixed task suites phase server asked in' is)
-l_word before fixed task cache suites (Gathering number) server asked (Replied said) in' is =
+l_response : (before : ℕ → ℕ) (fixed : Fixed) (task : Task) (cache : Cache) (suites : Suites) (phase : Phase) (server : ℕ) (asked : Request) (response : Response) → InPhase before suites phase → request_in fixed task suites phase ≡ Some (server, asked)
+    → Leaves (plus before asked) (after_response fixed (record { task = task; suites = suites; phase = phase }) cache server asked response).after
+l_response before fixed task cache suites phase server asked (Lacked lacked) in' is = l_lack (plus before asked) task cache suites phase server lacked (response_bounded before fixed task suites phase server asked in' is)
+l_response before fixed task cache suites (Gathering number) server asked (Replied said) in' is =
     l_heard (plus before asked) task cache suites (Gathering number) number (suite_of suites number) server asked said _ refl
     (keeps_quiet before asked suites (asks_no_content task number (suite_of suites number) server asked is) in') (λ suites keeps. keeps) (λ suites keeps. l_execute (plus before asked) fixed task (record { suites = suites; cache = cache }) keeps)
-l_word before fixed task cache suites (Fetching number) server asked (Replied said) in' is =
+l_response before fixed task cache suites (Fetching number) server asked (Replied said) in' is =
     l_fetched before fixed task cache suites number (suite_of suites number) server asked (given_in said) (is_fetch task suites number server asked (suite_of suites number) refl is) in'.0 in'.1
-l_word before fixed task cache suites (Widening [] granted) server asked (Replied said) in' is = cc
-l_word before fixed task cache suites (Widening (number ∷ left) granted) server asked (Replied said) in' is =
+l_response before fixed task cache suites (Widening [] granted) server asked (Replied said) in' is = cc
+l_response before fixed task cache suites (Widening (number ∷ left) granted) server asked (Replied said) in' is =
     l_heard (plus before asked) task cache suites (Widening (number ∷ left) granted) number (suite_of suites number) server asked said _ refl
     (keeps_quiet before asked suites (asks_no_content task number (suite_of suites number) server asked is) in') (λ suites keeps. keeps) (λ suites keeps. l_widen (plus before asked) task cache suites granted left keeps)
-l_word before fixed task cache suites (Preparing [] outcome) server asked (Replied said) in' is = cc
-l_word before fixed task cache suites (Preparing (now ∷ left) outcome) server asked (Replied said) in' is =
-    l_prepared (plus before asked) task cache suites outcome server left said (word_bounded before fixed task suites (Preparing (now ∷ left) outcome) server asked in' is)
-l_word before fixed task cache suites (Deciding outcome) server asked (Replied said) in' is =
-    l_end (plus before asked) task cache suites (verdict_in said verdict.Aborted) (ending_by (verdict_in said verdict.Aborted) (cause_of_abort said)) (locked_at suites) (word_bounded before fixed task suites (Deciding outcome) server asked in' is)
-l_word before fixed task cache suites (Finishing [] v ending) server asked (Replied said) in' is = cc
-l_word before fixed task cache suites (Finishing (now ∷ left) v ending) server asked (Replied said) in' is =
-    l_end (plus before asked) task cache suites v ending left (word_bounded before fixed task suites (Finishing (now ∷ left) v ending) server asked in' is)
+l_response before fixed task cache suites (Preparing [] outcome) server asked (Replied said) in' is = cc
+l_response before fixed task cache suites (Preparing (now ∷ left) outcome) server asked (Replied said) in' is =
+    l_prepared (plus before asked) task cache suites outcome server left said (response_bounded before fixed task suites (Preparing (now ∷ left) outcome) server asked in' is)
+l_response before fixed task cache suites (Deciding outcome) server asked (Replied said) in' is =
+    l_end (plus before asked) task cache suites (verdict_in said verdict.Aborted) (ending_by (verdict_in said verdict.Aborted) (cause_of_abort said)) (locked_at suites) (response_bounded before fixed task suites (Deciding outcome) server asked in' is)
+l_response before fixed task cache suites (Finishing [] v ending) server asked (Replied said) in' is = cc
+l_response before fixed task cache suites (Finishing (now ∷ left) v ending) server asked (Replied said) in' is =
+    l_end (plus before asked) task cache suites v ending left (response_bounded before fixed task suites (Finishing (now ∷ left) v ending) server asked in' is)
 
--- ---- all words
+-- ---- all responses
 
 abbrev InDoing : (ℕ → ℕ) → Option Doing → Type 0
-InDoing before (Some (Running course)) = InPhase before course.suites course.phase
-InDoing before (Some (Rounding round)) = ⊥
+InDoing before (Some (Running txn_run)) = InPhase before txn_run.suites txn_run.phase
+InDoing before (Some (RunningSweep sweep_run)) = ⊥
 InDoing before None = Bounded before
 
-in_left : (before : ℕ → ℕ) (after : After Course) → Leaves before after → InDoing before (agents.left Running after)
-in_left before (GoesOn course) leaves = leaves
+in_left : (before : ℕ → ℕ) (after : After TransactionRun) → Leaves before after → InDoing before (agents.left Running after)
+in_left before (GoesOn txn_run) leaves = leaves
 in_left before (Ends ending) leaves = leaves
 
 phase_bounded : (before : ℕ → ℕ) (suites : Suites) (phase : Phase) → InPhase before suites phase → Bounded before
@@ -405,22 +405,22 @@ phase_bounded before suites (Deciding outcome) in' = in'
 phase_bounded before suites (Finishing servers v ending) in' = in'
 
 in_bounded : (before : ℕ → ℕ) (doing : Option Doing) → InDoing before doing → Bounded before
-in_bounded before (Some (Running course)) in' = phase_bounded before course.suites course.phase in'
-in_bounded before (Some (Rounding round)) in' = absurd in'
+in_bounded before (Some (Running txn_run)) in' = phase_bounded before txn_run.suites txn_run.phase in'
+in_bounded before (Some (RunningSweep sweep_run)) in' = absurd in'
 in_bounded before None in' = in'
 
 -- a transaction that was asked nothing, or one thing more
-take_in_bounds : (before : ℕ → ℕ) (fixed : Fixed) (agent : Agent) (word : Word) (doing : Option Doing) (asked : Option (ℕ × Request)) → agent.doing ≡ doing → next_in fixed doing ≡ asked → InDoing before doing
-    → (after : ℕ → ℕ) × InDoing after (take_in fixed agent word doing asked).agent.doing × ((number : ℕ) → after number ≡ before number + fetched_in number (exchange_of asked word))
-take_in_bounds before fixed agent word (Some (Running running)) (Some asked) was is in' = (
+take_in_bounds : (before : ℕ → ℕ) (fixed : Fixed) (agent : Agent) (response : Response) (doing : Option Doing) (asked : Option (ℕ × Request)) → agent.doing ≡ doing → next_in fixed doing ≡ asked → InDoing before doing
+    → (after : ℕ → ℕ) × InDoing after (take_in fixed agent response doing asked).agent.doing × ((number : ℕ) → after number ≡ before number + fetched_in number (exchange_of asked response))
+take_in_bounds before fixed agent response (Some (Running running)) (Some asked) was is in' = (
   plus before asked.1,
-  in_left (plus before asked.1) _ (l_word before fixed running.task agent.cache running.suites running.phase asked.0 asked.1 word in' is),
+  in_left (plus before asked.1) _ (l_response before fixed running.task agent.cache running.suites running.phase asked.0 asked.1 response in' is),
   λ number. omega arith,
 )
-take_in_bounds before fixed agent word (Some (Running running)) None was is in' = (before, subst (InDoing before) (sym was) in', λ number. omega arith)
-take_in_bounds before fixed agent word (Some (Rounding round)) asked was is in' = absurd in'
-take_in_bounds before fixed agent word None (Some asked) was is in' = cc
-take_in_bounds before fixed agent word None None was is in' = (before, subst (InDoing before) (sym was) in', λ number. omega arith)
+take_in_bounds before fixed agent response (Some (Running running)) None was is in' = (before, subst (InDoing before) (sym was) in', λ number. omega arith)
+take_in_bounds before fixed agent response (Some (RunningSweep sweep_run)) asked was is in' = absurd in'
+take_in_bounds before fixed agent response None (Some asked) was is in' = cc
+take_in_bounds before fixed agent response None None was is in' = (before, subst (InDoing before) (sym was) in', λ number. omega arith)
 
 fetched-append : (number : ℕ) (past later : List Exchange) → fetched_in number (past ++ later) ≡ fetched_in number past + fetched_in number later
 fetched-append number [] later = omega arith
@@ -429,11 +429,11 @@ fetched-append number (one ∷ past) later = let rest = fetched-append number pa
 all_bounded : (before : ℕ → ℕ) (fixed : Fixed) (agent : Agent) (events : List Event) (number : ℕ) → InDoing before agent.doing → before number + fetched_in number (exchanges fixed agent events) ≤ 1
 all_bounded before fixed agent [] number in' = let bound = in_bounded before agent.doing in' number in omega (arith, bound)
 all_bounded before fixed agent (Forget site ∷ events) number in' = all_bounded before fixed (forget agent site) events number in'
-all_bounded before fixed agent (Take word ∷ events) number in' =
-    let one = take_in_bounds before fixed agent word agent.doing (next_of fixed agent) refl refl in' in
+all_bounded before fixed agent (Take response ∷ events) number in' =
+    let one = take_in_bounds before fixed agent response agent.doing (next_of fixed agent) refl refl in' in
     let same = one.2 number in
-    let rest = all_bounded one.0 fixed (take fixed agent word).agent events number one.1 in
-    let sum = fetched-append number (exchange_of (next_of fixed agent) word) (exchanges fixed (take fixed agent word).agent events) in
+    let rest = all_bounded one.0 fixed (take fixed agent response).agent events number one.1 in
+    let sum = fetched-append number (exchange_of (next_of fixed agent) response) (exchanges fixed (take fixed agent response).agent events) in
     omega (arith, same, rest, sum)
 
 begin_in : (fixed : Fixed) (agent : Agent) (caller : Identity) (site : ℕ) (ops : List Op) → is_idle agent.doing ≡ true → InDoing (λ number. 0) (begin fixed agent (Transaction caller site ops)).doing

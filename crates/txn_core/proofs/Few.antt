@@ -14,19 +14,19 @@ use Rattle.rep_core.specs.declared.reply.Verdict.{Verdict}
 use Rattle.rep_core.specs.declared.reply.Verdict.TheVariants as verdict
 use Rattle.weak_cache.specs.Entries.{Cache}
 use Rattle.txn_core.specs.Suites.{Suites, suite_of, has_locks}
-use Rattle.txn_core.specs.declared.word.Word.{Word}
+use Rattle.txn_core.specs.declared.response.Response.{Response}
 use Rattle.txn_core.specs.declared.ending.Cause.{Cause}
 use Rattle.txn_core.specs.declared.ending.Ending.{Ending}
-use Rattle.txn_core.specs.declared.word.Word.TheVariants.{Replied, Lacked}
+use Rattle.txn_core.specs.declared.response.Response.TheVariants.{Replied, Lacked}
 use Rattle.txn_core.specs.declared.ending.Cause.TheVariants.{Lost}
 use Rattle.txn_core.specs.declared.ending.Ending.TheVariants.{Undecided}
 use Rattle.txn_core.specs.declared.job.Job.TheVariants.{Transaction}
-use Rattle.txn_core.specs.Doing.{Fixed, Task, Outcome, Phase, Gathering, Fetching, Widening, Preparing, Deciding, Finishing, Course, Doing, Running, Rounding, After, GoesOn, Ends}
-use Rattle.txn_core.specs.Transactions.{numbers_from, tell_end, give_up, prepare, locked_at, after_word, request_in, decision_of, verdict_in, ending_by, cause_of_abort, lack_cause}
+use Rattle.txn_core.specs.Doing.{Fixed, Task, Outcome, Phase, Gathering, Fetching, Widening, Preparing, Deciding, Finishing, TransactionRun, Doing, Running, RunningSweep, After, GoesOn, Ends}
+use Rattle.txn_core.specs.Transactions.{numbers_from, tell_end, give_up, prepare, locked_at, after_response, request_in, decision_of, verdict_in, ending_by, cause_of_abort, lack_cause}
 use Rattle.txn_core.specs.Agents.{Agent, Event, Take, Forget, next_in, next_of, left, take_in, take, begin, started, forget, is_idle, has_sense, max_jobs}
 use Rattle.txn_core.specs.Laws.{Exchange, exchange_of, exchanges, of_job, count_of}
 use Rattle.txn_core.proofs.Asks.{asks_same, asked_as, fetched_as}
-use Rattle.txn_core.proofs.Walk.{IsEarly, goes_word, goes_execute}
+use Rattle.txn_core.proofs.Walk.{IsEarly, goes_response, goes_execute}
 
 -- a request to prepare or to finish
 abbrev pub tells : Request → Bool
@@ -51,11 +51,11 @@ may_in who (Finishing servers v ending) = times_in who servers
 may_in who _ = 2
 
 abbrev may : ℕ → Option Doing → ℕ
-may who (Some (Running course)) = may_in who course.phase
-may who (Some (Rounding round)) = 0
+may who (Some (Running txn_run)) = may_in who txn_run.phase
+may who (Some (RunningSweep sweep_run)) = 0
 may who None = 0
 
-abbrev IsFew : ℕ → After Course → Type 0
+abbrev IsFew : ℕ → After TransactionRun → Type 0
 IsFew who after = may who (left Running after) ≤ 2
 
 -- a list that rises has each server once
@@ -113,10 +113,10 @@ few_given_up who task cache suites cause = let few = few_finish who task cache s
 few_prepares : (who : ℕ) (task : Task) (cache : Cache) (suites : Suites) (outcome : Outcome) → IsFew who (prepare task cache suites outcome (locked_at suites)).after
 few_prepares who task cache suites outcome = let few = few_prepare who task cache suites outcome (locked_at suites) in let most = few_locked who suites in omega (arith, few, most)
 
--- ---- one word
+-- ---- one response
 
-abbrev then_may : ℕ → Fixed → Task → Cache → Suites → Phase → ℕ → Request → Word → ℕ
-then_may who fixed task cache suites phase server asked word = may who (left Running (after_word fixed (record { task = task; suites = suites; phase = phase }) cache server asked word).after)
+abbrev then_may : ℕ → Fixed → Task → Cache → Suites → Phase → ℕ → Request → Response → ℕ
+then_may who fixed task cache suites phase server asked response = may who (left Running (after_response fixed (record { task = task; suites = suites; phase = phase }) cache server asked response).after)
 
 abbrev one_if : Bool → ℕ
 one_if b = cond b 1 0
@@ -143,66 +143,66 @@ here_now who server now asked same = subst (λ at. now_told who server asked ≤
 at_server : (now server : ℕ) (question asked : Request) → ◌≡◌ {A = Option (ℕ × Request)} (Some (now, question)) (Some (server, asked)) → now ≡ server
 at_server now server question asked is = ap (λ (pair : ℕ × Request). pair.0) (same_Some (now, question) (server, asked) is)
 
-calm : (who : ℕ) (fixed : Fixed) (task : Task) (cache : Cache) (suites : Suites) (phase : Phase) (server : ℕ) (asked : Request) (word : Word) → IsEarly phase → tells asked ≡ false → now_told who server asked + then_may who fixed task cache suites phase server asked word ≤ 2
-calm who fixed task cache suites phase server asked word is other =
+calm : (who : ℕ) (fixed : Fixed) (task : Task) (cache : Cache) (suites : Suites) (phase : Phase) (server : ℕ) (asked : Request) (response : Response) → IsEarly phase → tells asked ≡ false → now_told who server asked + then_may who fixed task cache suites phase server asked response ≤ 2
+calm who fixed task cache suites phase server asked response is other =
     let none = none_now who server asked other in
-    let few = goes_word task (IsFew who) (few_early who task) (few_given_up who task) (few_prepares who task) fixed cache suites phase server asked word is in omega (arith, none, few)
+    let few = goes_response task (IsFew who) (few_early who task) (few_given_up who task) (few_prepares who task) fixed cache suites phase server asked response is in omega (arith, none, few)
 
-few_word : (who : ℕ) (fixed : Fixed) (task : Task) (cache : Cache) (suites : Suites) (phase : Phase) (server : ℕ) (asked : Request) (word : Word) → request_in fixed task suites phase ≡ Some (server, asked)
-    → now_told who server asked + then_may who fixed task cache suites phase server asked word ≤ may_in who phase
-few_word who fixed task cache suites (Gathering number) server asked word is = calm who fixed task cache suites (Gathering number) server asked word tt (asked_as tells false task number (suite_of suites number) server asked (λ mode. refl) refl is)
-few_word who fixed task cache suites (Fetching number) server asked word is = calm who fixed task cache suites (Fetching number) server asked word tt (fetched_as tells false task number (suite_of suites number) server asked refl is)
-few_word who fixed task cache suites (Widening [] granted) server asked word is = cc
-few_word who fixed task cache suites (Widening (number ∷ left) granted) server asked word is = calm who fixed task cache suites (Widening (number ∷ left) granted) server asked word tt (asked_as tells false task number (suite_of suites number) server asked (λ mode. refl) refl is)
-few_word who fixed task cache suites (Preparing [] outcome) server asked word is = cc
-few_word who fixed task cache suites (Preparing (now ∷ servers) outcome) server asked word is =
-    let one = here_now who server now asked (at_server now server _ asked is) in let rest = of word in omega (arith, one, rest)
+few_response : (who : ℕ) (fixed : Fixed) (task : Task) (cache : Cache) (suites : Suites) (phase : Phase) (server : ℕ) (asked : Request) (response : Response) → request_in fixed task suites phase ≡ Some (server, asked)
+    → now_told who server asked + then_may who fixed task cache suites phase server asked response ≤ may_in who phase
+few_response who fixed task cache suites (Gathering number) server asked response is = calm who fixed task cache suites (Gathering number) server asked response tt (asked_as tells false task number (suite_of suites number) server asked (λ mode. refl) refl is)
+few_response who fixed task cache suites (Fetching number) server asked response is = calm who fixed task cache suites (Fetching number) server asked response tt (fetched_as tells false task number (suite_of suites number) server asked refl is)
+few_response who fixed task cache suites (Widening [] granted) server asked response is = cc
+few_response who fixed task cache suites (Widening (number ∷ left) granted) server asked response is = calm who fixed task cache suites (Widening (number ∷ left) granted) server asked response tt (asked_as tells false task number (suite_of suites number) server asked (λ mode. refl) refl is)
+few_response who fixed task cache suites (Preparing [] outcome) server asked response is = cc
+few_response who fixed task cache suites (Preparing (now ∷ servers) outcome) server asked response is =
+    let one = here_now who server now asked (at_server now server _ asked is) in let rest = of response in omega (arith, one, rest)
   where
-    of : (word : Word) → then_may who fixed task cache suites (Preparing (now ∷ servers) outcome) server asked word ≤ times_in who servers + 1
+    of : (response : Response) → then_may who fixed task cache suites (Preparing (now ∷ servers) outcome) server asked response ≤ times_in who servers + 1
     of (Lacked lacked) = let few = few_finish who task cache suites verdict.Aborted (Undecided (lack_cause server lacked)) in omega (arith, few)
     of (Replied said) = elim (is_prepared said) as (λ b. may who (left Running (cond b (prepare task cache suites outcome servers) (give_up task cache suites (Lost server))).after) ≤ times_in who servers + 1) [
       | true ↦ few_prepare who task cache suites outcome servers
       | false ↦ let few = few_finish who task cache suites verdict.Aborted (Undecided (Lost server)) in omega (arith, few)
     ]
-few_word who fixed task cache suites (Deciding outcome) server asked word is =
-    let none = none_now who server asked (ap tells (sym (asks_same _ server (request.Decide task.t (decision_of task outcome)) asked is))) in let rest = of word in omega (arith, none, rest)
+few_response who fixed task cache suites (Deciding outcome) server asked response is =
+    let none = none_now who server asked (ap tells (sym (asks_same _ server (request.Decide task.t (decision_of task outcome)) asked is))) in let rest = of response in omega (arith, none, rest)
   where
-    of : (word : Word) → then_may who fixed task cache suites (Deciding outcome) server asked word ≤ 1
+    of : (response : Response) → then_may who fixed task cache suites (Deciding outcome) server asked response ≤ 1
     of (Lacked lacked) = few_finish who task cache suites verdict.Aborted (Undecided (lack_cause server lacked))
     of (Replied said) = few_finish who task cache suites (verdict_in said verdict.Aborted) (ending_by (verdict_in said verdict.Aborted) (cause_of_abort said))
-few_word who fixed task cache suites (Finishing [] v ending) server asked word is = cc
-few_word who fixed task cache suites (Finishing (now ∷ servers) v ending) server asked word is =
-    let one = here_now who server now asked (at_server now server _ asked is) in let rest = of word in omega (arith, one, rest)
+few_response who fixed task cache suites (Finishing [] v ending) server asked response is = cc
+few_response who fixed task cache suites (Finishing (now ∷ servers) v ending) server asked response is =
+    let one = here_now who server now asked (at_server now server _ asked is) in let rest = of response in omega (arith, one, rest)
   where
-    of : (word : Word) → then_may who fixed task cache suites (Finishing (now ∷ servers) v ending) server asked word ≡ times_in who servers
+    of : (response : Response) → then_may who fixed task cache suites (Finishing (now ∷ servers) v ending) server asked response ≡ times_in who servers
     of (Lacked lacked) = few_end who task cache suites v ending servers
     of (Replied said) = few_end who task cache suites v ending servers
 
--- ---- all words
+-- ---- all responses
 
 abbrev pub IsNoRound : Option Doing → Type 0
-IsNoRound (Some (Running course)) = Unit {0}
-IsNoRound (Some (Rounding round)) = ⊥
+IsNoRound (Some (Running txn_run)) = Unit {0}
+IsNoRound (Some (RunningSweep sweep_run)) = ⊥
 IsNoRound None = Unit {0}
 
-no_round : (after : After Course) → IsNoRound (left Running after)
-no_round (GoesOn course) = tt
+no_round : (after : After TransactionRun) → IsNoRound (left Running after)
+no_round (GoesOn txn_run) = tt
 no_round (Ends ending) = tt
 
-pub take_no_round : (fixed : Fixed) (agent : Agent) (word : Word) (doing : Option Doing) (asked : Option (ℕ × Request)) → agent.doing ≡ doing → IsNoRound doing → IsNoRound (take_in fixed agent word doing asked).agent.doing
-take_no_round fixed agent word (Some (Running running)) (Some asked) was none = no_round (after_word fixed running agent.cache asked.0 asked.1 word).after
-take_no_round fixed agent word (Some (Running running)) None was none = subst IsNoRound (sym was) tt
-take_no_round fixed agent word (Some (Rounding round)) asked was none = absurd none
-take_no_round fixed agent word None (Some asked) was none = subst IsNoRound (sym was) tt
-take_no_round fixed agent word None None was none = subst IsNoRound (sym was) tt
+pub take_no_round : (fixed : Fixed) (agent : Agent) (response : Response) (doing : Option Doing) (asked : Option (ℕ × Request)) → agent.doing ≡ doing → IsNoRound doing → IsNoRound (take_in fixed agent response doing asked).agent.doing
+take_no_round fixed agent response (Some (Running running)) (Some asked) was none = no_round (after_response fixed running agent.cache asked.0 asked.1 response).after
+take_no_round fixed agent response (Some (Running running)) None was none = subst IsNoRound (sym was) tt
+take_no_round fixed agent response (Some (RunningSweep sweep_run)) asked was none = absurd none
+take_no_round fixed agent response None (Some asked) was none = subst IsNoRound (sym was) tt
+take_no_round fixed agent response None None was none = subst IsNoRound (sym was) tt
 
-take_few : (who : ℕ) (fixed : Fixed) (agent : Agent) (word : Word) (doing : Option Doing) (asked : Option (ℕ × Request)) → agent.doing ≡ doing → next_in fixed doing ≡ asked → IsNoRound doing
-    → told_to who (exchange_of asked word) + may who (take_in fixed agent word doing asked).agent.doing ≤ may who doing
-take_few who fixed agent word (Some (Running running)) (Some asked) was is none = let one = few_word who fixed running.task agent.cache running.suites running.phase asked.0 asked.1 word is in omega (arith, one)
-take_few who fixed agent word (Some (Running running)) None was is none = let same = ap (may who) was in omega (arith, same)
-take_few who fixed agent word (Some (Rounding round)) asked was is none = absurd none
-take_few who fixed agent word None (Some asked) was is none = cc
-take_few who fixed agent word None None was is none = let same = ap (may who) was in omega (arith, same)
+take_few : (who : ℕ) (fixed : Fixed) (agent : Agent) (response : Response) (doing : Option Doing) (asked : Option (ℕ × Request)) → agent.doing ≡ doing → next_in fixed doing ≡ asked → IsNoRound doing
+    → told_to who (exchange_of asked response) + may who (take_in fixed agent response doing asked).agent.doing ≤ may who doing
+take_few who fixed agent response (Some (Running running)) (Some asked) was is none = let one = few_response who fixed running.task agent.cache running.suites running.phase asked.0 asked.1 response is in omega (arith, one)
+take_few who fixed agent response (Some (Running running)) None was is none = let same = ap (may who) was in omega (arith, same)
+take_few who fixed agent response (Some (RunningSweep sweep_run)) asked was is none = absurd none
+take_few who fixed agent response None (Some asked) was is none = cc
+take_few who fixed agent response None None was is none = let same = ap (may who) was in omega (arith, same)
 
 told-append : (who : ℕ) (past later : List Exchange) → told_to who (past ++ later) ≡ told_to who past + told_to who later
 told-append who [] later = omega arith
@@ -211,10 +211,10 @@ told-append who (one ∷ past) later = let rest = told-append who past later in 
 all_few : (who : ℕ) (fixed : Fixed) (agent : Agent) (events : List Event) → IsNoRound agent.doing → told_to who (exchanges fixed agent events) ≤ may who agent.doing
 all_few who fixed agent [] none = omega arith
 all_few who fixed agent (Forget site ∷ events) none = all_few who fixed (forget agent site) events none
-all_few who fixed agent (Take word ∷ events) none =
-    let rest = all_few who fixed (take fixed agent word).agent events (take_no_round fixed agent word agent.doing (next_of fixed agent) refl none) in
-    let one = take_few who fixed agent word agent.doing (next_of fixed agent) refl refl none in
-    let sum = told-append who (exchange_of (next_of fixed agent) word) (exchanges fixed (take fixed agent word).agent events) in
+all_few who fixed agent (Take response ∷ events) none =
+    let rest = all_few who fixed (take fixed agent response).agent events (take_no_round fixed agent response agent.doing (next_of fixed agent) refl none) in
+    let one = take_few who fixed agent response agent.doing (next_of fixed agent) refl refl none in
+    let sum = told-append who (exchange_of (next_of fixed agent) response) (exchanges fixed (take fixed agent response).agent events) in
     omega (arith, rest, one, sum)
 
 begin_few : (who : ℕ) (fixed : Fixed) (agent : Agent) (caller : Identity) (site : ℕ) (ops : List Op) → is_idle agent.doing ≡ true

@@ -9,7 +9,7 @@ use Rattle.std.proofs.lemmas.Bool.Decides.{nat_tests}
 use Rattle.rep_core.specs.declared.lock.Lock.{Lock}
 use Rattle.rep_core.specs.Locks.{before, has_prepared}
 use Rattle.txn_core.specs.Doing.{Resolving, Breaking}
-use Rattle.txn_core.specs.code.RoundFields.{first_of}
+use Rattle.txn_core.specs.code.SweepRunFields.{first_of}
 use Rattle.txn_core.specs.code.Sorting.{above, in_order}
 use Rattle.txn_core.specs.Sweeps.{others}
 use Rattle.txn_core.proofs.Places.{first_pass}

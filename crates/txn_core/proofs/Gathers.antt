@@ -21,10 +21,10 @@ use Rattle.suite_collect.specs.declared.told.Told.{Told}
 use Rattle.suite_collect.specs.declared.told.Said.{Said}
 use Rattle.suite_collect.specs.Collecting.{Widening, Collector, told_since, all_told, tell_at, tell, collect, Asked, Next, Current, Ask, next}
 use Rattle.rep_core.proofs.Members.{Has}
-use Rattle.txn_core.specs.Suites.{First, Suite, Suites, suite_of, with_suite, source_of, first_or, settled}
+use Rattle.txn_core.specs.Suites.{ReadPoint, Suite, Suites, suite_of, with_suite, source_of, first_or, settled}
 use Rattle.txn_core.specs.Writing.{change_of}
-use Rattle.txn_core.specs.declared.word.Word.{Word}
-use Rattle.txn_core.specs.declared.word.Word.TheVariants.{Replied, Lacked}
+use Rattle.txn_core.specs.declared.response.Response.{Response}
+use Rattle.txn_core.specs.declared.response.Response.TheVariants.{Replied, Lacked}
 use Rattle.txn_core.specs.Doing.{Changes, Fixed, Task}
 use Rattle.txn_core.specs.Transactions.{heard_on, votes_then, votes_after, to_widen, widened, said_to}
 use Rattle.txn_core.specs.Laws.{Exchange, locks, told_of, told_by, more_told}
@@ -49,18 +49,18 @@ cut_before (p ∷ past) (e ∷ early) rest x y is =
 -- what was told is told later too
 pub told-append : (number : ℕ) (before : List Told) (past later : List Exchange) → told_of number before (past ++ later) ≡ told_of number (told_of number before past) later
 told-append number before [] later = refl
-told-append number before (one ∷ past) later = told-append number (cond (locks number one.request) (told_by before one one.word) before) past later
+told-append number before (one ∷ past) later = told-append number (cond (locks number one.request) (told_by before one one.response) before) past later
 
 untold_first : (number : ℕ) (before : List Told) (past : List Exchange) → told_of number before past ≡ [] → before ≡ []
 untold_first number before [] is = is
-untold_first number before (one ∷ past) is = of (locks number one.request) one.word (untold_first number (cond (locks number one.request) (told_by before one one.word) before) past is)
+untold_first number before (one ∷ past) is = of (locks number one.request) one.response (untold_first number (cond (locks number one.request) (told_by before one one.response) before) past is)
   where
     by : (heard : Option Said) → more_told before one.server one.request heard ≡ [] → before ≡ []
     by None is = is
     by (Some heard) is = cc
 
-    of : (b : Bool) (word : Word) → cond b (told_by before one word) before ≡ [] → before ≡ []
-    of false word is = is
+    of : (b : Bool) (response : Response) → cond b (told_by before one response) before ≡ [] → before ≡ []
+    of false response is = is
     of true (Lacked lacked) is = is
     of true (Replied said) is = by (said_to one.request said) is
 
@@ -133,7 +133,7 @@ narrow_is c told narrow is =
 
 -- ---- what a first Current gave
 
-pub gave_more : (start : Prefix) (number : ℕ) (past more : List Exchange) (first : First) → FirstGave start number past first → FirstGave start number (past ++ more) first
+pub gave_more : (start : Prefix) (number : ℕ) (past more : List Exchange) (first : ReadPoint) → FirstGave start number past first → FirstGave start number (past ++ more) first
 gave_more start number past more first gave = record {
   mode = gave.mode;
   members = gave.members;
@@ -150,21 +150,21 @@ gave_more start number past more first gave = record {
 -- what must be so of a suite from without: of the prefix from which it was gathered, and of the content that is known of it
 pub record Base : Type 1 where
   pub start : ℕ → Prefix → Type 0
-  pub content : ℕ → First → Content → Type 0
+  pub content : ℕ → ReadPoint → Content → Type 0
 
 -- of a suite whose content is there: it had a Current, and this holds of what that gave and of the content
-abbrev pub Knows : (ℕ → First → Content → Type 0) → ℕ → Suite → Type 0
-Knows C number suite = (content : Content) → suite.content ≡ Some content → (first : First) × (suite.first ≡ Some first) × C number first content
+abbrev pub Knows : (ℕ → ReadPoint → Content → Type 0) → ℕ → Suite → Type 0
+Knows C number suite = (content : Content) → suite.content ≡ Some content → (first : ReadPoint) × (suite.first ≡ Some first) × C number first content
 
-pub knows_settled : (C : ℕ → First → Content → Type 0) (number : ℕ) (suite : Suite) (prefix : Prefix) (dver : ℕ) (members : List ℕ) → Knows C number suite → Knows C number (settled prefix dver members suite)
+pub knows_settled : (C : ℕ → ReadPoint → Content → Type 0) (number : ℕ) (suite : Suite) (prefix : Prefix) (dver : ℕ) (members : List ℕ) → Knows C number suite → Knows C number (settled prefix dver members suite)
 knows_settled C number suite prefix dver members knows content is =
     let was = knows content is in (was.0, ap (λ first. first_or first (record { prefix = prefix; dver = dver; source = source_of suite.collector dver members })) was.1, was.2)
 
-pub knows_map : (C D : ℕ → First → Content → Type 0) (number : ℕ) (suite : Suite) → ((number : ℕ) (first : First) (content : Content) → C number first content → D number first content) → Knows C number suite → Knows D number suite
+pub knows_map : (C D : ℕ → ReadPoint → Content → Type 0) (number : ℕ) (suite : Suite) → ((number : ℕ) (first : ReadPoint) (content : Content) → C number first content → D number first content) → Knows C number suite → Knows D number suite
 knows_map C D number suite maps knows content is = let was = knows content is in (was.0, was.1, maps number was.0 content was.2)
 
 pub record FirstKept (past : List Exchange) (number : ℕ) (suite : Suite) : Type 0 where
-  pub first : First
+  pub first : ReadPoint
   pub was : suite.first ≡ Some first
   pub gave : FirstGave suite.collector.start number past first
 
@@ -181,7 +181,7 @@ gathered_more Old past more suites gathered n suite there = let was = gathered n
 -- another of which all the same is so
 pub record Follows (Old Old' : Base) : Type 0 where
   pub start : (n : ℕ) (start : Prefix) → Old.start n start → Old'.start n start
-  pub content : (n : ℕ) (first : First) (content : Content) → Old.content n first content → Old'.content n first content
+  pub content : (n : ℕ) (first : ReadPoint) (content : Content) → Old.content n first content → Old'.content n first content
 
 gathered_map : (Old Old' : Base) (past : List Exchange) (suites : Suites) → Follows Old Old' → AllGathered Old past suites → AllGathered Old' past suites
 gathered_map Old Old' past suites old gathered n suite there =
@@ -411,7 +411,7 @@ module _ (fixed : Fixed) (task : Task) (Old : Base) (past : List Exchange) (numb
         wanted = wants_told fixed task Old past number suite one (x ∷ []) asking.wanted;
       }
         where
-          new : First
+          new : ReadPoint
           new = record { prefix = prefix; dver = dver; source = source_of now.collector dver members }
 
           of : FirstOrAsks past number suite → FirstKept (past ++ x ∷ []) number (settled prefix dver members now)

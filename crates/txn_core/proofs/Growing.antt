@@ -17,14 +17,14 @@ use Rattle.file_exec.specs.KnownSuites.{KnownSuite}
 use Rattle.file_exec.specs.Known as known
 use Rattle.file_exec.specs.Known.{Known}
 use Rattle.file_exec.specs.Laws.{IsMore, IsMoreAt, MoreKnown}
-use Rattle.txn_core.specs.Suites.{First, Suite, Suites, suite_of, with_suite, known_row, known_if, known_of}
+use Rattle.txn_core.specs.Suites.{ReadPoint, Suite, Suites, suite_of, with_suite, known_row, known_if, known_of}
 use Rattle.txn_core.proofs.Setting.{known_at}
 
 -- ---- what is known is of a suite
 
 pub record IsOfSuite (suites : Suites) (number : ℕ) (it : KnownSuite) : Type 0 where
   pub suite : Suite
-  pub first : First
+  pub first : ReadPoint
   pub there : suite_of suites number ≡ Some suite
   pub was : suite.first ≡ Some first
   pub is : known_row suite first ≡ it
@@ -33,7 +33,7 @@ pub record IsOfSuite (suites : Suites) (number : ℕ) (it : KnownSuite) : Type 0
 other_number : (number key other : ℕ) → nat_cmp key other ≡ Less → number ≡ key → is_eq (nat_cmp number other) ≡ false
 other_number number key other less same = ap (λ n. is_eq (nat_cmp n other)) same ∙ ap is_eq less
 
-absent_here : (number : ℕ) (one : ℕ × Suite) (suites : Suites) → is_eq (nat_cmp number one.0) ≡ false → known.known_of (known_of suites) number ≡ None → (found : Option First) → known.known_of (known_if one.0 one.1 found (known_of suites)) number ≡ None
+absent_here : (number : ℕ) (one : ℕ × Suite) (suites : Suites) → is_eq (nat_cmp number one.0) ≡ false → known.known_of (known_of suites) number ≡ None → (found : Option ReadPoint) → known.known_of (known_if one.0 one.1 found (known_of suites)) number ≡ None
 absent_here number one suites other rest (Some first) = ap (λ b. cond b (Some (known_row one.1 first)) (known.known_of (known_of suites) number)) other ∙ rest
 absent_here number one suites other rest None = rest
 
@@ -46,7 +46,7 @@ known_from [] number it ordered is = absurd (none-some it is)
 known_from (one ∷ suites) number it ordered is =
     of (known_from suites number it (sorted_tail nat_cmp one.0 (keys_of suites) ordered)) (is_eq (nat_cmp number one.0)) refl one.1.first refl is
   where
-    of : (known.known_of (known_of suites) number ≡ Some it → IsOfSuite suites number it) → (b : Bool) → is_eq (nat_cmp number one.0) ≡ b → (found : Option First) → one.1.first ≡ found → known.known_of (known_if one.0 one.1 found (known_of suites)) number ≡ Some it → IsOfSuite (one ∷ suites) number it
+    of : (known.known_of (known_of suites) number ≡ Some it → IsOfSuite suites number it) → (b : Bool) → is_eq (nat_cmp number one.0) ≡ b → (found : Option ReadPoint) → one.1.first ≡ found → known.known_of (known_if one.0 one.1 found (known_of suites)) number ≡ Some it → IsOfSuite (one ∷ suites) number it
     of again true at (Some first) was is = record {
       suite = one.1;
       first = first;
@@ -66,19 +66,19 @@ known_from (one ∷ suites) number it ordered is =
 -- ---- more of one suite
 
 -- where a suite had a quorum, another keeps what it gave and its content, and is held in its mode or a stronger one
-pub record Keeps (before after : Suite) (had : First) : Type 0 where
+pub record Keeps (before after : Suite) (had : ReadPoint) : Type 0 where
   pub first : after.first ≡ Some had
   pub content : after.content ≡ before.content
   pub mode : serves after.mode before.mode ≡ true
 
 abbrev pub GoesOnFrom : Suite → Suite → Type 0
-GoesOnFrom before after = (first : First) → before.first ≡ Some first → Keeps before after first
+GoesOnFrom before after = (first : ReadPoint) → before.first ≡ Some first → Keeps before after first
 
 pub serves_itself : (mode : LockMode) → serves mode mode ≡ true
 serves_itself Shared = refl
 serves_itself Exclusive = refl
 
-more_of : (before after : Suite) (first : First) → Keeps before after first → IsMore (known_row before first) (known_row after first)
+more_of : (before after : Suite) (first : ReadPoint) → Keeps before after first → IsMore (known_row before first) (known_row after first)
 more_of before after first keeps =
     subst (λ content. IsMore (known_row before first) (known_row (record after { content = content }) first)) (sym keeps.content)
     (record { mode = keeps.mode; head = refl; opened = λ is. is; content = λ _. refl })
@@ -95,7 +95,7 @@ no_less all suite = of (known.known_of all suite)
 
 -- more is known once such a suite stands in the place of another, or where there was none
 pub more_known : (suites : Suites) (number : ℕ) (after : Suite) → IsOrdered nat_cmp suites → ((before : Suite) → suite_of suites number ≡ Some before → GoesOnFrom before after) → MoreKnown (known_of suites) (known_of (with_suite number after suites))
-more_known suites number after ordered goes other = of (known.known_of (known_of suites) other) refl
+more_known suites number after ordered flow other = of (known.known_of (known_of suites) other) refl
   where
     more : Suites
     more = with_suite number after suites
@@ -103,7 +103,7 @@ more_known suites number after ordered goes other = of (known.known_of (known_of
     at : (it : KnownSuite) → IsOfSuite suites other it → (b : Bool) → is_eq (nat_cmp number other) ≡ b → IsMoreAt (Some it) (known.known_of (known_of more) other)
     at it found true same =
         let there = ap (suite_of suites) (exact_unsigned number other (equal_if (nat_cmp number other) same)) ∙ found.there in
-        let keeps = goes found.suite there found.first found.was in
+        let keeps = flow found.suite there found.first found.was in
         let now = known_at more other after found.first (get-insert nat_cmp_total suites number after other ∙ ap (λ b. cond b (Some after) (suite_of suites other)) same) keeps.first in
         subst (IsMoreAt (Some it)) (sym now) (subst (λ it. IsMore it (known_row after found.first)) found.is (more_of found.suite after found.first keeps))
     at it found false apart =

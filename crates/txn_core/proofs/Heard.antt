@@ -15,10 +15,10 @@ use Rattle.suite_collect.specs.Collecting.{Widening, Collector, Asked, Poll, Upg
 use Rattle.suite_collect.specs.Collecting as collecting
 use Rattle.suite_collect.proofs.Collected.{gives_of}
 use Rattle.weak_cache.specs.Entries.{Cache}
-use Rattle.txn_core.specs.Suites.{First, Suite, Suites, first_or, settled, source_of}
+use Rattle.txn_core.specs.Suites.{ReadPoint, Suite, Suites, first_or, settled, source_of}
 use Rattle.txn_core.specs.Doing.{Task, Phase}
 use Rattle.txn_core.specs.Transactions.{Step, said_to, collected, hear}
-use Rattle.txn_core.specs.declared.settling.Settling.{Settling}
+use Rattle.txn_core.specs.declared.pending_quorum.PendingQuorum.{PendingQuorum}
 use Rattle.txn_core.specs.code.Hearing as hearing
 use Rattle.txn_core.specs.code.Hearing.{heard_next, heard_one, heard, on_hearing, FallsShort, IsFirstAfter, IsSettled}
 use Rattle.txn_core.specs.code.Seeing.{settled_with}
@@ -103,17 +103,17 @@ module _ (suite : Suite) (answer : Reply) where
   )
 
   -- with a quorum the suite is settled
-  pub hears_settles : (settling : Settling) → told_by (next suite.collector) answer ≡ Some settling.last → has_quorum (next (tell settling.last suite.collector)) ≡ true → IsFirstAfter suite settling.last settling.first
-      → heard suite answer ≡ hearing.Settled (settled_with settling suite)
-  hears_settles settling told quorum first = ap (heard_one suite) told ∙ of (next c) refl quorum
+  pub hears_settles : (pending : PendingQuorum) → told_by (next suite.collector) answer ≡ Some pending.last → has_quorum (next (tell pending.last suite.collector)) ≡ true → IsFirstAfter suite pending.last pending.first
+      → heard suite answer ≡ hearing.Settled (settled_with pending suite)
+  hears_settles pending told quorum first = ap (heard_one suite) told ∙ of (next c) refl quorum
     where
       c : Collector
-      c = tell settling.last suite.collector
+      c = tell pending.last suite.collector
 
-      of : (what : Next) → next c ≡ what → has_quorum what ≡ true → heard_next (record suite { collector = c }) what ≡ hearing.Settled (settled_with settling suite)
+      of : (what : Next) → next c ≡ what → has_quorum what ≡ true → heard_next (record suite { collector = c }) what ≡ hearing.Settled (settled_with pending suite)
       of (Current prefix dver members) is quorum =
           ap (λ first. hearing.Settled (record suite { collector = c; first = first; mode = c.mode })) (sym (first prefix dver members is))
-          ∙ ap (λ mode. hearing.Settled (record suite { collector = c; first = option_or suite.first settling.first; mode = mode })) (mode_stays suite.collector settling.last)
+          ∙ ap (λ mode. hearing.Settled (record suite { collector = c; first = option_or suite.first pending.first; mode = mode })) (mode_stays suite.collector pending.last)
       of (Ask server asked) is quorum = cc
       of (Short got needed busy) is quorum = cc
 
@@ -129,12 +129,12 @@ module _ (suite : Suite) (answer : Reply) where
       of (Ask server asked) is quorum = cc
       of (Short got needed busy) is quorum = cc
 
-  pub settles_if : (settling : Settling) → told_by (next suite.collector) answer ≡ Some settling.last → IsFirstAfter suite settling.last settling.first → IsSettled (heard suite answer)
-      → heard suite answer ≡ hearing.Settled (settled_with settling suite)
-  settles_if settling told first settles = hears_settles settling told (of (next c) refl) first
+  pub settles_if : (pending : PendingQuorum) → told_by (next suite.collector) answer ≡ Some pending.last → IsFirstAfter suite pending.last pending.first → IsSettled (heard suite answer)
+      → heard suite answer ≡ hearing.Settled (settled_with pending suite)
+  settles_if pending told first settles = hears_settles pending told (of (next c) refl) first
     where
       c : Collector
-      c = tell settling.last suite.collector
+      c = tell pending.last suite.collector
 
       after : Suite
       after = record suite { collector = c }
@@ -148,7 +148,7 @@ module _ (suite : Suite) (answer : Reply) where
       of (Short got needed busy) is = let bad : hearing.Short after got needed busy ≡ hearing.Settled settles.0 = told_to (Short got needed busy) is in cc
 
 -- what a quorum gives is what the first one of a suite gives
-abbrev the_first : Prefix → ℕ → ℕ → First
+abbrev the_first : Prefix → ℕ → ℕ → ReadPoint
 the_first prefix dver source = record { prefix = prefix; dver = dver; source = source }
 
 module _ (c : Collector) (quorum : Quorum) (gives : IsQuorumOf quorum c) (prefix : Prefix) (dver : ℕ) (members : List ℕ) (is : next c ≡ Current prefix dver members) where
@@ -163,10 +163,10 @@ module _ (c : Collector) (quorum : Quorum) (gives : IsQuorumOf quorum c) (prefix
       ∙ ap (λ dver. source_of c dver (members_of (counted c) (is_member c))) all.version_is
       ∙ ap (source_of c dver) all.members_are)
 
-  given_first : (first : Option First) → first ≡ None
+  given_first : (first : Option ReadPoint) → first ≡ None
       → option_or first (Some (record { prefix = quorum.prefix.now; dver = quorum.dver; source = unwrap_or quorum.source 0 })) ≡ first_or first (record { prefix = prefix; dver = dver; source = source_of c dver members })
   given_first None none =
-      ap (λ (first : First). Some first)
+      ap (λ (first : ReadPoint). Some first)
       (quorum_given (unwrap_or quorum.source 0) (ap (λ source. unwrap_or source 0) gives.source ∙ source_found c (version c) (members_of (counted c) (is_member c))))
   given_first (Some first) none = absurd (none-some first (sym none))
 
@@ -178,6 +178,6 @@ first_given suite last quorum none gives prefix dver members is = given_first (t
 pub first_kept : (suite : Suite) (last : Told) → is_some suite.first ≡ true → IsFirstAfter suite last None
 first_kept suite last some prefix dver members is = of suite.first some
   where
-    of : (first : Option First) → is_some first ≡ true → option_or first None ≡ first_or first (record { prefix = prefix; dver = dver; source = source_of (tell last suite.collector) dver members })
+    of : (first : Option ReadPoint) → is_some first ≡ true → option_or first None ≡ first_or first (record { prefix = prefix; dver = dver; source = source_of (tell last suite.collector) dver members })
     of (Some first) some = refl
     of None some = cc

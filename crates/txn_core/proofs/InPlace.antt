@@ -14,8 +14,8 @@ use Rattle.suite_collect.specs.Answering.{IsTold, shows_lock}
 use Rattle.suite_collect.specs.Collecting.{Collector, Collecting}
 use Rattle.suite_collect.specs.declared.hearing.Hearing.{Hearing as Heard}
 use Rattle.suite_collect.specs.declared.hearing.Hearing.TheVariants.{Lost, Asks, Short, Quorum}
-use Rattle.txn_core.specs.declared.settling.Settling.{Settling}
-use Rattle.txn_core.specs.Doing.{Course}
+use Rattle.txn_core.specs.declared.pending_quorum.PendingQuorum.{PendingQuorum}
+use Rattle.txn_core.specs.Doing.{TransactionRun}
 use Rattle.txn_core.specs.code.Hearing as hearing
 use Rattle.txn_core.specs.code.Hearing.{heard, heard_at, Hears, HearsIn, HearsAt, FallsShort, IsSettled, SettlesAt}
 use Rattle.txn_core.specs.code.Seeing.{settled_with}
@@ -71,15 +71,15 @@ module _ (rest : Suite) (before after : Collecting) (answer : Reply) (unused : s
       of (Ok Quorum) hears left = same hears.same
 
 -- a suite that was left is as it was
-pub left_there : (before after : Course) (held : Suites) (number : ℕ) (suite new : Suite) → held ≡ before.suites → Some suite ≡ suite_of held number → new ≡ suite
+pub left_there : (before after : TransactionRun) (held : Suites) (number : ℕ) (suite new : Suite) → held ≡ before.suites → Some suite ≡ suite_of held number → new ≡ suite
     → after ≡ record before { suites = replace nat_cmp held number new } → after ≡ before
 left_there before after held number suite new same there is put =
     put
     ∙ ap (λ new. record before { suites = replace nat_cmp held number new }) is
     ∙ ap (λ suites. record before { suites = suites }) (replace_same nat_cmp_total held number suite (sym there) ∙ same)
 
--- a suite that heard a reply, among those of a course
-module _ (before after : Course) (held : Suites) (number : ℕ) (suite new : Suite) (said : Reply) (same : held ≡ before.suites) (there : Some suite ≡ suite_of held number) (up : IsOrdered nat_cmp held)
+-- a suite that heard a reply, among those of a transaction's run
+module _ (before after : TransactionRun) (held : Suites) (number : ℕ) (suite new : Suite) (said : Reply) (same : held ≡ before.suites) (there : Some suite ≡ suite_of held number) (up : IsOrdered nat_cmp held)
     (put : after ≡ record before { suites = replace nat_cmp held number new }) where
   inserted : after ≡ record before { suites = with_suite number new before.suites }
   inserted =
@@ -102,7 +102,7 @@ module _ (before after : Course) (held : Suites) (number : ℕ) (suite new : Sui
   left_err (Err why) is = left_there before after held number suite new same there is put
 
 -- and what came of it
-module _ (before after : Course) (number : ℕ) (said : Reply) where
+module _ (before after : TransactionRun) (number : ℕ) (said : Reply) where
   pub at_lost : (found : Option Suite) → HearsAt found number Lost before said after → (heard_at found said ≡ hearing.Lost) × (after ≡ before)
   at_lost (Some suite) hears = hears
   at_lost None hears = (refl, hears.1)
@@ -121,10 +121,10 @@ module _ (before after : Course) (number : ℕ) (said : Reply) where
 
 -- the quorum that a suite is to have then
 module _ (said : Reply) where
-  pub settles_there : (settling : Settling) (found : Option Suite) → IsSettled (heard_at found said) → SettlesAt found (Some settling) said
-      → (suite : Suite) × (found ≡ Some suite) × (heard_at found said ≡ hearing.Settled (settled_with settling suite))
-  settles_there settling (Some suite) settles by = (suite, refl, by settles)
-  settles_there settling None settles by = cc
+  pub settles_there : (pending : PendingQuorum) (found : Option Suite) → IsSettled (heard_at found said) → SettlesAt found (Some pending) said
+      → (suite : Suite) × (found ≡ Some suite) × (heard_at found said ≡ hearing.Settled (settled_with pending suite))
+  settles_there pending (Some suite) settles by = (suite, refl, by settles)
+  settles_there pending None settles by = cc
 
   pub settles_lost : (found : Option Suite) → SettlesAt found None said → heard_at found said ≡ hearing.Lost
   settles_lost (Some suite) by = by

@@ -13,7 +13,7 @@ use Rattle.suite_prefix.specs.Copies.{held_by}
 use Rattle.weak_cache.specs.Entries.{Cache}
 use Rattle.weak_cache.specs.Cache.{content_at, hint, searched}
 use Rattle.weak_cache.proofs.Origins.{search_keeps_all}
-use Rattle.txn_core.specs.Suites.{First, Suite, Suites, suite_of, with_suite}
+use Rattle.txn_core.specs.Suites.{ReadPoint, Suite, Suites, suite_of, with_suite}
 use Rattle.txn_core.specs.Doing.{Task}
 use Rattle.txn_core.specs.Transactions.{Gathered, after_search, free_content}
 use Rattle.txn_core.specs.code.Unused.{HasUnused}
@@ -21,7 +21,7 @@ use Rattle.txn_core.proofs.Unused.{unused_searched}
 use Rattle.txn_core.specs.code.Plans.{opened_first, opened_at, opened_by, opened_all, free_first, free_of}
 
 -- what the first quorum of a suite gave
-abbrev pub first_in : Option Suite → Option First
+abbrev pub first_in : Option Suite → Option ReadPoint
 first_in (Some suite) = suite.first
 first_in None = None
 
@@ -62,7 +62,7 @@ pub record StaysFound (cache more : Cache) : Type 0 where
   pub hints : (site number : ℕ) → hint more site number ≡ hint cache site number
   pub unused : HasUnused cache → HasUnused more
 
-search_keeps : (task : Task) (cache : Cache) (number : ℕ) (first : First) → StaysFound cache (after_search task cache number first)
+search_keeps : (task : Task) (cache : Cache) (number : ℕ) (first : ReadPoint) → StaysFound cache (after_search task cache number first)
 search_keeps task cache number first = of (first.dver == 0)
   where
     of : (b : Bool) → StaysFound cache (if b then cache else searched task.site number first.dver cache)
@@ -76,7 +76,7 @@ search_keeps task cache number first = of (first.dver == 0)
 keeps_one : (task : Task) (all : Gathered) (one : ℕ × Content) → Keeps all (opened_by task all one)
 keeps_one task all one = of (suite_of all.suites one.0) refl
   where
-    opens : (suite : Suite) → suite_of all.suites one.0 ≡ Some suite → (first : Option First) → suite.first ≡ first → Keeps all (opened_first task all one.0 one.1 suite first)
+    opens : (suite : Suite) → suite_of all.suites one.0 ≡ Some suite → (first : Option ReadPoint) → suite.first ≡ first → Keeps all (opened_first task all one.0 one.1 suite first)
     opens suite is None was = keeps_itself all
     opens suite is (Some first) was =
         let new : Suite = record suite { content = Some one.1 } in
@@ -99,7 +99,7 @@ keeps_all task [] all = keeps_itself all
 keeps_all task (one ∷ list) all = keeps_on all (opened_by task all one) (opened_all task list (opened_by task all one)) (keeps_one task all one) (keeps_all task list (opened_by task all one))
 
 -- the contents that are to be had without asking are the same
-same_free : (task : Task) (all more : Gathered) → Keeps all more → (number : ℕ) (first : First) → free_content task more.cache number first ≡ free_content task all.cache number first
+same_free : (task : Task) (all more : Gathered) → Keeps all more → (number : ℕ) (first : ReadPoint) → free_content task more.cache number first ≡ free_content task all.cache number first
 same_free task all more keeps number first =
     ap (λ o. if first.dver == 0 then Some (empty_content (held_by first.prefix.kind)) else o) (keeps.contents task.site number first.dver)
 
@@ -114,6 +114,6 @@ free_kept task all more keeps number =
     ∙ of (first_in (suite_of all.suites number))
     ∙ sym (free_by_first task all.cache number (suite_of all.suites number))
   where
-    of : (first : Option First) → free_first task more.cache number first ≡ free_first task all.cache number first
+    of : (first : Option ReadPoint) → free_first task more.cache number first ≡ free_first task all.cache number first
     of (Some first) = same_free task all more keeps number first
     of None = refl

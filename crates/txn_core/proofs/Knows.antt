@@ -18,16 +18,16 @@ use Rattle.file_exec.specs.declared.executor.Outcome.TheVariants as exec
 use Rattle.suite_collect.specs.declared.told.Said.{Said}
 use Rattle.suite_collect.specs.Collecting.{tell, mode_of, Next, Ask, Current, Short, next}
 use Rattle.weak_cache.specs.Entries.{Cache}
-use Rattle.txn_core.specs.Suites.{First, Suite, Suites, suite_of, with_suite, settled}
-use Rattle.txn_core.specs.declared.word.Word.{Word}
-use Rattle.txn_core.specs.declared.word.Word.TheVariants.{Replied, Lacked}
+use Rattle.txn_core.specs.Suites.{ReadPoint, Suite, Suites, suite_of, with_suite, settled}
+use Rattle.txn_core.specs.declared.response.Response.{Response}
+use Rattle.txn_core.specs.declared.response.Response.TheVariants.{Replied, Lacked}
 use Rattle.txn_core.specs.declared.ending.Cause.{Cause}
 use Rattle.txn_core.specs.declared.ending.Cause.TheVariants.{Lost}
 use Rattle.txn_core.specs.declared.ending.Ending.{Ending}
 use Rattle.txn_core.specs.declared.job.Job.{Job}
 use Rattle.txn_core.specs.declared.job.Job.TheVariants.{Transaction, Sweep}
-use Rattle.txn_core.specs.Doing.{Granted, Fixed, Task, Outcome, Phase, Gathering, Fetching, Widening, Preparing, Deciding, Finishing, Course, Round, Doing, Running, Rounding, After, GoesOn, Ends}
-use Rattle.txn_core.specs.Transactions.{Step, Gathered, tell_end, give_up, prepare, locked_at, short_cause, gather_by, widen_by, widen_one, widened, widen_all, opened, heard_on, raised_or_new, keep_content, heard_of, said_to, proceed, execute, collected, hear, fetched, fetched_at, fetched_for, after_lack, after_word, given_in, lack_cause, verdict_in, ending_by, cause_of_abort, request_in}
+use Rattle.txn_core.specs.Doing.{Granted, Fixed, Task, Outcome, Phase, Gathering, Fetching, Widening, Preparing, Deciding, Finishing, TransactionRun, SweepRun, Doing, Running, RunningSweep, After, GoesOn, Ends}
+use Rattle.txn_core.specs.Transactions.{Step, Gathered, tell_end, give_up, prepare, locked_at, short_cause, gather_by, widen_by, widen_one, widened, widen_all, opened, heard_on, raised_or_new, keep_content, heard_of, said_to, proceed, execute, collected, hear, fetched, fetched_at, fetched_for, after_lack, after_response, given_in, lack_cause, verdict_in, ending_by, cause_of_abort, request_in}
 use Rattle.txn_core.specs.Sweeps as sweep
 use Rattle.txn_core.specs.Agents.{Agent, Event, Take, Forget, next_in, next_of, left, take_in, begin, started, is_idle, has_sense, max_jobs, after_all}
 use Rattle.txn_core.specs.Laws.{exchange_of, of_job, task_of}
@@ -40,11 +40,11 @@ use Rattle.txn_core.proofs.Upheld.{after-append, exchanges-take, exchanges-forge
 
 -- ---- what is known of each suite
 
-module _ (C : ℕ → First → Content → Type 0) where
+module _ (C : ℕ → ReadPoint → Content → Type 0) where
   module _ (task : Task) where
     -- what is left of a step
-    abbrev pub KnowsAfter : After Course → Type 0
-    KnowsAfter (GoesOn course) = (course.task ≡ task) × Each (Knows C) course.suites
+    abbrev pub KnowsAfter : After TransactionRun → Type 0
+    KnowsAfter (GoesOn txn_run) = (txn_run.task ≡ task) × Each (Knows C) txn_run.suites
     KnowsAfter (Ends ending) = Unit {0}
 
     knows_end : (cache : Cache) (suites : Suites) (v : Verdict) (ending : Ending) (servers : List ℕ) → Each (Knows C) suites → KnowsAfter (tell_end task cache suites v ending servers).after
@@ -97,11 +97,11 @@ module _ (C : ℕ → First → Content → Type 0) where
     pub knows_execute : (fixed : Fixed) (all : Gathered) → FreeIn C task (execute fixed task all).cache → Each (Knows C) all.suites → KnowsAfter (execute fixed task all).after
     knows_execute fixed all free each =
         let open' = opened (length all.suites) fixed task all in
-        let opens : (number : ℕ) (suite : Suite) (first : First) (content : Content) → suite.first ≡ Some first → Free task all.cache first number content → Knows C number suite → Knows C number (record suite { content = Some content }) =
+        let opens : (number : ℕ) (suite : Suite) (first : ReadPoint) (content : Content) → suite.first ≡ Some first → Free task all.cache first number content → Knows C number suite → Knows C number (record suite { content = Some content }) =
         λ number suite first content was found _ other at. (first, was, subst (C number first) (same_Some content other at) (free_before C fixed task all free number first content found)) in
         knows_proceed fixed open'.cache open'.suites (heard_on fixed task open'.suites) (each_opened all.cache task (Knows C) opens (length all.suites) fixed all (λ number dver. refl) each)
 
-    -- ---- words
+    -- ---- responses
 
     knows_heard : (cache : Cache) (suites : Suites) (phase : Phase) (number : ℕ) (found : Option Suite) (server : ℕ) (asked : Request) (said : Reply) (go_on : Suites → Step) → suite_of suites number ≡ found → Each (Knows C) suites
         → FreeIn C task (heard_of task cache suites phase number found server asked said go_on).cache → ((suites : Suites) → FreeIn C task (go_on suites).cache → Each (Knows C) suites → KnowsAfter (go_on suites).after)
@@ -126,7 +126,7 @@ module _ (C : ℕ → First → Content → Type 0) where
         → FreeIn C task (fetched fixed task cache suites number (suite_of suites number) server (given_in said)).cache → KnowsAfter (fetched fixed task cache suites number (suite_of suites number) server (given_in said)).after
     knows_fetched fixed cache suites number server asked said is each given free = of (suite_of suites number) refl is (given_in said) refl free
       where
-        kept : (suite : Suite) (content : Content) (first : Option First) → suite_of suites number ≡ Some suite → suite.first ≡ first → fetched_at task number first ≡ Some (server, asked) → given_in said ≡ Some content
+        kept : (suite : Suite) (content : Content) (first : Option ReadPoint) → suite_of suites number ≡ Some suite → suite.first ≡ first → fetched_at task number first ≡ Some (server, asked) → given_in said ≡ Some content
             → FreeIn C task (keep_content fixed task cache suites number suite content first server).cache → KnowsAfter (keep_content fixed task cache suites number suite content first server).after
         kept suite content None there was is told free = knows_give_up cache suites (Lost server) each
         kept suite content (Some first) there was is told free =
@@ -157,77 +157,77 @@ module _ (C : ℕ → First → Content → Type 0) where
     knows_lack cache suites (Finishing [] v ending) server lacked each = tt
     knows_lack cache suites (Finishing (now ∷ left) v ending) server lacked each = knows_end cache suites v ending left each
 
-    pub knows_word : (fixed : Fixed) (cache : Cache) (suites : Suites) (phase : Phase) (server : ℕ) (asked : Request) (word : Word) → request_in fixed task suites phase ≡ Some (server, asked) → Each (Knows C) suites → GivenIn C task server asked word
-        → FreeIn C task (after_word fixed (record { task = task; suites = suites; phase = phase }) cache server asked word).cache → KnowsAfter (after_word fixed (record { task = task; suites = suites; phase = phase }) cache server asked word).after
-    knows_word fixed cache suites phase server asked (Lacked lacked) is each given free = knows_lack cache suites phase server lacked each
-    knows_word fixed cache suites (Gathering number) server asked (Replied said) is each given free =
+    pub knows_response : (fixed : Fixed) (cache : Cache) (suites : Suites) (phase : Phase) (server : ℕ) (asked : Request) (response : Response) → request_in fixed task suites phase ≡ Some (server, asked) → Each (Knows C) suites → GivenIn C task server asked response
+        → FreeIn C task (after_response fixed (record { task = task; suites = suites; phase = phase }) cache server asked response).cache → KnowsAfter (after_response fixed (record { task = task; suites = suites; phase = phase }) cache server asked response).after
+    knows_response fixed cache suites phase server asked (Lacked lacked) is each given free = knows_lack cache suites phase server lacked each
+    knows_response fixed cache suites (Gathering number) server asked (Replied said) is each given free =
         knows_heard cache suites (Gathering number) number (suite_of suites number) server asked said _ refl each free (λ suites free each. knows_execute fixed (record { suites = suites; cache = cache }) free each)
-    knows_word fixed cache suites (Fetching number) server asked (Replied said) is each given free = knows_fetched fixed cache suites number server asked said is each given free
-    knows_word fixed cache suites (Widening [] granted) server asked (Replied said) is each given free = knows_give_up cache suites (Lost server) each
-    knows_word fixed cache suites (Widening (number ∷ left) granted) server asked (Replied said) is each given free =
+    knows_response fixed cache suites (Fetching number) server asked (Replied said) is each given free = knows_fetched fixed cache suites number server asked said is each given free
+    knows_response fixed cache suites (Widening [] granted) server asked (Replied said) is each given free = knows_give_up cache suites (Lost server) each
+    knows_response fixed cache suites (Widening (number ∷ left) granted) server asked (Replied said) is each given free =
         knows_heard cache suites (Widening (number ∷ left) granted) number (suite_of suites number) server asked said _ refl each free (λ suites free each. knows_widen cache suites granted left each)
-    knows_word fixed cache suites (Preparing [] outcome) server asked (Replied said) is each given free = knows_give_up cache suites (Lost server) each
-    knows_word fixed cache suites (Preparing (now ∷ left) outcome) server asked (Replied said) is each given free = of (is_prepared said)
+    knows_response fixed cache suites (Preparing [] outcome) server asked (Replied said) is each given free = knows_give_up cache suites (Lost server) each
+    knows_response fixed cache suites (Preparing (now ∷ left) outcome) server asked (Replied said) is each given free = of (is_prepared said)
       where
         of : (b : Bool) → KnowsAfter (cond b (prepare task cache suites outcome left) (give_up task cache suites (Lost server))).after
         of true = knows_prepare cache suites outcome left each
         of false = knows_give_up cache suites (Lost server) each
-    knows_word fixed cache suites (Deciding outcome) server asked (Replied said) is each given free =
+    knows_response fixed cache suites (Deciding outcome) server asked (Replied said) is each given free =
         knows_end cache suites (verdict_in said verdict.Aborted) (ending_by (verdict_in said verdict.Aborted) (cause_of_abort said)) (locked_at suites) each
-    knows_word fixed cache suites (Finishing [] v ending) server asked (Replied said) is each given free = tt
-    knows_word fixed cache suites (Finishing (now ∷ left) v ending) server asked (Replied said) is each given free = knows_end cache suites v ending left each
+    knows_response fixed cache suites (Finishing [] v ending) server asked (Replied said) is each given free = tt
+    knows_response fixed cache suites (Finishing (now ∷ left) v ending) server asked (Replied said) is each given free = knows_end cache suites v ending left each
 
 -- ---- after each event
 
 module _ (fixed : Fixed) (agent : Agent) (job : Job) where
   abbrev DoingKnows : List Event → Option Doing → Type 0
-  DoingKnows events (Some (Running course)) = Each (Knows (Content_of fixed agent job events course.task.site)) course.suites
-  DoingKnows events (Some (Rounding round)) = Unit {0}
+  DoingKnows events (Some (Running txn_run)) = Each (Knows (Content_of fixed agent job events txn_run.task.site)) txn_run.suites
+  DoingKnows events (Some (RunningSweep sweep_run)) = Unit {0}
   DoingKnows events None = Unit {0}
 
-  map_each : (C D : ℕ → First → Content → Type 0) (suites : Suites) → ((number : ℕ) (first : First) (content : Content) → C number first content → D number first content) → Each (Knows C) suites → Each (Knows D) suites
+  map_each : (C D : ℕ → ReadPoint → Content → Type 0) (suites : Suites) → ((number : ℕ) (first : ReadPoint) (content : Content) → C number first content → D number first content) → Each (Knows C) suites → Each (Knows D) suites
   map_each C D suites maps each number suite there content is = let was = each number suite there content is in (was.0, was.1, maps number was.0 content was.2)
 
-  left_knows : (events : List Event) (task : Task) (after : After Course) → KnowsAfter (Content_of fixed agent job events task.site) task after → DoingKnows events (left Running after)
-  left_knows events task (GoesOn course) knows = subst (λ (other : Task). Each (Knows (Content_of fixed agent job events other.site)) course.suites) (sym knows.0) knows.1
+  left_knows : (events : List Event) (task : Task) (after : After TransactionRun) → KnowsAfter (Content_of fixed agent job events task.site) task after → DoingKnows events (left Running after)
+  left_knows events task (GoesOn txn_run) knows = subst (λ (other : Task). Each (Knows (Content_of fixed agent job events other.site)) txn_run.suites) (sym knows.0) knows.1
   left_knows events task (Ends ending) knows = tt
 
-  round_knows : (events : List Event) (after : After Round) → DoingKnows events (left Rounding after)
-  round_knows events (GoesOn round) = tt
+  round_knows : (events : List Event) (after : After SweepRun) → DoingKnows events (left RunningSweep after)
+  round_knows events (GoesOn sweep_run) = tt
   round_knows events (Ends ending) = tt
 
-  knows_take : (events : List Event) (word : Word) (doing : Option Doing) (asked : Option (ℕ × Request)) → (after_all fixed (begin fixed agent job) events).doing ≡ doing → next_in fixed doing ≡ asked
-      → of_job fixed agent job (events ++ Take word ∷ []) ≡ of_job fixed agent job events ++ exchange_of asked word
-      → after_all fixed (begin fixed agent job) (events ++ Take word ∷ []) ≡ (take_in fixed (after_all fixed (begin fixed agent job) events) word doing asked).agent
-      → DoingKnows events doing → DoingKnows (events ++ Take word ∷ []) (take_in fixed (after_all fixed (begin fixed agent job) events) word doing asked).agent.doing
-  knows_take events word (Some (Running running)) (Some asked) was is told after knows =
-      let step = after_word fixed running (after_all fixed (begin fixed agent job) events).cache asked.0 asked.1 word in
+  knows_take : (events : List Event) (response : Response) (doing : Option Doing) (asked : Option (ℕ × Request)) → (after_all fixed (begin fixed agent job) events).doing ≡ doing → next_in fixed doing ≡ asked
+      → of_job fixed agent job (events ++ Take response ∷ []) ≡ of_job fixed agent job events ++ exchange_of asked response
+      → after_all fixed (begin fixed agent job) (events ++ Take response ∷ []) ≡ (take_in fixed (after_all fixed (begin fixed agent job) events) response doing asked).agent
+      → DoingKnows events doing → DoingKnows (events ++ Take response ∷ []) (take_in fixed (after_all fixed (begin fixed agent job) events) response doing asked).agent.doing
+  knows_take events response (Some (Running running)) (Some asked) was is told after knows =
+      let step = after_response fixed running (after_all fixed (begin fixed agent job) events).cache asked.0 asked.1 response in
       let site = running.task.site in
-      left_knows (events ++ Take word ∷ []) running.task step.after
-      (knows_word (Content_of fixed agent job (events ++ Take word ∷ []) site) running.task fixed (after_all fixed (begin fixed agent job) events).cache running.suites running.phase asked.0 asked.1 word is
-      (map_each (Content_of fixed agent job events site) (Content_of fixed agent job (events ++ Take word ∷ []) site) running.suites (content_more fixed agent job events (Take word) (exchange_of (Some asked) word) told site) knows)
-      (given_now fixed agent job events (events ++ Take word ∷ []) running.task asked.0 asked.1 word told) (free_now fixed agent job (events ++ Take word ∷ []) running.task step.cache (ap (λ (agent : Agent). agent.cache) after)))
-  knows_take events word (Some (Running running)) None was is told after knows =
-      subst (DoingKnows (events ++ Take word ∷ [])) (sym was)
-      (map_each (Content_of fixed agent job events running.task.site) (Content_of fixed agent job (events ++ Take word ∷ []) running.task.site) running.suites (content_more fixed agent job events (Take word) [] told running.task.site) knows)
-  knows_take events word (Some (Rounding round)) (Some asked) was is told after knows = round_knows (events ++ Take word ∷ []) (sweep.after_word fixed.service round asked.0 word)
-  knows_take events word (Some (Rounding round)) None was is told after knows = cc
-  knows_take events word None (Some asked) was is told after knows = cc
-  knows_take events word None None was is told after knows = subst (DoingKnows (events ++ Take word ∷ [])) (sym was) tt
+      left_knows (events ++ Take response ∷ []) running.task step.after
+      (knows_response (Content_of fixed agent job (events ++ Take response ∷ []) site) running.task fixed (after_all fixed (begin fixed agent job) events).cache running.suites running.phase asked.0 asked.1 response is
+      (map_each (Content_of fixed agent job events site) (Content_of fixed agent job (events ++ Take response ∷ []) site) running.suites (content_more fixed agent job events (Take response) (exchange_of (Some asked) response) told site) knows)
+      (given_now fixed agent job events (events ++ Take response ∷ []) running.task asked.0 asked.1 response told) (free_now fixed agent job (events ++ Take response ∷ []) running.task step.cache (ap (λ (agent : Agent). agent.cache) after)))
+  knows_take events response (Some (Running running)) None was is told after knows =
+      subst (DoingKnows (events ++ Take response ∷ [])) (sym was)
+      (map_each (Content_of fixed agent job events running.task.site) (Content_of fixed agent job (events ++ Take response ∷ []) running.task.site) running.suites (content_more fixed agent job events (Take response) [] told running.task.site) knows)
+  knows_take events response (Some (RunningSweep sweep_run)) (Some asked) was is told after knows = round_knows (events ++ Take response ∷ []) (sweep.after_response fixed.service sweep_run asked.0 response)
+  knows_take events response (Some (RunningSweep sweep_run)) None was is told after knows = cc
+  knows_take events response None (Some asked) was is told after knows = cc
+  knows_take events response None None was is told after knows = subst (DoingKnows (events ++ Take response ∷ [])) (sym was) tt
 
   knows_forget : (events : List Event) (site : ℕ) (doing : Option Doing) → DoingKnows events doing → DoingKnows (events ++ Forget site ∷ []) doing
   knows_forget events site (Some (Running running)) knows =
       map_each (Content_of fixed agent job events running.task.site) (Content_of fixed agent job (events ++ Forget site ∷ []) running.task.site) running.suites
       (content_more fixed agent job events (Forget site) [] (exchanges-forget fixed (begin fixed agent job) events site ∙ sym (append-nil (of_job fixed agent job events))) running.task.site) knows
-  knows_forget events site (Some (Rounding round)) knows = tt
+  knows_forget events site (Some (RunningSweep sweep_run)) knows = tt
   knows_forget events site None knows = tt
 
   knows_more : (events : List Event) (event : Event) → DoingKnows events (after_all fixed (begin fixed agent job) events).doing → DoingKnows (events ++ event ∷ []) (after_all fixed (begin fixed agent job) (events ++ event ∷ [])).doing
-  knows_more events (Take word) knows =
+  knows_more events (Take response) knows =
       let now = after_all fixed (begin fixed agent job) events in
-      let after = after-append fixed (begin fixed agent job) events (Take word) in
-      subst (λ (agent : Agent). DoingKnows (events ++ Take word ∷ []) agent.doing) (sym after)
-      (knows_take events word now.doing (next_of fixed now) refl refl (exchanges-take fixed (begin fixed agent job) events word) after knows)
+      let after = after-append fixed (begin fixed agent job) events (Take response) in
+      subst (λ (agent : Agent). DoingKnows (events ++ Take response ∷ []) agent.doing) (sym after)
+      (knows_take events response now.doing (next_of fixed now) refl refl (exchanges-take fixed (begin fixed agent job) events response) after knows)
   knows_more events (Forget site) knows =
       let now = after_all fixed (begin fixed agent job) events in
       subst (λ (agent : Agent). DoingKnows (events ++ Forget site ∷ []) agent.doing) (sym (after-append fixed (begin fixed agent job) events (Forget site))) (knows_forget events site now.doing knows)
@@ -260,5 +260,5 @@ module _ (fixed : Fixed) (agent : Agent) (job : Job) where
           subst (λ (agent : Agent). DoingKnows [] agent.doing) (sym (ap (λ b. cond b (record (started fixed agent job) { count = agent.count + 1 }) agent) is)) (none agent.doing idle)
 
 pub knows_contents : KnowsContents
-knows_contents fixed agent job events course number suite content idle was there is =
+knows_contents fixed agent job events txn_run number suite content idle was there is =
     subst (DoingKnows fixed agent job events) was (all_know fixed agent job [] events (begin_knows fixed agent job idle)) number suite there content is

@@ -42,16 +42,16 @@ use Rattle.suite_collect.specs.Telling.{is_held, holds}
 use Rattle.suite_collect.specs.Collecting.{Collector, told_since, all_told, tell, tell_at, mode_of, request_for, Asked, Poll, Upgrade, Next, Ask, Current, Short, next}
 use Rattle.suite_collect.specs.Collecting as collecting
 use Rattle.weak_cache.specs.Entries.{Cache}
-use Rattle.txn_core.specs.Suites.{First, Suite, Suites, suite_of, with_suite, told_in, told_at, settled, holds_lock}
-use Rattle.txn_core.specs.declared.word.Word.{Word}
+use Rattle.txn_core.specs.Suites.{ReadPoint, Suite, Suites, suite_of, with_suite, told_in, told_at, settled, holds_lock}
+use Rattle.txn_core.specs.declared.response.Response.{Response}
 use Rattle.txn_core.specs.declared.ending.Cause.{Cause}
 use Rattle.txn_core.specs.declared.ending.Ending.{Ending}
 use Rattle.txn_core.specs.declared.job.Job.{Job}
-use Rattle.txn_core.specs.declared.word.Word.TheVariants.{Replied, Lacked}
+use Rattle.txn_core.specs.declared.response.Response.TheVariants.{Replied, Lacked}
 use Rattle.txn_core.specs.declared.ending.Cause.TheVariants.{Lost}
 use Rattle.txn_core.specs.declared.job.Job.TheVariants.{Transaction, Sweep}
-use Rattle.txn_core.specs.Doing.{Changes, Granted, home_of, Fixed, Task, Outcome, Phase, Gathering, Fetching, Widening, Preparing, Deciding, Finishing, Course, Sweeping, Listing, Resolving, Telling, Breaking, Round, Doing, Running, Rounding, After, GoesOn, Ends}
-use Rattle.txn_core.specs.Transactions.{Step, Gathered, tell_end, give_up, prepare, locked_at, short_cause, gather_by, widen_by, widen_one, widened, widen_all, opened, or_all, open_needed, open_suite, open_first, opened_with, free_content, heard_on, raised_or_new, keep_content, heard_of, is_poll, said_to, proceed, execute, collected, hear, fetched, prepared, after_lack, after_word, asked_by, asked_for, fetched_at, fetched_for, request_in, changes_of, decision_of, given_in, verdict_in, ending_by, cause_of_abort, lack_cause}
+use Rattle.txn_core.specs.Doing.{Changes, Granted, home_of, Fixed, Task, Outcome, Phase, Gathering, Fetching, Widening, Preparing, Deciding, Finishing, TransactionRun, Sweeping, Listing, Resolving, Telling, Breaking, SweepRun, Doing, Running, RunningSweep, After, GoesOn, Ends}
+use Rattle.txn_core.specs.Transactions.{Step, Gathered, tell_end, give_up, prepare, locked_at, short_cause, gather_by, widen_by, widen_one, widened, widen_all, opened, or_all, open_needed, open_suite, open_first, opened_with, free_content, heard_on, raised_or_new, keep_content, heard_of, is_poll, said_to, proceed, execute, collected, hear, fetched, prepared, after_lack, after_response, asked_by, asked_for, fetched_at, fetched_for, request_in, changes_of, decision_of, given_in, verdict_in, ending_by, cause_of_abort, lack_cause}
 use Rattle.txn_core.specs.Writing.{parts_at, part_of}
 use Rattle.txn_core.proofs.Asks.{asks_same}
 use Rattle.rep_core.specs.declared.stamped.Lack.{Lack}
@@ -97,8 +97,8 @@ are_nil = (tt, λ number. refl)
 -- ---- steps that hear nothing
 
 -- what is left of a step has suites of which this was told
-abbrev pub Leaves : (ℕ → List Told) → After Course → Type 0
-Leaves told (GoesOn course) = Are told course.suites
+abbrev pub Leaves : (ℕ → List Told) → After TransactionRun → Type 0
+Leaves told (GoesOn txn_run) = Are told txn_run.suites
 Leaves told (Ends ending) = Unit {0}
 
 leaves_end : (told : ℕ → List Told) (task : Task) (cache : Cache) (suites : Suites) (v : Verdict) (ending : Ending) (servers : List ℕ) → Are told suites → Leaves told (tell_end task cache suites v ending servers).after
@@ -144,12 +144,12 @@ are_opened told (suc n) fixed task all are = of (heard_on fixed task all.suites)
     or' (Some more) found_are later = later more (found_are more refl)
     or' None found_are later = are
 
-    with_content : (number : ℕ) (suite : Suite) (first : First) (content : Option Content) (more : Gathered) → suite_of all.suites number ≡ Some suite → opened_with task all number suite first content ≡ Some more → Are told more.suites
+    with_content : (number : ℕ) (suite : Suite) (first : ReadPoint) (content : Option Content) (more : Gathered) → suite_of all.suites number ≡ Some suite → opened_with task all number suite first content ≡ Some more → Are told more.suites
     with_content number suite first (Some content) more there is =
         subst (λ (more : Gathered). Are told more.suites) (same_Some _ more is) (are_same told all.suites number (record suite { content = Some content }) are (sym (ap told_in there)))
     with_content number suite first None more there is = cc
 
-    at_first : (number : ℕ) (suite : Suite) (first : Option First) (more : Gathered) → suite_of all.suites number ≡ Some suite → open_first task all number suite first ≡ Some more → Are told more.suites
+    at_first : (number : ℕ) (suite : Suite) (first : Option ReadPoint) (more : Gathered) → suite_of all.suites number ≡ Some suite → open_first task all number suite first ≡ Some more → Are told more.suites
     at_first number suite (Some first) more there is = with_content number suite first (free_content task all.cache number first) more there is
     at_first number suite None more there is = cc
 
@@ -206,14 +206,14 @@ abbrev pub Held : (ℕ → ℕ → Bool) → (ℕ → List Told) → Type 0
 Held held told = (number server : ℕ) → holds Shared (told number) server ≡ held number server
 
 -- what an exchange adds
-abbrev adds : ℕ → Request → Word → ℕ → ℕ → Bool
-adds server asked word number other = (server == other) && locks number asked && says_held word
+abbrev adds : ℕ → Request → Response → ℕ → ℕ → Bool
+adds server asked response number other = (server == other) && locks number asked && says_held response
 
-abbrev plus : (ℕ → ℕ → Bool) → ℕ → Request → Word → ℕ → ℕ → Bool
-plus held server asked word number other = held number other || adds server asked word number other
+abbrev plus : (ℕ → ℕ → Bool) → ℕ → Request → Response → ℕ → ℕ → Bool
+plus held server asked response number other = held number other || adds server asked response number other
 
 -- suites in order, on which these servers hold locks
-record LeftWith (held : ℕ → ℕ → Bool) (after : After Course) : Type 0 where
+record LeftWith (held : ℕ → ℕ → Bool) (after : After TransactionRun) : Type 0 where
   told : ℕ → List Told
   leaves : Leaves told after
   agree : Held held told
@@ -228,15 +228,15 @@ and_false true false = refl
 and_false false b = refl
 
 -- nothing new is held
-nothing_new : (held : ℕ → ℕ → Bool) (server : ℕ) (asked : Request) (word : Word) → says_held word ≡ false → (told : ℕ → List Told) → Held held told → Held (plus held server asked word) told
-nothing_new held server asked word none told holds' number other =
+nothing_new : (held : ℕ → ℕ → Bool) (server : ℕ) (asked : Request) (response : Response) → says_held response ≡ false → (told : ℕ → List Told) → Held held told → Held (plus held server asked response) told
+nothing_new held server asked response none told holds' number other =
     holds' number other ∙ sym (ap (λ b. held number other || ((server == other) && locks number asked && b)) none ∙ ap (λ b. held number other || b) (and_false (server == other) (locks number asked)) ∙ or_false (held number other))
 
-no_lock : (held : ℕ → ℕ → Bool) (server : ℕ) (asked : Request) (word : Word) → ((number : ℕ) → locks number asked ≡ false) → (told : ℕ → List Told) → Held held told → Held (plus held server asked word) told
-no_lock held server asked word none told holds' number other =
-    holds' number other ∙ sym (ap (λ b. held number other || ((server == other) && b && says_held word)) (none number) ∙ ap (λ b. held number other || b) (of (server == other)) ∙ or_false (held number other))
+no_lock : (held : ℕ → ℕ → Bool) (server : ℕ) (asked : Request) (response : Response) → ((number : ℕ) → locks number asked ≡ false) → (told : ℕ → List Told) → Held held told → Held (plus held server asked response) told
+no_lock held server asked response none told holds' number other =
+    holds' number other ∙ sym (ap (λ b. held number other || ((server == other) && b && says_held response)) (none number) ∙ ap (λ b. held number other || b) (of (server == other)) ∙ or_false (held number other))
   where
-    of : (a : Bool) → (a && false && says_held word) ≡ false
+    of : (a : Bool) → (a && false && says_held response) ≡ false
     of true = refl
     of false = refl
 
@@ -244,7 +244,7 @@ serves_shared : (mode : LockMode) → serves mode Shared ≡ true
 serves_shared Shared = refl
 serves_shared Exclusive = refl
 
--- what was said is held where the word says so
+-- what was said is held where the response says so
 said_held : (asked : Request) (said : Reply) (heard : Said) → said_to asked said ≡ Some heard → is_held heard ≡ says_held (Replied said)
 said_held asked (reply.Held prefix dver) heard is = ap is_held (sym (same_Some _ heard is))
 said_held asked (reply.Busy holder prepared) heard is = ap is_held (sym (same_Some _ heard is))
@@ -272,12 +272,12 @@ said_none asked reply.Done is = refl
 said_none asked (reply.Locked locks) is = refl
 
 -- one more is told of a suite
-held_more : (held : ℕ → ℕ → Bool) (told : ℕ → List Told) (number server : ℕ) (mode : LockMode) (heard : Said) (before : List Told) (asked : Request) (word : Word) → Held held told → before ≡ told number
-    → ((other : ℕ) → locks other asked ≡ (number == other)) → is_held heard ≡ says_held word
-    → Held (plus held server asked word) (told_with number (record { server = server; mode = mode; said = heard } ∷ before) told)
-held_more held told number server mode heard before asked word holds' was lock same other who =
+held_more : (held : ℕ → ℕ → Bool) (told : ℕ → List Told) (number server : ℕ) (mode : LockMode) (heard : Said) (before : List Told) (asked : Request) (response : Response) → Held held told → before ≡ told number
+    → ((other : ℕ) → locks other asked ≡ (number == other)) → is_held heard ≡ says_held response
+    → Held (plus held server asked response) (told_with number (record { server = server; mode = mode; said = heard } ∷ before) told)
+held_more held told number server mode heard before asked response holds' was lock same other who =
     of (number == other) refl
-    ∙ sym (ap (λ b. held other who || ((server == who) && b && says_held word)) (lock other))
+    ∙ sym (ap (λ b. held other who || ((server == who) && b && says_held response)) (lock other))
   where
     swap : (a b c d : Bool) → d ≡ true → ((a && (b && d)) || c) ≡ (c || (a && true && b))
     swap true true true d is = ap (λ d. d || true) is
@@ -293,16 +293,16 @@ held_more held told number server mode heard before asked word holds' was lock s
     out false b true = refl
     out false b false = refl
 
-    of : (b : Bool) → (number == other) ≡ b → holds Shared (cond b (record { server = server; mode = mode; said = heard } ∷ before) (told other)) who ≡ (held other who || ((server == who) && b && says_held word))
+    of : (b : Bool) → (number == other) ≡ b → holds Shared (cond b (record { server = server; mode = mode; said = heard } ∷ before) (told other)) who ≡ (held other who || ((server == who) && b && says_held response))
     of true is =
         let here : number ≡ other = eqb-true number other is in
         ap (λ (told : List Told). ((server == who) && (is_held heard && serves mode Shared)) || holds Shared told who) (was ∙ ap told here)
         ∙ ap (λ b. ((server == who) && (is_held heard && serves mode Shared)) || b) (holds' other who)
         ∙ swap (server == who) (is_held heard) (held other who) (serves mode Shared) (serves_shared mode)
         ∙ ap (λ b. held other who || ((server == who) && true && b)) same
-    of false is = holds' other who ∙ out (server == who) (says_held word) (held other who)
+    of false is = holds' other who ∙ out (server == who) (says_held response) (held other who)
 
--- ---- one word
+-- ---- one response
 
 pub lock_of : (t number : ℕ) (question : Asked) (other : ℕ) → locks other (request_for t number question) ≡ (number == other)
 lock_of t number (Poll mode) other = refl
@@ -342,10 +342,10 @@ left_heard held told task cache suites phase number (Some suite) server asked sa
         }
 
 -- a step that hears of no lock
-left_quiet : (held : ℕ → ℕ → Bool) (told : ℕ → List Told) (server : ℕ) (asked : Request) (word : Word) (after : After Course) → Held held told → ((number : ℕ) → locks number asked ≡ false) → Leaves told after → LeftWith (plus held server asked word) after
-left_quiet held told server asked word after agree none leaves = record { told = told; leaves = leaves; agree = no_lock held server asked word none told agree }
+left_quiet : (held : ℕ → ℕ → Bool) (told : ℕ → List Told) (server : ℕ) (asked : Request) (response : Response) (after : After TransactionRun) → Held held told → ((number : ℕ) → locks number asked ≡ false) → Leaves told after → LeftWith (plus held server asked response) after
+left_quiet held told server asked response after agree none leaves = record { told = told; leaves = leaves; agree = no_lock held server asked response none told agree }
 
-left_lacked : (held : ℕ → ℕ → Bool) (told : ℕ → List Told) (server : ℕ) (asked : Request) (lacked : Lack) (after : After Course) → Held held told → Leaves told after → LeftWith (plus held server asked (Lacked lacked)) after
+left_lacked : (held : ℕ → ℕ → Bool) (told : ℕ → List Told) (server : ℕ) (asked : Request) (lacked : Lack) (after : After TransactionRun) → Held held told → Leaves told after → LeftWith (plus held server asked (Lacked lacked)) after
 left_lacked held told server asked lacked after agree leaves = record { told = told; leaves = leaves; agree = nothing_new held server asked (Lacked lacked) refl told agree }
 
 leaves_lack : (told : ℕ → List Told) (task : Task) (cache : Cache) (suites : Suites) (phase : Phase) (server : ℕ) (lacked : Lack) → Are told suites → Leaves told (after_lack task cache suites phase server lacked).after
@@ -364,7 +364,7 @@ leaves_fetched told fixed task cache suites number None server None there are = 
 leaves_fetched told fixed task cache suites number (Some suite) server None there are = leaves_give_up told task cache suites (Lost server) are
 leaves_fetched told fixed task cache suites number (Some suite) server (Some content) there are = of suite.first
   where
-    of : (first : Option First) → Leaves told (keep_content fixed task cache suites number suite content first server).after
+    of : (first : Option ReadPoint) → Leaves told (keep_content fixed task cache suites number suite content first server).after
     of None = leaves_give_up told task cache suites (Lost server) are
     of (Some first) = leaves_execute told fixed task _ (are_same told suites number (record suite { content = Some content }) are (sym (ap told_in there)))
 
@@ -375,48 +375,48 @@ leaves_prepared told task cache suites outcome server left said are =
       | false ↦ leaves_give_up told task cache suites (Lost server) are
     ]
 
-left_word : (held : ℕ → ℕ → Bool) (told : ℕ → List Told) (fixed : Fixed) (task : Task) (cache : Cache) (suites : Suites) (phase : Phase) (server : ℕ) (asked : Request) (word : Word) → Are told suites → Held held told
-    → request_in fixed task suites phase ≡ Some (server, asked) → LeftWith (plus held server asked word) (after_word fixed (record { task = task; suites = suites; phase = phase }) cache server asked word).after
-left_word held told fixed task cache suites phase server asked (Lacked lacked) are agree is = left_lacked held told server asked lacked _ agree (leaves_lack told task cache suites phase server lacked are)
-left_word held told fixed task cache suites (Gathering number) server asked (Replied said) are agree is =
+left_response : (held : ℕ → ℕ → Bool) (told : ℕ → List Told) (fixed : Fixed) (task : Task) (cache : Cache) (suites : Suites) (phase : Phase) (server : ℕ) (asked : Request) (response : Response) → Are told suites → Held held told
+    → request_in fixed task suites phase ≡ Some (server, asked) → LeftWith (plus held server asked response) (after_response fixed (record { task = task; suites = suites; phase = phase }) cache server asked response).after
+left_response held told fixed task cache suites phase server asked (Lacked lacked) are agree is = left_lacked held told server asked lacked _ agree (leaves_lack told task cache suites phase server lacked are)
+left_response held told fixed task cache suites (Gathering number) server asked (Replied said) are agree is =
     left_heard held told task cache suites (Gathering number) number (suite_of suites number) server asked said _ are agree refl is (λ told suites are. leaves_execute told fixed task (record { suites = suites; cache = cache }) are)
-left_word held told fixed task cache suites (Fetching number) server asked (Replied said) are agree is =
+left_response held told fixed task cache suites (Fetching number) server asked (Replied said) are agree is =
     left_quiet held told server asked (Replied said) _ agree (fetch_locks (suite_of suites number) is) (leaves_fetched told fixed task cache suites number (suite_of suites number) server (given_in said) refl are)
   where
-    fetch_first : (first : Option First) → fetched_at task number first ≡ Some (server, asked) → (other : ℕ) → locks other asked ≡ false
+    fetch_first : (first : Option ReadPoint) → fetched_at task number first ≡ Some (server, asked) → (other : ℕ) → locks other asked ≡ false
     fetch_first (Some first) is other = ap (locks other) (sym (asks_same first.source server (request.Fetch task.t number) asked is))
     fetch_first None is other = cc
 
     fetch_locks : (found : Option Suite) → fetched_for task number found ≡ Some (server, asked) → (other : ℕ) → locks other asked ≡ false
     fetch_locks (Some suite) is other = fetch_first suite.first is other
     fetch_locks None is other = cc
-left_word held told fixed task cache suites (Widening [] granted) server asked (Replied said) are agree is = cc
-left_word held told fixed task cache suites (Widening (number ∷ left) granted) server asked (Replied said) are agree is =
+left_response held told fixed task cache suites (Widening [] granted) server asked (Replied said) are agree is = cc
+left_response held told fixed task cache suites (Widening (number ∷ left) granted) server asked (Replied said) are agree is =
     left_heard held told task cache suites (Widening (number ∷ left) granted) number (suite_of suites number) server asked said _ are agree refl is (λ told suites are. leaves_widen told task cache suites granted left are)
-left_word held told fixed task cache suites (Preparing [] outcome) server asked (Replied said) are agree is = cc
-left_word held told fixed task cache suites (Preparing (now ∷ left) outcome) server asked (Replied said) are agree is =
+left_response held told fixed task cache suites (Preparing [] outcome) server asked (Replied said) are agree is = cc
+left_response held told fixed task cache suites (Preparing (now ∷ left) outcome) server asked (Replied said) are agree is =
     left_quiet held told server asked (Replied said) _ agree (λ other. ap (locks other) (sym (asks_same now server (request.Prepare task.t (parts_at suites (changes_of outcome) now)) asked is))) (leaves_prepared told task cache suites outcome server left said are)
-left_word held told fixed task cache suites (Deciding outcome) server asked (Replied said) are agree is =
+left_response held told fixed task cache suites (Deciding outcome) server asked (Replied said) are agree is =
     left_quiet held told server asked (Replied said) _ agree (λ other. ap (locks other) (sym (asks_same (home_of fixed.service task.t) server (request.Decide task.t (decision_of task outcome)) asked is)))
     (leaves_end told task cache suites (verdict_in said verdict.Aborted) (ending_by (verdict_in said verdict.Aborted) (cause_of_abort said)) (locked_at suites) are)
-left_word held told fixed task cache suites (Finishing [] v ending) server asked (Replied said) are agree is = cc
-left_word held told fixed task cache suites (Finishing (now ∷ left) v ending) server asked (Replied said) are agree is =
+left_response held told fixed task cache suites (Finishing [] v ending) server asked (Replied said) are agree is = cc
+left_response held told fixed task cache suites (Finishing (now ∷ left) v ending) server asked (Replied said) are agree is =
     left_quiet held told server asked (Replied said) _ agree (λ other. ap (locks other) (sym (asks_same now server (request.Finish task.t v) asked is))) (leaves_end told task cache suites v ending left are)
 
--- ---- all words
+-- ---- all responses
 
 -- what an agent's transaction keeps
 abbrev pub Keeps : (ℕ → ℕ → Bool) → Option Doing → Type 0
-Keeps held (Some (Running course)) = IsOrdered nat_cmp course.suites × Held held (told_at course.suites)
-Keeps held (Some (Rounding round)) = Unit {0}
+Keeps held (Some (Running txn_run)) = IsOrdered nat_cmp txn_run.suites × Held held (told_at txn_run.suites)
+Keeps held (Some (RunningSweep sweep_run)) = Unit {0}
 Keeps held None = Unit {0}
 
-left_keeps : (held : ℕ → ℕ → Bool) (after : After Course) → LeftWith held after → Keeps held (agents.left Running after)
-left_keeps held (GoesOn course) with' = (with'.leaves.0, λ number who. ap (λ told. holds Shared told who) (with'.leaves.1 number) ∙ with'.agree number who)
+left_keeps : (held : ℕ → ℕ → Bool) (after : After TransactionRun) → LeftWith held after → Keeps held (agents.left Running after)
+left_keeps held (GoesOn txn_run) with' = (with'.leaves.0, λ number who. ap (λ told. holds Shared told who) (with'.leaves.1 number) ∙ with'.agree number who)
 left_keeps held (Ends ending) with' = tt
 
-round_keeps : (held : ℕ → ℕ → Bool) (after : After Round) → Keeps held (agents.left Rounding after)
-round_keeps held (GoesOn round) = tt
+round_keeps : (held : ℕ → ℕ → Bool) (after : After SweepRun) → Keeps held (agents.left RunningSweep after)
+round_keeps held (GoesOn sweep_run) = tt
 round_keeps held (Ends ending) = tt
 
 -- what a list of exchanges adds
@@ -424,24 +424,24 @@ abbrev pub plus_all : (ℕ → ℕ → Bool) → List Exchange → ℕ → ℕ �
 plus_all held past number who = held number who || was_held past number who
 
 same_keeps : (held other : ℕ → ℕ → Bool) (doing : Option Doing) → ((number who : ℕ) → held number who ≡ other number who) → Keeps held doing → Keeps other doing
-same_keeps held other (Some (Running course)) same keeps = (keeps.0, λ number who. keeps.1 number who ∙ same number who)
-same_keeps held other (Some (Rounding round)) same keeps = tt
+same_keeps held other (Some (Running txn_run)) same keeps = (keeps.0, λ number who. keeps.1 number who ∙ same number who)
+same_keeps held other (Some (RunningSweep sweep_run)) same keeps = tt
 same_keeps held other None same keeps = tt
 
-take_keeps : (held : ℕ → ℕ → Bool) (fixed : Fixed) (agent : Agent) (word : Word) (doing : Option Doing) (asked : Option (ℕ × Request)) → agent.doing ≡ doing → next_in fixed doing ≡ asked → Keeps held doing
-    → Keeps (plus_all held (exchange_of asked word)) (take_in fixed agent word doing asked).agent.doing
-take_keeps held fixed agent word (Some (Running running)) (Some asked) was is keeps =
-    same_keeps (plus held asked.0 asked.1 word) (plus_all held (exchange_of (Some asked) word)) _ (λ number who. ap (λ b. held number who || b) (sym (or_false (adds asked.0 asked.1 word number who))))
-    (left_keeps (plus held asked.0 asked.1 word) _ (left_word held (told_at running.suites) fixed running.task agent.cache running.suites running.phase asked.0 asked.1 word (keeps.0, λ number. refl) keeps.1 is))
-take_keeps held fixed agent word (Some (Running running)) None was is keeps = subst (Keeps (plus_all held [])) (sym was) (same_keeps held (plus_all held []) (Some (Running running)) (λ number who. sym (or_false (held number who))) keeps)
-take_keeps held fixed agent word (Some (Rounding round)) (Some asked) was is keeps = round_keeps _ (sweep.after_word fixed.service round asked.0 word)
-take_keeps held fixed agent word (Some (Rounding round)) None was is keeps = cc
-take_keeps held fixed agent word None (Some asked) was is keeps = cc
-take_keeps held fixed agent word None None was is keeps = subst (Keeps (plus_all held [])) (sym was) tt
+take_keeps : (held : ℕ → ℕ → Bool) (fixed : Fixed) (agent : Agent) (response : Response) (doing : Option Doing) (asked : Option (ℕ × Request)) → agent.doing ≡ doing → next_in fixed doing ≡ asked → Keeps held doing
+    → Keeps (plus_all held (exchange_of asked response)) (take_in fixed agent response doing asked).agent.doing
+take_keeps held fixed agent response (Some (Running running)) (Some asked) was is keeps =
+    same_keeps (plus held asked.0 asked.1 response) (plus_all held (exchange_of (Some asked) response)) _ (λ number who. ap (λ b. held number who || b) (sym (or_false (adds asked.0 asked.1 response number who))))
+    (left_keeps (plus held asked.0 asked.1 response) _ (left_response held (told_at running.suites) fixed running.task agent.cache running.suites running.phase asked.0 asked.1 response (keeps.0, λ number. refl) keeps.1 is))
+take_keeps held fixed agent response (Some (Running running)) None was is keeps = subst (Keeps (plus_all held [])) (sym was) (same_keeps held (plus_all held []) (Some (Running running)) (λ number who. sym (or_false (held number who))) keeps)
+take_keeps held fixed agent response (Some (RunningSweep sweep_run)) (Some asked) was is keeps = round_keeps _ (sweep.after_response fixed.service sweep_run asked.0 response)
+take_keeps held fixed agent response (Some (RunningSweep sweep_run)) None was is keeps = cc
+take_keeps held fixed agent response None (Some asked) was is keeps = cc
+take_keeps held fixed agent response None None was is keeps = subst (Keeps (plus_all held [])) (sym was) tt
 
 held-append : (past later : List Exchange) (number who : ℕ) → was_held (past ++ later) number who ≡ (was_held past number who || was_held later number who)
 held-append [] later number who = refl
-held-append (one ∷ past) later number who = of ((one.server == who) && locks number one.request && says_held one.word) _ _ _ (held-append past later number who)
+held-append (one ∷ past) later number who = of ((one.server == who) && locks number one.request && says_held one.response) _ _ _ (held-append past later number who)
   where
     of : (a b c d : Bool) → b ≡ (c || d) → (a || b) ≡ ((a || c) || d)
     of true b c d is = refl
@@ -454,12 +454,12 @@ or_or false b c = refl
 pub all_keep : (held : ℕ → ℕ → Bool) (fixed : Fixed) (agent : Agent) (events : List Event) → Keeps held agent.doing → Keeps (plus_all held (exchanges fixed agent events)) (after_all fixed agent events).doing
 all_keep held fixed agent [] keeps = same_keeps held (plus_all held []) agent.doing (λ number who. sym (or_false (held number who))) keeps
 all_keep held fixed agent (Forget site ∷ events) keeps = all_keep held fixed (forget agent site) events keeps
-all_keep held fixed agent (Take word ∷ events) keeps =
-    let one = exchange_of (next_of fixed agent) word in
-    let rest = exchanges fixed (take fixed agent word).agent events in
-    same_keeps (plus_all (plus_all held one) rest) (plus_all held (one ++ rest)) (after_all fixed agent (Take word ∷ events)).doing
+all_keep held fixed agent (Take response ∷ events) keeps =
+    let one = exchange_of (next_of fixed agent) response in
+    let rest = exchanges fixed (take fixed agent response).agent events in
+    same_keeps (plus_all (plus_all held one) rest) (plus_all held (one ++ rest)) (after_all fixed agent (Take response ∷ events)).doing
     (λ number who. or_or (held number who) (was_held one number who) (was_held rest number who) ∙ ap (λ b. held number who || b) (sym (held-append one rest number who)))
-    (all_keep (plus_all held one) fixed (take fixed agent word).agent events (take_keeps held fixed agent word agent.doing (next_of fixed agent) refl refl keeps))
+    (all_keep (plus_all held one) fixed (take fixed agent response).agent events (take_keeps held fixed agent response agent.doing (next_of fixed agent) refl refl keeps))
 
 abbrev pub nothing_held : ℕ → ℕ → Bool
 nothing_held number who = false
@@ -547,46 +547,46 @@ record IsPrepare (held : ℕ → ℕ → Bool) (server : ℕ) (list : List Part)
 prepare_is : (held : ℕ → ℕ → Bool) (fixed : Fixed) (doing : Option Doing) (server t : ℕ) (parts : List Part) → Keeps held doing → next_in fixed doing ≡ Some (server, request.Prepare t parts)
     → IsPrepare held server parts
 prepare_is held fixed None server t parts keeps is = cc
-prepare_is held fixed (Some (Rounding round)) server t parts keeps is = of round.now is
+prepare_is held fixed (Some (RunningSweep sweep_run)) server t parts keeps is = of sweep_run.now is
   where
-    of : (now : Sweeping) → ◌≡◌ {A = Option (ℕ × Request)} (Some (sweep.asked_now fixed.service round now)) (Some (server, request.Prepare t parts)) → IsPrepare held server parts
+    of : (now : Sweeping) → ◌≡◌ {A = Option (ℕ × Request)} (Some (sweep.asked_now fixed.service sweep_run now)) (Some (server, request.Prepare t parts)) → IsPrepare held server parts
     of Listing is = no_prepare _ server t request.Locks parts refl is
     of (Resolving other left) is = no_prepare _ server t (request.Resolve other) parts refl is
     of (Telling other v left) is = no_prepare _ server t (request.Finish other v) parts refl is
     of (Breaking lock left) is = no_prepare _ server t (request.Break lock.t lock.suite) parts refl is
-prepare_is held fixed (Some (Running course)) server t parts keeps is = of course.phase is
+prepare_is held fixed (Some (Running txn_run)) server t parts keeps is = of txn_run.phase is
   where
-    by_next : (who : ℕ) (after : Next) → asked_by course.task who after ≡ Some (server, request.Prepare t parts) → IsPrepare held server parts
-    by_next who (Ask at (Poll mode)) is = no_prepare at server t (request.Poll course.task.t who mode) parts refl is
-    by_next who (Ask at Upgrade) is = no_prepare at server t (request.Upgrade course.task.t who) parts refl is
+    by_next : (who : ℕ) (after : Next) → asked_by txn_run.task who after ≡ Some (server, request.Prepare t parts) → IsPrepare held server parts
+    by_next who (Ask at (Poll mode)) is = no_prepare at server t (request.Poll txn_run.task.t who mode) parts refl is
+    by_next who (Ask at Upgrade) is = no_prepare at server t (request.Upgrade txn_run.task.t who) parts refl is
     by_next who (Current prefix dver members) is = cc
     by_next who (Short had wanting busy) is = cc
 
-    by_suite : (who : ℕ) (found : Option Suite) → asked_for course.task who found ≡ Some (server, request.Prepare t parts) → IsPrepare held server parts
+    by_suite : (who : ℕ) (found : Option Suite) → asked_for txn_run.task who found ≡ Some (server, request.Prepare t parts) → IsPrepare held server parts
     by_suite who (Some suite) is = by_next who (next suite.collector) is
     by_suite who None is = cc
 
-    by_first : (who : ℕ) (first : Option First) → fetched_at course.task who first ≡ Some (server, request.Prepare t parts) → IsPrepare held server parts
-    by_first who (Some first) is = no_prepare first.source server t (request.Fetch course.task.t who) parts refl is
+    by_first : (who : ℕ) (first : Option ReadPoint) → fetched_at txn_run.task who first ≡ Some (server, request.Prepare t parts) → IsPrepare held server parts
+    by_first who (Some first) is = no_prepare first.source server t (request.Fetch txn_run.task.t who) parts refl is
     by_first who None is = cc
 
-    by_fetch : (who : ℕ) (found : Option Suite) → fetched_for course.task who found ≡ Some (server, request.Prepare t parts) → IsPrepare held server parts
+    by_fetch : (who : ℕ) (found : Option Suite) → fetched_for txn_run.task who found ≡ Some (server, request.Prepare t parts) → IsPrepare held server parts
     by_fetch who (Some suite) is = by_first who suite.first is
     by_fetch who None is = cc
 
-    of : (phase : Phase) → request_in fixed course.task course.suites phase ≡ Some (server, request.Prepare t parts) → IsPrepare held server parts
-    of (Gathering who) is = by_suite who (suite_of course.suites who) is
-    of (Fetching who) is = by_fetch who (suite_of course.suites who) is
+    of : (phase : Phase) → request_in fixed txn_run.task txn_run.suites phase ≡ Some (server, request.Prepare t parts) → IsPrepare held server parts
+    of (Gathering who) is = by_suite who (suite_of txn_run.suites who) is
+    of (Fetching who) is = by_fetch who (suite_of txn_run.suites who) is
     of (Widening [] granted) is = cc
-    of (Widening (who ∷ left) granted) is = by_suite who (suite_of course.suites who) is
+    of (Widening (who ∷ left) granted) is = by_suite who (suite_of txn_run.suites who) is
     of (Preparing [] outcome) is = cc
     of (Preparing (now ∷ left) outcome) is =
-        let at : now ≡ server = ap (λ (pair : ℕ × Request). pair.0) (same_Some (now, request.Prepare course.task.t (parts_at course.suites (changes_of outcome) now)) (server, request.Prepare t parts) is) in
-        let same : parts_at course.suites (changes_of outcome) now ≡ parts = ap parts_in (asks_same now server (request.Prepare course.task.t (parts_at course.suites (changes_of outcome) now)) (request.Prepare t parts) is) in
-        record { suites = course.suites; changes = changes_of outcome; ordered = keeps.0; told = keeps.1; parts = ap (parts_at course.suites (changes_of outcome)) (sym at) ∙ same }
-    of (Deciding outcome) is = no_prepare (home_of fixed.service course.task.t) server t (request.Decide course.task.t (decision_of course.task outcome)) parts refl is
+        let at : now ≡ server = ap (λ (pair : ℕ × Request). pair.0) (same_Some (now, request.Prepare txn_run.task.t (parts_at txn_run.suites (changes_of outcome) now)) (server, request.Prepare t parts) is) in
+        let same : parts_at txn_run.suites (changes_of outcome) now ≡ parts = ap parts_in (asks_same now server (request.Prepare txn_run.task.t (parts_at txn_run.suites (changes_of outcome) now)) (request.Prepare t parts) is) in
+        record { suites = txn_run.suites; changes = changes_of outcome; ordered = keeps.0; told = keeps.1; parts = ap (parts_at txn_run.suites (changes_of outcome)) (sym at) ∙ same }
+    of (Deciding outcome) is = no_prepare (home_of fixed.service txn_run.task.t) server t (request.Decide txn_run.task.t (decision_of txn_run.task outcome)) parts refl is
     of (Finishing [] v ending) is = cc
-    of (Finishing (now ∷ left) v ending) is = no_prepare now server t (request.Finish course.task.t v) parts refl is
+    of (Finishing (now ∷ left) v ending) is = no_prepare now server t (request.Finish txn_run.task.t v) parts refl is
 
 prepare_there : (fixed : Fixed) (agent : Agent) (job : Job) (events : List Event) (server t : ℕ) (parts : List Part) → is_idle agent.doing ≡ true
     → next_of fixed (after_all fixed (begin fixed agent job) events) ≡ Some (server, request.Prepare t parts) → IsPrepare (plus_all nothing_held (of_job fixed agent job events)) server parts

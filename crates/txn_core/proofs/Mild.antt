@@ -12,17 +12,17 @@ use Rattle.rep_core.specs.declared.reply.Verdict.TheVariants as verdict
 use Rattle.rep_core.specs.declared.reply.Reply.{Reply}
 use Rattle.weak_cache.specs.Entries.{Cache}
 use Rattle.txn_core.specs.Suites.{Suites, suite_of}
-use Rattle.txn_core.specs.declared.word.Word.{Word}
+use Rattle.txn_core.specs.declared.response.Response.{Response}
 use Rattle.txn_core.specs.declared.ending.Cause.{Cause}
 use Rattle.txn_core.specs.declared.ending.Ending.{Ending}
 use Rattle.txn_core.specs.declared.job.Job.{Job}
-use Rattle.txn_core.specs.declared.word.Word.TheVariants.{Replied, Lacked}
+use Rattle.txn_core.specs.declared.response.Response.TheVariants.{Replied, Lacked}
 use Rattle.txn_core.specs.declared.ending.Cause.TheVariants.{Lost}
 use Rattle.txn_core.specs.declared.job.Job.TheVariants.{Transaction, Sweep}
-use Rattle.txn_core.specs.Doing.{Fixed, Task, home_of, Outcome, Phase, Gathering, Fetching, Widening, Preparing, Deciding, Finishing, Course, Round, Doing, Running, Rounding, After, GoesOn, Ends}
-use Rattle.txn_core.specs.Transactions.{lack_cause, Step, tell_end, give_up, prepare, locked_at, prepared, decided, after_word, request_in, changes_of, decision_of, verdict_in}
+use Rattle.txn_core.specs.Doing.{Fixed, Task, home_of, Outcome, Phase, Gathering, Fetching, Widening, Preparing, Deciding, Finishing, TransactionRun, SweepRun, Doing, Running, RunningSweep, After, GoesOn, Ends}
+use Rattle.txn_core.specs.Transactions.{lack_cause, Step, tell_end, give_up, prepare, locked_at, prepared, decided, after_response, request_in, changes_of, decision_of, verdict_in}
 use Rattle.txn_core.proofs.Asks.{asks_same, asked_as, fetched_as}
-use Rattle.txn_core.proofs.Walk.{IsEarly, goes_word, goes_execute}
+use Rattle.txn_core.proofs.Walk.{IsEarly, goes_response, goes_execute}
 use Rattle.rep_core.specs.Fits.{is_prepared}
 
 -- a phase that tells the end tells this verdict; before, the verdict is Aborted
@@ -31,8 +31,8 @@ TellsOnly v (Finishing servers told ending) = told ≡ v
 TellsOnly v _ = v ≡ verdict.Aborted
 
 -- what is left after a step tells no other verdict
-abbrev pub LeftTells : Verdict → After Course → Type 0
-LeftTells v (GoesOn course) = TellsOnly v course.phase
+abbrev pub LeftTells : Verdict → After TransactionRun → Type 0
+LeftTells v (GoesOn txn_run) = TellsOnly v txn_run.phase
 LeftTells v (Ends ending) = Unit {0}
 
 abbrev pub IsMild : Step → Type 0
@@ -60,8 +60,8 @@ mild_early task suites (Finishing servers told ending) is = absurd is
 mild_prepares : (task : Task) (cache : Cache) (suites : Suites) (outcome : Outcome) → IsMild (prepare task cache suites outcome (locked_at suites))
 mild_prepares task cache suites outcome = mild_prepare task cache suites outcome (locked_at suites)
 
-mild_word : (fixed : Fixed) (task : Task) (cache : Cache) (suites : Suites) (phase : Phase) (server : ℕ) (asked : Request) (word : Word) → IsEarly phase → IsMild (after_word fixed (record { task = task; suites = suites; phase = phase }) cache server asked word)
-mild_word fixed task cache suites phase server asked word is = goes_word task (LeftTells verdict.Aborted) (mild_early task) (mild_give_up task) (mild_prepares task) fixed cache suites phase server asked word is
+mild_response : (fixed : Fixed) (task : Task) (cache : Cache) (suites : Suites) (phase : Phase) (server : ℕ) (asked : Request) (response : Response) → IsEarly phase → IsMild (after_response fixed (record { task = task; suites = suites; phase = phase }) cache server asked response)
+mild_response fixed task cache suites phase server asked response is = goes_response task (LeftTells verdict.Aborted) (mild_early task) (mild_give_up task) (mild_prepares task) fixed cache suites phase server asked response is
 
 mild_prepared : (task : Task) (cache : Cache) (suites : Suites) (outcome : Outcome) (server : ℕ) (left : List ℕ) (said : Reply) → IsMild (prepared task cache suites outcome server left said)
 mild_prepared task cache suites outcome server left said =
@@ -70,92 +70,92 @@ mild_prepared task cache suites outcome server left said =
       | false ↦ mild_give_up task cache suites (Lost server)
     ]
 
--- what follows on the word of the home
+-- what follows on the response of the home
 tells_decided : (task : Task) (cache : Cache) (suites : Suites) (said : Reply) → LeftTells (said_by (Replied said) verdict.Aborted) (decided task cache suites said).after
 tells_decided task cache suites said = tells_end task cache suites (verdict_in said verdict.Aborted) _ (locked_at suites)
 
 -- ---- what was told so far, and what is told of it
 
--- ---- one word
+-- ---- one response
 
--- a word on anything but a Decide changes no verdict
-calm : (asked : Request) (word : Word) (v : Verdict) (after : After Course) → is_decide asked ≡ false → v ≡ verdict.Aborted → LeftTells verdict.Aborted after → LeftTells (cond (is_decide asked) (said_by word v) v) after
-calm asked word v after other aborted tells =
-    subst (λ b. LeftTells (cond b (said_by word v) v) after) (sym other) (subst (λ v. LeftTells v after) (sym aborted) tells)
+-- a response on anything but a Decide changes no verdict
+calm : (asked : Request) (response : Response) (v : Verdict) (after : After TransactionRun) → is_decide asked ≡ false → v ≡ verdict.Aborted → LeftTells verdict.Aborted after → LeftTells (cond (is_decide asked) (said_by response v) v) after
+calm asked response v after other aborted tells =
+    subst (λ b. LeftTells (cond b (said_by response v) v) after) (sym other) (subst (λ v. LeftTells v after) (sym aborted) tells)
 
-word_tells : (fixed : Fixed) (task : Task) (cache : Cache) (suites : Suites) (phase : Phase) (server : ℕ) (asked : Request) (word : Word) (v : Verdict)
+response_tells : (fixed : Fixed) (task : Task) (cache : Cache) (suites : Suites) (phase : Phase) (server : ℕ) (asked : Request) (response : Response) (v : Verdict)
     → request_in fixed task suites phase ≡ Some (server, asked) → TellsOnly v phase
-    → LeftTells (cond (is_decide asked) (said_by word v) v) (after_word fixed (record { task = task; suites = suites; phase = phase }) cache server asked word).after
-word_tells fixed task cache suites (Gathering number) server asked word v is tells =
-    calm asked word v _ (asked_as is_decide false task number (suite_of suites number) server asked (λ mode. refl) refl is) tells (mild_word fixed task cache suites (Gathering number) server asked word tt)
-word_tells fixed task cache suites (Fetching number) server asked word v is tells =
-    calm asked word v _ (fetched_as is_decide false task number (suite_of suites number) server asked refl is) tells (mild_word fixed task cache suites (Fetching number) server asked word tt)
-word_tells fixed task cache suites (Widening [] granted) server asked word v is tells = cc
-word_tells fixed task cache suites (Widening (number ∷ left) granted) server asked word v is tells =
-    calm asked word v _ (asked_as is_decide false task number (suite_of suites number) server asked (λ mode. refl) refl is) tells (mild_word fixed task cache suites (Widening (number ∷ left) granted) server asked word tt)
-word_tells fixed task cache suites (Preparing [] outcome) server asked word v is tells = cc
-word_tells fixed task cache suites (Preparing (now ∷ left) outcome) server asked word v is tells =
+    → LeftTells (cond (is_decide asked) (said_by response v) v) (after_response fixed (record { task = task; suites = suites; phase = phase }) cache server asked response).after
+response_tells fixed task cache suites (Gathering number) server asked response v is tells =
+    calm asked response v _ (asked_as is_decide false task number (suite_of suites number) server asked (λ mode. refl) refl is) tells (mild_response fixed task cache suites (Gathering number) server asked response tt)
+response_tells fixed task cache suites (Fetching number) server asked response v is tells =
+    calm asked response v _ (fetched_as is_decide false task number (suite_of suites number) server asked refl is) tells (mild_response fixed task cache suites (Fetching number) server asked response tt)
+response_tells fixed task cache suites (Widening [] granted) server asked response v is tells = cc
+response_tells fixed task cache suites (Widening (number ∷ left) granted) server asked response v is tells =
+    calm asked response v _ (asked_as is_decide false task number (suite_of suites number) server asked (λ mode. refl) refl is) tells (mild_response fixed task cache suites (Widening (number ∷ left) granted) server asked response tt)
+response_tells fixed task cache suites (Preparing [] outcome) server asked response v is tells = cc
+response_tells fixed task cache suites (Preparing (now ∷ left) outcome) server asked response v is tells =
     let same = asks_same now server (request.Prepare task.t (parts_at suites (changes_of outcome) now)) asked is in
-    calm asked word v _ (ap is_decide (sym same)) tells (of word)
+    calm asked response v _ (ap is_decide (sym same)) tells (of response)
   where
-    of : (word : Word) → IsMild (after_word fixed (record { task = task; suites = suites; phase = Preparing (now ∷ left) outcome }) cache server asked word)
+    of : (response : Response) → IsMild (after_response fixed (record { task = task; suites = suites; phase = Preparing (now ∷ left) outcome }) cache server asked response)
     of (Replied said) = mild_prepared task cache suites outcome server left said
     of (Lacked lacked) = mild_give_up task cache suites (lack_cause server lacked)
-word_tells fixed task cache suites (Deciding outcome) server asked word v is tells =
+response_tells fixed task cache suites (Deciding outcome) server asked response v is tells =
     let same = asks_same (home_of fixed.service task.t) server (request.Decide task.t (decision_of task outcome)) asked is in
-    subst (λ asked. LeftTells (cond (is_decide asked) (said_by word v) v) (after_word fixed (record { task = task; suites = suites; phase = Deciding outcome }) cache server asked word).after) same
-    (subst (λ v. LeftTells (said_by word v) (after_word fixed (record { task = task; suites = suites; phase = Deciding outcome }) cache server (request.Decide task.t (decision_of task outcome)) word).after) (sym tells) (of word))
+    subst (λ asked. LeftTells (cond (is_decide asked) (said_by response v) v) (after_response fixed (record { task = task; suites = suites; phase = Deciding outcome }) cache server asked response).after) same
+    (subst (λ v. LeftTells (said_by response v) (after_response fixed (record { task = task; suites = suites; phase = Deciding outcome }) cache server (request.Decide task.t (decision_of task outcome)) response).after) (sym tells) (of response))
   where
-    of : (word : Word) → LeftTells (said_by word verdict.Aborted) (after_word fixed (record { task = task; suites = suites; phase = Deciding outcome }) cache server (request.Decide task.t (decision_of task outcome)) word).after
+    of : (response : Response) → LeftTells (said_by response verdict.Aborted) (after_response fixed (record { task = task; suites = suites; phase = Deciding outcome }) cache server (request.Decide task.t (decision_of task outcome)) response).after
     of (Replied said) = tells_decided task cache suites said
     of (Lacked lacked) = mild_give_up task cache suites (lack_cause server lacked)
-word_tells fixed task cache suites (Finishing [] told ending) server asked word v is tells = cc
-word_tells fixed task cache suites (Finishing (now ∷ left) told ending) server asked word v is tells =
+response_tells fixed task cache suites (Finishing [] told ending) server asked response v is tells = cc
+response_tells fixed task cache suites (Finishing (now ∷ left) told ending) server asked response v is tells =
     let same = asks_same now server (request.Finish task.t told) asked is in
-    subst (λ asked. LeftTells (cond (is_decide asked) (said_by word v) v) (after_word fixed (record { task = task; suites = suites; phase = Finishing (now ∷ left) told ending }) cache server asked word).after) same
-    (subst (λ v. LeftTells v (after_word fixed (record { task = task; suites = suites; phase = Finishing (now ∷ left) told ending }) cache server (request.Finish task.t told) word).after) tells (of word))
+    subst (λ asked. LeftTells (cond (is_decide asked) (said_by response v) v) (after_response fixed (record { task = task; suites = suites; phase = Finishing (now ∷ left) told ending }) cache server asked response).after) same
+    (subst (λ v. LeftTells v (after_response fixed (record { task = task; suites = suites; phase = Finishing (now ∷ left) told ending }) cache server (request.Finish task.t told) response).after) tells (of response))
   where
-    of : (word : Word) → LeftTells told (after_word fixed (record { task = task; suites = suites; phase = Finishing (now ∷ left) told ending }) cache server (request.Finish task.t told) word).after
+    of : (response : Response) → LeftTells told (after_response fixed (record { task = task; suites = suites; phase = Finishing (now ∷ left) told ending }) cache server (request.Finish task.t told) response).after
     of (Replied said) = tells_end task cache suites told ending left
     of (Lacked lacked) = tells_end task cache suites told ending left
 
--- ---- all words
+-- ---- all responses
 
 -- what an agent does tells this verdict
 abbrev pub Tells : Verdict → Option Doing → Type 0
-Tells v (Some (Running course)) = TellsOnly v course.phase
-Tells v (Some (Rounding round)) = Unit {0}
+Tells v (Some (Running txn_run)) = TellsOnly v txn_run.phase
+Tells v (Some (RunningSweep sweep_run)) = Unit {0}
 Tells v None = Unit {0}
 
-left_tells : (v : Verdict) (after : After Course) → LeftTells v after → Tells v (left Running after)
-left_tells v (GoesOn course) tells = tells
+left_tells : (v : Verdict) (after : After TransactionRun) → LeftTells v after → Tells v (left Running after)
+left_tells v (GoesOn txn_run) tells = tells
 left_tells v (Ends ending) tells = tt
 
 -- a sweep tells nothing here
-round_tells : (v : Verdict) (after : After Round) → Tells v (left Rounding after)
-round_tells v (GoesOn round) = tt
+round_tells : (v : Verdict) (after : After SweepRun) → Tells v (left RunningSweep after)
+round_tells v (GoesOn sweep_run) = tt
 round_tells v (Ends ending) = tt
 
-take_tells : (fixed : Fixed) (agent : Agent) (word : Word) (v : Verdict) (doing : Option Doing) (asked : Option (ℕ × Request)) → agent.doing ≡ doing → next_in fixed doing ≡ asked → Tells v doing
-    → Tells (told_verdict v (exchange_of asked word)) (take_in fixed agent word doing asked).agent.doing
-take_tells fixed agent word v (Some (Running running)) (Some asked) was is tells =
-    left_tells _ _ (word_tells fixed running.task agent.cache running.suites running.phase asked.0 asked.1 word v is tells)
-take_tells fixed agent word v (Some (Running running)) None was is tells = subst (Tells v) (sym was) tells
-take_tells fixed agent word v (Some (Rounding round)) (Some asked) was is tells = round_tells _ (sweep.after_word fixed.service round asked.0 word)
-take_tells fixed agent word v (Some (Rounding round)) None was is tells = subst (Tells v) (sym was) tells
-take_tells fixed agent word v None (Some asked) was is tells = cc
-take_tells fixed agent word v None None was is tells = subst (Tells v) (sym was) tells
+take_tells : (fixed : Fixed) (agent : Agent) (response : Response) (v : Verdict) (doing : Option Doing) (asked : Option (ℕ × Request)) → agent.doing ≡ doing → next_in fixed doing ≡ asked → Tells v doing
+    → Tells (told_verdict v (exchange_of asked response)) (take_in fixed agent response doing asked).agent.doing
+take_tells fixed agent response v (Some (Running running)) (Some asked) was is tells =
+    left_tells _ _ (response_tells fixed running.task agent.cache running.suites running.phase asked.0 asked.1 response v is tells)
+take_tells fixed agent response v (Some (Running running)) None was is tells = subst (Tells v) (sym was) tells
+take_tells fixed agent response v (Some (RunningSweep sweep_run)) (Some asked) was is tells = round_tells _ (sweep.after_response fixed.service sweep_run asked.0 response)
+take_tells fixed agent response v (Some (RunningSweep sweep_run)) None was is tells = subst (Tells v) (sym was) tells
+take_tells fixed agent response v None (Some asked) was is tells = cc
+take_tells fixed agent response v None None was is tells = subst (Tells v) (sym was) tells
 
 told-append : (v : Verdict) (past later : List Exchange) → told_verdict v (past ++ later) ≡ told_verdict (told_verdict v past) later
 told-append v [] later = refl
-told-append v (one ∷ past) later = told-append (cond (is_decide one.request) (said_by one.word v) v) past later
+told-append v (one ∷ past) later = told-append (cond (is_decide one.request) (said_by one.response v) v) past later
 
 all_tell : (fixed : Fixed) (agent : Agent) (v : Verdict) (events : List Event) → Tells v agent.doing → Tells (told_verdict v (exchanges fixed agent events)) (after_all fixed agent events).doing
 all_tell fixed agent v [] tells = tells
 all_tell fixed agent v (Forget site ∷ events) tells = all_tell fixed (forget agent site) v events tells
-all_tell fixed agent v (Take word ∷ events) tells =
-    subst (λ v. Tells v (after_all fixed (take fixed agent word).agent events).doing) (sym (told-append v (exchange_of (next_of fixed agent) word) (exchanges fixed (take fixed agent word).agent events)))
-    (all_tell fixed (take fixed agent word).agent (told_verdict v (exchange_of (next_of fixed agent) word)) events (take_tells fixed agent word v agent.doing (next_of fixed agent) refl refl tells))
+all_tell fixed agent v (Take response ∷ events) tells =
+    subst (λ v. Tells v (after_all fixed (take fixed agent response).agent events).doing) (sym (told-append v (exchange_of (next_of fixed agent) response) (exchanges fixed (take fixed agent response).agent events)))
+    (all_tell fixed (take fixed agent response).agent (told_verdict v (exchange_of (next_of fixed agent) response)) events (take_tells fixed agent response v agent.doing (next_of fixed agent) refl refl tells))
 
 begin_tells : (fixed : Fixed) (agent : Agent) (job : Job) → is_idle agent.doing ≡ true → Tells verdict.Aborted (begin fixed agent job).doing
 begin_tells fixed agent job idle =
@@ -173,6 +173,6 @@ begin_tells fixed agent job idle =
     of (Sweep server) = tt
 
 pub finish_carries_the_verdict : FinishCarriesTheVerdict
-finish_carries_the_verdict fixed agent job events course servers v ending idle is phase =
+finish_carries_the_verdict fixed agent job events txn_run servers v ending idle is phase =
     subst (TellsOnly (told_verdict verdict.Aborted (of_job fixed agent job events))) phase
     (subst (Tells (told_verdict verdict.Aborted (of_job fixed agent job events))) is (all_tell fixed (begin fixed agent job) verdict.Aborted events (begin_tells fixed agent job idle)))

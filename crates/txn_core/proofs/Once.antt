@@ -6,12 +6,12 @@ use Rattle.rep_core.specs.declared.reply.Verdict.{Verdict}
 use Rattle.rep_core.specs.declared.reply.Verdict.TheVariants as verdict
 use Rattle.weak_cache.specs.Entries.{Cache}
 use Rattle.txn_core.specs.Suites.{Suites, suite_of}
-use Rattle.txn_core.specs.declared.word.Word.{Word}
+use Rattle.txn_core.specs.declared.response.Response.{Response}
 use Rattle.txn_core.specs.declared.ending.Ending.{Ending}
-use Rattle.txn_core.specs.declared.word.Word.TheVariants.{Replied, Lacked}
+use Rattle.txn_core.specs.declared.response.Response.TheVariants.{Replied, Lacked}
 use Rattle.txn_core.specs.declared.ending.Ending.TheVariants.{Undecided}
-use Rattle.txn_core.specs.Doing.{Fixed, Task, Phase, Gathering, Fetching, Widening, Preparing, Deciding, Finishing, Course, Sweeping, Listing, Resolving, Telling, Breaking, Round, Doing, Running, Rounding, After, GoesOn, Ends}
-use Rattle.txn_core.specs.Transactions.{tell_end, locked_at, after_word, request_in, changes_of, verdict_in, ending_by, cause_of_abort, lack_cause}
+use Rattle.txn_core.specs.Doing.{Fixed, Task, Phase, Gathering, Fetching, Widening, Preparing, Deciding, Finishing, TransactionRun, Sweeping, Listing, Resolving, Telling, Breaking, SweepRun, Doing, Running, RunningSweep, After, GoesOn, Ends}
+use Rattle.txn_core.specs.Transactions.{tell_end, locked_at, after_response, request_in, changes_of, verdict_in, ending_by, cause_of_abort, lack_cause}
 use Rattle.txn_core.specs.Writing.{parts_at}
 use Rattle.txn_core.specs.Sweeps as sweep
 use Rattle.txn_core.specs.Agents as agents
@@ -28,8 +28,8 @@ may_in (Finishing servers told ending) = 0
 may_in _ = 1
 
 abbrev may : Option Doing → ℕ
-may (Some (Running course)) = may_in course.phase
-may (Some (Rounding round)) = 0
+may (Some (Running txn_run)) = may_in txn_run.phase
+may (Some (RunningSweep sweep_run)) = 0
 may None = 0
 
 once : (phase : Phase) → may_in phase ≤ 1
@@ -40,8 +40,8 @@ once (Preparing left outcome) = omega arith
 once (Deciding outcome) = omega arith
 once (Finishing servers told ending) = omega arith
 
-once_left : (after : After Course) → may (left Running after) ≤ 1
-once_left (GoesOn course) = once course.phase
+once_left : (after : After TransactionRun) → may (left Running after) ≤ 1
+once_left (GoesOn txn_run) = once txn_run.phase
 once_left (Ends ending) = omega arith
 
 -- what tells an end asks no more
@@ -49,58 +49,58 @@ no_more : (task : Task) (cache : Cache) (suites : Suites) (v : Verdict) (ending 
 no_more task cache suites v ending [] = refl
 no_more task cache suites v ending (server ∷ servers) = refl
 
-calm : (asked : Request) (after : After Course) → is_decide asked ≡ false → cond (is_decide asked) 1 0 + may (left Running after) ≤ 1
+calm : (asked : Request) (after : After TransactionRun) → is_decide asked ≡ false → cond (is_decide asked) 1 0 + may (left Running after) ≤ 1
 calm asked after other = subst (λ b. cond b 1 0 + may (left Running after) ≤ 1) (sym other) (let most = once_left after in omega arith)
 
-word_once : (fixed : Fixed) (task : Task) (cache : Cache) (suites : Suites) (phase : Phase) (server : ℕ) (asked : Request) (word : Word) → request_in fixed task suites phase ≡ Some (server, asked)
-    → cond (is_decide asked) 1 0 + may (left Running (after_word fixed (record { task = task; suites = suites; phase = phase }) cache server asked word).after) ≤ may_in phase
-word_once fixed task cache suites (Gathering number) server asked word is = calm asked _ (asked_as is_decide false task number (suite_of suites number) server asked (λ mode. refl) refl is)
-word_once fixed task cache suites (Fetching number) server asked word is = calm asked _ (fetched_as is_decide false task number (suite_of suites number) server asked refl is)
-word_once fixed task cache suites (Widening [] granted) server asked word is = cc
-word_once fixed task cache suites (Widening (number ∷ left) granted) server asked word is = calm asked _ (asked_as is_decide false task number (suite_of suites number) server asked (λ mode. refl) refl is)
-word_once fixed task cache suites (Preparing [] outcome) server asked word is = cc
-word_once fixed task cache suites (Preparing (now ∷ left) outcome) server asked word is =
+response_once : (fixed : Fixed) (task : Task) (cache : Cache) (suites : Suites) (phase : Phase) (server : ℕ) (asked : Request) (response : Response) → request_in fixed task suites phase ≡ Some (server, asked)
+    → cond (is_decide asked) 1 0 + may (left Running (after_response fixed (record { task = task; suites = suites; phase = phase }) cache server asked response).after) ≤ may_in phase
+response_once fixed task cache suites (Gathering number) server asked response is = calm asked _ (asked_as is_decide false task number (suite_of suites number) server asked (λ mode. refl) refl is)
+response_once fixed task cache suites (Fetching number) server asked response is = calm asked _ (fetched_as is_decide false task number (suite_of suites number) server asked refl is)
+response_once fixed task cache suites (Widening [] granted) server asked response is = cc
+response_once fixed task cache suites (Widening (number ∷ left) granted) server asked response is = calm asked _ (asked_as is_decide false task number (suite_of suites number) server asked (λ mode. refl) refl is)
+response_once fixed task cache suites (Preparing [] outcome) server asked response is = cc
+response_once fixed task cache suites (Preparing (now ∷ left) outcome) server asked response is =
     calm asked _ (ap is_decide (sym (asks_same now server (request.Prepare task.t (parts_at suites (changes_of outcome) now)) asked is)))
-word_once fixed task cache suites (Deciding outcome) server asked (Replied said) is =
+response_once fixed task cache suites (Deciding outcome) server asked (Replied said) is =
     let no' = no_more task cache suites (verdict_in said verdict.Aborted) (ending_by (verdict_in said verdict.Aborted) (cause_of_abort said)) (locked_at suites) in
-    elim (is_decide asked) as (λ b. cond b 1 0 + may (left Running (after_word fixed (record { task = task; suites = suites; phase = Deciding outcome }) cache server asked (Replied said)).after) ≤ 1) [ true ↦ omega (arith, no') | false ↦ omega (arith, no') ]
-word_once fixed task cache suites (Deciding outcome) server asked (Lacked lacked) is =
+    elim (is_decide asked) as (λ b. cond b 1 0 + may (left Running (after_response fixed (record { task = task; suites = suites; phase = Deciding outcome }) cache server asked (Replied said)).after) ≤ 1) [ true ↦ omega (arith, no') | false ↦ omega (arith, no') ]
+response_once fixed task cache suites (Deciding outcome) server asked (Lacked lacked) is =
     let no' = no_more task cache suites verdict.Aborted (Undecided (lack_cause server lacked)) (locked_at suites) in
-    elim (is_decide asked) as (λ b. cond b 1 0 + may (left Running (after_word fixed (record { task = task; suites = suites; phase = Deciding outcome }) cache server asked (Lacked lacked)).after) ≤ 1) [ true ↦ omega (arith, no') | false ↦ omega (arith, no') ]
-word_once fixed task cache suites (Finishing [] told ending) server asked word is = cc
-word_once fixed task cache suites (Finishing (now ∷ left) told ending) server asked word is =
-    subst (λ b. cond b 1 0 + may (left' word) ≤ 0) (ap is_decide (asks_same now server (request.Finish task.t told) asked is)) (of word)
+    elim (is_decide asked) as (λ b. cond b 1 0 + may (left Running (after_response fixed (record { task = task; suites = suites; phase = Deciding outcome }) cache server asked (Lacked lacked)).after) ≤ 1) [ true ↦ omega (arith, no') | false ↦ omega (arith, no') ]
+response_once fixed task cache suites (Finishing [] told ending) server asked response is = cc
+response_once fixed task cache suites (Finishing (now ∷ left) told ending) server asked response is =
+    subst (λ b. cond b 1 0 + may (left' response) ≤ 0) (ap is_decide (asks_same now server (request.Finish task.t told) asked is)) (of response)
   where
-    left' : Word → Option Doing
-    left' word = agents.left Running (after_word fixed (record { task = task; suites = suites; phase = Finishing (now ∷ left) told ending }) cache server asked word).after
+    left' : Response → Option Doing
+    left' response = agents.left Running (after_response fixed (record { task = task; suites = suites; phase = Finishing (now ∷ left) told ending }) cache server asked response).after
 
-    of : (word : Word) → 0 + may (left' word) ≤ 0
+    of : (response : Response) → 0 + may (left' response) ≤ 0
     of (Replied said) = let no' = no_more task cache suites told ending left in omega (arith, no')
     of (Lacked lacked) = let no' = no_more task cache suites told ending left in omega (arith, no')
 
-take_once : (fixed : Fixed) (agent : Agent) (word : Word) (doing : Option Doing) (asked : Option (ℕ × Request)) → agent.doing ≡ doing → next_in fixed doing ≡ asked
-    → decides (exchange_of asked word) + may (take_in fixed agent word doing asked).agent.doing ≤ may doing
-take_once fixed agent word (Some (Running running)) (Some asked) was is = let one = word_once fixed running.task agent.cache running.suites running.phase asked.0 asked.1 word is in omega (arith, one)
-take_once fixed agent word (Some (Running running)) None was is = let same = ap may was in omega (arith, same)
-take_once fixed agent word (Some (Rounding round)) (Some asked) was is = round_once
+take_once : (fixed : Fixed) (agent : Agent) (response : Response) (doing : Option Doing) (asked : Option (ℕ × Request)) → agent.doing ≡ doing → next_in fixed doing ≡ asked
+    → decides (exchange_of asked response) + may (take_in fixed agent response doing asked).agent.doing ≤ may doing
+take_once fixed agent response (Some (Running running)) (Some asked) was is = let one = response_once fixed running.task agent.cache running.suites running.phase asked.0 asked.1 response is in omega (arith, one)
+take_once fixed agent response (Some (Running running)) None was is = let same = ap may was in omega (arith, same)
+take_once fixed agent response (Some (RunningSweep sweep_run)) (Some asked) was is = round_once
   where
-    none : (now : Sweeping) (server : ℕ) (asked : Request) → ◌≡◌ {A = Option (ℕ × Request)} (Some (sweep.asked_now fixed.service round now)) (Some (server, asked)) → is_decide asked ≡ false
+    none : (now : Sweeping) (server : ℕ) (asked : Request) → ◌≡◌ {A = Option (ℕ × Request)} (Some (sweep.asked_now fixed.service sweep_run now)) (Some (server, asked)) → is_decide asked ≡ false
     none Listing server asked is = ap is_decide (sym (asks_same _ server request.Locks asked is))
     none (Resolving t others) server asked is = ap is_decide (sym (asks_same _ server (request.Resolve t) asked is))
     none (Telling t v others) server asked is = ap is_decide (sym (asks_same _ server (request.Finish t v) asked is))
     none (Breaking lock others) server asked is = ap is_decide (sym (asks_same _ server (request.Break lock.t lock.suite) asked is))
 
-    ends : (after : After Round) → may (left Rounding after) ≡ 0
+    ends : (after : After SweepRun) → may (left RunningSweep after) ≡ 0
     ends (GoesOn more) = refl
     ends (Ends ending) = refl
 
-    round_once : decides (exchange_of (Some asked) word) + may (left Rounding (sweep.after_word fixed.service round asked.0 word)) ≤ 0
+    round_once : decides (exchange_of (Some asked) response) + may (left RunningSweep (sweep.after_response fixed.service sweep_run asked.0 response)) ≤ 0
     round_once =
-        subst (λ b. (cond b 1 0 + 0) + may (left Rounding (sweep.after_word fixed.service round asked.0 word)) ≤ 0) (sym (none round.now asked.0 asked.1 is))
-        (let over = ends (sweep.after_word fixed.service round asked.0 word) in omega (arith, over))
-take_once fixed agent word (Some (Rounding round)) None was is = cc
-take_once fixed agent word None (Some asked) was is = cc
-take_once fixed agent word None None was is = let same = ap may was in omega (arith, same)
+        subst (λ b. (cond b 1 0 + 0) + may (left RunningSweep (sweep.after_response fixed.service sweep_run asked.0 response)) ≤ 0) (sym (none sweep_run.now asked.0 asked.1 is))
+        (let over = ends (sweep.after_response fixed.service sweep_run asked.0 response) in omega (arith, over))
+take_once fixed agent response (Some (RunningSweep sweep_run)) None was is = cc
+take_once fixed agent response None (Some asked) was is = cc
+take_once fixed agent response None None was is = let same = ap may was in omega (arith, same)
 
 count-append : (past later : List Exchange) → decides (past ++ later) ≡ decides past + decides later
 count-append [] later = omega arith
@@ -109,15 +109,15 @@ count-append (one ∷ past) later = let rest = count-append past later in omega 
 all_once : (fixed : Fixed) (agent : Agent) (events : List Event) → decides (exchanges fixed agent events) ≤ may agent.doing
 all_once fixed agent [] = omega arith
 all_once fixed agent (Forget site ∷ events) = all_once fixed (forget agent site) events
-all_once fixed agent (Take word ∷ events) =
-    let rest = all_once fixed (take fixed agent word).agent events in
-    let one = take_once fixed agent word agent.doing (next_of fixed agent) refl refl in
-    let sum = count-append (exchange_of (next_of fixed agent) word) (exchanges fixed (take fixed agent word).agent events) in
+all_once fixed agent (Take response ∷ events) =
+    let rest = all_once fixed (take fixed agent response).agent events in
+    let one = take_once fixed agent response agent.doing (next_of fixed agent) refl refl in
+    let sum = count-append (exchange_of (next_of fixed agent) response) (exchanges fixed (take fixed agent response).agent events) in
     omega (arith, rest, one, sum)
 
 may_once : (doing : Option Doing) → may doing ≤ 1
-may_once (Some (Running course)) = once course.phase
-may_once (Some (Rounding round)) = omega arith
+may_once (Some (Running txn_run)) = once txn_run.phase
+may_once (Some (RunningSweep sweep_run)) = omega arith
 may_once None = omega arith
 
 pub decide_is_sent_once : DecideIsSentOnce

@@ -16,7 +16,7 @@ use Rattle.file_ops.specs.Rows.{Row, with_content}
 use Rattle.file_exec.specs.KnownSuites.{KnownSuite}
 use Rattle.file_exec.specs.Known as known
 use Rattle.file_exec.specs.Known.{Known}
-use Rattle.txn_core.specs.Suites.{First, Suite, Suites, suite_of, with_suite, row_with, known_row, known_if, known_of}
+use Rattle.txn_core.specs.Suites.{ReadPoint, Suite, Suites, suite_of, with_suite, row_with, known_row, known_if, known_of}
 use Rattle.txn_core.proofs.Setting.{known_at}
 
 -- ---- what is known of a suite that gets its content
@@ -29,13 +29,13 @@ row_again kind.Folder prefix before content = refl
 abbrev with_it : Suite → Content → Suite
 with_it suite content = record suite { content = Some content }
 
-row_opened : (suite : Suite) (first : First) (content : Content) → known.opened (known_row suite first) content ≡ known_row (record suite { content = Some content }) first
+row_opened : (suite : Suite) (first : ReadPoint) (content : Content) → known.opened (known_row suite first) content ≡ known_row (record suite { content = Some content }) first
 row_opened suite first content =
     let read : Option Row → KnownSuite = λ row. record { mode = suite.mode; row = row; opened = true } in
     ap read (row_again first.prefix.kind first.prefix suite.content content)
 
 -- another value at the number of a suite that had a quorum
-replaced_known : (suites : Suites) (number : ℕ) (suite new : Suite) (first : First) → suite_of suites number ≡ Some suite → suite.first ≡ Some first → new.first ≡ Some first
+replaced_known : (suites : Suites) (number : ℕ) (suite new : Suite) (first : ReadPoint) → suite_of suites number ≡ Some suite → suite.first ≡ Some first → new.first ≡ Some first
     → replace nat_cmp (known_of suites) number (known_row new first) ≡ known_of (replace nat_cmp suites number new)
 replaced_known [] number suite new first is was now = refl
 replaced_known (e ∷ es) number suite new first is was now = of (λ is. replaced_known es number suite new first is was now) (is_at (nat_cmp number) e.0) refl is
@@ -43,11 +43,11 @@ replaced_known (e ∷ es) number suite new first is was now = of (λ is. replace
     row : KnownSuite
     row = known_row new first
 
-    here : (found : Option First) → found ≡ Some first → is_at (nat_cmp number) e.0 ≡ true → replace nat_cmp (known_if e.0 e.1 found (known_of es)) number row ≡ (e.0, row) ∷ known_of es
+    here : (found : Option ReadPoint) → found ≡ Some first → is_at (nat_cmp number) e.0 ≡ true → replace nat_cmp (known_if e.0 e.1 found (known_of es)) number row ≡ (e.0, row) ∷ known_of es
     here (Some other) same at = ap (λ b. cond b ((e.0, row) ∷ known_of es) ((e.0, known_row e.1 other) ∷ replace nat_cmp (known_of es) number row)) at
     here None same at = cc
 
-    later : (found : Option First) → is_at (nat_cmp number) e.0 ≡ false → replace nat_cmp (known_of es) number row ≡ known_of (replace nat_cmp es number new)
+    later : (found : Option ReadPoint) → is_at (nat_cmp number) e.0 ≡ false → replace nat_cmp (known_of es) number row ≡ known_of (replace nat_cmp es number new)
         → replace nat_cmp (known_if e.0 e.1 found (known_of es)) number row ≡ known_if e.0 e.1 found (known_of (replace nat_cmp es number new))
     later (Some other) at rest =
         ap (λ b. cond b ((e.0, row) ∷ known_of es) ((e.0, known_row e.1 other) ∷ replace nat_cmp (known_of es) number row)) at
@@ -66,7 +66,7 @@ replaced_known (e ∷ es) number suite new first is was now = of (λ is. replace
         later e.1.first at (again is)
         ∙ sym (ap (λ b. known_of (cond b ((e.0, new) ∷ es) (e ∷ replace nat_cmp es number new))) at)
 
-pub known_opened : (suites : Suites) (number : ℕ) (suite : Suite) (first : First) (content : Content) → IsOrdered nat_cmp suites → suite_of suites number ≡ Some suite → suite.first ≡ Some first
+pub known_opened : (suites : Suites) (number : ℕ) (suite : Suite) (first : ReadPoint) (content : Content) → IsOrdered nat_cmp suites → suite_of suites number ≡ Some suite → suite.first ≡ Some first
     → known.opened_suite (known_of suites) number content ≡ known_of (with_suite number (record suite { content = Some content }) suites)
 known_opened suites number suite first content ordered is was =
     let new = with_it suite content in

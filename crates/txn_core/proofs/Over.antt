@@ -13,14 +13,14 @@ use Rattle.rep_core.specs.Fits.{is_prepared}
 use Rattle.suite_collect.specs.declared.told.Said.TheVariants as said
 use Rattle.weak_cache.specs.Entries.{Cache}
 use Rattle.txn_core.specs.Suites.{Suite, Suites, suite_of, with_suite}
-use Rattle.txn_core.specs.declared.word.Word.{Word}
+use Rattle.txn_core.specs.declared.response.Response.{Response}
 use Rattle.txn_core.specs.declared.ending.Cause.{Cause}
 use Rattle.txn_core.specs.declared.ending.Ending.{Ending}
-use Rattle.txn_core.specs.declared.word.Word.TheVariants.{Replied, Lacked}
+use Rattle.txn_core.specs.declared.response.Response.TheVariants.{Replied, Lacked}
 use Rattle.txn_core.specs.declared.ending.Cause.TheVariants.{Lost}
 use Rattle.txn_core.specs.declared.ending.Ending.TheVariants.{Undecided}
-use Rattle.txn_core.specs.Doing.{Fixed, Task, Phase, Gathering, Fetching, Widening, Preparing, Deciding, Finishing, Course, Sweeping, Listing, Resolving, Telling, Breaking, Round, Doing, Running, Rounding, After, GoesOn, Ends}
-use Rattle.txn_core.specs.Transactions.{Step, tell_end, give_up, locked_at, prepare, prepared, fetched, heard_of, hear, is_poll, said_to, given_in, verdict_in, ending_by, cause_of_abort, lack_cause, after_lack, after_word, request_in}
+use Rattle.txn_core.specs.Doing.{Fixed, Task, Phase, Gathering, Fetching, Widening, Preparing, Deciding, Finishing, TransactionRun, Sweeping, Listing, Resolving, Telling, Breaking, SweepRun, Doing, Running, RunningSweep, After, GoesOn, Ends}
+use Rattle.txn_core.specs.Transactions.{Step, tell_end, give_up, locked_at, prepare, prepared, fetched, heard_of, hear, is_poll, said_to, given_in, verdict_in, ending_by, cause_of_abort, lack_cause, after_lack, after_response, request_in}
 use Rattle.txn_core.specs.Sweeps as sweep
 use Rattle.txn_core.specs.Agents as agents
 use Rattle.txn_core.specs.Agents.{Agent, Event, Take, Forget, next_in, next_of, take_in, take, begin, started, forget, is_idle, has_sense, max_jobs, after_all}
@@ -32,8 +32,8 @@ abbrev pub IsOver : Phase → Type 0
 IsOver (Finishing servers v ending) = Unit {0}
 IsOver _ = ⊥
 
-abbrev pub LeftOver : After Course → Type 0
-LeftOver (GoesOn course) = IsOver course.phase
+abbrev pub LeftOver : After TransactionRun → Type 0
+LeftOver (GoesOn txn_run) = IsOver txn_run.phase
 LeftOver (Ends ending) = Unit {0}
 
 pub over_end : (task : Task) (cache : Cache) (suites : Suites) (v : Verdict) (ending : Ending) (servers : List ℕ) → LeftOver (tell_end task cache suites v ending servers).after
@@ -110,79 +110,79 @@ over_heard task cache suites phase number (Some suite) server asked said go_on i
     subst (λ heard. LeftOver (hear task cache suites phase number suite server asked heard (λ suite. go_on (with_suite number suite suites))).after) (sym (ends_said asked said (down_poll asked) is)) (over_give_up task cache suites (Lost server))
 
 -- what ends it leaves nothing but the end; so does what comes after
-over_word : (fixed : Fixed) (task : Task) (cache : Cache) (suites : Suites) (phase : Phase) (server : ℕ) (asked : Request) (word : Word) → ends_it asked word ≡ true → LeftOver (after_word fixed (record { task = task; suites = suites; phase = phase }) cache server asked word).after
-over_word fixed task cache suites phase server asked (Lacked lacked) is = over_lack task cache suites phase server lacked
-over_word fixed task cache suites (Gathering number) server asked (Replied said) is = over_heard task cache suites (Gathering number) number (suite_of suites number) server asked said _ is
-over_word fixed task cache suites (Fetching number) server asked (Replied said) is =
+over_response : (fixed : Fixed) (task : Task) (cache : Cache) (suites : Suites) (phase : Phase) (server : ℕ) (asked : Request) (response : Response) → ends_it asked response ≡ true → LeftOver (after_response fixed (record { task = task; suites = suites; phase = phase }) cache server asked response).after
+over_response fixed task cache suites phase server asked (Lacked lacked) is = over_lack task cache suites phase server lacked
+over_response fixed task cache suites (Gathering number) server asked (Replied said) is = over_heard task cache suites (Gathering number) number (suite_of suites number) server asked said _ is
+over_response fixed task cache suites (Fetching number) server asked (Replied said) is =
     subst (λ given. LeftOver (fetched fixed task cache suites number (suite_of suites number) server given).after) (sym (ends_given asked said is)) (of (suite_of suites number))
   where
     of : (found : Option Suite) → LeftOver (fetched fixed task cache suites number found server None).after
     of (Some suite) = over_give_up task cache suites (Lost server)
     of None = over_give_up task cache suites (Lost server)
-over_word fixed task cache suites (Widening [] granted) server asked (Replied said) is = over_give_up task cache suites (Lost server)
-over_word fixed task cache suites (Widening (number ∷ left) granted) server asked (Replied said) is = over_heard task cache suites (Widening (number ∷ left) granted) number (suite_of suites number) server asked said _ is
-over_word fixed task cache suites (Preparing [] outcome) server asked (Replied said) is = over_give_up task cache suites (Lost server)
-over_word fixed task cache suites (Preparing (now ∷ left) outcome) server asked (Replied said) is =
+over_response fixed task cache suites (Widening [] granted) server asked (Replied said) is = over_give_up task cache suites (Lost server)
+over_response fixed task cache suites (Widening (number ∷ left) granted) server asked (Replied said) is = over_heard task cache suites (Widening (number ∷ left) granted) number (suite_of suites number) server asked said _ is
+over_response fixed task cache suites (Preparing [] outcome) server asked (Replied said) is = over_give_up task cache suites (Lost server)
+over_response fixed task cache suites (Preparing (now ∷ left) outcome) server asked (Replied said) is =
     subst (λ b. LeftOver (cond b (prepare task cache suites outcome left) (give_up task cache suites (Lost server))).after) (sym (ends_prepared asked said is)) (over_give_up task cache suites (Lost server))
-over_word fixed task cache suites (Deciding outcome) server asked (Replied said) is =
+over_response fixed task cache suites (Deciding outcome) server asked (Replied said) is =
     over_end task cache suites (verdict_in said verdict.Aborted) (ending_by (verdict_in said verdict.Aborted) (cause_of_abort said)) (locked_at suites)
-over_word fixed task cache suites (Finishing [] v ending) server asked (Replied said) is = over_end task cache suites v ending []
-over_word fixed task cache suites (Finishing (now ∷ left) v ending) server asked (Replied said) is = over_end task cache suites v ending left
+over_response fixed task cache suites (Finishing [] v ending) server asked (Replied said) is = over_end task cache suites v ending []
+over_response fixed task cache suites (Finishing (now ∷ left) v ending) server asked (Replied said) is = over_end task cache suites v ending left
 
-pub stays_over : (fixed : Fixed) (task : Task) (cache : Cache) (suites : Suites) (phase : Phase) (server : ℕ) (asked : Request) (word : Word) → IsOver phase → LeftOver (after_word fixed (record { task = task; suites = suites; phase = phase }) cache server asked word).after
+pub stays_over : (fixed : Fixed) (task : Task) (cache : Cache) (suites : Suites) (phase : Phase) (server : ℕ) (asked : Request) (response : Response) → IsOver phase → LeftOver (after_response fixed (record { task = task; suites = suites; phase = phase }) cache server asked response).after
 stays_over fixed task cache suites (Finishing [] v ending) server asked (Replied said) over = tt
 stays_over fixed task cache suites (Finishing (now ∷ left) v ending) server asked (Replied said) over = over_end task cache suites v ending left
 stays_over fixed task cache suites (Finishing [] v ending) server asked (Lacked lacked) over = tt
 stays_over fixed task cache suites (Finishing (now ∷ left) v ending) server asked (Lacked lacked) over = over_end task cache suites v ending left
-stays_over fixed task cache suites (Gathering number) server asked word over = absurd over
-stays_over fixed task cache suites (Fetching number) server asked word over = absurd over
-stays_over fixed task cache suites (Widening left granted) server asked word over = absurd over
-stays_over fixed task cache suites (Preparing left outcome) server asked word over = absurd over
-stays_over fixed task cache suites (Deciding outcome) server asked word over = absurd over
+stays_over fixed task cache suites (Gathering number) server asked response over = absurd over
+stays_over fixed task cache suites (Fetching number) server asked response over = absurd over
+stays_over fixed task cache suites (Widening left granted) server asked response over = absurd over
+stays_over fixed task cache suites (Preparing left outcome) server asked response over = absurd over
+stays_over fixed task cache suites (Deciding outcome) server asked response over = absurd over
 
--- ---- all words
+-- ---- all responses
 
 -- once something ended it, it is over
 abbrev Over : Bool → Option Doing → Type 0
 Over false doing = Unit {0}
-Over true (Some (Running course)) = IsOver course.phase
-Over true (Some (Rounding round)) = Unit {0}
+Over true (Some (Running txn_run)) = IsOver txn_run.phase
+Over true (Some (RunningSweep sweep_run)) = Unit {0}
 Over true None = Unit {0}
 
-left_over : (after : After Course) → LeftOver after → Over true (agents.left Running after)
-left_over (GoesOn course) over = over
+left_over : (after : After TransactionRun) → LeftOver after → Over true (agents.left Running after)
+left_over (GoesOn txn_run) over = over
 left_over (Ends ending) over = tt
 
-round_over : (after : After Round) → Over true (agents.left Rounding after)
-round_over (GoesOn round) = tt
+round_over : (after : After SweepRun) → Over true (agents.left RunningSweep after)
+round_over (GoesOn sweep_run) = tt
 round_over (Ends ending) = tt
 
 abbrev any_ends : List Exchange → Bool
-any_ends past = list_any (λ one. ends_it one.request one.word) past
+any_ends past = list_any (λ one. ends_it one.request one.response) past
 
-take_over : (fixed : Fixed) (agent : Agent) (word : Word) (doing : Option Doing) (asked : Option (ℕ × Request)) (granted : Bool) → agent.doing ≡ doing → next_in fixed doing ≡ asked → Over granted doing
-    → Over (granted || any_ends (exchange_of asked word)) (take_in fixed agent word doing asked).agent.doing
-take_over fixed agent word (Some (Running running)) (Some asked) true was is over = left_over _ (stays_over fixed running.task agent.cache running.suites running.phase asked.0 asked.1 word over)
-take_over fixed agent word (Some (Running running)) (Some asked) false was is over =
-    elim (ends_it asked.1 word) as (λ b. ends_it asked.1 word ≡ b → Over (b || false) (take_in fixed agent word (Some (Running running)) (Some asked)).agent.doing) [
-      | true ↦ λ ends. left_over _ (over_word fixed running.task agent.cache running.suites running.phase asked.0 asked.1 word ends)
+take_over : (fixed : Fixed) (agent : Agent) (response : Response) (doing : Option Doing) (asked : Option (ℕ × Request)) (granted : Bool) → agent.doing ≡ doing → next_in fixed doing ≡ asked → Over granted doing
+    → Over (granted || any_ends (exchange_of asked response)) (take_in fixed agent response doing asked).agent.doing
+take_over fixed agent response (Some (Running running)) (Some asked) true was is over = left_over _ (stays_over fixed running.task agent.cache running.suites running.phase asked.0 asked.1 response over)
+take_over fixed agent response (Some (Running running)) (Some asked) false was is over =
+    elim (ends_it asked.1 response) as (λ b. ends_it asked.1 response ≡ b → Over (b || false) (take_in fixed agent response (Some (Running running)) (Some asked)).agent.doing) [
+      | true ↦ λ ends. left_over _ (over_response fixed running.task agent.cache running.suites running.phase asked.0 asked.1 response ends)
       | false ↦ λ _. tt
     ] refl
-take_over fixed agent word (Some (Running running)) None true was is over = subst (Over true) (sym was) over
-take_over fixed agent word (Some (Running running)) None false was is over = tt
-take_over fixed agent word (Some (Rounding round)) (Some asked) granted was is over = of (granted || any_ends (exchange_of (Some asked) word))
+take_over fixed agent response (Some (Running running)) None true was is over = subst (Over true) (sym was) over
+take_over fixed agent response (Some (Running running)) None false was is over = tt
+take_over fixed agent response (Some (RunningSweep sweep_run)) (Some asked) granted was is over = of (granted || any_ends (exchange_of (Some asked) response))
   where
-    of : (b : Bool) → Over b (agents.left Rounding (sweep.after_word fixed.service round asked.0 word))
-    of true = round_over (sweep.after_word fixed.service round asked.0 word)
+    of : (b : Bool) → Over b (agents.left RunningSweep (sweep.after_response fixed.service sweep_run asked.0 response))
+    of true = round_over (sweep.after_response fixed.service sweep_run asked.0 response)
     of false = tt
-take_over fixed agent word (Some (Rounding round)) None granted was is over = cc
-take_over fixed agent word None (Some asked) granted was is over = cc
-take_over fixed agent word None None true was is over = subst (Over true) (sym was) tt
-take_over fixed agent word None None false was is over = tt
+take_over fixed agent response (Some (RunningSweep sweep_run)) None granted was is over = cc
+take_over fixed agent response None (Some asked) granted was is over = cc
+take_over fixed agent response None None true was is over = subst (Over true) (sym was) tt
+take_over fixed agent response None None false was is over = tt
 
 ends-append : (past later : List Exchange) → any_ends (past ++ later) ≡ (any_ends past || any_ends later)
 ends-append [] later = refl
-ends-append (one ∷ past) later = of (ends_it one.request one.word) _ _ _ (ends-append past later)
+ends-append (one ∷ past) later = of (ends_it one.request one.response) _ _ _ (ends-append past later)
   where
     of : (a b c d : Bool) → b ≡ (c || d) → (a || b) ≡ ((a || c) || d)
     of true b c d is = refl
@@ -192,11 +192,11 @@ all_over : (fixed : Fixed) (agent : Agent) (granted : Bool) (events : List Event
 all_over fixed agent true [] over = over
 all_over fixed agent false [] over = tt
 all_over fixed agent granted (Forget site ∷ events) over = all_over fixed (forget agent site) granted events over
-all_over fixed agent granted (Take word ∷ events) over =
-    let one = exchange_of (next_of fixed agent) word in
-    let rest = exchanges fixed (take fixed agent word).agent events in
-    subst (λ b. Over b (after_all fixed (take fixed agent word).agent events).doing) (joined granted (any_ends one) (any_ends rest) ∙ ap (λ b. granted || b) (sym (ends-append one rest)))
-    (all_over fixed (take fixed agent word).agent (granted || any_ends one) events (take_over fixed agent word agent.doing (next_of fixed agent) granted refl refl over))
+all_over fixed agent granted (Take response ∷ events) over =
+    let one = exchange_of (next_of fixed agent) response in
+    let rest = exchanges fixed (take fixed agent response).agent events in
+    subst (λ b. Over b (after_all fixed (take fixed agent response).agent events).doing) (joined granted (any_ends one) (any_ends rest) ∙ ap (λ b. granted || b) (sym (ends-append one rest)))
+    (all_over fixed (take fixed agent response).agent (granted || any_ends one) events (take_over fixed agent response agent.doing (next_of fixed agent) granted refl refl over))
   where
     joined : (a b c : Bool) → ((a || b) || c) ≡ (a || (b || c))
     joined true b c = refl
@@ -205,23 +205,23 @@ all_over fixed agent granted (Take word ∷ events) over =
 -- what is over asks for no Prepare and no Decide, and nor does a sweep
 over_asks : (fixed : Fixed) (doing : Option Doing) (server : ℕ) (asked : Request) → Over true doing → next_in fixed doing ≡ Some (server, asked) → (is_decide asked || is_prepare asked) ≡ false
 over_asks fixed None server asked over is = cc
-over_asks fixed (Some (Rounding round)) server asked over is = of round.now is
+over_asks fixed (Some (RunningSweep sweep_run)) server asked over is = of sweep_run.now is
   where
-    of : (now : Sweeping) → ◌≡◌ {A = Option (ℕ × Request)} (Some (sweep.asked_now fixed.service round now)) (Some (server, asked)) → (is_decide asked || is_prepare asked) ≡ false
+    of : (now : Sweeping) → ◌≡◌ {A = Option (ℕ × Request)} (Some (sweep.asked_now fixed.service sweep_run now)) (Some (server, asked)) → (is_decide asked || is_prepare asked) ≡ false
     of Listing is = ap (λ asked. is_decide asked || is_prepare asked) (sym (asks_same _ server request.Locks asked is))
     of (Resolving other left) is = ap (λ asked. is_decide asked || is_prepare asked) (sym (asks_same _ server (request.Resolve other) asked is))
     of (Telling other v left) is = ap (λ asked. is_decide asked || is_prepare asked) (sym (asks_same _ server (request.Finish other v) asked is))
     of (Breaking lock left) is = ap (λ asked. is_decide asked || is_prepare asked) (sym (asks_same _ server (request.Break lock.t lock.suite) asked is))
-over_asks fixed (Some (Running course)) server asked over is = of course.phase over is
+over_asks fixed (Some (Running txn_run)) server asked over is = of txn_run.phase over is
   where
-    of : (phase : Phase) → IsOver phase → request_in fixed course.task course.suites phase ≡ Some (server, asked) → (is_decide asked || is_prepare asked) ≡ false
+    of : (phase : Phase) → IsOver phase → request_in fixed txn_run.task txn_run.suites phase ≡ Some (server, asked) → (is_decide asked || is_prepare asked) ≡ false
     of (Gathering number) over is = absurd over
     of (Fetching number) over is = absurd over
     of (Widening left granted) over is = absurd over
     of (Preparing left outcome) over is = absurd over
     of (Deciding outcome) over is = absurd over
     of (Finishing [] v ending) over is = cc
-    of (Finishing (now ∷ left) v ending) over is = ap (λ asked. is_decide asked || is_prepare asked) (sym (asks_same now server (request.Finish course.task.t v) asked is))
+    of (Finishing (now ∷ left) v ending) over is = ap (λ asked. is_decide asked || is_prepare asked) (sym (asks_same now server (request.Finish txn_run.task.t v) asked is))
 
 pub nothing_follows_an_end : NothingFollowsAnEnd
 nothing_follows_an_end fixed agent job events server asked idle ends is =

@@ -18,14 +18,14 @@ use Rattle.suite_collect.specs.declared.told.Said.{Said}
 use Rattle.suite_collect.specs.Telling.{has_told}
 use Rattle.suite_collect.specs.Collecting.{Collector, all_told, tell, mode_of, request_for, mode_asked, Asked, Poll, Upgrade, Next, Ask, Current, Short, next}
 use Rattle.weak_cache.specs.Entries.{Cache}
-use Rattle.txn_core.specs.Suites.{First, Suite, Suites, suite_of, with_suite, told_at, told_in}
-use Rattle.txn_core.specs.declared.word.Word.{Word}
+use Rattle.txn_core.specs.Suites.{ReadPoint, Suite, Suites, suite_of, with_suite, told_at, told_in}
+use Rattle.txn_core.specs.declared.response.Response.{Response}
 use Rattle.txn_core.specs.declared.job.Job.{Job}
-use Rattle.txn_core.specs.declared.word.Word.TheVariants.{Replied, Lacked}
+use Rattle.txn_core.specs.declared.response.Response.TheVariants.{Replied, Lacked}
 use Rattle.txn_core.specs.declared.ending.Cause.TheVariants.{Lost}
 use Rattle.txn_core.specs.declared.job.Job.TheVariants.{Transaction, Sweep}
-use Rattle.txn_core.specs.Doing.{home_of, Fixed, Task, Phase, Gathering, Fetching, Widening, Preparing, Deciding, Finishing, Course, Sweeping, Listing, Resolving, Telling, Breaking, Round, Doing, Running, Rounding, After, GoesOn, Ends}
-use Rattle.txn_core.specs.Transactions.{Step, locked_at, heard_of, is_poll, said_to, hear, after_word, asked_by, asked_for, fetched_at, fetched_for, request_in, changes_of, decision_of, given_in, verdict_in, ending_by, cause_of_abort}
+use Rattle.txn_core.specs.Doing.{home_of, Fixed, Task, Phase, Gathering, Fetching, Widening, Preparing, Deciding, Finishing, TransactionRun, Sweeping, Listing, Resolving, Telling, Breaking, SweepRun, Doing, Running, RunningSweep, After, GoesOn, Ends}
+use Rattle.txn_core.specs.Transactions.{Step, locked_at, heard_of, is_poll, said_to, hear, after_response, asked_by, asked_for, fetched_at, fetched_for, request_in, changes_of, decision_of, given_in, verdict_in, ending_by, cause_of_abort}
 use Rattle.txn_core.specs.Writing.{parts_at}
 use Rattle.txn_core.proofs.Asks.{asks_same, fetched_as}
 use Rattle.suite_collect.proofs.Collected.{nobody_is_asked_twice}
@@ -54,14 +54,14 @@ adds server asked number who = cond ((server == who) && locks number asked) 1 0
 abbrev plus : (ℕ → ℕ → ℕ) → ℕ → Request → ℕ → ℕ → ℕ
 plus before server asked number who = before number who + adds server asked number who
 
-record Knows (before : ℕ → ℕ → ℕ) (after : After Course) : Type 0 where
+record Knows (before : ℕ → ℕ → ℕ) (after : After TransactionRun) : Type 0 where
   told : ℕ → List Told
   leaves : Leaves told after
   agree : Asked' before told
   few : AllFew told
 
 -- it is over, or it knows whom it asked
-abbrev LeftWith : (ℕ → ℕ → ℕ) → After Course → Type 0
+abbrev LeftWith : (ℕ → ℕ → ℕ) → After TransactionRun → Type 0
 LeftWith before after = (LeftOver after × Bounded before) ⊎ Knows before after
 
 bounded_by : (before : ℕ → ℕ → ℕ) (told : ℕ → List Told) → Asked' before told → AllFew told → Bounded before
@@ -78,7 +78,7 @@ no_more before server asked number who none = of (server == who) (locks number a
 quiet_bounded : (before : ℕ → ℕ → ℕ) (server : ℕ) (asked : Request) → Bounded before → ((number : ℕ) → locks number asked ≡ false) → Bounded (plus before server asked)
 quiet_bounded before server asked bounded none number who = let same = no_more before server asked number who (none number) in let bound = bounded number who in omega (arith, same, bound)
 
-quiet : (before : ℕ → ℕ → ℕ) (told : ℕ → List Told) (server : ℕ) (asked : Request) (after : After Course) → Asked' before told → AllFew told → ((number : ℕ) → locks number asked ≡ false) → Leaves told after → LeftWith (plus before server asked) after
+quiet : (before : ℕ → ℕ → ℕ) (told : ℕ → List Told) (server : ℕ) (asked : Request) (after : After TransactionRun) → Asked' before told → AllFew told → ((number : ℕ) → locks number asked ≡ false) → Leaves told after → LeftWith (plus before server asked) after
 quiet before told server asked after agree few none leaves = inr (record {
   told = told;
   leaves = leaves;
@@ -177,50 +177,50 @@ fetch_locks : (task : Task) (number : ℕ) (found : Option Suite) (server : ℕ)
 fetch_locks task number found server asked is other = fetched_as (locks other) false task number found server asked refl is
 
 -- whatever is asked, few were asked
-word_bounded : (before : ℕ → ℕ → ℕ) (told : ℕ → List Told) (fixed : Fixed) (task : Task) (suites : Suites) (phase : Phase) (server : ℕ) (asked : Request) → Are told suites → Asked' before told → AllFew told
+response_bounded : (before : ℕ → ℕ → ℕ) (told : ℕ → List Told) (fixed : Fixed) (task : Task) (suites : Suites) (phase : Phase) (server : ℕ) (asked : Request) → Are told suites → Asked' before told → AllFew told
     → request_in fixed task suites phase ≡ Some (server, asked) → Bounded (plus before server asked)
-word_bounded before told fixed task suites (Gathering number) server asked are agree few is = asked_bounded before told task suites number (suite_of suites number) server asked are agree few refl is
-word_bounded before told fixed task suites (Fetching number) server asked are agree few is = quiet_bounded before server asked (bounded_by before told agree few) (fetch_locks task number (suite_of suites number) server asked is)
-word_bounded before told fixed task suites (Widening [] granted) server asked are agree few is = cc
-word_bounded before told fixed task suites (Widening (number ∷ left) granted) server asked are agree few is = asked_bounded before told task suites number (suite_of suites number) server asked are agree few refl is
-word_bounded before told fixed task suites (Preparing [] outcome) server asked are agree few is = cc
-word_bounded before told fixed task suites (Preparing (now ∷ left) outcome) server asked are agree few is =
+response_bounded before told fixed task suites (Gathering number) server asked are agree few is = asked_bounded before told task suites number (suite_of suites number) server asked are agree few refl is
+response_bounded before told fixed task suites (Fetching number) server asked are agree few is = quiet_bounded before server asked (bounded_by before told agree few) (fetch_locks task number (suite_of suites number) server asked is)
+response_bounded before told fixed task suites (Widening [] granted) server asked are agree few is = cc
+response_bounded before told fixed task suites (Widening (number ∷ left) granted) server asked are agree few is = asked_bounded before told task suites number (suite_of suites number) server asked are agree few refl is
+response_bounded before told fixed task suites (Preparing [] outcome) server asked are agree few is = cc
+response_bounded before told fixed task suites (Preparing (now ∷ left) outcome) server asked are agree few is =
     quiet_bounded before server asked (bounded_by before told agree few) (λ other. ap (locks other) (sym (asks_same now server (request.Prepare task.t (parts_at suites (changes_of outcome) now)) asked is)))
-word_bounded before told fixed task suites (Deciding outcome) server asked are agree few is =
+response_bounded before told fixed task suites (Deciding outcome) server asked are agree few is =
     quiet_bounded before server asked (bounded_by before told agree few) (λ other. ap (locks other) (sym (asks_same (home_of fixed.service task.t) server (request.Decide task.t (decision_of task outcome)) asked is)))
-word_bounded before told fixed task suites (Finishing [] v ending) server asked are agree few is = cc
-word_bounded before told fixed task suites (Finishing (now ∷ left) v ending) server asked are agree few is =
+response_bounded before told fixed task suites (Finishing [] v ending) server asked are agree few is = cc
+response_bounded before told fixed task suites (Finishing (now ∷ left) v ending) server asked are agree few is =
     quiet_bounded before server asked (bounded_by before told agree few) (λ other. ap (locks other) (sym (asks_same now server (request.Finish task.t v) asked is)))
 
-left_word : (before : ℕ → ℕ → ℕ) (told : ℕ → List Told) (fixed : Fixed) (task : Task) (cache : Cache) (suites : Suites) (phase : Phase) (server : ℕ) (asked : Request) (word : Word) → Are told suites → Asked' before told → AllFew told
-    → request_in fixed task suites phase ≡ Some (server, asked) → LeftWith (plus before server asked) (after_word fixed (record { task = task; suites = suites; phase = phase }) cache server asked word).after
-left_word before told fixed task cache suites phase server asked (Lacked lacked) are agree few is = inl (over_lack task cache suites phase server lacked, word_bounded before told fixed task suites phase server asked are agree few is)
-left_word before told fixed task cache suites (Gathering number) server asked (Replied said) are agree few is =
+left_response : (before : ℕ → ℕ → ℕ) (told : ℕ → List Told) (fixed : Fixed) (task : Task) (cache : Cache) (suites : Suites) (phase : Phase) (server : ℕ) (asked : Request) (response : Response) → Are told suites → Asked' before told → AllFew told
+    → request_in fixed task suites phase ≡ Some (server, asked) → LeftWith (plus before server asked) (after_response fixed (record { task = task; suites = suites; phase = phase }) cache server asked response).after
+left_response before told fixed task cache suites phase server asked (Lacked lacked) are agree few is = inl (over_lack task cache suites phase server lacked, response_bounded before told fixed task suites phase server asked are agree few is)
+left_response before told fixed task cache suites (Gathering number) server asked (Replied said) are agree few is =
     left_heard before told task cache suites (Gathering number) number (suite_of suites number) server asked said _ are agree few refl is (λ told suites are. leaves_execute told fixed task (record { suites = suites; cache = cache }) are)
-left_word before told fixed task cache suites (Fetching number) server asked (Replied said) are agree few is =
+left_response before told fixed task cache suites (Fetching number) server asked (Replied said) are agree few is =
     quiet before told server asked _ agree few (fetch_locks task number (suite_of suites number) server asked is) (leaves_fetched told fixed task cache suites number (suite_of suites number) server (given_in said) refl are)
-left_word before told fixed task cache suites (Widening [] granted) server asked (Replied said) are agree few is = cc
-left_word before told fixed task cache suites (Widening (number ∷ left) granted) server asked (Replied said) are agree few is =
+left_response before told fixed task cache suites (Widening [] granted) server asked (Replied said) are agree few is = cc
+left_response before told fixed task cache suites (Widening (number ∷ left) granted) server asked (Replied said) are agree few is =
     left_heard before told task cache suites (Widening (number ∷ left) granted) number (suite_of suites number) server asked said _ are agree few refl is (λ told suites are. leaves_widen told task cache suites granted left are)
-left_word before told fixed task cache suites (Preparing [] outcome) server asked (Replied said) are agree few is = cc
-left_word before told fixed task cache suites (Preparing (now ∷ left) outcome) server asked (Replied said) are agree few is =
+left_response before told fixed task cache suites (Preparing [] outcome) server asked (Replied said) are agree few is = cc
+left_response before told fixed task cache suites (Preparing (now ∷ left) outcome) server asked (Replied said) are agree few is =
     quiet before told server asked _ agree few (λ other. ap (locks other) (sym (asks_same now server (request.Prepare task.t (parts_at suites (changes_of outcome) now)) asked is))) (leaves_prepared told task cache suites outcome server left said are)
-left_word before told fixed task cache suites (Deciding outcome) server asked (Replied said) are agree few is =
-    inl (over_end task cache suites (verdict_in said verdict.Aborted) (ending_by (verdict_in said verdict.Aborted) (cause_of_abort said)) (locked_at suites), word_bounded before told fixed task suites (Deciding outcome) server asked are agree few is)
-left_word before told fixed task cache suites (Finishing [] v ending) server asked (Replied said) are agree few is = cc
-left_word before told fixed task cache suites (Finishing (now ∷ left) v ending) server asked (Replied said) are agree few is = inl (over_end task cache suites v ending left, word_bounded before told fixed task suites (Finishing (now ∷ left) v ending) server asked are agree few is)
+left_response before told fixed task cache suites (Deciding outcome) server asked (Replied said) are agree few is =
+    inl (over_end task cache suites (verdict_in said verdict.Aborted) (ending_by (verdict_in said verdict.Aborted) (cause_of_abort said)) (locked_at suites), response_bounded before told fixed task suites (Deciding outcome) server asked are agree few is)
+left_response before told fixed task cache suites (Finishing [] v ending) server asked (Replied said) are agree few is = cc
+left_response before told fixed task cache suites (Finishing (now ∷ left) v ending) server asked (Replied said) are agree few is = inl (over_end task cache suites v ending left, response_bounded before told fixed task suites (Finishing (now ∷ left) v ending) server asked are agree few is)
 
--- ---- all words
+-- ---- all responses
 
 -- what a transaction that is not over keeps
 abbrev pub Keeps : (ℕ → ℕ → ℕ) → Option Doing → Type 0
-Keeps before (Some (Running course)) = (IsOver course.phase × Bounded before) ⊎ (IsOrdered nat_cmp course.suites × Asked' before (told_at course.suites) × AllFew (told_at course.suites))
-Keeps before (Some (Rounding round)) = Bounded before
+Keeps before (Some (Running txn_run)) = (IsOver txn_run.phase × Bounded before) ⊎ (IsOrdered nat_cmp txn_run.suites × Asked' before (told_at txn_run.suites) × AllFew (told_at txn_run.suites))
+Keeps before (Some (RunningSweep sweep_run)) = Bounded before
 Keeps before None = Bounded before
 
-left_keeps : (before : ℕ → ℕ → ℕ) (after : After Course) → LeftWith before after → Keeps before (agents.left Running after)
-left_keeps before (GoesOn course) (inl over) = inl over
-left_keeps before (GoesOn course) (inr with') = inr (
+left_keeps : (before : ℕ → ℕ → ℕ) (after : After TransactionRun) → LeftWith before after → Keeps before (agents.left Running after)
+left_keeps before (GoesOn txn_run) (inl over) = inl over
+left_keeps before (GoesOn txn_run) (inr with') = inr (
   with'.leaves.0,
   λ number who. ap (times who) (with'.leaves.1 number) ∙ with'.agree number who,
   λ number. subst Few (sym (with'.leaves.1 number)) (with'.few number),
@@ -228,18 +228,18 @@ left_keeps before (GoesOn course) (inr with') = inr (
 left_keeps before (Ends ending) (inl over) = over.1
 left_keeps before (Ends ending) (inr with') = bounded_by before with'.told with'.agree with'.few
 
-round_keeps : (before : ℕ → ℕ → ℕ) (after : After Round) → Bounded before → Keeps before (agents.left Rounding after)
-round_keeps before (GoesOn round) bounded = bounded
+round_keeps : (before : ℕ → ℕ → ℕ) (after : After SweepRun) → Bounded before → Keeps before (agents.left RunningSweep after)
+round_keeps before (GoesOn sweep_run) bounded = bounded
 round_keeps before (Ends ending) bounded = bounded
 
-over_keeps : (before : ℕ → ℕ → ℕ) (after : After Course) → LeftOver after → Bounded before → Keeps before (agents.left Running after)
-over_keeps before (GoesOn course) over bounded = inl (over, bounded)
+over_keeps : (before : ℕ → ℕ → ℕ) (after : After TransactionRun) → LeftOver after → Bounded before → Keeps before (agents.left Running after)
+over_keeps before (GoesOn txn_run) over bounded = inl (over, bounded)
 over_keeps before (Ends ending) over bounded = bounded
 
 pub keeps_bounded : (before : ℕ → ℕ → ℕ) (doing : Option Doing) → Keeps before doing → Bounded before
-keeps_bounded before (Some (Running course)) (inl over) = over.1
-keeps_bounded before (Some (Running course)) (inr keeps) = bounded_by before (told_at course.suites) keeps.1 keeps.2
-keeps_bounded before (Some (Rounding round)) bounded = bounded
+keeps_bounded before (Some (Running txn_run)) (inl over) = over.1
+keeps_bounded before (Some (Running txn_run)) (inr keeps) = bounded_by before (told_at txn_run.suites) keeps.1 keeps.2
+keeps_bounded before (Some (RunningSweep sweep_run)) bounded = bounded
 keeps_bounded before None bounded = bounded
 
 -- how often a server was asked for a lock on a suite
@@ -250,23 +250,23 @@ abbrev plus_all : (ℕ → ℕ → ℕ) → List Exchange → ℕ → ℕ → �
 plus_all before past number who = before number who + asked_for_locks past number who
 
 same_keeps : (before other : ℕ → ℕ → ℕ) (doing : Option Doing) → ((number who : ℕ) → before number who ≡ other number who) → Keeps before doing → Keeps other doing
-same_keeps before other (Some (Running course)) same (inl over) = inl (over.0, λ number who. let at = same number who in let bound = over.1 number who in omega (arith, at, bound))
-same_keeps before other (Some (Running course)) same (inr keeps) = inr (keeps.0, λ number who. keeps.1 number who ∙ same number who, keeps.2)
-same_keeps before other (Some (Rounding round)) same bounded = λ number who. let at = same number who in let bound = bounded number who in omega (arith, at, bound)
+same_keeps before other (Some (Running txn_run)) same (inl over) = inl (over.0, λ number who. let at = same number who in let bound = over.1 number who in omega (arith, at, bound))
+same_keeps before other (Some (Running txn_run)) same (inr keeps) = inr (keeps.0, λ number who. keeps.1 number who ∙ same number who, keeps.2)
+same_keeps before other (Some (RunningSweep sweep_run)) same bounded = λ number who. let at = same number who in let bound = bounded number who in omega (arith, at, bound)
 same_keeps before other None same bounded = λ number who. let at = same number who in let bound = bounded number who in omega (arith, at, bound)
 
 none_more : (before : ℕ → ℕ → ℕ) (number who : ℕ) → before number who ≡ before number who + 0
 none_more before number who = omega arith
 
-once_more : (before : ℕ → ℕ → ℕ) (server : ℕ) (asked : Request) (word : Word) (number who : ℕ) → plus before server asked number who ≡ plus_all before (exchange_of (Some (server, asked)) word) number who
-once_more before server asked word number who = omega arith
+once_more : (before : ℕ → ℕ → ℕ) (server : ℕ) (asked : Request) (response : Response) (number who : ℕ) → plus before server asked number who ≡ plus_all before (exchange_of (Some (server, asked)) response) number who
+once_more before server asked response number who = omega arith
 
 -- a sweep asks for no lock
-round_locks : (fixed : Fixed) (round : Round) (now : Sweeping) (server : ℕ) (asked : Request) → ◌≡◌ {A = Option (ℕ × Request)} (Some (sweep.asked_now fixed.service round now)) (Some (server, asked)) → (number : ℕ) → locks number asked ≡ false
-round_locks fixed round Listing server asked is number = ap (locks number) (sym (asks_same _ server request.Locks asked is))
-round_locks fixed round (Resolving other left) server asked is number = ap (locks number) (sym (asks_same _ server (request.Resolve other) asked is))
-round_locks fixed round (Telling other v left) server asked is number = ap (locks number) (sym (asks_same _ server (request.Finish other v) asked is))
-round_locks fixed round (Breaking lock left) server asked is number = ap (locks number) (sym (asks_same _ server (request.Break lock.t lock.suite) asked is))
+round_locks : (fixed : Fixed) (sweep_run : SweepRun) (now : Sweeping) (server : ℕ) (asked : Request) → ◌≡◌ {A = Option (ℕ × Request)} (Some (sweep.asked_now fixed.service sweep_run now)) (Some (server, asked)) → (number : ℕ) → locks number asked ≡ false
+round_locks fixed sweep_run Listing server asked is number = ap (locks number) (sym (asks_same _ server request.Locks asked is))
+round_locks fixed sweep_run (Resolving other left) server asked is number = ap (locks number) (sym (asks_same _ server (request.Resolve other) asked is))
+round_locks fixed sweep_run (Telling other v left) server asked is number = ap (locks number) (sym (asks_same _ server (request.Finish other v) asked is))
+round_locks fixed sweep_run (Breaking lock left) server asked is number = ap (locks number) (sym (asks_same _ server (request.Break lock.t lock.suite) asked is))
 
 over_locks : (fixed : Fixed) (task : Task) (suites : Suites) (phase : Phase) (server : ℕ) (asked : Request) → IsOver phase → request_in fixed task suites phase ≡ Some (server, asked) → (number : ℕ) → locks number asked ≡ false
 over_locks fixed task suites (Gathering who) server asked over is number = absurd over
@@ -277,22 +277,22 @@ over_locks fixed task suites (Deciding outcome) server asked over is number = ab
 over_locks fixed task suites (Finishing [] v ending) server asked over is number = cc
 over_locks fixed task suites (Finishing (now ∷ left) v ending) server asked over is number = ap (locks number) (sym (asks_same now server (request.Finish task.t v) asked is))
 
-take_keeps : (before : ℕ → ℕ → ℕ) (fixed : Fixed) (agent : Agent) (word : Word) (doing : Option Doing) (asked : Option (ℕ × Request)) → agent.doing ≡ doing → next_in fixed doing ≡ asked → Keeps before doing
-    → Keeps (plus_all before (exchange_of asked word)) (take_in fixed agent word doing asked).agent.doing
-take_keeps before fixed agent word (Some (Running running)) (Some asked) was is (inl over) =
-    same_keeps (plus before asked.0 asked.1) (plus_all before (exchange_of (Some asked) word)) _ (once_more before asked.0 asked.1 word)
-    (over_keeps _ _ (stays_over fixed running.task agent.cache running.suites running.phase asked.0 asked.1 word over.0)
+take_keeps : (before : ℕ → ℕ → ℕ) (fixed : Fixed) (agent : Agent) (response : Response) (doing : Option Doing) (asked : Option (ℕ × Request)) → agent.doing ≡ doing → next_in fixed doing ≡ asked → Keeps before doing
+    → Keeps (plus_all before (exchange_of asked response)) (take_in fixed agent response doing asked).agent.doing
+take_keeps before fixed agent response (Some (Running running)) (Some asked) was is (inl over) =
+    same_keeps (plus before asked.0 asked.1) (plus_all before (exchange_of (Some asked) response)) _ (once_more before asked.0 asked.1 response)
+    (over_keeps _ _ (stays_over fixed running.task agent.cache running.suites running.phase asked.0 asked.1 response over.0)
     (quiet_bounded before asked.0 asked.1 over.1 (over_locks fixed running.task running.suites running.phase asked.0 asked.1 over.0 is)))
-take_keeps before fixed agent word (Some (Running running)) (Some asked) was is (inr keeps) =
-    same_keeps (plus before asked.0 asked.1) (plus_all before (exchange_of (Some asked) word)) _ (once_more before asked.0 asked.1 word)
-    (left_keeps (plus before asked.0 asked.1) _ (left_word before (told_at running.suites) fixed running.task agent.cache running.suites running.phase asked.0 asked.1 word (keeps.0, λ number. refl) keeps.1 keeps.2 is))
-take_keeps before fixed agent word (Some (Running running)) None was is keeps = subst (Keeps (plus_all before [])) (sym was) (same_keeps before (plus_all before []) (Some (Running running)) (none_more before) keeps)
-take_keeps before fixed agent word (Some (Rounding round)) (Some asked) was is bounded =
-    round_keeps _ (sweep.after_word fixed.service round asked.0 word)
-    (same_keeps (plus before asked.0 asked.1) (plus_all before (exchange_of (Some asked) word)) None (once_more before asked.0 asked.1 word) (quiet_bounded before asked.0 asked.1 bounded (round_locks fixed round round.now asked.0 asked.1 is)))
-take_keeps before fixed agent word (Some (Rounding round)) None was is keeps = cc
-take_keeps before fixed agent word None (Some asked) was is keeps = cc
-take_keeps before fixed agent word None None was is keeps = subst (Keeps (plus_all before [])) (sym was) (same_keeps before (plus_all before []) None (none_more before) keeps)
+take_keeps before fixed agent response (Some (Running running)) (Some asked) was is (inr keeps) =
+    same_keeps (plus before asked.0 asked.1) (plus_all before (exchange_of (Some asked) response)) _ (once_more before asked.0 asked.1 response)
+    (left_keeps (plus before asked.0 asked.1) _ (left_response before (told_at running.suites) fixed running.task agent.cache running.suites running.phase asked.0 asked.1 response (keeps.0, λ number. refl) keeps.1 keeps.2 is))
+take_keeps before fixed agent response (Some (Running running)) None was is keeps = subst (Keeps (plus_all before [])) (sym was) (same_keeps before (plus_all before []) (Some (Running running)) (none_more before) keeps)
+take_keeps before fixed agent response (Some (RunningSweep sweep_run)) (Some asked) was is bounded =
+    round_keeps _ (sweep.after_response fixed.service sweep_run asked.0 response)
+    (same_keeps (plus before asked.0 asked.1) (plus_all before (exchange_of (Some asked) response)) None (once_more before asked.0 asked.1 response) (quiet_bounded before asked.0 asked.1 bounded (round_locks fixed sweep_run sweep_run.now asked.0 asked.1 is)))
+take_keeps before fixed agent response (Some (RunningSweep sweep_run)) None was is keeps = cc
+take_keeps before fixed agent response None (Some asked) was is keeps = cc
+take_keeps before fixed agent response None None was is keeps = subst (Keeps (plus_all before [])) (sym was) (same_keeps before (plus_all before []) None (none_more before) keeps)
 
 asked-append : (past later : List Exchange) (number who : ℕ) → asked_for_locks (past ++ later) number who ≡ asked_for_locks past number who + asked_for_locks later number who
 asked-append [] later number who = omega arith
@@ -301,12 +301,12 @@ asked-append (one ∷ past) later number who = let rest = asked-append past late
 all_keep : (before : ℕ → ℕ → ℕ) (fixed : Fixed) (agent : Agent) (events : List Event) → Keeps before agent.doing → Keeps (plus_all before (exchanges fixed agent events)) (after_all fixed agent events).doing
 all_keep before fixed agent [] keeps = same_keeps before (plus_all before []) agent.doing (none_more before) keeps
 all_keep before fixed agent (Forget site ∷ events) keeps = all_keep before fixed (forget agent site) events keeps
-all_keep before fixed agent (Take word ∷ events) keeps =
-    let one = exchange_of (next_of fixed agent) word in
-    let rest = exchanges fixed (take fixed agent word).agent events in
-    same_keeps (plus_all (plus_all before one) rest) (plus_all before (one ++ rest)) (after_all fixed agent (Take word ∷ events)).doing
+all_keep before fixed agent (Take response ∷ events) keeps =
+    let one = exchange_of (next_of fixed agent) response in
+    let rest = exchanges fixed (take fixed agent response).agent events in
+    same_keeps (plus_all (plus_all before one) rest) (plus_all before (one ++ rest)) (after_all fixed agent (Take response ∷ events)).doing
     (λ number who. let sum = asked-append one rest number who in omega (arith, sum))
-    (all_keep (plus_all before one) fixed (take fixed agent word).agent events (take_keeps before fixed agent word agent.doing (next_of fixed agent) refl refl keeps))
+    (all_keep (plus_all before one) fixed (take fixed agent response).agent events (take_keeps before fixed agent response agent.doing (next_of fixed agent) refl refl keeps))
 
 abbrev nobody : ℕ → ℕ → ℕ
 nobody number who = 0
@@ -358,41 +358,41 @@ other_poll a b t number mode asked other is = absurd (false≢true (sym other �
 
 fresh : (before : ℕ → ℕ → ℕ) (fixed : Fixed) (doing : Option Doing) (server t number : ℕ) (mode : LockMode) → Keeps before doing → next_in fixed doing ≡ Some (server, request.Poll t number mode) → before number server ≡ 0
 fresh before fixed None server t number mode keeps is = cc
-fresh before fixed (Some (Rounding round)) server t number mode keeps is = of round.now is
+fresh before fixed (Some (RunningSweep sweep_run)) server t number mode keeps is = of sweep_run.now is
   where
-    of : (now : Sweeping) → ◌≡◌ {A = Option (ℕ × Request)} (Some (sweep.asked_now fixed.service round now)) (Some (server, request.Poll t number mode)) → before number server ≡ 0
+    of : (now : Sweeping) → ◌≡◌ {A = Option (ℕ × Request)} (Some (sweep.asked_now fixed.service sweep_run now)) (Some (server, request.Poll t number mode)) → before number server ≡ 0
     of Listing is = other_poll _ server t number mode request.Locks refl is
     of (Resolving other left) is = other_poll _ server t number mode (request.Resolve other) refl is
     of (Telling other v left) is = other_poll _ server t number mode (request.Finish other v) refl is
     of (Breaking lock left) is = other_poll _ server t number mode (request.Break lock.t lock.suite) refl is
-fresh before fixed (Some (Running course)) server t number mode keeps is = of course.phase keeps is
+fresh before fixed (Some (Running txn_run)) server t number mode keeps is = of txn_run.phase keeps is
   where
-    by_suite : (who : ℕ) (found : Option Suite) → suite_of course.suites who ≡ found → Asked' before (told_at course.suites) → asked_for course.task who found ≡ Some (server, request.Poll t number mode) → before number server ≡ 0
+    by_suite : (who : ℕ) (found : Option Suite) → suite_of txn_run.suites who ≡ found → Asked' before (told_at txn_run.suites) → asked_for txn_run.task who found ≡ Some (server, request.Poll t number mode) → before number server ≡ 0
     by_suite who None there agree is = cc
     by_suite who (Some suite) there agree is =
-        let fresh' = poll_fresh course.task who suite server t number mode is in
+        let fresh' = poll_fresh txn_run.task who suite server t number mode is in
         ap (λ number. before number server) (sym fresh'.0) ∙ sym (agree who server) ∙ ap (λ found. times server (told_in found)) there ∙ never (all_told suite.collector) server fresh'.1
 
-    by_first : (who : ℕ) (first : Option First) → fetched_at course.task who first ≡ Some (server, request.Poll t number mode) → before number server ≡ 0
-    by_first who (Some first) is = other_poll first.source server t number mode (request.Fetch course.task.t who) refl is
+    by_first : (who : ℕ) (first : Option ReadPoint) → fetched_at txn_run.task who first ≡ Some (server, request.Poll t number mode) → before number server ≡ 0
+    by_first who (Some first) is = other_poll first.source server t number mode (request.Fetch txn_run.task.t who) refl is
     by_first who None is = cc
 
-    by_fetch : (who : ℕ) (found : Option Suite) → fetched_for course.task who found ≡ Some (server, request.Poll t number mode) → before number server ≡ 0
+    by_fetch : (who : ℕ) (found : Option Suite) → fetched_for txn_run.task who found ≡ Some (server, request.Poll t number mode) → before number server ≡ 0
     by_fetch who (Some suite) is = by_first who suite.first is
     by_fetch who None is = cc
 
-    of : (phase : Phase) → (IsOver phase × Bounded before) ⊎ (IsOrdered nat_cmp course.suites × Asked' before (told_at course.suites) × AllFew (told_at course.suites)) → request_in fixed course.task course.suites phase ≡ Some (server, request.Poll t number mode) → before number server ≡ 0
+    of : (phase : Phase) → (IsOver phase × Bounded before) ⊎ (IsOrdered nat_cmp txn_run.suites × Asked' before (told_at txn_run.suites) × AllFew (told_at txn_run.suites)) → request_in fixed txn_run.task txn_run.suites phase ≡ Some (server, request.Poll t number mode) → before number server ≡ 0
     of (Gathering who) (inl over) is = absurd over.0
-    of (Gathering who) (inr keeps) is = by_suite who (suite_of course.suites who) refl keeps.1 is
-    of (Fetching who) keeps is = by_fetch who (suite_of course.suites who) is
+    of (Gathering who) (inr keeps) is = by_suite who (suite_of txn_run.suites who) refl keeps.1 is
+    of (Fetching who) keeps is = by_fetch who (suite_of txn_run.suites who) is
     of (Widening [] granted) keeps is = cc
     of (Widening (who ∷ left) granted) (inl over) is = absurd over.0
-    of (Widening (who ∷ left) granted) (inr keeps) is = by_suite who (suite_of course.suites who) refl keeps.1 is
+    of (Widening (who ∷ left) granted) (inr keeps) is = by_suite who (suite_of txn_run.suites who) refl keeps.1 is
     of (Preparing [] outcome) keeps is = cc
-    of (Preparing (now ∷ left) outcome) keeps is = other_poll now server t number mode (request.Prepare course.task.t (parts_at course.suites (changes_of outcome) now)) refl is
-    of (Deciding outcome) keeps is = other_poll (home_of fixed.service course.task.t) server t number mode (request.Decide course.task.t (decision_of course.task outcome)) refl is
+    of (Preparing (now ∷ left) outcome) keeps is = other_poll now server t number mode (request.Prepare txn_run.task.t (parts_at txn_run.suites (changes_of outcome) now)) refl is
+    of (Deciding outcome) keeps is = other_poll (home_of fixed.service txn_run.task.t) server t number mode (request.Decide txn_run.task.t (decision_of txn_run.task outcome)) refl is
     of (Finishing [] v ending) keeps is = cc
-    of (Finishing (now ∷ left) v ending) keeps is = other_poll now server t number mode (request.Finish course.task.t v) refl is
+    of (Finishing (now ∷ left) v ending) keeps is = other_poll now server t number mode (request.Finish txn_run.task.t v) refl is
 
 none_asked : (past : List Exchange) (number who : ℕ) → asked_for_locks past number who ≡ 0 → was_asked past number who ≡ false
 none_asked [] number who is = refl

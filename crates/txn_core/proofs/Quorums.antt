@@ -33,18 +33,18 @@ use Rattle.suite_collect.specs.Telling.{newer, newest, holds}
 use Rattle.suite_collect.specs.Collecting.{told_since, Collector, all_told, needed_of, needed, got, counted, is_member, is_left, members_of, version, votes_or, mode_or, ask_or_short, tell, tell_at, mode_of, Next, Ask, Current, Short, next}
 use Rattle.suite_collect.specs.Collecting as collecting
 use Rattle.weak_cache.specs.Entries.{Cache}
-use Rattle.txn_core.specs.Suites.{First, Suite, Suites, suite_of, with_suite, settled, first_or, source_of}
+use Rattle.txn_core.specs.Suites.{ReadPoint, Suite, Suites, suite_of, with_suite, settled, first_or, source_of}
 use Rattle.txn_core.specs.Writing.{is_changed, gets_votes, sets_votes, change_of}
-use Rattle.txn_core.specs.declared.word.Word.{Word}
+use Rattle.txn_core.specs.declared.response.Response.{Response}
 use Rattle.txn_core.specs.declared.ending.Cause.{Cause}
 use Rattle.txn_core.specs.declared.ending.Ending.{Ending}
 use Rattle.txn_core.specs.declared.job.Job.{Job}
-use Rattle.txn_core.specs.declared.word.Word.TheVariants.{Replied, Lacked}
+use Rattle.txn_core.specs.declared.response.Response.TheVariants.{Replied, Lacked}
 use Rattle.txn_core.specs.declared.ending.Cause.TheVariants.{Lost}
 use Rattle.txn_core.specs.declared.ending.Ending.TheVariants.{Undecided}
 use Rattle.txn_core.specs.declared.job.Job.TheVariants.{Transaction, Sweep}
-use Rattle.txn_core.specs.Doing.{Changes, Granted, Fixed, Task, Outcome, Phase, Gathering, Fetching, Widening, Preparing, Deciding, Finishing, Course, Round, Doing, Running, Rounding, After, GoesOn, Ends}
-use Rattle.txn_core.specs.Transactions.{Step, Gathered, tell_end, give_up, prepare, locked_at, short_cause, gather_by, widen_by, widen_one, widened, widen_all, to_widen, votes_then, votes_after, opened, or_all, open_needed, open_suite, open_first, opened_with, free_content, heard_on, raised_or_new, keep_content, heard_of, said_to, proceed, execute, collected, hear, fetched, prepared, after_lack, after_word, changes_of, given_in, verdict_in, ending_by, cause_of_abort, lack_cause}
+use Rattle.txn_core.specs.Doing.{Changes, Granted, Fixed, Task, Outcome, Phase, Gathering, Fetching, Widening, Preparing, Deciding, Finishing, TransactionRun, SweepRun, Doing, Running, RunningSweep, After, GoesOn, Ends}
+use Rattle.txn_core.specs.Transactions.{Step, Gathered, tell_end, give_up, prepare, locked_at, short_cause, gather_by, widen_by, widen_one, widened, widen_all, to_widen, votes_then, votes_after, opened, or_all, open_needed, open_suite, open_first, opened_with, free_content, heard_on, raised_or_new, keep_content, heard_of, said_to, proceed, execute, collected, hear, fetched, prepared, after_lack, after_response, changes_of, given_in, verdict_in, ending_by, cause_of_abort, lack_cause}
 use Rattle.txn_core.specs.Sweeps as sweep
 use Rattle.txn_core.specs.Agents as agents
 use Rattle.txn_core.specs.Agents.{Agent, Event, Take, Forget, next_in, next_of, take_in, take, begin, started, forget, is_idle, has_sense, max_jobs, after_event, after_all}
@@ -142,17 +142,17 @@ current_of c prefix dver members is = of (nat_le (needed c) (got c)) refl is
 
 -- its prefixes only grow newer; and once it had a Current, a quorum of its mode is held
 abbrev Grown : Suite → Type 0
-Grown suite = (first : First) → suite.first ≡ Some first → IsSince first.prefix (newest_of suite)
+Grown suite = (first : ReadPoint) → suite.first ≡ Some first → IsSince first.prefix (newest_of suite)
 
 record Sound (suite : Suite) : Type 0 where
-  first : First
+  first : ReadPoint
   was : suite.first ≡ Some first
   since : IsSince first.prefix (newest_of suite)
   mode : suite.mode ≡ suite.collector.mode
   quorum : Enough suite.mode (newest_of suite).votes (all_told suite.collector)
 
 sound_grown : (suite : Suite) → Sound suite → Grown suite
-sound_grown suite sound first is = subst (λ (first : First). IsSince first.prefix (newest_of suite)) (same_Some sound.first first (sym sound.was ∙ is)) sound.since
+sound_grown suite sound first is = subst (λ (first : ReadPoint). IsSince first.prefix (newest_of suite)) (same_Some sound.first first (sym sound.was ∙ is)) sound.since
 
 sound_content : (suite : Suite) (content : Option Content) → Sound suite → Sound (record suite { content = content })
 sound_content suite content sound = record { first = sound.first; was = sound.was; since = sound.since; mode = sound.mode; quorum = sound.quorum }
@@ -163,10 +163,10 @@ sound_settled suite prefix dver members grown narrow is = of suite.first refl
     current : EnoughWith suite.collector suite.collector.widening × (newest_of suite ≡ prefix)
     current = current_of suite.collector prefix dver members is
 
-    new : First
+    new : ReadPoint
     new = record { prefix = prefix; dver = dver; source = source_of suite.collector dver members }
 
-    of : (first : Option First) → suite.first ≡ first → Sound (settled prefix dver members suite)
+    of : (first : Option ReadPoint) → suite.first ≡ first → Sound (settled prefix dver members suite)
     of (Some first) was = record { first = first; was = ap (λ first. first_or first new) was; since = grown first was; mode = refl; quorum = subst (EnoughWith suite.collector) narrow current.0 }
     of None was = record { first = new; was = ap (λ first. first_or first new) was; since = inl current.1; mode = refl; quorum = subst (EnoughWith suite.collector) narrow current.0 }
 
@@ -219,8 +219,8 @@ PhaseReady suites (Preparing left outcome) = Each (Ready (changes_of outcome) []
 PhaseReady suites (Deciding outcome) = Each (Ready (changes_of outcome) []) suites
 PhaseReady suites (Finishing servers v ending) = Unit {0}
 
-abbrev LeftReady : After Course → Type 0
-LeftReady (GoesOn course) = PhaseReady course.suites course.phase
+abbrev LeftReady : After TransactionRun → Type 0
+LeftReady (GoesOn txn_run) = PhaseReady txn_run.suites txn_run.phase
 LeftReady (Ends ending) = Unit {0}
 
 self : (number : ℕ) → (number == number) ≡ true
@@ -328,11 +328,11 @@ settled_opened (suc n) fixed task all each = of (heard_on fixed task all.suites)
     or' (Some more) found_are later = later more (found_are more refl)
     or' None found_are later = each
 
-    with_content : (number : ℕ) (suite : Suite) (first : First) (content : Option Content) (more : Gathered) → suite_of all.suites number ≡ Some suite → opened_with task all number suite first content ≡ Some more → Each Settled more.suites
+    with_content : (number : ℕ) (suite : Suite) (first : ReadPoint) (content : Option Content) (more : Gathered) → suite_of all.suites number ≡ Some suite → opened_with task all number suite first content ≡ Some more → Each Settled more.suites
     with_content number suite first (Some content) more there is = subst (λ (more : Gathered). Each Settled more.suites) (same_Some _ more is) (settled_content all.suites number suite (Some content) there each)
     with_content number suite first None more there is = cc
 
-    at_first : (number : ℕ) (suite : Suite) (first : Option First) (more : Gathered) → suite_of all.suites number ≡ Some suite → open_first task all number suite first ≡ Some more → Each Settled more.suites
+    at_first : (number : ℕ) (suite : Suite) (first : Option ReadPoint) (more : Gathered) → suite_of all.suites number ≡ Some suite → open_first task all number suite first ≡ Some more → Each Settled more.suites
     at_first number suite (Some first) more there is = with_content number suite first (free_content task all.cache number first) more there is
     at_first number suite None more there is = cc
 
@@ -425,7 +425,7 @@ widened_told changes number suite one sound wide = record {
   votes = wide.votes ∙ of (change_of changes number) suite.first suite.collector.start.votes (tell one suite.collector).start.votes sound.was;
 }
   where
-    of : (change : Option Change) (first : Option First) (a b : Configuration) → first ≡ Some sound.first → votes_then change first a ≡ votes_then change first b
+    of : (change : Option Change) (first : Option ReadPoint) (a b : Configuration) → first ≡ Some sound.first → votes_then change first a ≡ votes_then change first b
     of (Some change) first a b is = refl
     of None (Some first) a b is = refl
     of None None a b is = cc
@@ -477,7 +477,7 @@ ready_widened task cache suites number left granted (Some suite) server asked sa
         let one : Told = record { server = server; mode = mode_of asked; said = heard } in
         by (record suite { collector = tell one suite.collector }) (ready_told granted.changes number left suite one (each number suite there)) (next (tell one suite.collector)) refl
 
--- ---- one word
+-- ---- one response
 
 ready_fetched : (fixed : Fixed) (task : Task) (cache : Cache) (suites : Suites) (number : ℕ) (found : Option Suite) (server : ℕ) (given : Option Content) → suite_of suites number ≡ found → Each Settled suites
     → LeftReady (fetched fixed task cache suites number found server given).after
@@ -486,7 +486,7 @@ ready_fetched fixed task cache suites number None server None there each = ready
 ready_fetched fixed task cache suites number (Some suite) server None there each = ready_give_up task cache suites (Lost server)
 ready_fetched fixed task cache suites number (Some suite) server (Some content) there each = of suite.first
   where
-    of : (first : Option First) → LeftReady (keep_content fixed task cache suites number suite content first server).after
+    of : (first : Option ReadPoint) → LeftReady (keep_content fixed task cache suites number suite content first server).after
     of None = ready_give_up task cache suites (Lost server)
     of (Some first) = ready_execute fixed task _ (settled_content suites number suite (Some content) there each)
 
@@ -506,48 +506,48 @@ ready_prepared task cache suites outcome server left said each =
       | false ↦ ready_give_up task cache suites (Lost server)
     ]
 
-ready_word : (fixed : Fixed) (task : Task) (cache : Cache) (suites : Suites) (phase : Phase) (server : ℕ) (asked : Request) (word : Word) → PhaseReady suites phase
-    → LeftReady (after_word fixed (record { task = task; suites = suites; phase = phase }) cache server asked word).after
-ready_word fixed task cache suites phase server asked (Lacked lacked) ready = ready_lack task cache suites phase server lacked
-ready_word fixed task cache suites (Gathering number) server asked (Replied said) ready = ready_heard fixed task cache suites number (suite_of suites number) server asked said refl ready
-ready_word fixed task cache suites (Fetching number) server asked (Replied said) ready = ready_fetched fixed task cache suites number (suite_of suites number) server (given_in said) refl ready
-ready_word fixed task cache suites (Widening [] granted) server asked (Replied said) ready = ready_give_up task cache suites (Lost server)
-ready_word fixed task cache suites (Widening (number ∷ left) granted) server asked (Replied said) ready = ready_widened task cache suites number left granted (suite_of suites number) server asked said refl ready
-ready_word fixed task cache suites (Preparing [] outcome) server asked (Replied said) ready = ready_give_up task cache suites (Lost server)
-ready_word fixed task cache suites (Preparing (now ∷ left) outcome) server asked (Replied said) ready = ready_prepared task cache suites outcome server left said ready
-ready_word fixed task cache suites (Deciding outcome) server asked (Replied said) ready =
+ready_response : (fixed : Fixed) (task : Task) (cache : Cache) (suites : Suites) (phase : Phase) (server : ℕ) (asked : Request) (response : Response) → PhaseReady suites phase
+    → LeftReady (after_response fixed (record { task = task; suites = suites; phase = phase }) cache server asked response).after
+ready_response fixed task cache suites phase server asked (Lacked lacked) ready = ready_lack task cache suites phase server lacked
+ready_response fixed task cache suites (Gathering number) server asked (Replied said) ready = ready_heard fixed task cache suites number (suite_of suites number) server asked said refl ready
+ready_response fixed task cache suites (Fetching number) server asked (Replied said) ready = ready_fetched fixed task cache suites number (suite_of suites number) server (given_in said) refl ready
+ready_response fixed task cache suites (Widening [] granted) server asked (Replied said) ready = ready_give_up task cache suites (Lost server)
+ready_response fixed task cache suites (Widening (number ∷ left) granted) server asked (Replied said) ready = ready_widened task cache suites number left granted (suite_of suites number) server asked said refl ready
+ready_response fixed task cache suites (Preparing [] outcome) server asked (Replied said) ready = ready_give_up task cache suites (Lost server)
+ready_response fixed task cache suites (Preparing (now ∷ left) outcome) server asked (Replied said) ready = ready_prepared task cache suites outcome server left said ready
+ready_response fixed task cache suites (Deciding outcome) server asked (Replied said) ready =
     ready_end task cache suites (verdict_in said verdict.Aborted) (ending_by (verdict_in said verdict.Aborted) (cause_of_abort said)) (locked_at suites)
-ready_word fixed task cache suites (Finishing [] v ending) server asked (Replied said) ready = tt
-ready_word fixed task cache suites (Finishing (now ∷ left) v ending) server asked (Replied said) ready = ready_end task cache suites v ending left
+ready_response fixed task cache suites (Finishing [] v ending) server asked (Replied said) ready = tt
+ready_response fixed task cache suites (Finishing (now ∷ left) v ending) server asked (Replied said) ready = ready_end task cache suites v ending left
 
--- ---- all words
+-- ---- all responses
 
 abbrev DoingReady : Option Doing → Type 0
-DoingReady (Some (Running course)) = PhaseReady course.suites course.phase
-DoingReady (Some (Rounding round)) = Unit {0}
+DoingReady (Some (Running txn_run)) = PhaseReady txn_run.suites txn_run.phase
+DoingReady (Some (RunningSweep sweep_run)) = Unit {0}
 DoingReady None = Unit {0}
 
-left_ready : (after : After Course) → LeftReady after → DoingReady (agents.left Running after)
-left_ready (GoesOn course) ready = ready
+left_ready : (after : After TransactionRun) → LeftReady after → DoingReady (agents.left Running after)
+left_ready (GoesOn txn_run) ready = ready
 left_ready (Ends ending) ready = tt
 
-round_ready : (after : After Round) → DoingReady (agents.left Rounding after)
-round_ready (GoesOn round) = tt
+round_ready : (after : After SweepRun) → DoingReady (agents.left RunningSweep after)
+round_ready (GoesOn sweep_run) = tt
 round_ready (Ends ending) = tt
 
-take_ready : (fixed : Fixed) (agent : Agent) (word : Word) (doing : Option Doing) (asked : Option (ℕ × Request)) → DoingReady agent.doing → agent.doing ≡ doing → DoingReady (take_in fixed agent word doing asked).agent.doing
-take_ready fixed agent word (Some (Running running)) (Some asked) ready was =
-    left_ready _ (ready_word fixed running.task agent.cache running.suites running.phase asked.0 asked.1 word (subst DoingReady was ready))
-take_ready fixed agent word (Some (Running running)) None ready was = ready
-take_ready fixed agent word (Some (Rounding round)) (Some asked) ready was = round_ready (sweep.after_word fixed.service round asked.0 word)
-take_ready fixed agent word (Some (Rounding round)) None ready was = ready
-take_ready fixed agent word None (Some asked) ready was = ready
-take_ready fixed agent word None None ready was = ready
+take_ready : (fixed : Fixed) (agent : Agent) (response : Response) (doing : Option Doing) (asked : Option (ℕ × Request)) → DoingReady agent.doing → agent.doing ≡ doing → DoingReady (take_in fixed agent response doing asked).agent.doing
+take_ready fixed agent response (Some (Running running)) (Some asked) ready was =
+    left_ready _ (ready_response fixed running.task agent.cache running.suites running.phase asked.0 asked.1 response (subst DoingReady was ready))
+take_ready fixed agent response (Some (Running running)) None ready was = ready
+take_ready fixed agent response (Some (RunningSweep sweep_run)) (Some asked) ready was = round_ready (sweep.after_response fixed.service sweep_run asked.0 response)
+take_ready fixed agent response (Some (RunningSweep sweep_run)) None ready was = ready
+take_ready fixed agent response None (Some asked) ready was = ready
+take_ready fixed agent response None None ready was = ready
 
 all_ready : (fixed : Fixed) (agent : Agent) (events : List Event) → DoingReady agent.doing → DoingReady (after_all fixed agent events).doing
 all_ready fixed agent [] ready = ready
 all_ready fixed agent (Forget site ∷ events) ready = all_ready fixed (forget agent site) events ready
-all_ready fixed agent (Take word ∷ events) ready = all_ready fixed (take fixed agent word).agent events (take_ready fixed agent word agent.doing (next_of fixed agent) ready refl)
+all_ready fixed agent (Take response ∷ events) ready = all_ready fixed (take fixed agent response).agent events (take_ready fixed agent response agent.doing (next_of fixed agent) ready refl)
 
 begin_ready : (fixed : Fixed) (agent : Agent) (job : Job) → is_idle agent.doing ≡ true → DoingReady (begin fixed agent job).doing
 begin_ready fixed agent job idle =

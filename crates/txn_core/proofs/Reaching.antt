@@ -30,14 +30,14 @@ use Rattle.txn_core.specs.declared.ending.Cause.{Cause}
 use Rattle.txn_core.specs.declared.ending.Ending.{Ending}
 use Rattle.txn_core.specs.declared.ending.Cause.TheVariants.{Lost}
 use Rattle.txn_core.specs.declared.ending.Ending.TheVariants.{Undecided}
-use Rattle.txn_core.specs.declared.word.Word.TheVariants.{Replied}
+use Rattle.txn_core.specs.declared.response.Response.TheVariants.{Replied}
 use Rattle.txn_core.specs.code.Hearing as hearing
 use Rattle.txn_core.specs.declared.plan.Plan.{Plan}
-use Rattle.txn_core.specs.declared.shelf.Fetched.{Fetched}
-use Rattle.txn_core.specs.declared.sequel.Sequel.{Sequel}
-use Rattle.txn_core.specs.declared.sequel.Sequel.TheVariants.{Gather, Fetch, Grant, Refuse}
-use Rattle.txn_core.specs.Doing.{Fixed, Task, Granted, Outcome, Phase, Gathering, Fetching, Widening, Preparing, Deciding, Finishing, Course, After, GoesOn, Ends}
-use Rattle.txn_core.specs.Suites.{First, Suite, Suites, suite_of, with_suite, known_row, known_of, settled}
+use Rattle.txn_core.specs.declared.cache_after.Fetched.{Fetched}
+use Rattle.txn_core.specs.declared.next_phase.NextPhase.{NextPhase}
+use Rattle.txn_core.specs.declared.next_phase.NextPhase.TheVariants.{Gather, Fetch, Grant, Refuse}
+use Rattle.txn_core.specs.Doing.{Fixed, Task, Granted, Outcome, Phase, Gathering, Fetching, Widening, Preparing, Deciding, Finishing, TransactionRun, After, GoesOn, Ends}
+use Rattle.txn_core.specs.Suites.{ReadPoint, Suite, Suites, suite_of, with_suite, known_row, known_of, settled}
 use Rattle.txn_core.specs.Transactions.{Gathered, Step, decided, short_cause, verdict_in, ending_by, cause_of_abort, raised_or_new, tell_end, give_up, locked_at, prepare, gather_by, to_widen, widened, widen_by, widen_one, widen_all, collected, hear, heard_of, said_to, after_reply}
 use Rattle.txn_core.specs.Agents.{is_idle}
 use Rattle.txn_core.specs.code.AgentFields.{Reaches, doing_of}
@@ -47,13 +47,13 @@ use Rattle.txn_core.specs.code.Hearing.{heard_next, heard_one, heard, FallsShort
 use Rattle.txn_core.specs.code.Goings.{GoesBy}
 use Rattle.txn_core.specs.code.Seeing.{changed_at, settled_with, with_content, learned_suites}
 use Rattle.txn_core.specs.code.Learning.{adds, is_fresh}
-use Rattle.txn_core.specs.declared.news.News.{News}
-use Rattle.txn_core.specs.declared.news.News.TheVariants.{Nothing, Quorum, Content as Given}
-use Rattle.txn_core.specs.declared.ending.Goes.{Goes as Going}
-use Rattle.txn_core.specs.declared.ending.Goes.TheVariants.{On, Ended}
-use Rattle.txn_core.specs.declared.settling.Settling.{Settling}
+use Rattle.txn_core.specs.declared.learned.Learned.{Learned}
+use Rattle.txn_core.specs.declared.learned.Learned.TheVariants.{Nothing, Quorum, Content as Given}
+use Rattle.txn_core.specs.declared.ending.Flow.{Flow as Going}
+use Rattle.txn_core.specs.declared.ending.Flow.TheVariants.{On, Ended}
+use Rattle.txn_core.specs.declared.pending_quorum.PendingQuorum.{PendingQuorum}
 use Rattle.txn_core.specs.code.Reaching.{IsReachedIn, IsReachedAt, IsReachedBy, IsReachedIf, IsReachedUnless, kept_after}
-use Rattle.txn_core.specs.code.Sequels.{gather_again, follow}
+use Rattle.txn_core.specs.code.NextPhases.{gather_again, follow}
 use Rattle.txn_core.specs.code.Steps.{Becomes, taken}
 use Rattle.txn_core.specs.code.Plans.{takes_in, new_unless, new_for, raised_at, with_asked_at, with_asked, opened_all, carried_out, shelved, IsPlanOf}
 use Rattle.txn_core.proofs.Kept.{Keeps, keeps_all}
@@ -79,23 +79,23 @@ reached_at (Preparing left outcome) T is = tt
 reached_at (Deciding outcome) T is = tt
 reached_at (Finishing left verdict ending) T is = tt
 
-pub unbegun_by : (service : Service) (course : Course) (reached : Reached) → reached ≡ unbegun → IsReachedBy service course reached
-unbegun_by service course reached is = reached_at course.phase (IsReachedIn service course.task course.suites reached) (unbegun_in service course.task course.suites reached is)
+pub unbegun_by : (service : Service) (txn_run : TransactionRun) (reached : Reached) → reached ≡ unbegun → IsReachedBy service txn_run reached
+unbegun_by service txn_run reached is = reached_at txn_run.phase (IsReachedIn service txn_run.task txn_run.suites reached) (unbegun_in service txn_run.task txn_run.suites reached is)
 
-pub unbegun_unless : (goes : Going) (service : Service) (course : Course) (reached : Reached) → reached ≡ unbegun → IsReachedUnless goes service course reached
-unbegun_unless (Ended ending) service course reached is = tt
-unbegun_unless On service course reached is = unbegun_by service course reached is
+pub unbegun_unless : (flow : Going) (service : Service) (txn_run : TransactionRun) (reached : Reached) → reached ≡ unbegun → IsReachedUnless flow service txn_run reached
+unbegun_unless (Ended ending) service txn_run reached is = tt
+unbegun_unless On service txn_run reached is = unbegun_by service txn_run reached is
 
 -- whether it goes on or not, with what is kept
-pub reached_after : (service : Service) (course : Course) (goes : Going) (reached : Reached) → IsReachedUnless goes service course reached → IsReachedBy service course (kept_after goes reached)
-reached_after service course (Ended ending) reached is = unbegun_by service course unbegun refl
-reached_after service course On reached is = is
+pub reached_after : (service : Service) (txn_run : TransactionRun) (flow : Going) (reached : Reached) → IsReachedUnless flow service txn_run reached → IsReachedBy service txn_run (kept_after flow reached)
+reached_after service txn_run (Ended ending) reached is = unbegun_by service txn_run unbegun refl
+reached_after service txn_run On reached is = is
 
--- ---- by the steps of a course
+-- ---- by the steps of a transaction's run
 
 module _ (service : Service) (reached : Reached) where
-  abbrev pub Goes : After Course → Type 0
-  Goes (GoesOn course) = IsReachedBy service course reached
+  abbrev pub Goes : After TransactionRun → Type 0
+  Goes (GoesOn txn_run) = IsReachedBy service txn_run reached
   Goes (Ends ending) = Unit {0}
 
   pub goes_end : (task : Task) (cache : Cache) (suites : Suites) (v : Verdict) (ending : Ending) (servers : List ℕ) → Goes (tell_end task cache suites v ending servers).after
@@ -131,7 +131,7 @@ module _ (service : Service) (reached : Reached) where
       of (Current prefix dver members) = is
   goes_gather task cache suites number None is = is
 
-  pub goes_follow : (task : Task) (cache : Cache) (suites : Suites) (sequel : Sequel) → IsReachedIn service task suites reached → Goes (follow task cache suites sequel).after
+  pub goes_follow : (task : Task) (cache : Cache) (suites : Suites) (next_phase : NextPhase) → IsReachedIn service task suites reached → Goes (follow task cache suites next_phase).after
   goes_follow task cache suites (Gather number) is = goes_gather task cache suites number (suite_of suites number) is
   goes_follow task cache suites (Fetch number) is = is
   goes_follow task cache suites (Grant granted) is = goes_widen task cache suites granted (to_widen granted.changes)
@@ -175,11 +175,11 @@ module _ (service : Service) (reached : Reached) where
   goes_reply fixed task cache suites (Finishing [] v ending) server asked said late = goes_end task cache suites v ending []
   goes_reply fixed task cache suites (Finishing (now ∷ left) v ending) server asked said late = goes_end task cache suites v ending left
 
-  goes_taken : (fixed : Fixed) (course : Course) (cache : Cache) (asked : Option (ℕ × Request)) (said : Reply) → IsLate course.phase → Goes (taken fixed course cache asked (Replied said)).after
-  goes_taken fixed course cache (Some asked) said late = goes_reply fixed course.task cache course.suites course.phase asked.0 asked.1 said late
-  goes_taken fixed course cache None said late = stays course.phase late
+  goes_taken : (fixed : Fixed) (txn_run : TransactionRun) (cache : Cache) (asked : Option (ℕ × Request)) (said : Reply) → IsLate txn_run.phase → Goes (taken fixed txn_run cache asked (Replied said)).after
+  goes_taken fixed txn_run cache (Some asked) said late = goes_reply fixed txn_run.task cache txn_run.suites txn_run.phase asked.0 asked.1 said late
+  goes_taken fixed txn_run cache None said late = stays txn_run.phase late
     where
-      stays : (phase : Phase) → IsLate phase → IsReachedAt phase (IsReachedIn service course.task course.suites reached)
+      stays : (phase : Phase) → IsLate phase → IsReachedAt phase (IsReachedIn service txn_run.task txn_run.suites reached)
       stays (Gathering number) late = absurd late
       stays (Fetching number) late = absurd late
       stays (Widening left granted) late = tt
@@ -188,25 +188,25 @@ module _ (service : Service) (reached : Reached) where
       stays (Finishing left verdict ending) late = tt
 
   -- so it is where the step is done, unless there is an ending
-  pub goes_unless : (step : Step) (goes : Going) (course : Course) (cache : Cache) → Goes step.after → GoesBy step goes course cache → IsReachedUnless goes service course reached
-  goes_unless step (Ended ending) course cache reaches steps = tt
-  goes_unless step On course cache reaches steps = of step.after reaches steps.1
+  pub goes_unless : (step : Step) (flow : Going) (txn_run : TransactionRun) (cache : Cache) → Goes step.after → GoesBy step flow txn_run cache → IsReachedUnless flow service txn_run reached
+  goes_unless step (Ended ending) txn_run cache reaches steps = tt
+  goes_unless step On txn_run cache reaches steps = of step.after reaches steps.1
     where
-      of : (after : After Course) → Goes after → Becomes after None course → IsReachedBy service course reached
-      of (GoesOn more) reaches becomes = subst (λ course. IsReachedBy service course reached) (sym becomes.1) reaches
+      of : (after : After TransactionRun) → Goes after → Becomes after None txn_run → IsReachedBy service txn_run reached
+      of (GoesOn more) reaches becomes = subst (λ txn_run. IsReachedBy service txn_run reached) (sym becomes.1) reaches
       of (Ends how) reaches becomes = absurd (none-some how becomes)
 
-  pub follows_unless : (task : Task) (suites : Suites) (sequel : Sequel) (goes : Going) (course : Course) → IsReachedIn service task suites reached → ((cache : Cache) → GoesBy (follow task cache suites sequel) goes course cache)
-      → IsReachedUnless goes service course reached
-  follows_unless task suites sequel goes course is steps = goes_unless (follow task [] suites sequel) goes course [] (goes_follow task [] suites sequel is) (steps [])
+  pub follows_unless : (task : Task) (suites : Suites) (next_phase : NextPhase) (flow : Going) (txn_run : TransactionRun) → IsReachedIn service task suites reached → ((cache : Cache) → GoesBy (follow task cache suites next_phase) flow txn_run cache)
+      → IsReachedUnless flow service txn_run reached
+  follows_unless task suites next_phase flow txn_run is steps = goes_unless (follow task [] suites next_phase) flow txn_run [] (goes_follow task [] suites next_phase is) (steps [])
 
-  pub gives_up : (task : Task) (suites : Suites) (cause : Cause) (goes : Going) (course : Course) → ((cache : Cache) → GoesBy (give_up task cache suites cause) goes course cache) → IsReachedUnless goes service course reached
-  gives_up task suites cause goes course steps = goes_unless (give_up task [] suites cause) goes course [] (goes_up task [] suites cause) (steps [])
+  pub gives_up : (task : Task) (suites : Suites) (cause : Cause) (flow : Going) (txn_run : TransactionRun) → ((cache : Cache) → GoesBy (give_up task cache suites cause) flow txn_run cache) → IsReachedUnless flow service txn_run reached
+  gives_up task suites cause flow txn_run steps = goes_unless (give_up task [] suites cause) flow txn_run [] (goes_up task [] suites cause) (steps [])
 
-  pub late : (fixed : Fixed) (before : Course) (asked : Option (ℕ × Request)) (said : Reply) (goes : Going) (after : Course) (cache then' : Cache) (phase : Phase) → before.phase ≡ phase → IsLate phase
-      → GoesBy (taken fixed before cache asked (Replied said)) goes after then' → IsReachedUnless goes service after reached
-  late fixed before asked said goes after cache then' phase is past steps =
-      goes_unless (taken fixed before cache asked (Replied said)) goes after then' (goes_taken fixed before cache asked said (subst IsLate (sym is) past)) steps
+  pub late : (fixed : Fixed) (before : TransactionRun) (asked : Option (ℕ × Request)) (said : Reply) (flow : Going) (after : TransactionRun) (cache then' : Cache) (phase : Phase) → before.phase ≡ phase → IsLate phase
+      → GoesBy (taken fixed before cache asked (Replied said)) flow after then' → IsReachedUnless flow service after reached
+  late fixed before asked said flow after cache then' phase is past steps =
+      goes_unless (taken fixed before cache asked (Replied said)) flow after then' (goes_taken fixed before cache asked said (subst IsLate (sym is) past)) steps
 
 -- ---- by what is told
 
@@ -273,28 +273,28 @@ reached_carried service reached fixed task before put suites room after seen fet
 -- ---- by a reply, and by a content
 
 module _ (service : Service) (reached : Reached) where
-  pub reached_asks : (before after : Course) (number : ℕ) (suite new : Suite) (said : Reply) → IsOrdered nat_cmp before.suites → suite_of before.suites number ≡ Some suite → heard suite said ≡ hearing.Asks new
+  pub reached_asks : (before after : TransactionRun) (number : ℕ) (suite new : Suite) (said : Reply) → IsOrdered nat_cmp before.suites → suite_of before.suites number ≡ Some suite → heard suite said ≡ hearing.Asks new
       → after ≡ record before { suites = with_suite number new before.suites } → IsReachedIn service before.task before.suites reached → IsReachedIn service after.task after.suites reached
   reached_asks before after number suite new said ordered there asks put is =
-      subst (λ (course : Course). IsReachedIn service course.task course.suites reached) (sym put)
+      subst (λ (txn_run : TransactionRun). IsReachedIn service txn_run.task txn_run.suites reached) (sym put)
       (reached_in service before.task before.suites (with_suite number new before.suites) reached
       (more_known before.suites number new ordered (λ one found. collects one new (asks_on suite new said asks ∙ ap (λ (suite : Suite). record suite { collector = new.collector }) (same_Some suite one (sym there ∙ found))))) is)
 
-  pub reached_short : (before after : Course) (number : ℕ) (suite new : Suite) (said : Reply) → IsOrdered nat_cmp before.suites → suite_of before.suites number ≡ Some suite → FallsShort (heard suite said) new
+  pub reached_short : (before after : TransactionRun) (number : ℕ) (suite new : Suite) (said : Reply) → IsOrdered nat_cmp before.suites → suite_of before.suites number ≡ Some suite → FallsShort (heard suite said) new
       → after ≡ record before { suites = with_suite number new before.suites } → IsReachedIn service before.task before.suites reached → IsReachedIn service after.task after.suites reached
   reached_short before after number suite new said ordered there short put is =
-      subst (λ (course : Course). IsReachedIn service course.task course.suites reached) (sym put)
+      subst (λ (txn_run : TransactionRun). IsReachedIn service txn_run.task txn_run.suites reached) (sym put)
       (reached_in service before.task before.suites (with_suite number new before.suites) reached
       (more_known before.suites number new ordered (λ one found. collects one new (falls_short suite new said short.0 short.1 short.2 short.4 ∙ ap (λ (suite : Suite). record suite { collector = new.collector }) (same_Some suite one (sym there ∙ found))))) is)
 
   -- a suite that had no quorum is settled
-  pub reached_settled : (task : Task) (suites : Suites) (number : ℕ) (settling : Settling) → IsOrdered nat_cmp suites → ((suite : Suite) → suite_of suites number ≡ Some suite → suite.first ≡ None)
-      → IsReachedIn service task suites reached → IsReachedIn service task (changed_at (settled_with settling) number (suite_of suites number) suites) reached
-  reached_settled task suites number settling ordered fresh is = of (suite_of suites number) refl
+  pub reached_settled : (task : Task) (suites : Suites) (number : ℕ) (pending : PendingQuorum) → IsOrdered nat_cmp suites → ((suite : Suite) → suite_of suites number ≡ Some suite → suite.first ≡ None)
+      → IsReachedIn service task suites reached → IsReachedIn service task (changed_at (settled_with pending) number (suite_of suites number) suites) reached
+  reached_settled task suites number pending ordered fresh is = of (suite_of suites number) refl
     where
-      of : (found : Option Suite) → suite_of suites number ≡ found → IsReachedIn service task (changed_at (settled_with settling) number found suites) reached
+      of : (found : Option Suite) → suite_of suites number ≡ found → IsReachedIn service task (changed_at (settled_with pending) number found suites) reached
       of (Some suite) there =
-          let new : Suite = settled_with settling suite in
+          let new : Suite = settled_with pending suite in
           reached_in service task suites (with_suite number new suites) reached
           (more_known suites number new ordered (λ one found. starts one new (fresh one found))) is
       of None there = is
@@ -304,7 +304,7 @@ module _ (service : Service) (reached : Reached) where
       → IsReachedIn service task suites reached → IsReachedIn service task now reached
   reached_given task suites now number content ordered may given is = of (suite_of suites number) refl may given
     where
-      had : (suite : Suite) (first : Option First) → suite_of suites number ≡ Some suite → suite.first ≡ first → takes (option_map (known_row suite) first) content ≡ true
+      had : (suite : Suite) (first : Option ReadPoint) → suite_of suites number ≡ Some suite → suite.first ≡ first → takes (option_map (known_row suite) first) content ≡ true
           → now ≡ with_suite number (record suite { content = Some content }) suites → IsReachedIn service task now reached
       had suite (Some first) there was may given =
           let opens = taking_tells_more (known_of suites) number content (ap (λ held. takes held content) (known_at suites number suite first there was) ∙ may) in
@@ -318,12 +318,12 @@ module _ (service : Service) (reached : Reached) where
       of None there may given = cc
 
 -- something was learned by which more is known
-pub reached_learned : (service : Service) (reached : Reached) (task : Task) (suites : Suites) (news : News) → IsOrdered nat_cmp suites → adds news suites ≡ true → IsReachedIn service task suites reached → IsReachedIn service task (learned_suites news suites) reached
+pub reached_learned : (service : Service) (reached : Reached) (task : Task) (suites : Suites) (just_learned : Learned) → IsOrdered nat_cmp suites → adds just_learned suites ≡ true → IsReachedIn service task suites reached → IsReachedIn service task (learned_suites just_learned suites) reached
 reached_learned service reached task suites Nothing ordered may is = is
-reached_learned service reached task suites (Quorum number settling) ordered may is =
-    reached_settled service reached task suites number settling ordered (λ suite there. fresh suite.first (sym (ap is_fresh there) ∙ may)) is
+reached_learned service reached task suites (Quorum number pending) ordered may is =
+    reached_settled service reached task suites number pending ordered (λ suite there. fresh suite.first (sym (ap is_fresh there) ∙ may)) is
   where
-    fresh : (first : Option First) → not (is_some first) ≡ true → first ≡ None
+    fresh : (first : Option ReadPoint) → not (is_some first) ≡ true → first ≡ None
     fresh None none = refl
     fresh (Some first) none = cc
 reached_learned service reached task suites (Given fetched) ordered may is =
@@ -352,15 +352,15 @@ reached_from known service suites task reached is in' = subst (λ known. IsReach
 
 -- ---- by an agent
 
-pub reaches_begun : {P : Course → Coded → Type 0} (service : Service) (reached : Reached) (begun : Option Course) (doing : Option Coded)
-    → MatchOption begun (doing ≡ None) (λ course. IsSomeAnd doing (P course)) → ((course : Course) (doing : Coded) → P course doing → doing ≡ coded.Running course)
+pub reaches_begun : {P : TransactionRun → Coded → Type 0} (service : Service) (reached : Reached) (begun : Option TransactionRun) (doing : Option Coded)
+    → MatchOption begun (doing ≡ None) (λ txn_run. IsSomeAnd doing (P txn_run)) → ((txn_run : TransactionRun) (doing : Coded) → P txn_run doing → doing ≡ coded.Running txn_run)
     → IsReachedIf begun service reached → Reaches doing service reached
-reaches_begun service reached (Some course) (Some doing) cases is reaches = subst (λ doing. Reaches (Some doing) service reached) (sym (is course doing cases)) reaches
-reaches_begun service reached (Some course) None cases is reaches = absurd cases
+reaches_begun service reached (Some txn_run) (Some doing) cases is reaches = subst (λ doing. Reaches (Some doing) service reached) (sym (is txn_run doing cases)) reaches
+reaches_begun service reached (Some txn_run) None cases is reaches = absurd cases
 reaches_begun service reached None doing cases is reaches = subst (λ doing. Reaches doing service reached) (sym cases) tt
 
 -- nothing is carried out
 pub reaches_idle : (service : Service) (reached : Reached) (doing : Option Coded) → is_idle (option_map doing_of doing) ≡ true → Reaches doing service reached
 reaches_idle service reached None idle = tt
-reaches_idle service reached (Some (coded.Running course)) idle = cc
-reaches_idle service reached (Some (coded.Rounding round)) idle = tt
+reaches_idle service reached (Some (coded.Running txn_run)) idle = cc
+reaches_idle service reached (Some (coded.RunningSweep sweep_run)) idle = tt

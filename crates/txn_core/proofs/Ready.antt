@@ -19,18 +19,18 @@ use Rattle.rep_core.specs.Fits.{is_prepared}
 use Rattle.suite_collect.specs.Telling.{holds}
 use Rattle.weak_cache.specs.Entries.{Cache}
 use Rattle.txn_core.specs.Suites.{Suites, suite_of, holds_lock, told_at, told_in}
-use Rattle.txn_core.specs.declared.word.Word.{Word}
+use Rattle.txn_core.specs.declared.response.Response.{Response}
 use Rattle.txn_core.specs.declared.ending.Cause.{Cause}
 use Rattle.txn_core.specs.declared.ending.Ending.{Ending}
 use Rattle.txn_core.specs.declared.job.Job.{Job}
-use Rattle.txn_core.specs.declared.word.Word.TheVariants.{Replied, Lacked}
+use Rattle.txn_core.specs.declared.response.Response.TheVariants.{Replied, Lacked}
 use Rattle.txn_core.specs.declared.ending.Cause.TheVariants.{Lost}
 use Rattle.txn_core.specs.declared.ending.Ending.TheVariants.{Undecided}
 use Rattle.txn_core.specs.declared.job.Job.TheVariants.{Transaction, Sweep}
-use Rattle.txn_core.specs.Doing.{Fixed, Task, Outcome, Phase, Gathering, Fetching, Widening, Preparing, Deciding, Finishing, Course, Sweeping, Listing, Resolving, Telling, Breaking, Round, Doing, Running, Rounding, After, GoesOn, Ends}
-use Rattle.txn_core.specs.Transactions.{tell_end, give_up, prepare, locked_at, after_word, request_in, changes_of, verdict_in, ending_by, cause_of_abort, lack_cause}
+use Rattle.txn_core.specs.Doing.{Fixed, Task, Outcome, Phase, Gathering, Fetching, Widening, Preparing, Deciding, Finishing, TransactionRun, Sweeping, Listing, Resolving, Telling, Breaking, SweepRun, Doing, Running, RunningSweep, After, GoesOn, Ends}
+use Rattle.txn_core.specs.Transactions.{tell_end, give_up, prepare, locked_at, after_response, request_in, changes_of, verdict_in, ending_by, cause_of_abort, lack_cause}
 use Rattle.txn_core.specs.Writing.{parts_at}
-use Rattle.txn_core.proofs.Walk.{IsEarly, goes_word, goes_execute}
+use Rattle.txn_core.proofs.Walk.{IsEarly, goes_response, goes_execute}
 use Rattle.txn_core.proofs.Asks.{asks_same, asked_as, fetched_as}
 use Rattle.rep_core.specs.declared.request.Decision.{Decision}
 use Rattle.txn_core.specs.Laws.{is_decide}
@@ -82,8 +82,8 @@ PhaseReady done suites (Preparing left outcome) = Ready done suites left
 PhaseReady done suites (Deciding outcome) = Ready done suites []
 PhaseReady done suites _ = Unit {0}
 
-abbrev LeftReady : (ℕ → Bool) → After Course → Type 0
-LeftReady done (GoesOn course) = PhaseReady done course.suites course.phase
+abbrev LeftReady : (ℕ → Bool) → After TransactionRun → Type 0
+LeftReady done (GoesOn txn_run) = PhaseReady done txn_run.suites txn_run.phase
 LeftReady done (Ends ending) = Unit {0}
 
 ready_end : (done : ℕ → Bool) (task : Task) (cache : Cache) (suites : Suites) (v : Verdict) (ending : Ending) (servers : List ℕ) → LeftReady done (tell_end task cache suites v ending servers).after
@@ -108,29 +108,29 @@ ready_early done task suites (Preparing left outcome) is = absurd is
 ready_early done task suites (Deciding outcome) is = absurd is
 ready_early done task suites (Finishing servers v ending) is = absurd is
 
--- ---- one word
+-- ---- one response
 
-abbrev adds : ℕ → Request → Word → ℕ → Bool
-adds server asked word who = (server == who) && is_prepare asked && says_prepared word
+abbrev adds : ℕ → Request → Response → ℕ → Bool
+adds server asked response who = (server == who) && is_prepare asked && says_prepared response
 
-abbrev plus : (ℕ → Bool) → ℕ → Request → Word → ℕ → Bool
-plus done server asked word who = done who || adds server asked word who
+abbrev plus : (ℕ → Bool) → ℕ → Request → Response → ℕ → Bool
+plus done server asked response who = done who || adds server asked response who
 
-early_ready : (done : ℕ → Bool) (fixed : Fixed) (task : Task) (cache : Cache) (suites : Suites) (phase : Phase) (server : ℕ) (asked : Request) (word : Word) → IsEarly phase
-    → LeftReady done (after_word fixed (record { task = task; suites = suites; phase = phase }) cache server asked word).after
-early_ready done fixed task cache suites phase server asked word is = goes_word task (LeftReady done) (ready_early done task) (ready_give_up done task) (ready_all done task) fixed cache suites phase server asked word is
+early_ready : (done : ℕ → Bool) (fixed : Fixed) (task : Task) (cache : Cache) (suites : Suites) (phase : Phase) (server : ℕ) (asked : Request) (response : Response) → IsEarly phase
+    → LeftReady done (after_response fixed (record { task = task; suites = suites; phase = phase }) cache server asked response).after
+early_ready done fixed task cache suites phase server asked response is = goes_response task (LeftReady done) (ready_early done task) (ready_give_up done task) (ready_all done task) fixed cache suites phase server asked response is
 
-ready_word : (done : ℕ → Bool) (fixed : Fixed) (task : Task) (cache : Cache) (suites : Suites) (phase : Phase) (server : ℕ) (asked : Request) (word : Word) → PhaseReady done suites phase
-    → request_in fixed task suites phase ≡ Some (server, asked) → LeftReady (plus done server asked word) (after_word fixed (record { task = task; suites = suites; phase = phase }) cache server asked word).after
-ready_word done fixed task cache suites (Gathering number) server asked word ready is = early_ready _ fixed task cache suites (Gathering number) server asked word tt
-ready_word done fixed task cache suites (Fetching number) server asked word ready is = early_ready _ fixed task cache suites (Fetching number) server asked word tt
-ready_word done fixed task cache suites (Widening left granted) server asked word ready is = early_ready _ fixed task cache suites (Widening left granted) server asked word tt
-ready_word done fixed task cache suites (Preparing left outcome) server asked (Lacked lacked) ready is = ready_give_up _ task cache suites (lack_cause server lacked)
-ready_word done fixed task cache suites (Deciding outcome) server asked (Lacked lacked) ready is = ready_give_up _ task cache suites (lack_cause server lacked)
-ready_word done fixed task cache suites (Finishing [] v ending) server asked (Lacked lacked) ready is = tt
-ready_word done fixed task cache suites (Finishing (now ∷ left) v ending) server asked (Lacked lacked) ready is = ready_end _ task cache suites v ending left
-ready_word done fixed task cache suites (Preparing [] outcome) server asked (Replied said) ready is = cc
-ready_word done fixed task cache suites (Preparing (now ∷ left) outcome) server asked (Replied said) ready is =
+ready_response : (done : ℕ → Bool) (fixed : Fixed) (task : Task) (cache : Cache) (suites : Suites) (phase : Phase) (server : ℕ) (asked : Request) (response : Response) → PhaseReady done suites phase
+    → request_in fixed task suites phase ≡ Some (server, asked) → LeftReady (plus done server asked response) (after_response fixed (record { task = task; suites = suites; phase = phase }) cache server asked response).after
+ready_response done fixed task cache suites (Gathering number) server asked response ready is = early_ready _ fixed task cache suites (Gathering number) server asked response tt
+ready_response done fixed task cache suites (Fetching number) server asked response ready is = early_ready _ fixed task cache suites (Fetching number) server asked response tt
+ready_response done fixed task cache suites (Widening left granted) server asked response ready is = early_ready _ fixed task cache suites (Widening left granted) server asked response tt
+ready_response done fixed task cache suites (Preparing left outcome) server asked (Lacked lacked) ready is = ready_give_up _ task cache suites (lack_cause server lacked)
+ready_response done fixed task cache suites (Deciding outcome) server asked (Lacked lacked) ready is = ready_give_up _ task cache suites (lack_cause server lacked)
+ready_response done fixed task cache suites (Finishing [] v ending) server asked (Lacked lacked) ready is = tt
+ready_response done fixed task cache suites (Finishing (now ∷ left) v ending) server asked (Lacked lacked) ready is = ready_end _ task cache suites v ending left
+ready_response done fixed task cache suites (Preparing [] outcome) server asked (Replied said) ready is = cc
+ready_response done fixed task cache suites (Preparing (now ∷ left) outcome) server asked (Replied said) ready is =
     elim (is_prepared said) as (λ b. is_prepared said ≡ b → LeftReady (plus done server asked (Replied said)) (cond b (prepare task cache suites outcome left) (give_up task cache suites (Lost server))).after) [
       | true ↦ λ prepared'. ready_prepare (plus done server asked (Replied said)) task cache suites outcome left (λ who few has.
           joined (now == who) (among left who) (done who) (adds server asked (Replied said) who) (ready who few has) (λ same.
@@ -151,24 +151,24 @@ ready_word done fixed task cache suites (Preparing (now ∷ left) outcome) serve
     joined false true c d ready is = refl
     joined false false true d ready is = refl
     joined false false false d ready is = cc
-ready_word done fixed task cache suites (Deciding outcome) server asked (Replied said) ready is =
+ready_response done fixed task cache suites (Deciding outcome) server asked (Replied said) ready is =
     ready_end _ task cache suites (verdict_in said verdict.Aborted) (ending_by (verdict_in said verdict.Aborted) (cause_of_abort said)) (locked_at suites)
-ready_word done fixed task cache suites (Finishing [] v ending) server asked (Replied said) ready is = cc
-ready_word done fixed task cache suites (Finishing (now ∷ left) v ending) server asked (Replied said) ready is = ready_end _ task cache suites v ending left
+ready_response done fixed task cache suites (Finishing [] v ending) server asked (Replied said) ready is = cc
+ready_response done fixed task cache suites (Finishing (now ∷ left) v ending) server asked (Replied said) ready is = ready_end _ task cache suites v ending left
 
--- ---- all words
+-- ---- all responses
 
 abbrev DoingReady : (ℕ → Bool) → Option Doing → Type 0
-DoingReady done (Some (Running course)) = PhaseReady done course.suites course.phase
-DoingReady done (Some (Rounding round)) = Unit {0}
+DoingReady done (Some (Running txn_run)) = PhaseReady done txn_run.suites txn_run.phase
+DoingReady done (Some (RunningSweep sweep_run)) = Unit {0}
 DoingReady done None = Unit {0}
 
-left_ready : (done : ℕ → Bool) (after : After Course) → LeftReady done after → DoingReady done (agents.left Running after)
-left_ready done (GoesOn course) ready = ready
+left_ready : (done : ℕ → Bool) (after : After TransactionRun) → LeftReady done after → DoingReady done (agents.left Running after)
+left_ready done (GoesOn txn_run) ready = ready
 left_ready done (Ends ending) ready = tt
 
-round_ready : (done : ℕ → Bool) (after : After Round) → DoingReady done (agents.left Rounding after)
-round_ready done (GoesOn round) = tt
+round_ready : (done : ℕ → Bool) (after : After SweepRun) → DoingReady done (agents.left RunningSweep after)
+round_ready done (GoesOn sweep_run) = tt
 round_ready done (Ends ending) = tt
 
 abbrev plus_all : (ℕ → Bool) → List Exchange → ℕ → Bool
@@ -183,24 +183,24 @@ phase_same done other suites (Widening left granted) same ready = tt
 phase_same done other suites (Finishing servers v ending) same ready = tt
 
 same_ready : (done other : ℕ → Bool) (doing : Option Doing) → ((who : ℕ) → done who ≡ other who) → DoingReady done doing → DoingReady other doing
-same_ready done other (Some (Running course)) same ready = phase_same done other course.suites course.phase same ready
-same_ready done other (Some (Rounding round)) same ready = tt
+same_ready done other (Some (Running txn_run)) same ready = phase_same done other txn_run.suites txn_run.phase same ready
+same_ready done other (Some (RunningSweep sweep_run)) same ready = tt
 same_ready done other None same ready = tt
 
-take_ready : (done : ℕ → Bool) (fixed : Fixed) (agent : Agent) (word : Word) (doing : Option Doing) (asked : Option (ℕ × Request)) → agent.doing ≡ doing → next_in fixed doing ≡ asked → DoingReady done doing
-    → DoingReady (plus_all done (exchange_of asked word)) (take_in fixed agent word doing asked).agent.doing
-take_ready done fixed agent word (Some (Running running)) (Some asked) was is ready =
-    same_ready (plus done asked.0 asked.1 word) (plus_all done (exchange_of (Some asked) word)) _ (λ who. ap (λ b. done who || b) (sym (or_false (adds asked.0 asked.1 word who))))
-    (left_ready (plus done asked.0 asked.1 word) _ (ready_word done fixed running.task agent.cache running.suites running.phase asked.0 asked.1 word ready is))
-take_ready done fixed agent word (Some (Running running)) None was is ready = subst (DoingReady (plus_all done [])) (sym was) (same_ready done (plus_all done []) (Some (Running running)) (λ who. sym (or_false (done who))) ready)
-take_ready done fixed agent word (Some (Rounding round)) (Some asked) was is ready = round_ready _ (sweep.after_word fixed.service round asked.0 word)
-take_ready done fixed agent word (Some (Rounding round)) None was is ready = cc
-take_ready done fixed agent word None (Some asked) was is ready = cc
-take_ready done fixed agent word None None was is ready = subst (DoingReady (plus_all done [])) (sym was) tt
+take_ready : (done : ℕ → Bool) (fixed : Fixed) (agent : Agent) (response : Response) (doing : Option Doing) (asked : Option (ℕ × Request)) → agent.doing ≡ doing → next_in fixed doing ≡ asked → DoingReady done doing
+    → DoingReady (plus_all done (exchange_of asked response)) (take_in fixed agent response doing asked).agent.doing
+take_ready done fixed agent response (Some (Running running)) (Some asked) was is ready =
+    same_ready (plus done asked.0 asked.1 response) (plus_all done (exchange_of (Some asked) response)) _ (λ who. ap (λ b. done who || b) (sym (or_false (adds asked.0 asked.1 response who))))
+    (left_ready (plus done asked.0 asked.1 response) _ (ready_response done fixed running.task agent.cache running.suites running.phase asked.0 asked.1 response ready is))
+take_ready done fixed agent response (Some (Running running)) None was is ready = subst (DoingReady (plus_all done [])) (sym was) (same_ready done (plus_all done []) (Some (Running running)) (λ who. sym (or_false (done who))) ready)
+take_ready done fixed agent response (Some (RunningSweep sweep_run)) (Some asked) was is ready = round_ready _ (sweep.after_response fixed.service sweep_run asked.0 response)
+take_ready done fixed agent response (Some (RunningSweep sweep_run)) None was is ready = cc
+take_ready done fixed agent response None (Some asked) was is ready = cc
+take_ready done fixed agent response None None was is ready = subst (DoingReady (plus_all done [])) (sym was) tt
 
 prepared-append : (past later : List Exchange) (who : ℕ) → was_prepared (past ++ later) who ≡ (was_prepared past who || was_prepared later who)
 prepared-append [] later who = refl
-prepared-append (one ∷ past) later who = of ((one.server == who) && is_prepare one.request && says_prepared one.word) _ _ _ (prepared-append past later who)
+prepared-append (one ∷ past) later who = of ((one.server == who) && is_prepare one.request && says_prepared one.response) _ _ _ (prepared-append past later who)
   where
     of : (a b c d : Bool) → b ≡ (c || d) → (a || b) ≡ ((a || c) || d)
     of true b c d is = refl
@@ -209,12 +209,12 @@ prepared-append (one ∷ past) later who = of ((one.server == who) && is_prepare
 all_ready : (done : ℕ → Bool) (fixed : Fixed) (agent : Agent) (events : List Event) → DoingReady done agent.doing → DoingReady (plus_all done (exchanges fixed agent events)) (after_all fixed agent events).doing
 all_ready done fixed agent [] ready = same_ready done (plus_all done []) agent.doing (λ who. sym (or_false (done who))) ready
 all_ready done fixed agent (Forget site ∷ events) ready = all_ready done fixed (forget agent site) events ready
-all_ready done fixed agent (Take word ∷ events) ready =
-    let one = exchange_of (next_of fixed agent) word in
-    let rest = exchanges fixed (take fixed agent word).agent events in
-    same_ready (plus_all (plus_all done one) rest) (plus_all done (one ++ rest)) (after_all fixed agent (Take word ∷ events)).doing
+all_ready done fixed agent (Take response ∷ events) ready =
+    let one = exchange_of (next_of fixed agent) response in
+    let rest = exchanges fixed (take fixed agent response).agent events in
+    same_ready (plus_all (plus_all done one) rest) (plus_all done (one ++ rest)) (after_all fixed agent (Take response ∷ events)).doing
     (λ who. or_or (done who) (was_prepared one who) (was_prepared rest who) ∙ ap (λ b. done who || b) (sym (prepared-append one rest who)))
-    (all_ready (plus_all done one) fixed (take fixed agent word).agent events (take_ready done fixed agent word agent.doing (next_of fixed agent) refl refl ready))
+    (all_ready (plus_all done one) fixed (take fixed agent response).agent events (take_ready done fixed agent response agent.doing (next_of fixed agent) refl refl ready))
 
 abbrev nobody : ℕ → Bool
 nobody who = false
@@ -251,28 +251,28 @@ no_decide a b t asked decision other is = absurd (false≢true (sym other ∙ ap
 decide_ready : (held : ℕ → ℕ → Bool) (done : ℕ → Bool) (fixed : Fixed) (doing : Option Doing) (home t number server : ℕ) (decision : Decision) → locks.Keeps held doing → DoingReady done doing → next_in fixed doing ≡ Some (home, request.Decide t decision)
     → nat_lt server max_servers ≡ true → held number server ≡ true → done server ≡ true
 decide_ready held done fixed None home t number server decision keeps ready is few has = cc
-decide_ready held done fixed (Some (Rounding round)) home t number server decision keeps ready is few has = of round.now is
+decide_ready held done fixed (Some (RunningSweep sweep_run)) home t number server decision keeps ready is few has = of sweep_run.now is
   where
-    of : (now : Sweeping) → ◌≡◌ {A = Option (ℕ × Request)} (Some (sweep.asked_now fixed.service round now)) (Some (home, request.Decide t decision)) → done server ≡ true
+    of : (now : Sweeping) → ◌≡◌ {A = Option (ℕ × Request)} (Some (sweep.asked_now fixed.service sweep_run now)) (Some (home, request.Decide t decision)) → done server ≡ true
     of Listing is = no_decide _ home t request.Locks decision refl is
     of (Resolving other left) is = no_decide _ home t (request.Resolve other) decision refl is
     of (Telling other v left) is = no_decide _ home t (request.Finish other v) decision refl is
     of (Breaking lock left) is = no_decide _ home t (request.Break lock.t lock.suite) decision refl is
-decide_ready held done fixed (Some (Running course)) home t number server decision keeps ready is few has = of course.phase ready is
+decide_ready held done fixed (Some (Running txn_run)) home t number server decision keeps ready is few has = of txn_run.phase ready is
   where
     by_false : (asked : Request) → is_decide asked ≡ false → (at : ℕ) → ◌≡◌ {A = Option (ℕ × Request)} (Some (at, asked)) (Some (home, request.Decide t decision)) → done server ≡ true
     by_false asked other at is = no_decide at home t asked decision other is
 
-    of : (phase : Phase) → PhaseReady done course.suites phase → request_in fixed course.task course.suites phase ≡ Some (home, request.Decide t decision) → done server ≡ true
-    of (Gathering who) ready is = absurd (false≢true (sym (asked_as is_decide false course.task who (suite_of course.suites who) home (request.Decide t decision) (λ mode. refl) refl is)))
-    of (Fetching who) ready is = absurd (false≢true (sym (fetched_as is_decide false course.task who (suite_of course.suites who) home (request.Decide t decision) refl is)))
+    of : (phase : Phase) → PhaseReady done txn_run.suites phase → request_in fixed txn_run.task txn_run.suites phase ≡ Some (home, request.Decide t decision) → done server ≡ true
+    of (Gathering who) ready is = absurd (false≢true (sym (asked_as is_decide false txn_run.task who (suite_of txn_run.suites who) home (request.Decide t decision) (λ mode. refl) refl is)))
+    of (Fetching who) ready is = absurd (false≢true (sym (fetched_as is_decide false txn_run.task who (suite_of txn_run.suites who) home (request.Decide t decision) refl is)))
     of (Widening [] granted) ready is = cc
-    of (Widening (who ∷ left) granted) ready is = absurd (false≢true (sym (asked_as is_decide false course.task who (suite_of course.suites who) home (request.Decide t decision) (λ mode. refl) refl is)))
+    of (Widening (who ∷ left) granted) ready is = absurd (false≢true (sym (asked_as is_decide false txn_run.task who (suite_of txn_run.suites who) home (request.Decide t decision) (λ mode. refl) refl is)))
     of (Preparing [] outcome) ready is = cc
-    of (Preparing (now ∷ left) outcome) ready is = by_false (request.Prepare course.task.t (parts_at course.suites (changes_of outcome) now)) refl now is
-    of (Deciding outcome) ready is = ready server few (has_one course.suites number server (keeps.1 number server ∙ has))
+    of (Preparing (now ∷ left) outcome) ready is = by_false (request.Prepare txn_run.task.t (parts_at txn_run.suites (changes_of outcome) now)) refl now is
+    of (Deciding outcome) ready is = ready server few (has_one txn_run.suites number server (keeps.1 number server ∙ has))
     of (Finishing [] v ending) ready is = cc
-    of (Finishing (now ∷ left) v ending) ready is = by_false (request.Finish course.task.t v) refl now is
+    of (Finishing (now ∷ left) v ending) ready is = by_false (request.Finish txn_run.task.t v) refl now is
 
 pub all_prepare_first : AllPrepareFirst
 all_prepare_first fixed agent job events home t server suite decision idle is few has =

@@ -8,14 +8,14 @@ use Rattle.rep_core.specs.declared.reply.Reply.{Reply}
 use Rattle.rep_core.specs.declared.reply.Verdict.{Verdict}
 use Rattle.suite_collect.specs.Collecting.{Asked, Next, Current, Ask, Short, next, request_for}
 use Rattle.weak_cache.specs.Entries.{Cache}
-use Rattle.txn_core.specs.declared.word.Word.TheVariants.{Replied}
-use Rattle.txn_core.specs.Doing.{Fixed, Task, Granted, Outcome, Phase, Gathering, Fetching, Widening, Preparing, Deciding, Finishing, Course, home_of}
+use Rattle.txn_core.specs.declared.response.Response.TheVariants.{Replied}
+use Rattle.txn_core.specs.Doing.{Fixed, Task, Granted, Outcome, Phase, Gathering, Fetching, Widening, Preparing, Deciding, Finishing, TransactionRun, home_of}
 use Rattle.txn_core.specs.code.Goings.{given, held}
 use Rattle.txn_core.specs.code.Goings.{widened as widens}
 use Rattle.txn_core.specs.code.Hearing.{heard, heard_at, on_hearing}
 use Rattle.txn_core.specs.Standing.{FitsAsked}
 use Rattle.txn_core.specs.code.Steps.{Steps, taken}
-use Rattle.txn_core.specs.Suites.{First, Suite, Suites, suite_of, with_suite}
+use Rattle.txn_core.specs.Suites.{ReadPoint, Suite, Suites, suite_of, with_suite}
 use Rattle.txn_core.specs.Transactions.{Step, decided, decision_of, fetched_at, fetched_for, execute, widen_all, asked_by, asked_for, request_in, request_of, heard_of, after_reply, changes_of, prepared, tell_end}
 use Rattle.txn_core.specs.code.Unused.{shows_unused}
 use Rattle.txn_core.specs.Writing.{parts_at}
@@ -50,126 +50,126 @@ asks_at task suites number server (Some suite) there asked = asks_by task suites
 pub asks_of : (task : Task) (suites : Suites) (number server : ℕ) → server_of (asked_for task number (suite_of suites number)) ≡ Some server → Asks task suites number server
 asks_of task suites number server asked = asks_at task suites number server (suite_of suites number) refl asked
 
-module _ (fixed : Fixed) (course : Course) (cache : Cache) (number server : ℕ) (said : Reply) where
+module _ (fixed : Fixed) (txn_run : TransactionRun) (cache : Cache) (number server : ℕ) (said : Reply) where
   -- the reply to what it asks
-  heard_so : (phase : Phase) (go_on : Suites → Step) (a : Asks course.task course.suites number server)
-      → heard_of course.task cache course.suites phase number (suite_of course.suites number) server (request_for course.task.t number a.asked) said go_on
-      ≡ on_hearing course.task cache course.suites phase number server (heard a.suite said) (λ suite. go_on (with_suite number suite course.suites))
+  heard_so : (phase : Phase) (go_on : Suites → Step) (a : Asks txn_run.task txn_run.suites number server)
+      → heard_of txn_run.task cache txn_run.suites phase number (suite_of txn_run.suites number) server (request_for txn_run.task.t number a.asked) said go_on
+      ≡ on_hearing txn_run.task cache txn_run.suites phase number server (heard a.suite said) (λ suite. go_on (with_suite number suite txn_run.suites))
   heard_so phase go_on a =
-      ap (λ found. heard_of course.task cache course.suites phase number found server (request_for course.task.t number a.asked) said go_on) a.there
-      ∙ hears course.task cache course.suites phase number a.suite server (λ suite. go_on (with_suite number suite course.suites)) a.asked said a.asks
+      ap (λ found. heard_of txn_run.task cache txn_run.suites phase number found server (request_for txn_run.task.t number a.asked) said go_on) a.there
+      ∙ hears txn_run.task cache txn_run.suites phase number a.suite server (λ suite. go_on (with_suite number suite txn_run.suites)) a.asked said a.asks
 
-  asked_so : (a : Asks course.task course.suites number server) → asked_for course.task number (suite_of course.suites number) ≡ Some (server, request_for course.task.t number a.asked)
-  asked_so a = ap (λ found. asked_for course.task number found) a.there ∙ ap (λ n. asked_by course.task number n) a.asks
+  asked_so : (a : Asks txn_run.task txn_run.suites number server) → asked_for txn_run.task number (suite_of txn_run.suites number) ≡ Some (server, request_for txn_run.task.t number a.asked)
+  asked_so a = ap (λ found. asked_for txn_run.task number found) a.there ∙ ap (λ n. asked_by txn_run.task number n) a.asks
 
   abbrev reply_in : Request → Phase → Step
-  reply_in request phase = after_reply fixed course.task cache course.suites phase server request said
+  reply_in request phase = after_reply fixed txn_run.task cache txn_run.suites phase server request said
 
-  taken_so : (phase : Phase) (a : Asks course.task course.suites number server) → course.phase ≡ phase → request_in fixed course.task course.suites phase ≡ asked_for course.task number (suite_of course.suites number)
-      → taken fixed course cache (request_of fixed course) (Replied said) ≡ reply_in (request_for course.task.t number a.asked) phase
+  taken_so : (phase : Phase) (a : Asks txn_run.task txn_run.suites number server) → txn_run.phase ≡ phase → request_in fixed txn_run.task txn_run.suites phase ≡ asked_for txn_run.task number (suite_of txn_run.suites number)
+      → taken fixed txn_run cache (request_of fixed txn_run) (Replied said) ≡ reply_in (request_for txn_run.task.t number a.asked) phase
   taken_so phase a is same =
-      ap (λ asked. taken fixed course cache asked (Replied said)) (ap (request_in fixed course.task course.suites) is ∙ same ∙ asked_so a)
-      ∙ ap (reply_in (request_for course.task.t number a.asked)) is
+      ap (λ asked. taken fixed txn_run cache asked (Replied said)) (ap (request_in fixed txn_run.task txn_run.suites) is ∙ same ∙ asked_so a)
+      ∙ ap (reply_in (request_for txn_run.task.t number a.asked)) is
 
   -- a suite is gathered
-  pub gathered : (a : Asks course.task course.suites number server) → course.phase ≡ Gathering number
-      → taken fixed course cache (request_of fixed course) (Replied said)
-      ≡ on_hearing course.task cache course.suites course.phase number server (heard a.suite said) (λ suite. execute fixed course.task (record { suites = with_suite number suite course.suites; cache = cache }))
+  pub gathered : (a : Asks txn_run.task txn_run.suites number server) → txn_run.phase ≡ Gathering number
+      → taken fixed txn_run cache (request_of fixed txn_run) (Replied said)
+      ≡ on_hearing txn_run.task cache txn_run.suites txn_run.phase number server (heard a.suite said) (λ suite. execute fixed txn_run.task (record { suites = with_suite number suite txn_run.suites; cache = cache }))
   gathered a is =
       taken_so (Gathering number) a is refl
-      ∙ heard_so (Gathering number) (λ suites. execute fixed course.task (record { suites = suites; cache = cache })) a
-      ∙ ap (λ phase. on_hearing course.task cache course.suites phase number server (heard a.suite said) (λ suite. execute fixed course.task (record { suites = with_suite number suite course.suites; cache = cache }))) (sym is)
+      ∙ heard_so (Gathering number) (λ suites. execute fixed txn_run.task (record { suites = suites; cache = cache })) a
+      ∙ ap (λ phase. on_hearing txn_run.task cache txn_run.suites phase number server (heard a.suite said) (λ suite. execute fixed txn_run.task (record { suites = with_suite number suite txn_run.suites; cache = cache }))) (sym is)
 
   -- a suite is widened
-  pub widened : (a : Asks course.task course.suites number server) (left : List ℕ) (granted : Granted) → course.phase ≡ Widening (number ∷ left) granted
-      → taken fixed course cache (request_of fixed course) (Replied said)
-      ≡ on_hearing course.task cache course.suites course.phase number server (heard a.suite said) (λ suite. widen_all course.task cache (with_suite number suite course.suites) granted left)
+  pub widened : (a : Asks txn_run.task txn_run.suites number server) (left : List ℕ) (granted : Granted) → txn_run.phase ≡ Widening (number ∷ left) granted
+      → taken fixed txn_run cache (request_of fixed txn_run) (Replied said)
+      ≡ on_hearing txn_run.task cache txn_run.suites txn_run.phase number server (heard a.suite said) (λ suite. widen_all txn_run.task cache (with_suite number suite txn_run.suites) granted left)
   widened a left granted is =
       taken_so (Widening (number ∷ left) granted) a is refl
-      ∙ heard_so (Widening (number ∷ left) granted) (λ suites. widen_all course.task cache suites granted left) a
-      ∙ ap (λ phase. on_hearing course.task cache course.suites phase number server (heard a.suite said) (λ suite. widen_all course.task cache (with_suite number suite course.suites) granted left)) (sym is)
+      ∙ heard_so (Widening (number ∷ left) granted) (λ suites. widen_all txn_run.task cache suites granted left) a
+      ∙ ap (λ phase. on_hearing txn_run.task cache txn_run.suites phase number server (heard a.suite said) (λ suite. widen_all txn_run.task cache (with_suite number suite txn_run.suites) granted left)) (sym is)
 
 -- ---- as the code goes about them
 
-module _ (fixed : Fixed) (course : Course) (cache : Cache) (server : ℕ) (said : Reply) (asked : server_of (request_of fixed course) ≡ Some server) where
-  asked_in_phase : (phase : Phase) → course.phase ≡ phase → server_of (request_in fixed course.task course.suites phase) ≡ Some server
-  asked_in_phase phase is = ap (λ phase. server_of (request_in fixed course.task course.suites phase)) (sym is) ∙ asked
+module _ (fixed : Fixed) (txn_run : TransactionRun) (cache : Cache) (server : ℕ) (said : Reply) (asked : server_of (request_of fixed txn_run) ≡ Some server) where
+  asked_in_phase : (phase : Phase) → txn_run.phase ≡ phase → server_of (request_in fixed txn_run.task txn_run.suites phase) ≡ Some server
+  asked_in_phase phase is = ap (λ phase. server_of (request_in fixed txn_run.task txn_run.suites phase)) (sym is) ∙ asked
 
   -- the suite that is gathered, and the one that is widened
-  pub gathering : (number : ℕ) → course.phase ≡ Gathering number → Asks course.task course.suites number server
-  gathering number is = asks_of course.task course.suites number server (asked_in_phase (Gathering number) is)
+  pub gathering : (number : ℕ) → txn_run.phase ≡ Gathering number → Asks txn_run.task txn_run.suites number server
+  gathering number is = asks_of txn_run.task txn_run.suites number server (asked_in_phase (Gathering number) is)
 
-  pub widening : (number : ℕ) (left : List ℕ) (granted : Granted) → course.phase ≡ Widening (number ∷ left) granted → Asks course.task course.suites number server
-  widening number left granted is = asks_of course.task course.suites number server (asked_in_phase (Widening (number ∷ left) granted) is)
+  pub widening : (number : ℕ) (left : List ℕ) (granted : Granted) → txn_run.phase ≡ Widening (number ∷ left) granted → Asks txn_run.task txn_run.suites number server
+  widening number left granted is = asks_of txn_run.task txn_run.suites number server (asked_in_phase (Widening (number ∷ left) granted) is)
 
   -- and what comes of a reply to them
-  pub replied_held : (number : ℕ) → course.phase ≡ Gathering number → taken fixed course cache (request_of fixed course) (Replied said) ≡ held fixed course cache number server said
+  pub replied_held : (number : ℕ) → txn_run.phase ≡ Gathering number → taken fixed txn_run cache (request_of fixed txn_run) (Replied said) ≡ held fixed txn_run cache number server said
   replied_held number is =
-      let a : Asks course.task course.suites number server = gathering number is in
-      gathered fixed course cache number server said a is
-      ∙ ap (λ found. on_hearing course.task cache course.suites course.phase number server (heard_at found said) (λ suite. execute fixed course.task (record { suites = with_suite number suite course.suites; cache = cache }))) (sym a.there)
+      let a : Asks txn_run.task txn_run.suites number server = gathering number is in
+      gathered fixed txn_run cache number server said a is
+      ∙ ap (λ found. on_hearing txn_run.task cache txn_run.suites txn_run.phase number server (heard_at found said) (λ suite. execute fixed txn_run.task (record { suites = with_suite number suite txn_run.suites; cache = cache }))) (sym a.there)
 
-  pub replied_widened : (number : ℕ) (left : List ℕ) (granted : Granted) → course.phase ≡ Widening (number ∷ left) granted
-      → taken fixed course cache (request_of fixed course) (Replied said) ≡ widens course cache number server left granted said
+  pub replied_widened : (number : ℕ) (left : List ℕ) (granted : Granted) → txn_run.phase ≡ Widening (number ∷ left) granted
+      → taken fixed txn_run cache (request_of fixed txn_run) (Replied said) ≡ widens txn_run cache number server left granted said
   replied_widened number left granted is =
-      let a : Asks course.task course.suites number server = widening number left granted is in
-      widened fixed course cache number server said a left granted is
-      ∙ ap (λ found. on_hearing course.task cache course.suites course.phase number server (heard_at found said) (λ suite. widen_all course.task cache (with_suite number suite course.suites) granted left)) (sym a.there)
+      let a : Asks txn_run.task txn_run.suites number server = widening number left granted is in
+      widened fixed txn_run cache number server said a left granted is
+      ∙ ap (λ found. on_hearing txn_run.task cache txn_run.suites txn_run.phase number server (heard_at found said) (λ suite. widen_all txn_run.task cache (with_suite number suite txn_run.suites) granted left)) (sym a.there)
 
   -- a content is fetched, from the server that is asked for it
-  asks_content : (number : ℕ) (found : Option Suite) → server_of (fetched_for course.task number found) ≡ Some server → fetched_for course.task number found ≡ Some (server, request.Fetch course.task.t number)
+  asks_content : (number : ℕ) (found : Option Suite) → server_of (fetched_for txn_run.task number found) ≡ Some server → fetched_for txn_run.task number found ≡ Some (server, request.Fetch txn_run.task.t number)
   asks_content number None asked = cc
   asks_content number (Some suite) asked = of suite.first asked
     where
-      of : (first : Option First) → server_of (fetched_at course.task number first) ≡ Some server → fetched_at course.task number first ≡ Some (server, request.Fetch course.task.t number)
-      of (Some first) asked = ap (λ at. Some (at, request.Fetch course.task.t number)) (same_Some first.source server asked)
+      of : (first : Option ReadPoint) → server_of (fetched_at txn_run.task number first) ≡ Some server → fetched_at txn_run.task number first ≡ Some (server, request.Fetch txn_run.task.t number)
+      of (Some first) asked = ap (λ at. Some (at, request.Fetch txn_run.task.t number)) (same_Some first.source server asked)
       of None asked = cc
 
-  pub replied_given : (number : ℕ) → course.phase ≡ Fetching number → taken fixed course cache (request_of fixed course) (Replied said) ≡ given fixed course cache number server said
+  pub replied_given : (number : ℕ) → txn_run.phase ≡ Fetching number → taken fixed txn_run cache (request_of fixed txn_run) (Replied said) ≡ given fixed txn_run cache number server said
   replied_given number is =
-      ap (λ asked. taken fixed course cache asked (Replied said)) (ap (request_in fixed course.task course.suites) is ∙ asks_content number (suite_of course.suites number) (asked_in_phase (Fetching number) is))
-      ∙ ap (λ phase. after_reply fixed course.task cache course.suites phase server (request.Fetch course.task.t number) said) is
+      ap (λ asked. taken fixed txn_run cache asked (Replied said)) (ap (request_in fixed txn_run.task txn_run.suites) is ∙ asks_content number (suite_of txn_run.suites number) (asked_in_phase (Fetching number) is))
+      ∙ ap (λ phase. after_reply fixed txn_run.task cache txn_run.suites phase server (request.Fetch txn_run.task.t number) said) is
 
   -- the home decides
-  pub replied_decided : (outcome : Outcome) → course.phase ≡ Deciding outcome → taken fixed course cache (request_of fixed course) (Replied said) ≡ decided course.task cache course.suites said
+  pub replied_decided : (outcome : Outcome) → txn_run.phase ≡ Deciding outcome → taken fixed txn_run cache (request_of fixed txn_run) (Replied said) ≡ decided txn_run.task cache txn_run.suites said
   replied_decided outcome is =
-      ap (λ asked. taken fixed course cache asked (Replied said)) (ap (request_in fixed course.task course.suites) is)
-      ∙ ap (λ phase. after_reply fixed course.task cache course.suites phase (home_of fixed.service course.task.t) (request.Decide course.task.t (decision_of course.task outcome)) said) is
+      ap (λ asked. taken fixed txn_run cache asked (Replied said)) (ap (request_in fixed txn_run.task txn_run.suites) is)
+      ∙ ap (λ phase. after_reply fixed txn_run.task cache txn_run.suites phase (home_of fixed.service txn_run.task.t) (request.Decide txn_run.task.t (decision_of txn_run.task outcome)) said) is
 
   -- a reply to a Prepare, and to a Finish
-  pub preparing_ok : (servers : List ℕ) (outcome : Outcome) (result : Option Ending) (after : Course) → course.phase ≡ Preparing servers outcome
-      → ((now : ℕ) (left : List ℕ) (outcome : Outcome) (cache : Cache) → course.phase ≡ Preparing (now ∷ left) outcome → Steps (prepared course.task cache course.suites outcome server left said) result after cache)
-      → Steps (taken fixed course cache (request_of fixed course) (Replied said)) result after cache
+  pub preparing_ok : (servers : List ℕ) (outcome : Outcome) (result : Option Ending) (after : TransactionRun) → txn_run.phase ≡ Preparing servers outcome
+      → ((now : ℕ) (left : List ℕ) (outcome : Outcome) (cache : Cache) → txn_run.phase ≡ Preparing (now ∷ left) outcome → Steps (prepared txn_run.task cache txn_run.suites outcome server left said) result after cache)
+      → Steps (taken fixed txn_run cache (request_of fixed txn_run) (Replied said)) result after cache
   preparing_ok [] outcome result after is went = let none = asked_in_phase (Preparing [] outcome) is in cc
   preparing_ok (now ∷ left) outcome result after is went =
       let at : now ≡ server = same_Some now server (asked_in_phase (Preparing (now ∷ left) outcome) is) in
       let Went : Step → Type 0 = λ step. Steps step result after cache in
       subst Went
-      (sym (ap (λ asked. taken fixed course cache asked (Replied said)) (ap (request_in fixed course.task course.suites) is)
-      ∙ ap (λ phase. after_reply fixed course.task cache course.suites phase now (request.Prepare course.task.t (parts_at course.suites (changes_of outcome) now)) said) is
-      ∙ ap (λ at. prepared course.task cache course.suites outcome at left said) at))
+      (sym (ap (λ asked. taken fixed txn_run cache asked (Replied said)) (ap (request_in fixed txn_run.task txn_run.suites) is)
+      ∙ ap (λ phase. after_reply fixed txn_run.task cache txn_run.suites phase now (request.Prepare txn_run.task.t (parts_at txn_run.suites (changes_of outcome) now)) said) is
+      ∙ ap (λ at. prepared txn_run.task cache txn_run.suites outcome at left said) at))
       (went now left outcome cache is)
 
-  pub finishing_ok : (servers : List ℕ) (verdict : Verdict) (ending : Ending) (result : Option Ending) (after : Course) → course.phase ≡ Finishing servers verdict ending
-      → ((servers : List ℕ) (verdict : Verdict) (ending : Ending) (cache : Cache) → course.phase ≡ Finishing servers verdict ending → Steps (tell_end course.task cache course.suites verdict ending (drop 1 servers)) result after cache)
-      → Steps (taken fixed course cache (request_of fixed course) (Replied said)) result after cache
+  pub finishing_ok : (servers : List ℕ) (verdict : Verdict) (ending : Ending) (result : Option Ending) (after : TransactionRun) → txn_run.phase ≡ Finishing servers verdict ending
+      → ((servers : List ℕ) (verdict : Verdict) (ending : Ending) (cache : Cache) → txn_run.phase ≡ Finishing servers verdict ending → Steps (tell_end txn_run.task cache txn_run.suites verdict ending (drop 1 servers)) result after cache)
+      → Steps (taken fixed txn_run cache (request_of fixed txn_run) (Replied said)) result after cache
   finishing_ok [] verdict ending result after is went = let none = asked_in_phase (Finishing [] verdict ending) is in cc
   finishing_ok (now ∷ left) verdict ending result after is went =
       let Went : Step → Type 0 = λ step. Steps step result after cache in
       subst Went
-      (sym (ap (λ asked. taken fixed course cache asked (Replied said)) (ap (request_in fixed course.task course.suites) is)
-      ∙ ap (λ phase. after_reply fixed course.task cache course.suites phase now (request.Finish course.task.t verdict) said) is))
+      (sym (ap (λ asked. taken fixed txn_run cache asked (Replied said)) (ap (request_in fixed txn_run.task txn_run.suites) is)
+      ∙ ap (λ phase. after_reply fixed txn_run.task cache txn_run.suites phase now (request.Finish txn_run.task.t verdict) said) is))
       (went (now ∷ left) verdict ending cache is)
 
   -- what such a reply shows is not used up
-  shown_by : (number : ℕ) (a : Asks course.task course.suites number server) (phase : Phase) → course.phase ≡ phase → request_in fixed course.task course.suites phase ≡ asked_for course.task number (suite_of course.suites number)
-      → FitsAsked (request_of fixed course) (Replied said) → shows_unused said ≡ true
+  shown_by : (number : ℕ) (a : Asks txn_run.task txn_run.suites number server) (phase : Phase) → txn_run.phase ≡ phase → request_in fixed txn_run.task txn_run.suites phase ≡ asked_for txn_run.task number (suite_of txn_run.suites number)
+      → FitsAsked (request_of fixed txn_run) (Replied said) → shows_unused said ≡ true
   shown_by number a phase is same fits =
       let Fits : Option (ℕ × Request) → Type 0 = λ asked. FitsAsked asked (Replied said) in
-      fits_shows_unused course.task.t number a.asked said (subst Fits (ap (request_in fixed course.task course.suites) is ∙ same ∙ asked_so fixed course cache number server said a) fits)
+      fits_shows_unused txn_run.task.t number a.asked said (subst Fits (ap (request_in fixed txn_run.task txn_run.suites) is ∙ same ∙ asked_so fixed txn_run cache number server said a) fits)
 
-  pub gathering_shown : (number : ℕ) → course.phase ≡ Gathering number → FitsAsked (request_of fixed course) (Replied said) → shows_unused said ≡ true
+  pub gathering_shown : (number : ℕ) → txn_run.phase ≡ Gathering number → FitsAsked (request_of fixed txn_run) (Replied said) → shows_unused said ≡ true
   gathering_shown number is fits = shown_by number (gathering number is) (Gathering number) is refl fits
 
-  pub widening_shown : (number : ℕ) (left : List ℕ) (granted : Granted) → course.phase ≡ Widening (number ∷ left) granted → FitsAsked (request_of fixed course) (Replied said) → shows_unused said ≡ true
+  pub widening_shown : (number : ℕ) (left : List ℕ) (granted : Granted) → txn_run.phase ≡ Widening (number ∷ left) granted → FitsAsked (request_of fixed txn_run) (Replied said) → shows_unused said ≡ true
   widening_shown number left granted is fits = shown_by number (widening number left granted is) (Widening (number ∷ left) granted) is refl fits

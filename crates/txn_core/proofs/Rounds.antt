@@ -9,7 +9,7 @@ use Rattle.file_exec.specs.declared.executor.Outcome.{Outcome as Executed}
 use Rattle.file_exec.specs.declared.executor.Outcome.TheVariants as exec
 use Rattle.file_exec.specs.Changes.{answered}
 use Rattle.file_exec.specs.Known.{Known, Knowledge, exec_of, opened_suite}
-use Rattle.txn_core.specs.Suites.{First, Suite, suite_of, known_of}
+use Rattle.txn_core.specs.Suites.{ReadPoint, Suite, suite_of, known_of}
 use Rattle.txn_core.specs.Doing.{Fixed, Task}
 use Rattle.txn_core.specs.Transactions.{Gathered, heard_on, free_content, open_first, open_suite, opened_with, open_needed, or_all, opened}
 use Rattle.txn_core.specs.code.Plans.{opened_first, opened_at, opened_by, opened_all, free_first, free_of, to_open, IsPlayed}
@@ -27,19 +27,19 @@ opened_last task [] one all = refl
 opened_last task (x ∷ list) one all = opened_last task list one (opened_by task all x)
 
 -- what becomes of all that was gathered
-pub opens : (task : Task) (all : Gathered) (number : ℕ) (content : Content) (suite : Suite) (first : Option First) → suite_of all.suites number ≡ Some suite → suite.first ≡ first
+pub opens : (task : Task) (all : Gathered) (number : ℕ) (content : Content) (suite : Suite) (first : Option ReadPoint) → suite_of all.suites number ≡ Some suite → suite.first ≡ first
     → opened_by task all (number, content) ≡ opened_first task all number content suite first
 opens task all number content suite first is was = ap (opened_at task all number content) is ∙ ap (opened_first task all number content suite) was
 
 needed_opened : (task : Task) (all : Gathered) (heard : Executed) → open_needed task all heard ≡ option_map (opened_by task all) (to_open task all heard)
 needed_opened task all (exec.Need (Know number)) = of (suite_of all.suites number) refl
   where
-    got : (suite : Suite) (first : First) → suite_of all.suites number ≡ Some suite → suite.first ≡ Some first → (content : Option Content)
+    got : (suite : Suite) (first : ReadPoint) → suite_of all.suites number ≡ Some suite → suite.first ≡ Some first → (content : Option Content)
         → opened_with task all number suite first content ≡ option_map (opened_by task all) (option_map (λ content. (number, content)) content)
     got suite first is was (Some content) = ap Some (sym (opens task all number content suite (Some first) is was))
     got suite first is was None = refl
 
-    firsts : (suite : Suite) → suite_of all.suites number ≡ Some suite → (first : Option First) → suite.first ≡ first
+    firsts : (suite : Suite) → suite_of all.suites number ≡ Some suite → (first : Option ReadPoint) → suite.first ≡ first
         → open_first task all number suite first ≡ option_map (opened_by task all) (option_map (λ content. (number, content)) (free_first task all.cache number first))
     firsts suite is (Some first) was = got suite first is was (free_content task all.cache number first)
     firsts suite is None was = refl
@@ -64,7 +64,7 @@ known_more : (task : Task) (all : Gathered) (number : ℕ) (content : Content) �
     → opened_suite (known_of all.suites) number content ≡ known_of (opened_by task all (number, content)).suites
 known_more task all number content ordered = of (suite_of all.suites number) refl
   where
-    firsts : (suite : Suite) → suite_of all.suites number ≡ Some suite → (first : Option First) → suite.first ≡ first → free_first task all.cache number first ≡ Some content
+    firsts : (suite : Suite) → suite_of all.suites number ≡ Some suite → (first : Option ReadPoint) → suite.first ≡ first → free_first task all.cache number first ≡ Some content
         → opened_suite (known_of all.suites) number content ≡ known_of (opened_by task all (number, content)).suites
     firsts suite is (Some first) was free =
         known_opened all.suites number suite first content ordered is was
@@ -136,10 +136,10 @@ module _ (fixed : Fixed) (task : Task) (all : Gathered) (list : List (ℕ × Con
         ∙ known_more task some one.0 one.1 (kept.ordered ordered) (free_kept task all some kept one.0 ∙ free_needed task all heard one free)
         ∙ ap (λ (g : Gathered). known_of g.suites) (sym (opened_last task list one all))
 
-    round : (left : ℕ) → left + length list ≡ length all.suites → opened (length all.suites) fixed task all ≡ opened left fixed task some → (length list ≡ length all.suites → ⊥)
+    sweep_run : (left : ℕ) → left + length list ≡ length all.suites → opened (length all.suites) fixed task all ≡ opened left fixed task some → (length list ≡ length all.suites → ⊥)
         → (then' : Knowledge) → then'.service ≡ known.service → then'.suites ≡ opened_suite known.suites one.0 one.1 → IsPlaying fixed task all (list ++ one ∷ []) then'
-    round zero enough goes_on short then' service suites = absurd (short (omega (arith, enough)))
-    round (suc left) enough goes_on short then' service suites = record {
+    sweep_run zero enough goes_on short then' service suites = absurd (short (omega (arith, enough)))
+    sweep_run (suc left) enough goes_on short then' service suites = record {
       left = left;
       enough = omega (arith, enough, longer list one);
       goes_on =
@@ -155,7 +155,7 @@ module _ (fixed : Fixed) (task : Task) (all : Gathered) (list : List (ℕ × Con
     pub playing_more : (length list ≡ length all.suites → ⊥) → (then' : Knowledge) → then'.service ≡ known.service → then'.suites ≡ opened_suite known.suites one.0 one.1
         → (next : List (ℕ × Content)) → next ≡ list ++ one ∷ [] → IsPlaying fixed task all next then'
     playing_more short then' service suites next is =
-        subst (λ list. IsPlaying fixed task all list then') (sym is) (round playing.left playing.enough playing.goes_on short then' service suites)
+        subst (λ list. IsPlaying fixed task all list then') (sym is) (sweep_run playing.left playing.enough playing.goes_on short then' service suites)
 
   -- no more rounds are left
   pub playing_ends : length list ≡ length all.suites → IsPlayed fixed task all list heard

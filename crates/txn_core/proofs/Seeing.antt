@@ -12,27 +12,27 @@ use Rattle.sorted_map.specs.Laws.{IsOrdered-insert}
 use Rattle.sorted_map.specs.Numbers.{get_insert_here, get_insert_apart, same_maps}
 use Rattle.sorted_map.specs.SortedMap.{IsOrdered}
 use Rattle.file_exec.specs.Known.{Known}
-use Rattle.txn_core.specs.declared.news.News.{News}
-use Rattle.txn_core.specs.declared.news.News.TheVariants.{Nothing, Quorum, Content as Given}
-use Rattle.txn_core.specs.code.Seeing.{settled_with, with_content, told_of, changed_at, learned_suites, sight_of_suite, with_known, known_by}
-use Rattle.txn_core.specs.Suites.{First, Suite, Suites, suite_of, known_row, known_if}
+use Rattle.txn_core.specs.declared.learned.Learned.{Learned}
+use Rattle.txn_core.specs.declared.learned.Learned.TheVariants.{Nothing, Quorum, Content as Given}
+use Rattle.txn_core.specs.code.Seeing.{settled_with, with_content, told_of, changed_at, learned_suites, view_of_suite, with_known, known_by}
+use Rattle.txn_core.specs.Suites.{ReadPoint, Suite, Suites, suite_of, known_row, known_if}
 
 -- ---- a suite among those that are seen
 
-module _ (news : News) where
+module _ (just_learned : Learned) where
   -- one after the other
   abbrev pub told_all : Suites → Suites
   told_all [] = []
-  told_all (one ∷ suites) = (one.0, told_of news one.0 one.1) ∷ told_all suites
+  told_all (one ∷ suites) = (one.0, told_of just_learned one.0 one.1) ∷ told_all suites
 
   pub told_length : (suites : Suites) → length (told_all suites) ≡ length suites
   told_length [] = refl
   told_length (one ∷ suites) = ap (λ n. suc n) (told_length suites)
 
-  pub told_item : (suites : Suites) (i : ℕ) (one : ℕ × Suite) → i < length suites → one ≡ get_or suites i one → (one.0, told_of news one.0 one.1) ≡ get_or (told_all suites) i (one.0, told_of news one.0 one.1)
-  told_item suites i one below is = ap (λ (it : ℕ × Suite). (it.0, told_of news it.0 it.1)) is ∙ at suites i one below
+  pub told_item : (suites : Suites) (i : ℕ) (one : ℕ × Suite) → i < length suites → one ≡ get_or suites i one → (one.0, told_of just_learned one.0 one.1) ≡ get_or (told_all suites) i (one.0, told_of just_learned one.0 one.1)
+  told_item suites i one below is = ap (λ (it : ℕ × Suite). (it.0, told_of just_learned it.0 it.1)) is ∙ at suites i one below
     where
-      at : (suites : Suites) (i : ℕ) (one : ℕ × Suite) → i < length suites → (let it = get_or suites i one in (it.0, told_of news it.0 it.1)) ≡ get_or (told_all suites) i (one.0, told_of news one.0 one.1)
+      at : (suites : Suites) (i : ℕ) (one : ℕ × Suite) → i < length suites → (let it = get_or suites i one in (it.0, told_of just_learned it.0 it.1)) ≡ get_or (told_all suites) i (one.0, told_of just_learned one.0 one.1)
       at [] i one below = absurd (omega arith)
       at (x ∷ suites) zero one below = refl
       at (x ∷ suites) (suc i) one below = at suites i one (omega arith)
@@ -44,12 +44,12 @@ module _ (news : News) where
   pub told_ordered : (suites : Suites) → IsOrdered nat_cmp suites → IsOrdered nat_cmp (told_all suites)
   told_ordered suites ordered = subst (λ (keys : List ℕ). IsStrictlySortedBy nat_cmp keys) (sym (told_keys suites)) ordered
 
-  told_at : (suites : Suites) (number : ℕ) → suite_of (told_all suites) number ≡ option_map (told_of news number) (suite_of suites number)
+  told_at : (suites : Suites) (number : ℕ) → suite_of (told_all suites) number ≡ option_map (told_of just_learned number) (suite_of suites number)
   told_at [] number = refl
   told_at (one ∷ suites) number = of (told_at suites number) (is_eq (nat_cmp number one.0)) refl
     where
-      of : suite_of (told_all suites) number ≡ option_map (told_of news number) (suite_of suites number) → (b : Bool) → is_eq (nat_cmp number one.0) ≡ b → cond b (Some (told_of news one.0 one.1)) (suite_of (told_all suites) number) ≡ option_map (told_of news number) (cond b (Some one.1) (suite_of suites number))
-      of rest true at = ap (λ n. Some (told_of news n one.1)) (sym (exact_unsigned number one.0 (equal_if (nat_cmp number one.0) at)))
+      of : suite_of (told_all suites) number ≡ option_map (told_of just_learned number) (suite_of suites number) → (b : Bool) → is_eq (nat_cmp number one.0) ≡ b → cond b (Some (told_of just_learned one.0 one.1)) (suite_of (told_all suites) number) ≡ option_map (told_of just_learned number) (cond b (Some one.1) (suite_of suites number))
+      of rest true at = ap (λ n. Some (told_of just_learned n one.1)) (sym (exact_unsigned number one.0 (equal_if (nat_cmp number one.0) at)))
       of rest false at = rest
 
 -- ---- and what was learned, set
@@ -92,40 +92,40 @@ module _ (change : Suite → Suite) (place : ℕ) (suites : Suites) where
           ∙ unchanged (suite_of suites number)
 
 module _ (suites : Suites) where
-  pub learned_ordered : (news : News) → IsOrdered nat_cmp suites → IsOrdered nat_cmp (learned_suites news suites)
+  pub learned_ordered : (just_learned : Learned) → IsOrdered nat_cmp suites → IsOrdered nat_cmp (learned_suites just_learned suites)
   learned_ordered Nothing ordered = ordered
-  learned_ordered (Quorum number settling) ordered = changed_ordered (settled_with settling) number suites (suite_of suites number) ordered
+  learned_ordered (Quorum number pending) ordered = changed_ordered (settled_with pending) number suites (suite_of suites number) ordered
   learned_ordered (Given fetched) ordered = changed_ordered (with_content fetched.content) fetched.suite suites (suite_of suites fetched.suite) ordered
 
-  learned_at : (news : News) (number : ℕ) → suite_of (learned_suites news suites) number ≡ option_map (told_of news number) (suite_of suites number)
+  learned_at : (just_learned : Learned) (number : ℕ) → suite_of (learned_suites just_learned suites) number ≡ option_map (told_of just_learned number) (suite_of suites number)
   learned_at Nothing number = unchanged (λ suite. suite) number suites (suite_of suites number)
-  learned_at (Quorum place settling) number = found_at (settled_with settling) place suites number
+  learned_at (Quorum place pending) number = found_at (settled_with pending) place suites number
   learned_at (Given fetched) number = found_at (with_content fetched.content) fetched.suite suites number
 
   -- it is the same suite by suite
-  pub told_learned : (news : News) → IsOrdered nat_cmp suites → told_all news suites ≡ learned_suites news suites
-  told_learned news ordered =
-      same_maps (told_all news suites) (learned_suites news suites) (told_ordered news suites ordered) (learned_ordered news ordered)
-      (λ number. told_at news suites number ∙ sym (learned_at news number))
+  pub told_learned : (just_learned : Learned) → IsOrdered nat_cmp suites → told_all just_learned suites ≡ learned_suites just_learned suites
+  told_learned just_learned ordered =
+      same_maps (told_all just_learned suites) (learned_suites just_learned suites) (told_ordered just_learned suites ordered) (learned_ordered just_learned ordered)
+      (λ number. told_at just_learned suites number ∙ sym (learned_at just_learned number))
 
-  pub learned_found : (news : News) (number : ℕ) (suite : Suite) → Some suite ≡ suite_of suites number → suite_of (learned_suites news suites) number ≡ Some (told_of news number suite)
-  learned_found news number suite is = learned_at news number ∙ ap (option_map (told_of news number)) (sym is)
+  pub learned_found : (just_learned : Learned) (number : ℕ) (suite : Suite) → Some suite ≡ suite_of suites number → suite_of (learned_suites just_learned suites) number ≡ Some (told_of just_learned number suite)
+  learned_found just_learned number suite is = learned_at just_learned number ∙ ap (option_map (told_of just_learned number)) (sym is)
 
-  pub learned_absent : (news : News) (number : ℕ) → suite_of suites number ≡ None → suite_of (learned_suites news suites) number ≡ None
-  learned_absent news number is = learned_at news number ∙ ap (option_map (told_of news number)) is
+  pub learned_absent : (just_learned : Learned) (number : ℕ) → suite_of suites number ≡ None → suite_of (learned_suites just_learned suites) number ≡ None
+  learned_absent just_learned number is = learned_at just_learned number ∙ ap (option_map (told_of just_learned number)) is
 
-  pub learned_there : (news : News) (number : ℕ) → is_some (suite_of (learned_suites news suites) number) ≡ is_some (suite_of suites number)
-  learned_there news number = ap (λ found. is_some found) (learned_at news number) ∙ of (suite_of suites number)
+  pub learned_there : (just_learned : Learned) (number : ℕ) → is_some (suite_of (learned_suites just_learned suites) number) ≡ is_some (suite_of suites number)
+  learned_there just_learned number = ap (λ found. is_some found) (learned_at just_learned number) ∙ of (suite_of suites number)
     where
-      of : (found : Option Suite) → is_some (option_map (told_of news number) found) ≡ is_some found
+      of : (found : Option Suite) → is_some (option_map (told_of just_learned number) found) ≡ is_some found
       of (Some suite) = refl
       of None = refl
 
 -- ---- what is known of a suite is what is seen of it
 
-pub known_seen : (number : ℕ) (suite : Suite) (known : Known) → known_by number (sight_of_suite suite) known ≡ known_if number suite suite.first known
+pub known_seen : (number : ℕ) (suite : Suite) (known : Known) → known_by number (view_of_suite suite) known ≡ known_if number suite suite.first known
 known_seen number suite known = of suite.first
   where
-    of : (first : Option First) → with_known number (option_map (known_row suite) first) known ≡ known_if number suite first known
+    of : (first : Option ReadPoint) → with_known number (option_map (known_row suite) first) known ≡ known_if number suite first known
     of (Some first) = refl
     of None = refl

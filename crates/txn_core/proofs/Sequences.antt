@@ -13,14 +13,14 @@ use Rattle.file_exec.specs.declared.need.Need.TheVariants.{Hold, Know}
 use Rattle.file_exec.specs.declared.executor.Outcome.{Outcome as Executed}
 use Rattle.file_exec.specs.declared.executor.Outcome.TheVariants as exec
 use Rattle.txn_core.specs.declared.plan.Plan.{Plan}
-use Rattle.txn_core.specs.declared.sequel.Sequel.{Sequel}
-use Rattle.txn_core.specs.declared.shelf.Fetched.{Fetched}
+use Rattle.txn_core.specs.declared.next_phase.NextPhase.{NextPhase}
+use Rattle.txn_core.specs.declared.cache_after.Fetched.{Fetched}
 use Rattle.txn_core.specs.Suites.{Suite, Suites, suite_of, with_suite}
 use Rattle.txn_core.specs.Doing.{Fixed, Task}
 use Rattle.txn_core.specs.Transactions.{Gathered, heard_on, gather, raised_or_new, proceed, execute}
 use Rattle.txn_core.specs.code.Plans.{new_unless, new_for, with_asked_at, raised_at, with_asked, opened_all, carried_out, IsPlanOf, shelved}
 use Rattle.txn_core.specs.code.Unused.{HasUnused}
-use Rattle.txn_core.specs.code.Sequels.{sequel_of, gather_again, follow}
+use Rattle.txn_core.specs.code.NextPhases.{next_phase_of, gather_again, follow}
 use Rattle.txn_core.proofs.Kept.{Keeps, keeps_all}
 
 gathers : (task : Task) (cache : Cache) (suites : Suites) (number : ℕ) (suite : Suite) →
@@ -33,7 +33,7 @@ new_again fixed task cache more number mode same =
     ap (λ h. record { collector = collect mode (unwrap_or h (absent_prefix fixed.service.c0)); first = None; mode = Shared; content = None }) same
 
 follows : (fixed : Fixed) (task : Task) (all more : Gathered) → Keeps all more → (outcome : Executed) (new : Option Suite) → new ≡ new_for fixed task all outcome
-    → follow task more.cache (with_asked outcome new more.suites) (sequel_of outcome) ≡ proceed fixed task more.cache more.suites outcome
+    → follow task more.cache (with_asked outcome new more.suites) (next_phase_of outcome) ≡ proceed fixed task more.cache more.suites outcome
 follows fixed task all more keeps (exec.Need (Hold number mode)) new is =
     ap (λ new. gather_again task more.cache (with_asked_at number new more.suites) number (suite_of (with_asked_at number new more.suites) number)) is
     ∙ of (suite_of all.suites number) (suite_of more.suites number) refl (keeps.there number)
@@ -56,7 +56,7 @@ follows fixed task all more keeps (exec.Refused refusal) new is = refl
 -- ----
 
 pub plan_follows : (fixed : Fixed) (task : Task) (all : Gathered) (plan : Plan) → IsPlanOf fixed task all plan
-    → follow task (carried_out task plan all).cache (carried_out task plan all).suites (sequel_of plan.outcome) ≡ execute fixed task all
+    → follow task (carried_out task plan all).cache (carried_out task plan all).suites (next_phase_of plan.outcome) ≡ execute fixed task all
 plan_follows fixed task all plan is =
     let more = opened_all task plan.opened.items all in
     follows fixed task all more (keeps_all task plan.opened.items all) plan.outcome plan.new is.new
@@ -76,12 +76,12 @@ module _ (fixed : Fixed) (task : Task) (before : Limited) (suites : Suites) (see
   as_planned : now ≡ all
   as_planned = λ i. record { suites = roomy i; cache = ap (λ (l : Limited). l.entries) is_put i }
 
-  pub carried_follows : (sequel : Sequel) → then' ≡ (carried_out task plan now).suites → sequel ≡ sequel_of plan.outcome → follow task after.entries then' sequel ≡ execute fixed task all
-  carried_follows sequel suites_then sequel_is =
-      ap (λ (l : Limited). follow task l.entries then' sequel) cache_then
-      ∙ ap (λ l. follow task (carried_out task plan now).cache l sequel) suites_then
+  pub carried_follows : (next_phase : NextPhase) → then' ≡ (carried_out task plan now).suites → next_phase ≡ next_phase_of plan.outcome → follow task after.entries then' next_phase ≡ execute fixed task all
+  carried_follows next_phase suites_then sequel_is =
+      ap (λ (l : Limited). follow task l.entries then' next_phase) cache_then
+      ∙ ap (λ l. follow task (carried_out task plan now).cache l next_phase) suites_then
       ∙ ap (λ s. follow task (carried_out task plan now).cache (carried_out task plan now).suites s) sequel_is
-      ∙ ap (λ g. follow task (carried_out task plan g).cache (carried_out task plan g).suites (sequel_of plan.outcome)) as_planned
+      ∙ ap (λ g. follow task (carried_out task plan g).cache (carried_out task plan g).suites (next_phase_of plan.outcome)) as_planned
       ∙ plan_follows fixed task all plan (subst (λ s. IsPlanOf fixed task (record { suites = suites; cache = shelved before s }) plan) same is)
 
   pub carried_unused : HasUnused (shelved before fetched) → HasUnused after.entries

@@ -18,25 +18,25 @@ use Rattle.file_exec.specs.declared.changes.Change.{Change}
 use Rattle.file_exec.specs.declared.executor.Outcome.TheVariants as exec
 use Rattle.file_exec.specs.Known as known
 use Rattle.file_exec.proofs.Unset.{changes_are_held, unset_votes_stay}
-use Rattle.txn_core.specs.Suites.{First, Suite, Suites, suite_of, row_with, known_row, known_if, known_of}
+use Rattle.txn_core.specs.Suites.{ReadPoint, Suite, Suites, suite_of, row_with, known_row, known_if, known_of}
 use Rattle.txn_core.specs.Doing.{Changes, Fixed, Task}
 use Rattle.txn_core.specs.Writing.{change_of, is_changed}
 use Rattle.txn_core.specs.Transactions.{heard_on}
 
 -- ---- what is known of a suite
 
-abbrev pub KnownAt : Suites → ℕ → Suite → First → Type 0
+abbrev pub KnownAt : Suites → ℕ → Suite → ReadPoint → Type 0
 KnownAt suites number suite first = known.known_of (known_of suites) number ≡ Some (known_row suite first)
 
-pub known_at : (suites : Suites) (number : ℕ) (suite : Suite) (first : First) → suite_of suites number ≡ Some suite → suite.first ≡ Some first → KnownAt suites number suite first
+pub known_at : (suites : Suites) (number : ℕ) (suite : Suite) (first : ReadPoint) → suite_of suites number ≡ Some suite → suite.first ≡ Some first → KnownAt suites number suite first
 known_at [] number suite first is was = cc
 known_at (e ∷ es) number suite first is was = of (λ is. known_at es number suite first is was) (is_at (nat_cmp number) e.0) refl is
   where
-    here : (found : Option First) → found ≡ Some first → is_at (nat_cmp number) e.0 ≡ true → known.known_of (known_if e.0 suite found (known_of es)) number ≡ Some (known_row suite first)
+    here : (found : Option ReadPoint) → found ≡ Some first → is_at (nat_cmp number) e.0 ≡ true → known.known_of (known_if e.0 suite found (known_of es)) number ≡ Some (known_row suite first)
     here (Some other) same at = ap (λ b. cond b (Some (known_row suite other)) (known.known_of (known_of es) number)) at ∙ ap (λ first. Some (known_row suite first)) (same_Some other first same)
     here None same at = cc
 
-    later : (found : Option First) → is_at (nat_cmp number) e.0 ≡ false → KnownAt es number suite first → known.known_of (known_if e.0 e.1 found (known_of es)) number ≡ Some (known_row suite first)
+    later : (found : Option ReadPoint) → is_at (nat_cmp number) e.0 ≡ false → KnownAt es number suite first → known.known_of (known_if e.0 e.1 found (known_of es)) number ≡ Some (known_row suite first)
     later (Some other) at rest = ap (λ b. cond b (Some (known_row e.1 other)) (known.known_of (known_of es) number)) at ∙ rest
     later None at rest = rest
 
@@ -48,7 +48,7 @@ known_at (e ∷ es) number suite first is was = of (λ is. known_at es number su
 
 -- ---- what is changed is held
 
-pub changed_held : (fixed : Fixed) (task : Task) (suites : Suites) (answers : List Answer) (changes : Changes) (number : ℕ) (suite : Suite) (first : First) → heard_on fixed task suites ≡ exec.Done answers changes
+pub changed_held : (fixed : Fixed) (task : Task) (suites : Suites) (answers : List Answer) (changes : Changes) (number : ℕ) (suite : Suite) (first : ReadPoint) → heard_on fixed task suites ≡ exec.Done answers changes
     → suite_of suites number ≡ Some suite → suite.first ≡ Some first → is_changed changes number ≡ true → suite.mode ≡ Exclusive
 changed_held fixed task suites answers changes number suite first is there was changed' =
     exclusive suite.mode (ap (known.is_held Exclusive) (sym (known_at suites number suite first there was))
@@ -68,7 +68,7 @@ row_votes kind.Folder prefix content votes is = sym (same_Some prefix.votes vote
 -- a change that sets no votes has those of the prefix that was known
 abbrev pub Keeps : Changes → ℕ → Suite → Type 0
 Keeps changes number suite =
-    (change : Change) (first : First) → change_of changes number ≡ Some change → suite.first ≡ Some first → change.votes ≡ false → change.row.votes ≡ first.prefix.votes
+    (change : Change) (first : ReadPoint) → change_of changes number ≡ Some change → suite.first ≡ Some first → change.votes ≡ false → change.row.votes ≡ first.prefix.votes
 
 pub changed_keeps : (fixed : Fixed) (task : Task) (suites : Suites) (answers : List Answer) (changes : Changes) (number : ℕ) (suite : Suite) → heard_on fixed task suites ≡ exec.Done answers changes
     → suite_of suites number ≡ Some suite → Keeps changes number suite

@@ -9,8 +9,8 @@ use Rattle.suite_collect.specs.declared.told.Told.{Told}
 use Rattle.suite_collect.specs.Telling.{newest, has_told, first_busy, busy_in}
 use Rattle.suite_collect.specs.Collecting.{Collector, told_since, votes_or, mode_or, all_told, counted, wanted, is_member, is_left, needed, got, ask_or_short, mode_of, Next, Current, Ask, Short, next}
 use Rattle.suite_collect.specs.Collecting as collecting
-use Rattle.txn_core.specs.declared.word.Word.{Word}
-use Rattle.txn_core.specs.declared.word.Word.TheVariants.{Replied, Lacked}
+use Rattle.txn_core.specs.declared.response.Response.{Response}
+use Rattle.txn_core.specs.declared.response.Response.TheVariants.{Replied, Lacked}
 use Rattle.txn_core.specs.Transactions.{said_to}
 use Rattle.txn_core.specs.Laws.{Exchange, locks, told_of, told_by, more_told, heard_in, is_said, has_said, busy_at, first_of, first_busy_in}
 
@@ -19,9 +19,9 @@ kind_of kind one = kind one.mode one.said
 
 -- what was told is what was said
 told_now : (kind : LockMode → Said → Bool) (before : List Told) (one : Exchange) (suite server : ℕ)
-    → has_told (kind_of kind) (cond (locks suite one.request) (told_by before one one.word) before) server
-    ≡ (((one.server == server) && locks suite one.request && is_said kind one.request (heard_in one.request one.word)) || has_told (kind_of kind) before server)
-told_now kind before one suite server = of (locks suite one.request) one.word
+    → has_told (kind_of kind) (cond (locks suite one.request) (told_by before one one.response) before) server
+    ≡ (((one.server == server) && locks suite one.request && is_said kind one.request (heard_in one.request one.response)) || has_told (kind_of kind) before server)
+told_now kind before one suite server = of (locks suite one.request) one.response
   where
     out : (a b : Bool) → b ≡ ((a && false) || b)
     out true b = refl
@@ -39,10 +39,10 @@ told_now kind before one suite server = of (locks suite one.request) one.word
     on true x b = refl
     on false x b = refl
 
-    of : (b : Bool) (word : Word) → has_told (kind_of kind) (cond b (told_by before one word) before) server ≡ ((((one.server == server) && b) && is_said kind one.request (heard_in one.request word)) || has_told (kind_of kind) before server)
+    of : (b : Bool) (response : Response) → has_told (kind_of kind) (cond b (told_by before one response) before) server ≡ ((((one.server == server) && b) && is_said kind one.request (heard_in one.request response)) || has_told (kind_of kind) before server)
     of true (Replied said) = by (said_to one.request said) ∙ on (one.server == server) (is_said kind one.request (said_to one.request said)) (has_told (kind_of kind) before server)
     of true (Lacked lacked) = out (one.server == server) (has_told (kind_of kind) before server) ∙ on (one.server == server) false (has_told (kind_of kind) before server)
-    of false word = off (one.server == server) (is_said kind one.request (heard_in one.request word)) (has_told (kind_of kind) before server)
+    of false response = off (one.server == server) (is_said kind one.request (heard_in one.request response)) (has_told (kind_of kind) before server)
 
 pub told_said : (kind : LockMode → Said → Bool) (suite server : ℕ) (before : List Told) (past : List Exchange) → has_told (kind_of kind) (told_of suite before past) server ≡ (has_told (kind_of kind) before server || has_said past suite kind server)
 told_said kind suite server before [] = of (has_told (kind_of kind) before server)
@@ -51,9 +51,9 @@ told_said kind suite server before [] = of (has_told (kind_of kind) before serve
     of true = refl
     of false = refl
 told_said kind suite server before (one ∷ past) =
-    told_said kind suite server (cond (locks suite one.request) (told_by before one one.word) before) past
+    told_said kind suite server (cond (locks suite one.request) (told_by before one one.response) before) past
     ∙ ap (λ b. b || has_said past suite kind server) (told_now kind before one suite server)
-    ∙ swap ((one.server == server) && locks suite one.request && is_said kind one.request (heard_in one.request one.word)) (has_told (kind_of kind) before server) (has_said past suite kind server)
+    ∙ swap ((one.server == server) && locks suite one.request && is_said kind one.request (heard_in one.request one.response)) (has_told (kind_of kind) before server) (has_said past suite kind server)
   where
     swap : (a b c : Bool) → ((a || b) || c) ≡ (b || (a || c))
     swap true true c = refl
@@ -62,8 +62,8 @@ told_said kind suite server before (one ∷ past) =
 
 -- and who was busy first
 busy_now : (before : List Told) (one : Exchange) (suite : ℕ)
-    → first_busy (cond (locks suite one.request) (told_by before one one.word) before) ≡ first_of (first_busy before) (cond (locks suite one.request) (busy_at one.server (heard_in one.request one.word)) None)
-busy_now before one suite = of (locks suite one.request) one.word
+    → first_busy (cond (locks suite one.request) (told_by before one one.response) before) ≡ first_of (first_busy before) (cond (locks suite one.request) (busy_at one.server (heard_in one.request one.response)) None)
+busy_now before one suite = of (locks suite one.request) one.response
   where
     out : (first : Option (ℕ × ℕ)) → first ≡ first_of first None
     out (Some first) = refl
@@ -79,10 +79,10 @@ busy_now before one suite = of (locks suite one.request) one.word
     by (Some heard) = later heard (first_busy before)
     by None = out (first_busy before)
 
-    of : (b : Bool) (word : Word) → first_busy (cond b (told_by before one word) before) ≡ first_of (first_busy before) (cond b (busy_at one.server (heard_in one.request word)) None)
+    of : (b : Bool) (response : Response) → first_busy (cond b (told_by before one response) before) ≡ first_of (first_busy before) (cond b (busy_at one.server (heard_in one.request response)) None)
     of true (Replied said) = by (said_to one.request said)
     of true (Lacked lacked) = out (first_busy before)
-    of false word = out (first_busy before)
+    of false response = out (first_busy before)
 
 pub busy_said : (suite : ℕ) (before : List Told) (past : List Exchange) → first_busy (told_of suite before past) ≡ first_of (first_busy before) (first_busy_in suite past)
 busy_said suite before [] = of (first_busy before)
@@ -91,9 +91,9 @@ busy_said suite before [] = of (first_busy before)
     of (Some first) = refl
     of None = refl
 busy_said suite before (one ∷ past) =
-    busy_said suite (cond (locks suite one.request) (told_by before one one.word) before) past
+    busy_said suite (cond (locks suite one.request) (told_by before one one.response) before) past
     ∙ ap (λ first. first_of first (first_busy_in suite past)) (busy_now before one suite)
-    ∙ of (first_busy before) (cond (locks suite one.request) (busy_at one.server (heard_in one.request one.word)) None)
+    ∙ of (first_busy before) (cond (locks suite one.request) (busy_at one.server (heard_in one.request one.response)) None)
   where
     of : (a b : Option (ℕ × ℕ)) → first_of (first_of a b) (first_busy_in suite past) ≡ first_of a (first_of b (first_busy_in suite past))
     of (Some a) b = refl

@@ -1,39 +1,39 @@
--- An agent that takes a word, as its code goes about it.
+-- An agent that takes a response, as its code goes about it.
 use Rattle.std.proofs.Common.{◌≡◌, ℕ, Option, Some, None, refl, sym, ap, ◌∙◌}
 use Rattle.std.specs.Prelude.{option_map}
 use Rattle.std.specs.Option.{option_or}
 use Rattle.rep_core.specs.declared.request.Request.{Request}
 use Rattle.weak_cache.specs.Entries.{Cache}
 use Rattle.txn_core.specs.declared.ending.Ending.{Ending}
-use Rattle.txn_core.specs.declared.word.Word.{Word}
+use Rattle.txn_core.specs.declared.response.Response.{Response}
 use Rattle.txn_core.specs.Agents.{Agent, Taken, left, end_of, take_in, take, next_in, next_of}
-use Rattle.txn_core.specs.Doing.{Fixed, Course, Round, Doing, Running, Rounding, After, GoesOn, Ends}
-use Rattle.txn_core.specs.code.RoundFields.{Comes}
+use Rattle.txn_core.specs.Doing.{Fixed, TransactionRun, SweepRun, Doing, Running, RunningSweep, After, GoesOn, Ends}
+use Rattle.txn_core.specs.code.SweepRunFields.{Comes}
 use Rattle.txn_core.specs.Standing.{Standing, left_by}
 use Rattle.txn_core.specs.code.Telling.{Tells}
 use Rattle.txn_core.specs.code.Steps.{Steps, Becomes, taken}
 use Rattle.txn_core.specs.Sweeps as sweep
 use Rattle.txn_core.specs.Transactions.{Step, request_of}
-use Rattle.txn_core.specs.Transactions as course
+use Rattle.txn_core.specs.Transactions as txn_run
 
 -- what was taken: the ending, and the agent after it
-pub record Took (fixed : Fixed) (state : Agent) (word : Word) (ending : Option Ending) (cache : Cache) (doing : Option Doing) : Type 0 where
-  pub told : ending ≡ (take fixed state word).ending
-  pub agent : record state { cache = cache; doing = left_by ending doing } ≡ (take fixed state word).agent
+pub record Took (fixed : Fixed) (state : Agent) (response : Response) (ending : Option Ending) (cache : Cache) (doing : Option Doing) : Type 0 where
+  pub told : ending ≡ (take fixed state response).ending
+  pub agent : record state { cache = cache; doing = left_by ending doing } ≡ (take fixed state response).agent
 
-module _ (fixed : Fixed) (state : Agent) (word : Word) (ending : Option Ending) where
-  take_of : (doing : Option Doing) → state.doing ≡ doing → take fixed state word ≡ take_in fixed state word doing (next_in fixed doing)
-  take_of doing is = ap (λ doing. take_in fixed state word doing (next_in fixed doing)) is
+module _ (fixed : Fixed) (state : Agent) (response : Response) (ending : Option Ending) where
+  take_of : (doing : Option Doing) → state.doing ≡ doing → take fixed state response ≡ take_in fixed state response doing (next_in fixed doing)
+  take_of doing is = ap (λ doing. take_in fixed state response doing (next_in fixed doing)) is
 
   -- ---- a transaction
 
-  module _ (after : Course) (kept : Cache) where
-    at_after : (cache : Cache) (a : After Course) → kept ≡ cache → Becomes a ending after
+  module _ (after : TransactionRun) (kept : Cache) where
+    at_after : (cache : Cache) (a : After TransactionRun) → kept ≡ cache → Becomes a ending after
         → (ending ≡ end_of a) × (record state { cache = kept; doing = left_by ending (Some (Running after)) } ≡ record state { cache = cache; doing = left Running a })
     at_after cache (GoesOn more) same became = (
       became.0,
       ap (λ ending. record state { cache = kept; doing = left_by ending (Some (Running after)) }) became.0
-          ∙ ap (λ (after : Course). record state { cache = kept; doing = Some (Running after) }) became.1
+          ∙ ap (λ (after : TransactionRun). record state { cache = kept; doing = Some (Running after) }) became.1
           ∙ ap (λ cache. record state { cache = cache; doing = Some (Running more) }) same,
     )
     at_after cache (Ends how) same became = (
@@ -42,38 +42,38 @@ module _ (fixed : Fixed) (state : Agent) (word : Word) (ending : Option Ending) 
           ∙ ap (λ cache. record state { cache = cache; doing = None }) same,
     )
 
-    at_asked : (running : Course) (asked : Option (ℕ × Request)) → state.doing ≡ Some (Running running) → Steps (taken fixed running state.cache asked word) ending after kept
-        → (ending ≡ (take_in fixed state word (Some (Running running)) asked).ending) × (record state { cache = kept; doing = left_by ending (Some (Running after)) } ≡ (take_in fixed state word (Some (Running running)) asked).agent)
-    at_asked running (Some asked) is steps = let step = course.after_word fixed running state.cache asked.0 asked.1 word in at_after step.cache step.after steps.0 steps.1
+    at_asked : (running : TransactionRun) (asked : Option (ℕ × Request)) → state.doing ≡ Some (Running running) → Steps (taken fixed running state.cache asked response) ending after kept
+        → (ending ≡ (take_in fixed state response (Some (Running running)) asked).ending) × (record state { cache = kept; doing = left_by ending (Some (Running after)) } ≡ (take_in fixed state response (Some (Running running)) asked).agent)
+    at_asked running (Some asked) is steps = let step = txn_run.after_response fixed running state.cache asked.0 asked.1 response in at_after step.cache step.after steps.0 steps.1
     at_asked running None is steps =
         let both = at_after state.cache (GoesOn running) steps.0 steps.1 in
         (both.0, both.1 ∙ ap (λ doing. record state { doing = doing }) (sym is))
 
-    pub took_word : (running : Course) → state.doing ≡ Some (Running running) → Steps (taken fixed running state.cache (request_of fixed running) word) ending after kept → Took fixed state word ending kept (Some (Running after))
-    took_word running is steps =
+    pub took_response : (running : TransactionRun) → state.doing ≡ Some (Running running) → Steps (taken fixed running state.cache (request_of fixed running) response) ending after kept → Took fixed state response ending kept (Some (Running after))
+    took_response running is steps =
         let both = at_asked running (request_of fixed running) is steps in
         let same = take_of (Some (Running running)) is in
         record { told = both.0 ∙ ap (λ (t : Taken). t.ending) (sym same); agent = both.1 ∙ ap (λ (t : Taken). t.agent) (sym same) }
 
   -- ---- a sweep
 
-  module _ (after : Round) where
-    round_after : (a : After Round) → Comes a ending after → (ending ≡ end_of a) × (record state { doing = left_by ending (Some (Rounding after)) } ≡ record state { doing = left Rounding a })
+  module _ (after : SweepRun) where
+    round_after : (a : After SweepRun) → Comes a ending after → (ending ≡ end_of a) × (record state { doing = left_by ending (Some (RunningSweep after)) } ≡ record state { doing = left RunningSweep a })
     round_after (GoesOn more) came = (
       came.0,
-      ap (λ ending. record state { doing = left_by ending (Some (Rounding after)) }) came.0 ∙ ap (λ (after : Round). record state { doing = Some (Rounding after) }) came.1,
+      ap (λ ending. record state { doing = left_by ending (Some (RunningSweep after)) }) came.0 ∙ ap (λ (after : SweepRun). record state { doing = Some (RunningSweep after) }) came.1,
     )
-    round_after (Ends how) came = (came, ap (λ ending. record state { doing = left_by ending (Some (Rounding after)) }) came)
+    round_after (Ends how) came = (came, ap (λ ending. record state { doing = left_by ending (Some (RunningSweep after)) }) came)
 
-    pub swept_word : (round : Round) → state.doing ≡ Some (Rounding round) → Comes (sweep.after_word fixed.service round (sweep.asked_now fixed.service round round.now).0 word) ending after → Took fixed state word ending state.cache (Some (Rounding after))
-    swept_word round is came =
-        let both = round_after (sweep.after_word fixed.service round (sweep.asked_now fixed.service round round.now).0 word) came in
-        let same = take_of (Some (Rounding round)) is in
+    pub swept_response : (sweep_run : SweepRun) → state.doing ≡ Some (RunningSweep sweep_run) → Comes (sweep.after_response fixed.service sweep_run (sweep.asked_now fixed.service sweep_run sweep_run.now).0 response) ending after → Took fixed state response ending state.cache (Some (RunningSweep after))
+    swept_response sweep_run is came =
+        let both = round_after (sweep.after_response fixed.service sweep_run (sweep.asked_now fixed.service sweep_run sweep_run.now).0 response) came in
+        let same = take_of (Some (RunningSweep sweep_run)) is in
         record { told = both.0 ∙ ap (λ (t : Taken). t.ending) (sym same); agent = both.1 ∙ ap (λ (t : Taken). t.agent) (sym same) }
 
   -- ---- nothing
 
-  pub took_nothing : state.doing ≡ None → Took fixed state word None state.cache None
+  pub took_nothing : state.doing ≡ None → Took fixed state response None state.cache None
   took_nothing is =
       let same = take_of None is in
       record { told = ap (λ (t : Taken). t.ending) (sym same); agent = ap (λ doing. record state { doing = doing }) (sym is) ∙ ap (λ (t : Taken). t.agent) (sym same) }
@@ -85,19 +85,19 @@ over_none (Some how) = refl
 over_none None = refl
 
 -- an agent that asks nothing takes nothing
-pub takes_nothing : (fixed : Fixed) (state : Agent) (word : Word) → option_map (λ (asked : ℕ × Request). asked.0) (next_of fixed state) ≡ None → take fixed state word ≡ record { agent = state; ending = None }
-takes_nothing fixed state word none = of state.doing (next_of fixed state) none
+pub takes_nothing : (fixed : Fixed) (state : Agent) (response : Response) → option_map (λ (asked : ℕ × Request). asked.0) (next_of fixed state) ≡ None → take fixed state response ≡ record { agent = state; ending = None }
+takes_nothing fixed state response none = of state.doing (next_of fixed state) none
   where
-    of : (doing : Option Doing) (asked : Option (ℕ × Request)) → option_map (λ (asked : ℕ × Request). asked.0) asked ≡ None → take_in fixed state word doing asked ≡ record { agent = state; ending = None }
+    of : (doing : Option Doing) (asked : Option (ℕ × Request)) → option_map (λ (asked : ℕ × Request). asked.0) asked ≡ None → take_in fixed state response doing asked ≡ record { agent = state; ending = None }
     of None None none = refl
     of (Some (Running running)) None none = refl
-    of (Some (Rounding round)) None none = refl
+    of (Some (RunningSweep sweep_run)) None none = refl
     of doing (Some asked) none = cc
 
 -- what was taken, told of the agent after it
-pub tells_by : (now was : Standing) (word : Word) (ending : Option Ending) (cache : Cache) (doing : Option Doing) → was ≡ now → Took was.fixed was.state word ending cache doing
-    → Tells now word ending (record was { state = record was.state { cache = cache; doing = doing } })
-tells_by now was word ending cache doing is took = record {
-  told = took.told ∙ ap (λ (s : Standing). (take s.fixed s.state word).ending) is;
-  agent = ap (λ state. record was { state = state }) took.agent ∙ ap (λ (s : Standing). record s { state = (take s.fixed s.state word).agent }) is;
+pub tells_by : (now was : Standing) (response : Response) (ending : Option Ending) (cache : Cache) (doing : Option Doing) → was ≡ now → Took was.fixed was.state response ending cache doing
+    → Tells now response ending (record was { state = record was.state { cache = cache; doing = doing } })
+tells_by now was response ending cache doing is took = record {
+  told = took.told ∙ ap (λ (s : Standing). (take s.fixed s.state response).ending) is;
+  agent = ap (λ state. record was { state = state }) took.agent ∙ ap (λ (s : Standing). record s { state = (take s.fixed s.state response).agent }) is;
 }

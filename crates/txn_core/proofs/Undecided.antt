@@ -25,8 +25,8 @@ use Rattle.suite_collect.specs.Collecting.{told_since, votes_or, mode_or, all_to
 use Rattle.suite_collect.specs.Collecting as collecting
 use Rattle.rep_core.proofs.Members.{contains_from}
 use Rattle.suite_collect.proofs.Shortness.{short_has_none_left}
-use Rattle.txn_core.specs.declared.word.Word.{Word}
-use Rattle.txn_core.specs.declared.word.Word.TheVariants.{Replied, Lacked}
+use Rattle.txn_core.specs.declared.response.Response.{Response}
+use Rattle.txn_core.specs.declared.response.Response.TheVariants.{Replied, Lacked}
 use Rattle.txn_core.specs.declared.ending.Cause.{Cause}
 use Rattle.txn_core.specs.declared.ending.Cause.TheVariants.{Unavailable, Busy, Lost, Overruled, HomeDown, Full, Memory}
 use Rattle.txn_core.specs.declared.ending.Ending.{Ending}
@@ -34,16 +34,16 @@ use Rattle.txn_core.specs.declared.ending.Ending.TheVariants.{Answered, Refused,
 use Rattle.txn_core.specs.declared.job.Job.{Job}
 use Rattle.txn_core.specs.declared.job.Job.TheVariants.{Transaction, Sweep}
 use Rattle.txn_core.specs.Suites.{Suites}
-use Rattle.txn_core.specs.Doing.{home_of, Fixed, Task, Course, Sweeping, Listing, Resolving, Telling, Breaking, Round, Doing, Running, Rounding, After, GoesOn, Ends}
-use Rattle.txn_core.specs.Transactions.{heard_on, to_widen, after_word, lack_cause}
+use Rattle.txn_core.specs.Doing.{home_of, Fixed, Task, TransactionRun, Sweeping, Listing, Resolving, Telling, Breaking, SweepRun, Doing, Running, RunningSweep, After, GoesOn, Ends}
+use Rattle.txn_core.specs.Transactions.{heard_on, to_widen, after_response, lack_cause}
 use Rattle.txn_core.specs.Sweeps as sweep
 use Rattle.txn_core.specs.Agents.{Agent, Event, Take, next_in, next_of, end_of, take_in, begin, after_all}
-use Rattle.txn_core.specs.Laws.{Exchange, of_job, exchange_of, told_of, fits_word, all_fit, has_said, holding, refusing, down, task_of, IsStart}
+use Rattle.txn_core.specs.Laws.{Exchange, of_job, exchange_of, told_of, fits_response, all_fit, has_said, holding, refusing, down, task_of, IsStart}
 use Rattle.txn_core.specs.Caching.{IsContentOf}
 use Rattle.txn_core.specs.Undecided.{WereGathered, IsWanted, SetsVotes, IsShort, Was, WasLost, DidNotServe, says_down, is_lack, IsCaused, EndsAreCaused}
 use Rattle.txn_core.proofs.Gathers.{Base, AllGathered, Wants, Sets}
 use Rattle.txn_core.proofs.Causes.{push, Begun, ShortBy, CausedBy, EndIs, OrFresh, LeftOf, was_now, last_fits}
-use Rattle.txn_core.proofs.Upheld.{Begins, Started, Base_of, started_is, untold_is, begins_more, started_more, fresh_begins, map_cause, DoingStands, after-append, exchanges-take, word_leaves, stands_after}
+use Rattle.txn_core.proofs.Upheld.{Begins, Started, Base_of, started_is, untold_is, begins_more, started_more, fresh_begins, map_cause, DoingStands, after-append, exchanges-take, response_leaves, stands_after}
 use Rattle.txn_core.proofs.Shown.{told_said, busy_said, votes_same, tells_busy, kind_of}
 
 -- ---- sweeps
@@ -64,71 +64,71 @@ SweepEnds past swept (Answered answers) = Unit {0}
 SweepEnds past swept (Refused refusal) = Unit {0}
 SweepEnds past swept (Swept broken finished left) = Unit {0}
 
-abbrev RoundCaused : List Exchange → ℕ → After Round → Type 0
-RoundCaused past swept (GoesOn round) = Unit {0}
+abbrev RoundCaused : List Exchange → ℕ → After SweepRun → Type 0
+RoundCaused past swept (GoesOn sweep_run) = Unit {0}
 RoundCaused past swept (Ends ending) = SweepEnds past swept ending
 
 lack_swept : (past : List Exchange) (swept server : ℕ) (asked : Request) (lacked : Lack) → SweepCaused (push past server asked (Lacked lacked)) swept (lack_cause server lacked)
-lack_swept past swept server asked lack.Full = was_now past server asked (Lacked lack.Full) (λ asked word. is_lack lack.Full word) refl
-lack_swept past swept server asked lack.Memory = (server, was_now past server asked (Lacked lack.Memory) (λ asked word. is_lack lack.Memory word) refl)
+lack_swept past swept server asked lack.Full = was_now past server asked (Lacked lack.Full) (λ asked response. is_lack lack.Full response) refl
+lack_swept past swept server asked lack.Memory = (server, was_now past server asked (Lacked lack.Memory) (λ asked response. is_lack lack.Memory response) refl)
 
-caused_sweep : (past : List Exchange) (swept : ℕ) (round : Round) (locks : List Lock) → RoundCaused past swept (sweep.sweep_on round locks)
-caused_sweep past swept round [] = tt
-caused_sweep past swept round (lock ∷ locks) = tt
+caused_sweep : (past : List Exchange) (swept : ℕ) (sweep_run : SweepRun) (locks : List Lock) → RoundCaused past swept (sweep.sweep_on sweep_run locks)
+caused_sweep past swept sweep_run [] = tt
+caused_sweep past swept sweep_run (lock ∷ locks) = tt
 
-caused_lost : (past : List Exchange) (round : Round) (server : ℕ) (asked : Request) → server ≡ round.server → RoundCaused (push past server asked (Replied reply.Down)) round.server (sweep.lost round)
-caused_lost past round server asked at = (refl, subst (λ who. Was (push past server asked (Replied reply.Down)) who (λ asked word. says_down word)) at (was_now past server asked (Replied reply.Down) (λ asked word. says_down word) refl))
+caused_lost : (past : List Exchange) (sweep_run : SweepRun) (server : ℕ) (asked : Request) → server ≡ sweep_run.server → RoundCaused (push past server asked (Replied reply.Down)) sweep_run.server (sweep.lost sweep_run)
+caused_lost past sweep_run server asked at = (refl, subst (λ who. Was (push past server asked (Replied reply.Down)) who (λ asked response. says_down response)) at (was_now past server asked (Replied reply.Down) (λ asked response. says_down response) refl))
 
-abbrev push_now : List Exchange → Service → Round → Sweeping → Word → List Exchange
-push_now past service round now word = push past (sweep.asked_now service round now).0 (sweep.asked_now service round now).1 word
+abbrev push_now : List Exchange → Service → SweepRun → Sweeping → Response → List Exchange
+push_now past service sweep_run now response = push past (sweep.asked_now service sweep_run now).0 (sweep.asked_now service sweep_run now).1 response
 
-caused_answer : (past : List Exchange) (service : Service) (round : Round) (now : Sweeping) (said : Reply) → fits (sweep.asked_now service round now).1 said ≡ true → RoundCaused (push_now past service round now (Replied said)) round.server (sweep.after_answer service round now said)
-caused_answer past service round Listing (reply.Held prefix dver) fine = cc
-caused_answer past service round Listing (reply.Busy holder prepared) fine = cc
-caused_answer past service round Listing reply.Down fine = caused_lost past round round.server request.Locks refl
-caused_answer past service round Listing reply.Lost fine = cc
-caused_answer past service round Listing (reply.Given dver content) fine = cc
-caused_answer past service round Listing reply.Prepared fine = cc
-caused_answer past service round Listing (reply.Verdict v) fine = cc
-caused_answer past service round Listing reply.Done fine = cc
-caused_answer past service round Listing (reply.Locked locks) fine = caused_sweep _ round.server round (sweep.rising locks)
-caused_answer past service round (Telling t w left) (reply.Held prefix dver) fine = cc
-caused_answer past service round (Telling t w left) (reply.Busy holder prepared) fine = cc
-caused_answer past service round (Telling t w left) reply.Down fine = caused_lost past round round.server (request.Finish t w) refl
-caused_answer past service round (Telling t w left) reply.Lost fine = cc
-caused_answer past service round (Telling t w left) (reply.Given dver content) fine = cc
-caused_answer past service round (Telling t w left) reply.Prepared fine = cc
-caused_answer past service round (Telling t w left) (reply.Verdict v) fine = cc
-caused_answer past service round (Telling t w left) reply.Done fine = caused_sweep _ round.server (record round { finished = round.finished + 1 }) left
-caused_answer past service round (Telling t w left) (reply.Locked locks) fine = cc
-caused_answer past service round (Breaking lock left) (reply.Held prefix dver) fine = cc
-caused_answer past service round (Breaking lock left) (reply.Busy holder prepared) fine = cc
-caused_answer past service round (Breaking lock left) reply.Down fine = caused_lost past round round.server (request.Break lock.t lock.suite) refl
-caused_answer past service round (Breaking lock left) reply.Lost fine = cc
-caused_answer past service round (Breaking lock left) (reply.Given dver content) fine = cc
-caused_answer past service round (Breaking lock left) reply.Prepared fine = cc
-caused_answer past service round (Breaking lock left) (reply.Verdict v) fine = cc
-caused_answer past service round (Breaking lock left) reply.Done fine = caused_sweep _ round.server (record round { broken = round.broken + 1 }) left
-caused_answer past service round (Breaking lock left) (reply.Locked locks) fine = cc
-caused_answer past service round (Resolving t left) (reply.Held prefix dver) fine = cc
-caused_answer past service round (Resolving t left) (reply.Busy holder prepared) fine = cc
-caused_answer past service round (Resolving t left) reply.Down fine =
-    elim (home_of service t == round.server) as (λ b. (home_of service t == round.server) ≡ b
-    → RoundCaused (push past (home_of service t) (request.Resolve t) (Replied reply.Down)) round.server (cond b (sweep.lost round) (sweep.sweep_on (record round { left = round.left + 1 }) left))) [
-      | true ↦ λ same. caused_lost past round (home_of service t) (request.Resolve t) (eqb-true (home_of service t) round.server same)
-      | false ↦ λ _. caused_sweep _ round.server (record round { left = round.left + 1 }) left
+caused_answer : (past : List Exchange) (service : Service) (sweep_run : SweepRun) (now : Sweeping) (said : Reply) → fits (sweep.asked_now service sweep_run now).1 said ≡ true → RoundCaused (push_now past service sweep_run now (Replied said)) sweep_run.server (sweep.after_answer service sweep_run now said)
+caused_answer past service sweep_run Listing (reply.Held prefix dver) fine = cc
+caused_answer past service sweep_run Listing (reply.Busy holder prepared) fine = cc
+caused_answer past service sweep_run Listing reply.Down fine = caused_lost past sweep_run sweep_run.server request.Locks refl
+caused_answer past service sweep_run Listing reply.Lost fine = cc
+caused_answer past service sweep_run Listing (reply.Given dver content) fine = cc
+caused_answer past service sweep_run Listing reply.Prepared fine = cc
+caused_answer past service sweep_run Listing (reply.Verdict v) fine = cc
+caused_answer past service sweep_run Listing reply.Done fine = cc
+caused_answer past service sweep_run Listing (reply.Locked locks) fine = caused_sweep _ sweep_run.server sweep_run (sweep.rising locks)
+caused_answer past service sweep_run (Telling t w left) (reply.Held prefix dver) fine = cc
+caused_answer past service sweep_run (Telling t w left) (reply.Busy holder prepared) fine = cc
+caused_answer past service sweep_run (Telling t w left) reply.Down fine = caused_lost past sweep_run sweep_run.server (request.Finish t w) refl
+caused_answer past service sweep_run (Telling t w left) reply.Lost fine = cc
+caused_answer past service sweep_run (Telling t w left) (reply.Given dver content) fine = cc
+caused_answer past service sweep_run (Telling t w left) reply.Prepared fine = cc
+caused_answer past service sweep_run (Telling t w left) (reply.Verdict v) fine = cc
+caused_answer past service sweep_run (Telling t w left) reply.Done fine = caused_sweep _ sweep_run.server (record sweep_run { finished = sweep_run.finished + 1 }) left
+caused_answer past service sweep_run (Telling t w left) (reply.Locked locks) fine = cc
+caused_answer past service sweep_run (Breaking lock left) (reply.Held prefix dver) fine = cc
+caused_answer past service sweep_run (Breaking lock left) (reply.Busy holder prepared) fine = cc
+caused_answer past service sweep_run (Breaking lock left) reply.Down fine = caused_lost past sweep_run sweep_run.server (request.Break lock.t lock.suite) refl
+caused_answer past service sweep_run (Breaking lock left) reply.Lost fine = cc
+caused_answer past service sweep_run (Breaking lock left) (reply.Given dver content) fine = cc
+caused_answer past service sweep_run (Breaking lock left) reply.Prepared fine = cc
+caused_answer past service sweep_run (Breaking lock left) (reply.Verdict v) fine = cc
+caused_answer past service sweep_run (Breaking lock left) reply.Done fine = caused_sweep _ sweep_run.server (record sweep_run { broken = sweep_run.broken + 1 }) left
+caused_answer past service sweep_run (Breaking lock left) (reply.Locked locks) fine = cc
+caused_answer past service sweep_run (Resolving t left) (reply.Held prefix dver) fine = cc
+caused_answer past service sweep_run (Resolving t left) (reply.Busy holder prepared) fine = cc
+caused_answer past service sweep_run (Resolving t left) reply.Down fine =
+    elim (home_of service t == sweep_run.server) as (λ b. (home_of service t == sweep_run.server) ≡ b
+    → RoundCaused (push past (home_of service t) (request.Resolve t) (Replied reply.Down)) sweep_run.server (cond b (sweep.lost sweep_run) (sweep.sweep_on (record sweep_run { left = sweep_run.left + 1 }) left))) [
+      | true ↦ λ same. caused_lost past sweep_run (home_of service t) (request.Resolve t) (eqb-true (home_of service t) sweep_run.server same)
+      | false ↦ λ _. caused_sweep _ sweep_run.server (record sweep_run { left = sweep_run.left + 1 }) left
     ] refl
-caused_answer past service round (Resolving t left) reply.Lost fine = cc
-caused_answer past service round (Resolving t left) (reply.Given dver content) fine = cc
-caused_answer past service round (Resolving t left) reply.Prepared fine = cc
-caused_answer past service round (Resolving t left) (reply.Verdict v) fine = tt
-caused_answer past service round (Resolving t left) reply.Done fine = cc
-caused_answer past service round (Resolving t left) (reply.Locked locks) fine = cc
+caused_answer past service sweep_run (Resolving t left) reply.Lost fine = cc
+caused_answer past service sweep_run (Resolving t left) (reply.Given dver content) fine = cc
+caused_answer past service sweep_run (Resolving t left) reply.Prepared fine = cc
+caused_answer past service sweep_run (Resolving t left) (reply.Verdict v) fine = tt
+caused_answer past service sweep_run (Resolving t left) reply.Done fine = cc
+caused_answer past service sweep_run (Resolving t left) (reply.Locked locks) fine = cc
 
-caused_round : (past : List Exchange) (service : Service) (round : Round) (word : Word) → fits_word (sweep.asked_now service round round.now).1 word ≡ true
-    → RoundCaused (push_now past service round round.now word) round.server (sweep.after_word service round (sweep.asked_now service round round.now).0 word)
-caused_round past service round (Replied said) fine = caused_answer past service round round.now said fine
-caused_round past service round (Lacked lacked) fine = lack_swept past round.server (sweep.asked_now service round round.now).0 (sweep.asked_now service round round.now).1 lacked
+caused_round : (past : List Exchange) (service : Service) (sweep_run : SweepRun) (response : Response) → fits_response (sweep.asked_now service sweep_run sweep_run.now).1 response ≡ true
+    → RoundCaused (push_now past service sweep_run sweep_run.now response) sweep_run.server (sweep.after_response service sweep_run (sweep.asked_now service sweep_run sweep_run.now).0 response)
+caused_round past service sweep_run (Replied said) fine = caused_answer past service sweep_run sweep_run.now said fine
+caused_round past service sweep_run (Lacked lacked) fine = lack_swept past sweep_run.server (sweep.asked_now service sweep_run sweep_run.now).0 (sweep.asked_now service sweep_run sweep_run.now).1 lacked
 
 -- ---- what a collector that falls short was told
 
@@ -254,53 +254,53 @@ module _ (fixed : Fixed) (agent : Agent) (job : Job) (events : List Event) where
   swept server own (Full at) by = subst (λ job. DidNotServe past job lack.Full at) (sym own) by
   swept server own Memory by = (by.0, subst (λ job. DidNotServe past job lack.Memory by.0) (sym own) by.1)
 
--- ---- all words
+-- ---- all responses
 
-course_ends : (fixed : Fixed) (task : Task) (Old : Base) (Loose : ℕ → Prefix → Type 0) (px : List Exchange) (cache : Cache) (after : After Course) (cause : Cause) → LeftOf fixed task Old Loose px cache after → end_of after ≡ Some (Undecided cause) → all_fit px ≡ true
+course_ends : (fixed : Fixed) (task : Task) (Old : Base) (Loose : ℕ → Prefix → Type 0) (px : List Exchange) (cache : Cache) (after : After TransactionRun) (cause : Cause) → LeftOf fixed task Old Loose px cache after → end_of after ≡ Some (Undecided cause) → all_fit px ≡ true
     → CausedBy fixed task Old (OrFresh fixed task cache px Loose) px cause
-course_ends fixed task Old Loose px cache (GoesOn course) cause left is fine = cc
+course_ends fixed task Old Loose px cache (GoesOn txn_run) cause left is fine = cc
 course_ends fixed task Old Loose px cache (Ends ending) cause left is fine = subst (EndIs fixed task Old (OrFresh fixed task cache px Loose) px) (same_Some ending (Undecided cause) is) (left fine)
 
-round_ends : (past : List Exchange) (swept : ℕ) (after : After Round) (cause : Cause) → RoundCaused past swept after → end_of after ≡ Some (Undecided cause) → SweepCaused past swept cause
-round_ends past swept (GoesOn round) cause caused is = cc
+round_ends : (past : List Exchange) (swept : ℕ) (after : After SweepRun) (cause : Cause) → RoundCaused past swept after → end_of after ≡ Some (Undecided cause) → SweepCaused past swept cause
+round_ends past swept (GoesOn sweep_run) cause caused is = cc
 round_ends past swept (Ends ending) cause caused is = subst (SweepEnds past swept) (same_Some ending (Undecided cause) is) caused
 
-module _ (fixed : Fixed) (agent : Agent) (job : Job) (events : List Event) (word : Word) (cause : Cause) where
+module _ (fixed : Fixed) (agent : Agent) (job : Job) (events : List Event) (response : Response) (cause : Cause) where
   abbrev now : Agent
   now = after_all fixed (begin fixed agent job) events
 
   abbrev then' : List Event
-  then' = events ++ Take word ∷ []
+  then' = events ++ Take response ∷ []
 
-  ends : (doing : Option Doing) (asked : Option (ℕ × Request)) → now.doing ≡ doing → next_in fixed doing ≡ asked → of_job fixed agent job then' ≡ of_job fixed agent job events ++ exchange_of asked word
-      → after_all fixed (begin fixed agent job) then' ≡ (take_in fixed now word doing asked).agent → all_fit (of_job fixed agent job then') ≡ true → DoingStands fixed agent job events doing
-      → (take_in fixed now word doing asked).ending ≡ Some (Undecided cause) → IsCaused fixed agent job then' cause
+  ends : (doing : Option Doing) (asked : Option (ℕ × Request)) → now.doing ≡ doing → next_in fixed doing ≡ asked → of_job fixed agent job then' ≡ of_job fixed agent job events ++ exchange_of asked response
+      → after_all fixed (begin fixed agent job) then' ≡ (take_in fixed now response doing asked).agent → all_fit (of_job fixed agent job then') ≡ true → DoingStands fixed agent job events doing
+      → (take_in fixed now response doing asked).ending ≡ Some (Undecided cause) → IsCaused fixed agent job then' cause
   ends (Some (Running running)) (Some asked) was is told after fine stands end' =
-      let step = after_word fixed running now.cache asked.0 asked.1 word in
-      let px = push (of_job fixed agent job events) asked.0 asked.1 word in
+      let step = after_response fixed running now.cache asked.0 asked.1 response in
+      let px = push (of_job fixed agent job events) asked.0 asked.1 response in
       let fine' : all_fit px ≡ true = ap all_fit (sym told) ∙ fine in
       let by = course_ends fixed running.task (Base_of fixed agent job events then' running.task.site) (Begins fixed agent job events) px step.cache step.after cause
-      (word_leaves fixed agent job events word running asked is told (ap (λ (agent : Agent). agent.cache) after) stands) end' fine' in
+      (response_leaves fixed agent job events response running asked is told (ap (λ (agent : Agent). agent.cache) after) stands) end' fine' in
       let loose : (n : ℕ) (start : Prefix) → OrFresh fixed running.task step.cache px (Begins fixed agent job events) n start → Begins fixed agent job then' n start = λ n start begun. elim begun [
-        | inl before ↦ begins_more fixed agent job events (Take word ∷ []) n start before
+        | inl before ↦ begins_more fixed agent job events (Take response ∷ []) n start before
         | inr fresh ↦ fresh_begins fixed agent job stands.caller stands.site stands.ops stands.transaction running.task stands.task px step.cache then' told (ap (λ (agent : Agent). agent.cache) after) n start fresh
       ] in
       let mapped = map_cause fixed running.task (Base_of fixed agent job events then' running.task.site) (OrFresh fixed running.task step.cache px (Begins fixed agent job events)) (Base_of fixed agent job then' then' running.task.site) (Begins fixed agent job then') px
-      (record { start = started_more fixed agent job events (Take word ∷ []); content = λ n first content is. is }) loose cause by in
+      (record { start = started_more fixed agent job events (Take response ∷ []); content = λ n first content is. is }) loose cause by in
       caused fixed agent job then' running.task (record { caller = stands.caller; site = stands.site; ops = stands.ops; transaction = stands.transaction; task_is = stands.task }) cause
       (subst (λ past. CausedBy fixed running.task (Base_of fixed agent job then' then' running.task.site) (Begins fixed agent job then') past cause) (sym told) mapped)
   ends (Some (Running running)) None was is told after fine stands end' = cc
-  ends (Some (Rounding round)) (Some asked) was is told after fine stands end' =
-      let px = push (of_job fixed agent job events) asked.0 asked.1 word in
-      let fits' = last_fits (of_job fixed agent job events) asked.0 asked.1 word (ap all_fit (sym told) ∙ fine) in
-      let caused' = subst (λ (asked : ℕ × Request). fits_word asked.1 word ≡ true → RoundCaused (push (of_job fixed agent job events) asked.0 asked.1 word) round.server (sweep.after_word fixed.service round asked.0 word))
-      (same_Some (sweep.asked_now fixed.service round round.now) asked is) (caused_round (of_job fixed agent job events) fixed.service round word) fits' in
-      swept fixed agent job then' round.server stands cause (subst (λ past. SweepCaused past round.server cause) (sym told) (round_ends px round.server (sweep.after_word fixed.service round asked.0 word) cause caused' end'))
-  ends (Some (Rounding round)) None was is told after fine stands end' = cc
+  ends (Some (RunningSweep sweep_run)) (Some asked) was is told after fine stands end' =
+      let px = push (of_job fixed agent job events) asked.0 asked.1 response in
+      let fits' = last_fits (of_job fixed agent job events) asked.0 asked.1 response (ap all_fit (sym told) ∙ fine) in
+      let caused' = subst (λ (asked : ℕ × Request). fits_response asked.1 response ≡ true → RoundCaused (push (of_job fixed agent job events) asked.0 asked.1 response) sweep_run.server (sweep.after_response fixed.service sweep_run asked.0 response))
+      (same_Some (sweep.asked_now fixed.service sweep_run sweep_run.now) asked is) (caused_round (of_job fixed agent job events) fixed.service sweep_run response) fits' in
+      swept fixed agent job then' sweep_run.server stands cause (subst (λ past. SweepCaused past sweep_run.server cause) (sym told) (round_ends px sweep_run.server (sweep.after_response fixed.service sweep_run asked.0 response) cause caused' end'))
+  ends (Some (RunningSweep sweep_run)) None was is told after fine stands end' = cc
   ends None (Some asked) was is told after fine stands end' = cc
   ends None None was is told after fine stands end' = cc
 
 pub ends_are_caused : EndsAreCaused
-ends_are_caused fixed agent job events word cause idle fine end' =
+ends_are_caused fixed agent job events response cause idle fine end' =
     let now = after_all fixed (begin fixed agent job) events in
-    ends fixed agent job events word cause now.doing (next_of fixed now) refl refl (exchanges-take fixed (begin fixed agent job) events word) (after-append fixed (begin fixed agent job) events (Take word)) fine (stands_after fixed agent job events idle) end'
+    ends fixed agent job events response cause now.doing (next_of fixed now) refl refl (exchanges-take fixed (begin fixed agent job) events response) (after-append fixed (begin fixed agent job) events (Take response)) fine (stands_after fixed agent job events idle) end'

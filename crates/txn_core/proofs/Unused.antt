@@ -23,8 +23,8 @@ use Rattle.weak_cache.specs.Cache.{Limits, Limited, hint, searched, put}
 use Rattle.weak_cache.proofs.Origins.{entries_come_from_puts}
 use Rattle.txn_core.specs.Doing.{Fixed, Task}
 use Rattle.txn_core.specs.Transactions.{start_from}
-use Rattle.txn_core.specs.declared.news.News.{News}
-use Rattle.txn_core.specs.declared.news.News.TheVariants.{Nothing, Quorum, Content as Given}
+use Rattle.txn_core.specs.declared.learned.Learned.{Learned}
+use Rattle.txn_core.specs.declared.learned.Learned.TheVariants.{Nothing, Quorum, Content as Given}
 use Rattle.txn_core.specs.code.Learning.{Fits, kept_by}
 use Rattle.txn_core.specs.code.Plans.{shelved}
 use Rattle.txn_core.specs.code.Unused.{HasUnused, SawUnused, shows_unused, says_unused}
@@ -155,9 +155,9 @@ unused_put limits entry cache unused all other there =
     ]
 
 -- and once something was learned
-pub unused_learned : (news : News) (cache : Limited) → Fits news → HasUnused cache.entries → HasUnused (shelved cache (kept_by news))
+pub unused_learned : (just_learned : Learned) (cache : Limited) → Fits just_learned → HasUnused cache.entries → HasUnused (shelved cache (kept_by just_learned))
 unused_learned Nothing cache fits all = all
-unused_learned (Quorum number settling) cache fits all = all
+unused_learned (Quorum number pending) cache fits all = all
 unused_learned (Given fetched) cache fits all =
     let one = fetched in
     unused_put cache.limits (record { site = one.site; suite = one.suite; prefix = one.prefix; dver = one.dver; content = one.content }) cache.entries fits.unused all

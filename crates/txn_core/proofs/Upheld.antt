@@ -12,24 +12,24 @@ use Rattle.rep_core.specs.declared.request.Request.{Request}
 use Rattle.rep_core.specs.declared.reply.Reply.{Reply}
 use Rattle.rep_core.specs.declared.reply.Reply.TheVariants as reply
 use Rattle.weak_cache.specs.Entries.{Cache}
-use Rattle.txn_core.specs.Suites.{First, Suite, Suites, suite_of}
-use Rattle.txn_core.specs.declared.word.Word.{Word}
-use Rattle.txn_core.specs.declared.word.Word.TheVariants.{Replied, Lacked}
+use Rattle.txn_core.specs.Suites.{ReadPoint, Suite, Suites, suite_of}
+use Rattle.txn_core.specs.declared.response.Response.{Response}
+use Rattle.txn_core.specs.declared.response.Response.TheVariants.{Replied, Lacked}
 use Rattle.txn_core.specs.declared.ending.Cause.{Cause}
 use Rattle.txn_core.specs.declared.ending.Ending.{Ending}
 use Rattle.txn_core.specs.declared.ending.Cause.TheVariants.{Unavailable, Busy, Lost, Overruled, HomeDown, Full, Memory}
 use Rattle.txn_core.specs.declared.ending.Ending.TheVariants.{Answered, Refused, Swept, Undecided}
 use Rattle.txn_core.specs.declared.job.Job.{Job}
 use Rattle.txn_core.specs.declared.job.Job.TheVariants.{Transaction, Sweep}
-use Rattle.txn_core.specs.Doing.{home_of, Fixed, Task, Phase, Gathering, Fetching, Widening, Preparing, Deciding, Finishing, Course, Sweeping, Listing, Resolving, Telling, Breaking, Round, Doing, Running, Rounding, After, GoesOn, Ends}
-use Rattle.txn_core.specs.Transactions.{Step, Gathered, start_from, execute, after_word, request_in, request_of}
+use Rattle.txn_core.specs.Doing.{home_of, Fixed, Task, Phase, Gathering, Fetching, Widening, Preparing, Deciding, Finishing, TransactionRun, Sweeping, Listing, Resolving, Telling, Breaking, SweepRun, Doing, Running, RunningSweep, After, GoesOn, Ends}
+use Rattle.txn_core.specs.Transactions.{Step, Gathered, start_from, execute, after_response, request_in, request_of}
 use Rattle.txn_core.specs.Sweeps as sweep
 use Rattle.txn_core.specs.Agents.{Agent, Event, Take, Forget, next_in, next_of, left, take_in, take, begin, started, forget, is_idle, has_sense, max_jobs, after_event, after_all}
 use Rattle.txn_core.specs.Laws.{Exchange, exchange_of, exchanges, of_job, told_of, locks, task_of, asks_for, IsStart}
 use Rattle.txn_core.proofs.Locks.{are_nil, asks_lock}
 use Rattle.txn_core.proofs.Gathers.{self, Base, Follows, knows_map, wants_map, sets_map, grants_map, Kept}
 use Rattle.txn_core.proofs.Contents.{FreeIn, free_before, Content_of, content_more, free_now, given_now}
-use Rattle.txn_core.proofs.Causes.{push, ShortBy, CausedBy, EndIs, StandsOn, started_from, Stands, Fresh, OrFresh, LeftOf, Leaves, caused_execute, caused_word}
+use Rattle.txn_core.proofs.Causes.{push, ShortBy, CausedBy, EndIs, StandsOn, started_from, Stands, Fresh, OrFresh, LeftOf, Leaves, caused_execute, caused_response}
 
 -- ---- events
 
@@ -37,15 +37,15 @@ pub after-append : (fixed : Fixed) (agent : Agent) (events : List Event) (event 
 after-append fixed agent [] event = refl
 after-append fixed agent (first ∷ events) event = after-append fixed (after_event fixed agent first) events event
 
-pub exchanges-take : (fixed : Fixed) (agent : Agent) (events : List Event) (word : Word)
-    → exchanges fixed agent (events ++ Take word ∷ []) ≡ exchanges fixed agent events ++ exchange_of (next_of fixed (after_all fixed agent events)) word
-exchanges-take fixed agent [] word = append-nil (exchange_of (next_of fixed agent) word)
-exchanges-take fixed agent (Forget site ∷ events) word = exchanges-take fixed (forget agent site) events word
-exchanges-take fixed agent (Take first ∷ events) word =
+pub exchanges-take : (fixed : Fixed) (agent : Agent) (events : List Event) (response : Response)
+    → exchanges fixed agent (events ++ Take response ∷ []) ≡ exchanges fixed agent events ++ exchange_of (next_of fixed (after_all fixed agent events)) response
+exchanges-take fixed agent [] response = append-nil (exchange_of (next_of fixed agent) response)
+exchanges-take fixed agent (Forget site ∷ events) response = exchanges-take fixed (forget agent site) events response
+exchanges-take fixed agent (Take first ∷ events) response =
     let one = exchange_of (next_of fixed agent) first in
     let after = (take fixed agent first).agent in
-    ap (λ later. one ++ later) (exchanges-take fixed after events word)
-    ∙ sym (append_assoc one (exchanges fixed after events) (exchange_of (next_of fixed (after_all fixed after events)) word))
+    ap (λ later. one ++ later) (exchanges-take fixed after events response)
+    ∙ sym (append_assoc one (exchanges fixed after events) (exchange_of (next_of fixed (after_all fixed after events)) response))
 
 pub exchanges-forget : (fixed : Fixed) (agent : Agent) (events : List Event) (site : ℕ) → exchanges fixed agent (events ++ Forget site ∷ []) ≡ exchanges fixed agent events
 exchanges-forget fixed agent [] site = refl
@@ -186,13 +186,13 @@ no_contents fixed task Old Loose past suites phase stands =
 -- ---- what a begin leaves
 
 -- no suite was gathered
-abbrev none_yet : (ℕ → First → Content → Type 0) → Base
+abbrev none_yet : (ℕ → ReadPoint → Content → Type 0) → Base
 none_yet C = record { start = λ _ _. ⊥; content = C }
 
-none_kept : (C : ℕ → First → Content → Type 0) (fixed : Fixed) (task : Task) (n : ℕ) (suite : Suite) → suite_of [] n ≡ Some suite → Kept fixed task (none_yet C) [] n suite
+none_kept : (C : ℕ → ReadPoint → Content → Type 0) (fixed : Fixed) (task : Task) (n : ℕ) (suite : Suite) → suite_of [] n ≡ Some suite → Kept fixed task (none_yet C) [] n suite
 none_kept C fixed task n suite there = absurd (none-some suite there)
 
-begin_leaves : (C : ℕ → First → Content → Type 0) (fixed : Fixed) (task : Task) (cache : Cache) → FreeIn C task cache → Leaves fixed task (none_yet C) (λ _ _. ⊥) [] (execute fixed task (record { suites = []; cache = cache }))
+begin_leaves : (C : ℕ → ReadPoint → Content → Type 0) (fixed : Fixed) (task : Task) (cache : Cache) → FreeIn C task cache → Leaves fixed task (none_yet C) (λ _ _. ⊥) [] (execute fixed task (record { suites = []; cache = cache }))
 begin_leaves C fixed task cache free = caused_execute fixed task (none_yet C) (λ _ _. ⊥) [] (record { suites = []; cache = cache }) free are_nil (none_kept C fixed task)
 
 -- ---- after each event
@@ -202,33 +202,33 @@ module _ (fixed : Fixed) (agent : Agent) (job : Job) where
   After_all events = after_all fixed (begin fixed agent job) events
 
   -- what stands of a transaction that asks on
-  pub record Runs (events : List Event) (course : Course) : Type 0 where
+  pub record Runs (events : List Event) (txn_run : TransactionRun) : Type 0 where
     pub caller : Identity
     pub site : ℕ
     pub ops : List Op
     pub transaction : job ≡ Transaction caller site ops
-    pub task : course.task ≡ task_of agent caller site ops
-    pub stands_on : (asked : ℕ × Request) → request_of fixed course ≡ Some asked
-        → StandsOn fixed course.task (Base_of fixed agent job events events course.task.site) (Started fixed agent job events) (Begins fixed agent job events) (of_job fixed agent job events) course.suites course.phase
-    pub stands : (asked : ℕ × Request) → request_of fixed course ≡ Some asked
-        → Stands fixed course.task (Started fixed agent job events) (Started fixed agent job events) (Begins fixed agent job events) (of_job fixed agent job events) course.suites course.phase
+    pub task : txn_run.task ≡ task_of agent caller site ops
+    pub stands_on : (asked : ℕ × Request) → request_of fixed txn_run ≡ Some asked
+        → StandsOn fixed txn_run.task (Base_of fixed agent job events events txn_run.task.site) (Started fixed agent job events) (Begins fixed agent job events) (of_job fixed agent job events) txn_run.suites txn_run.phase
+    pub stands : (asked : ℕ × Request) → request_of fixed txn_run ≡ Some asked
+        → Stands fixed txn_run.task (Started fixed agent job events) (Started fixed agent job events) (Begins fixed agent job events) (of_job fixed agent job events) txn_run.suites txn_run.phase
 
-  runs_of : (events : List Event) (course : Course) (caller : Identity) (site : ℕ) (ops : List Op) → job ≡ Transaction caller site ops → course.task ≡ task_of agent caller site ops
-      → ((asked : ℕ × Request) → request_of fixed course ≡ Some asked
-      → StandsOn fixed course.task (Base_of fixed agent job events events course.task.site) (Started fixed agent job events) (Begins fixed agent job events) (of_job fixed agent job events) course.suites course.phase) → Runs events course
-  runs_of events course caller site ops transaction task stands_on = record {
+  runs_of : (events : List Event) (txn_run : TransactionRun) (caller : Identity) (site : ℕ) (ops : List Op) → job ≡ Transaction caller site ops → txn_run.task ≡ task_of agent caller site ops
+      → ((asked : ℕ × Request) → request_of fixed txn_run ≡ Some asked
+      → StandsOn fixed txn_run.task (Base_of fixed agent job events events txn_run.task.site) (Started fixed agent job events) (Begins fixed agent job events) (of_job fixed agent job events) txn_run.suites txn_run.phase) → Runs events txn_run
+  runs_of events txn_run caller site ops transaction task stands_on = record {
     caller = caller;
     site = site;
     ops = ops;
     transaction = transaction;
     task = task;
     stands_on = stands_on;
-    stands = λ asked is. no_contents fixed course.task (Base_of fixed agent job events events course.task.site) (Begins fixed agent job events) (of_job fixed agent job events) course.suites course.phase (stands_on asked is);
+    stands = λ asked is. no_contents fixed txn_run.task (Base_of fixed agent job events events txn_run.task.site) (Begins fixed agent job events) (of_job fixed agent job events) txn_run.suites txn_run.phase (stands_on asked is);
   }
 
   abbrev pub DoingStands : List Event → Option Doing → Type 0
-  DoingStands events (Some (Running course)) = Runs events course
-  DoingStands events (Some (Rounding round)) = job ≡ Sweep round.server
+  DoingStands events (Some (Running txn_run)) = Runs events txn_run
+  DoingStands events (Some (RunningSweep sweep_run)) = job ≡ Sweep sweep_run.server
   DoingStands events None = Unit {0}
 
   module _ (caller : Identity) (site : ℕ) (ops : List Op) (transaction : job ≡ Transaction caller site ops) (task : Task) (task_is : task ≡ task_of agent caller site ops) (px : List Exchange) (cache : Cache) (events : List Event)
@@ -246,16 +246,16 @@ module _ (fixed : Fixed) (agent : Agent) (job : Job) where
       from = fresh.from ∙ ap (λ task. start_from fixed task cache n) task_is ∙ ap (λ cache. start_from fixed (task_of agent caller site ops) cache n) (sym cache_is);
     }
 
-    convert : (Old : Base) (Loose : ℕ → Prefix → Type 0) (after : After Course) → (After_all events).doing ≡ left Running after → ((n : ℕ) (start : Prefix) → Old.start n start → Started fixed agent job events n start)
-        → ((n : ℕ) (first : First) (content : Content) → Old.content n first content → Content_of fixed agent job events task.site n first content)
+    convert : (Old : Base) (Loose : ℕ → Prefix → Type 0) (after : After TransactionRun) → (After_all events).doing ≡ left Running after → ((n : ℕ) (start : Prefix) → Old.start n start → Started fixed agent job events n start)
+        → ((n : ℕ) (first : ReadPoint) (content : Content) → Old.content n first content → Content_of fixed agent job events task.site n first content)
         → ((n : ℕ) (start : Prefix) → Loose n start → Begins fixed agent job events n start) → LeftOf fixed task Old Loose px cache after → DoingStands events (left Running after)
     unfolding fresh_begins
     convert Old Loose (Ends ending) doing old contents loose leaves = tt
-    convert Old Loose (GoesOn course) doing old contents loose leaves = runs_of events course caller site ops transaction (leaves.0 ∙ task_is) (λ asked is.
-        let now : (n : ℕ) (start : Prefix) → course.phase ≡ Gathering n → OrFresh fixed task cache px Old.start n start → Started fixed agent job events n start = λ n start phase begun. elim begun [
+    convert Old Loose (GoesOn txn_run) doing old contents loose leaves = runs_of events txn_run caller site ops transaction (leaves.0 ∙ task_is) (λ asked is.
+        let now : (n : ℕ) (start : Prefix) → txn_run.phase ≡ Gathering n → OrFresh fixed task cache px Old.start n start → Started fixed agent job events n start = λ n start phase begun. elim begun [
           | inl was ↦ old n start was
           | inr fresh ↦
-              let asks : locks n asked.1 ≡ true = asks_lock course.task n (suite_of course.suites n) asked.0 asked.1 (ap (request_in fixed course.task course.suites) (sym phase) ∙ is) n ∙ self n in
+              let asks : locks n asked.1 ≡ true = asks_lock txn_run.task n (suite_of txn_run.suites n) asked.0 asked.1 (ap (request_in fixed txn_run.task txn_run.suites) (sym phase) ∙ is) n ∙ self n in
               record { begins = fresh_begins n start fresh; asks = ap (λ doing. asks_for n (next_in fixed doing)) doing ∙ ap (asks_for n) is ∙ asks }
         ] in
         let also : (n : ℕ) (start : Prefix) → OrFresh fixed task cache px Loose n start → Begins fixed agent job events n start = λ n start begun. elim begun [
@@ -263,60 +263,60 @@ module _ (fixed : Fixed) (agent : Agent) (job : Job) where
           | inr fresh ↦ fresh_begins n start fresh
         ] in
         let base = Base_of fixed agent job events events task.site in
-        let mapped = map_stands fixed task Old (OrFresh fixed task cache px Loose) base (Begins fixed agent job events) px (record { start = old; content = contents }) also (OrFresh fixed task cache px Old.start) course.suites course.phase now leaves.1 in
-        subst (λ past. StandsOn fixed course.task (Base_of fixed agent job events events course.task.site) (Started fixed agent job events) (Begins fixed agent job events) past course.suites course.phase) (sym told)
-        (subst (λ (task : Task). StandsOn fixed task (Base_of fixed agent job events events task.site) (Started fixed agent job events) (Begins fixed agent job events) px course.suites course.phase) (sym leaves.0) mapped))
+        let mapped = map_stands fixed task Old (OrFresh fixed task cache px Loose) base (Begins fixed agent job events) px (record { start = old; content = contents }) also (OrFresh fixed task cache px Old.start) txn_run.suites txn_run.phase now leaves.1 in
+        subst (λ past. StandsOn fixed txn_run.task (Base_of fixed agent job events events txn_run.task.site) (Started fixed agent job events) (Begins fixed agent job events) past txn_run.suites txn_run.phase) (sym told)
+        (subst (λ (task : Task). StandsOn fixed task (Base_of fixed agent job events events task.site) (Started fixed agent job events) (Begins fixed agent job events) px txn_run.suites txn_run.phase) (sym leaves.0) mapped))
 
   -- a sweep stays at its server
-  swept_on : (events : List Event) (round : Round) (locks : List Lock) → job ≡ Sweep round.server → DoingStands events (left Rounding (sweep.sweep_on round locks))
-  swept_on events round [] same = tt
-  swept_on events round (lock ∷ locks) same = same
+  swept_on : (events : List Event) (sweep_run : SweepRun) (locks : List Lock) → job ≡ Sweep sweep_run.server → DoingStands events (left RunningSweep (sweep.sweep_on sweep_run locks))
+  swept_on events sweep_run [] same = tt
+  swept_on events sweep_run (lock ∷ locks) same = same
 
-  answer_stands : (events : List Event) (round : Round) (now : Sweeping) (said : Reply) → job ≡ Sweep round.server → DoingStands events (left Rounding (sweep.after_answer fixed.service round now said))
-  answer_stands events round Listing (reply.Locked locks) same = swept_on events round (sweep.rising locks) same
-  answer_stands events round Listing _ same = tt
-  answer_stands events round (Resolving t rest) (reply.Verdict v) same = same
-  answer_stands events round (Resolving t rest) _ same = of (home_of fixed.service t == round.server)
+  answer_stands : (events : List Event) (sweep_run : SweepRun) (now : Sweeping) (said : Reply) → job ≡ Sweep sweep_run.server → DoingStands events (left RunningSweep (sweep.after_answer fixed.service sweep_run now said))
+  answer_stands events sweep_run Listing (reply.Locked locks) same = swept_on events sweep_run (sweep.rising locks) same
+  answer_stands events sweep_run Listing _ same = tt
+  answer_stands events sweep_run (Resolving t rest) (reply.Verdict v) same = same
+  answer_stands events sweep_run (Resolving t rest) _ same = of (home_of fixed.service t == sweep_run.server)
     where
-      of : (b : Bool) → DoingStands events (left Rounding (cond b (sweep.lost round) (sweep.sweep_on (record round { left = round.left + 1 }) rest)))
+      of : (b : Bool) → DoingStands events (left RunningSweep (cond b (sweep.lost sweep_run) (sweep.sweep_on (record sweep_run { left = sweep_run.left + 1 }) rest)))
       of true = tt
-      of false = swept_on events (record round { left = round.left + 1 }) rest same
-  answer_stands events round (Telling t v rest) reply.Done same = swept_on events (record round { finished = round.finished + 1 }) rest same
-  answer_stands events round (Telling t v rest) _ same = tt
-  answer_stands events round (Breaking lock rest) reply.Done same = swept_on events (record round { broken = round.broken + 1 }) rest same
-  answer_stands events round (Breaking lock rest) _ same = tt
+      of false = swept_on events (record sweep_run { left = sweep_run.left + 1 }) rest same
+  answer_stands events sweep_run (Telling t v rest) reply.Done same = swept_on events (record sweep_run { finished = sweep_run.finished + 1 }) rest same
+  answer_stands events sweep_run (Telling t v rest) _ same = tt
+  answer_stands events sweep_run (Breaking lock rest) reply.Done same = swept_on events (record sweep_run { broken = sweep_run.broken + 1 }) rest same
+  answer_stands events sweep_run (Breaking lock rest) _ same = tt
 
-  round_stands : (events : List Event) (round : Round) (server : ℕ) (word : Word) → job ≡ Sweep round.server → DoingStands events (left Rounding (sweep.after_word fixed.service round server word))
-  round_stands events round server (Replied said) same = answer_stands events round round.now said same
-  round_stands events round server (Lacked lacked) same = tt
+  round_stands : (events : List Event) (sweep_run : SweepRun) (server : ℕ) (response : Response) → job ≡ Sweep sweep_run.server → DoingStands events (left RunningSweep (sweep.after_response fixed.service sweep_run server response))
+  round_stands events sweep_run server (Replied said) same = answer_stands events sweep_run sweep_run.now said same
+  round_stands events sweep_run server (Lacked lacked) same = tt
 
-  -- what a word leaves of a transaction
-  pub word_leaves : (events : List Event) (word : Word) (running : Course) (asked : ℕ × Request) → request_of fixed running ≡ Some asked
-      → of_job fixed agent job (events ++ Take word ∷ []) ≡ push (of_job fixed agent job events) asked.0 asked.1 word
-      → (After_all (events ++ Take word ∷ [])).cache ≡ (after_word fixed running (After_all events).cache asked.0 asked.1 word).cache → Runs events running
-      → Leaves fixed running.task (Base_of fixed agent job events (events ++ Take word ∷ []) running.task.site) (Begins fixed agent job events) (push (of_job fixed agent job events) asked.0 asked.1 word) (after_word fixed running (After_all events).cache asked.0 asked.1 word)
-  word_leaves events word running asked is told cache_is runs =
-      let more = events ++ Take word ∷ [] in
+  -- what a response leaves of a transaction
+  pub response_leaves : (events : List Event) (response : Response) (running : TransactionRun) (asked : ℕ × Request) → request_of fixed running ≡ Some asked
+      → of_job fixed agent job (events ++ Take response ∷ []) ≡ push (of_job fixed agent job events) asked.0 asked.1 response
+      → (After_all (events ++ Take response ∷ [])).cache ≡ (after_response fixed running (After_all events).cache asked.0 asked.1 response).cache → Runs events running
+      → Leaves fixed running.task (Base_of fixed agent job events (events ++ Take response ∷ []) running.task.site) (Begins fixed agent job events) (push (of_job fixed agent job events) asked.0 asked.1 response) (after_response fixed running (After_all events).cache asked.0 asked.1 response)
+  response_leaves events response running asked is told cache_is runs =
+      let more = events ++ Take response ∷ [] in
       let task = running.task in
       let base = Base_of fixed agent job events more task.site in
-      let goes_on = content_more fixed agent job events (Take word) (record { server = asked.0; request = asked.1; word = word } ∷ []) told task.site in
+      let goes_on = content_more fixed agent job events (Take response) (record { server = asked.0; request = asked.1; response = response } ∷ []) told task.site in
       let mapped = map_stands fixed task (Base_of fixed agent job events events task.site) (Begins fixed agent job events) base (Begins fixed agent job events) (of_job fixed agent job events) (record { start = λ n start is. is; content = goes_on }) (λ n start is. is)
       (Started fixed agent job events) running.suites running.phase (λ n start _ is. is) (runs.stands_on asked is) in
-      caused_word fixed task base (Begins fixed agent job events) (of_job fixed agent job events) (After_all events).cache running.suites running.phase asked.0 asked.1 word is mapped
+      caused_response fixed task base (Begins fixed agent job events) (of_job fixed agent job events) (After_all events).cache running.suites running.phase asked.0 asked.1 response is mapped
       (λ n first content found. goes_on n first content (free_now fixed agent job events task (After_all events).cache refl n first content found))
-      (given_now fixed agent job events more task asked.0 asked.1 word told)
-      (free_now fixed agent job more task (after_word fixed running (After_all events).cache asked.0 asked.1 word).cache cache_is)
+      (given_now fixed agent job events more task asked.0 asked.1 response told)
+      (free_now fixed agent job more task (after_response fixed running (After_all events).cache asked.0 asked.1 response).cache cache_is)
 
-  stands_take : (events : List Event) (word : Word) (doing : Option Doing) (asked : Option (ℕ × Request)) → (After_all events).doing ≡ doing → next_in fixed doing ≡ asked
-      → of_job fixed agent job (events ++ Take word ∷ []) ≡ of_job fixed agent job events ++ exchange_of asked word → After_all (events ++ Take word ∷ []) ≡ (take_in fixed (After_all events) word doing asked).agent
-      → DoingStands events doing → DoingStands (events ++ Take word ∷ []) (take_in fixed (After_all events) word doing asked).agent.doing
-  stands_take events word (Some (Running running)) (Some asked) was is told after stands =
-      let step = after_word fixed running (After_all events).cache asked.0 asked.1 word in
-      convert stands.caller stands.site stands.ops stands.transaction running.task stands.task (push (of_job fixed agent job events) asked.0 asked.1 word) step.cache (events ++ Take word ∷ []) told (ap (λ (agent : Agent). agent.cache) after)
-      (Base_of fixed agent job events (events ++ Take word ∷ []) running.task.site) (Begins fixed agent job events) step.after (ap (λ (agent : Agent). agent.doing) after)
-      (started_more fixed agent job events (Take word ∷ [])) (λ n first content is. is) (begins_more fixed agent job events (Take word ∷ []))
-      (word_leaves events word running asked is told (ap (λ (agent : Agent). agent.cache) after) stands)
-  stands_take events word (Some (Running running)) None was is told after stands = subst (DoingStands (events ++ Take word ∷ [])) (sym was) (record {
+  stands_take : (events : List Event) (response : Response) (doing : Option Doing) (asked : Option (ℕ × Request)) → (After_all events).doing ≡ doing → next_in fixed doing ≡ asked
+      → of_job fixed agent job (events ++ Take response ∷ []) ≡ of_job fixed agent job events ++ exchange_of asked response → After_all (events ++ Take response ∷ []) ≡ (take_in fixed (After_all events) response doing asked).agent
+      → DoingStands events doing → DoingStands (events ++ Take response ∷ []) (take_in fixed (After_all events) response doing asked).agent.doing
+  stands_take events response (Some (Running running)) (Some asked) was is told after stands =
+      let step = after_response fixed running (After_all events).cache asked.0 asked.1 response in
+      convert stands.caller stands.site stands.ops stands.transaction running.task stands.task (push (of_job fixed agent job events) asked.0 asked.1 response) step.cache (events ++ Take response ∷ []) told (ap (λ (agent : Agent). agent.cache) after)
+      (Base_of fixed agent job events (events ++ Take response ∷ []) running.task.site) (Begins fixed agent job events) step.after (ap (λ (agent : Agent). agent.doing) after)
+      (started_more fixed agent job events (Take response ∷ [])) (λ n first content is. is) (begins_more fixed agent job events (Take response ∷ []))
+      (response_leaves events response running asked is told (ap (λ (agent : Agent). agent.cache) after) stands)
+  stands_take events response (Some (Running running)) None was is told after stands = subst (DoingStands (events ++ Take response ∷ [])) (sym was) (record {
     caller = stands.caller;
     site = stands.site;
     ops = stands.ops;
@@ -325,10 +325,10 @@ module _ (fixed : Fixed) (agent : Agent) (job : Job) where
     stands_on = λ asked asks. cc;
     stands = λ asked asks. cc;
   })
-  stands_take events word (Some (Rounding round)) (Some asked) was is told after stands = round_stands (events ++ Take word ∷ []) round asked.0 word stands
-  stands_take events word (Some (Rounding round)) None was is told after stands = cc
-  stands_take events word None (Some asked) was is told after stands = cc
-  stands_take events word None None was is told after stands = subst (DoingStands (events ++ Take word ∷ [])) (sym was) tt
+  stands_take events response (Some (RunningSweep sweep_run)) (Some asked) was is told after stands = round_stands (events ++ Take response ∷ []) sweep_run asked.0 response stands
+  stands_take events response (Some (RunningSweep sweep_run)) None was is told after stands = cc
+  stands_take events response None (Some asked) was is told after stands = cc
+  stands_take events response None None was is told after stands = subst (DoingStands (events ++ Take response ∷ [])) (sym was) tt
 
   stands_forget : (events : List Event) (site : ℕ) (doing : Option Doing) → DoingStands events doing → DoingStands (events ++ Forget site ∷ []) doing
   stands_forget events site (Some (Running running)) stands = runs_of (events ++ Forget site ∷ []) running stands.caller stands.site stands.ops stands.transaction stands.task (λ asked is.
@@ -339,14 +339,14 @@ module _ (fixed : Fixed) (agent : Agent) (job : Job) where
       (map_stands fixed running.task (Base_of fixed agent job events events running.task.site) (Begins fixed agent job events) (Base_of fixed agent job more more running.task.site) (Begins fixed agent job more) (of_job fixed agent job events)
       (record { start = started_more fixed agent job events (Forget site ∷ []); content = goes_on }) (begins_more fixed agent job events (Forget site ∷ [])) (Started fixed agent job events) running.suites running.phase
       (λ n start _ started. started_more fixed agent job events (Forget site ∷ []) n start started) (stands.stands_on asked is)))
-  stands_forget events site (Some (Rounding round)) stands = stands
+  stands_forget events site (Some (RunningSweep sweep_run)) stands = stands
   stands_forget events site None stands = tt
 
   stands_more : (events : List Event) (event : Event) → DoingStands events (After_all events).doing → DoingStands (events ++ event ∷ []) (After_all (events ++ event ∷ [])).doing
-  stands_more events (Take word) stands =
-      let after = after-append fixed (begin fixed agent job) events (Take word) in
-      subst (λ (agent : Agent). DoingStands (events ++ Take word ∷ []) agent.doing) (sym after)
-      (stands_take events word (After_all events).doing (next_of fixed (After_all events)) refl refl (exchanges-take fixed (begin fixed agent job) events word) after stands)
+  stands_more events (Take response) stands =
+      let after = after-append fixed (begin fixed agent job) events (Take response) in
+      subst (λ (agent : Agent). DoingStands (events ++ Take response ∷ []) agent.doing) (sym after)
+      (stands_take events response (After_all events).doing (next_of fixed (After_all events)) refl refl (exchanges-take fixed (begin fixed agent job) events response) after stands)
   stands_more events (Forget site) stands =
       subst (λ (agent : Agent). DoingStands (events ++ Forget site ∷ []) agent.doing) (sym (after-append fixed (begin fixed agent job) events (Forget site))) (stands_forget events site (After_all events).doing stands)
 

@@ -18,7 +18,7 @@ use Rattle.suite_collect.specs.declared.coming.Coming.{Coming}
 use Rattle.suite_collect.specs.declared.coming.Coming.TheVariants as coming
 use Rattle.suite_collect.specs.declared.coming.Asked.{Asked}
 use Rattle.suite_collect.specs.Answering.{Comes}
-use Rattle.txn_core.specs.Doing.{Changes, Granted, Task, Widening, Course}
+use Rattle.txn_core.specs.Doing.{Changes, Granted, Task, Widening, TransactionRun}
 use Rattle.txn_core.specs.code.Steps.{Steps, WidensTo, Widens}
 use Rattle.txn_core.specs.declared.ending.Ending.{Ending}
 use Rattle.txn_core.specs.Suites.{Suite, Suites, suite_of, with_suite}
@@ -70,47 +70,47 @@ module _ (task : Task) (cache : Cache) (granted : Granted) (number : ℕ) (chang
   missed : (suites : Suites) → suite_of suites number ≡ None → widen_all task cache suites granted (number ∷ left) ≡ go_on suites
   missed suites none = ap (λ f. widen_one task cache suites (Widening (number ∷ left) granted) granted.changes number f go_on) none
 
-  stays_at : (before after : Course) (f : Option Suite) → suite_of before.suites number ≡ f → WidensTo f number change.row.votes before coming.Current after
+  stays_at : (before after : TransactionRun) (f : Option Suite) → suite_of before.suites number ≡ f → WidensTo f number change.row.votes before coming.Current after
       → widen_all task cache before.suites granted (number ∷ left) ≡ widen_all task cache after.suites granted left
-  stays_at before after (Some suite) there w = found before.suites suite _ there w.1.3 ∙ ap (λ (c : Course). go_on c.suites) (sym w.0)
-  stays_at before after None there w = missed before.suites there ∙ ap (λ (c : Course). go_on c.suites) (sym w.0)
+  stays_at before after (Some suite) there w = found before.suites suite _ there w.1.3 ∙ ap (λ (c : TransactionRun). go_on c.suites) (sym w.0)
+  stays_at before after None there w = missed before.suites there ∙ ap (λ (c : TransactionRun). go_on c.suites) (sym w.0)
 
-  pub stays : (before after : Course) → Widens number change.row.votes before coming.Current after
+  pub stays : (before after : TransactionRun) → Widens number change.row.votes before coming.Current after
       → widen_all task cache before.suites granted (number ∷ left) ≡ widen_all task cache after.suites granted left
   stays before after w = stays_at before after (suite_of before.suites number) refl w
 
-  asks_at : (before after : Course) (server : ℕ) (asked : Asked) (f : Option Suite) → suite_of before.suites number ≡ f → WidensTo f number change.row.votes before (coming.Ask server asked) after
+  asks_at : (before after : TransactionRun) (server : ℕ) (asked : Asked) (f : Option Suite) → suite_of before.suites number ≡ f → WidensTo f number change.row.votes before (coming.Ask server asked) after
       → widen_all task cache before.suites granted (number ∷ left) ≡ on_with task cache after.suites (Widening (number ∷ left) granted)
   asks_at before after server asked (Some suite) there w =
-      found before.suites suite _ there w.1 ∙ ap (λ (c : Course). on_with task cache c.suites (Widening (number ∷ left) granted)) (sym w.0)
+      found before.suites suite _ there w.1 ∙ ap (λ (c : TransactionRun). on_with task cache c.suites (Widening (number ∷ left) granted)) (sym w.0)
   asks_at before after server asked None there w = cc
 
-  pub asks : (before after : Course) (server : ℕ) (asked : Asked) → Widens number change.row.votes before (coming.Ask server asked) after
+  pub asks : (before after : TransactionRun) (server : ℕ) (asked : Asked) → Widens number change.row.votes before (coming.Ask server asked) after
       → widen_all task cache before.suites granted (number ∷ left) ≡ on_with task cache after.suites (Widening (number ∷ left) granted)
   asks before after server asked w = asks_at before after server asked (suite_of before.suites number) refl w
 
-  short_at : (before after : Course) (got needed : ℕ) (busy : Option (ℕ × ℕ)) (f : Option Suite) → suite_of before.suites number ≡ f → WidensTo f number change.row.votes before (coming.Short got needed busy) after
+  short_at : (before after : TransactionRun) (got needed : ℕ) (busy : Option (ℕ × ℕ)) (f : Option Suite) → suite_of before.suites number ≡ f → WidensTo f number change.row.votes before (coming.Short got needed busy) after
       → widen_all task cache before.suites granted (number ∷ left) ≡ give_up task cache after.suites (short_cause number got needed busy)
   short_at before after got needed busy (Some suite) there w =
-      found before.suites suite _ there w.1 ∙ ap (λ (c : Course). give_up task cache c.suites (short_cause number got needed busy)) (sym w.0)
+      found before.suites suite _ there w.1 ∙ ap (λ (c : TransactionRun). give_up task cache c.suites (short_cause number got needed busy)) (sym w.0)
   short_at before after got needed busy None there w = cc
 
-  pub short : (before after : Course) (got needed : ℕ) (busy : Option (ℕ × ℕ)) → Widens number change.row.votes before (coming.Short got needed busy) after
+  pub short : (before after : TransactionRun) (got needed : ℕ) (busy : Option (ℕ × ℕ)) → Widens number change.row.votes before (coming.Short got needed busy) after
       → widen_all task cache before.suites granted (number ∷ left) ≡ give_up task cache after.suites (short_cause number got needed busy)
   short before after got needed busy w = short_at before after got needed busy (suite_of before.suites number) refl w
 
 -- ---- so far
 
-task_at : (before after : Course) (number : ℕ) (votes : Configuration) (what : Coming) (f : Option Suite) → WidensTo f number votes before what after → after.task ≡ before.task
-task_at before after number votes what (Some suite) w = ap (λ (c : Course). c.task) w.0
-task_at before after number votes what None w = ap (λ (c : Course). c.task) w.0
+task_at : (before after : TransactionRun) (number : ℕ) (votes : Configuration) (what : Coming) (f : Option Suite) → WidensTo f number votes before what after → after.task ≡ before.task
+task_at before after number votes what (Some suite) w = ap (λ (c : TransactionRun). c.task) w.0
+task_at before after number votes what None w = ap (λ (c : TransactionRun). c.task) w.0
 
 -- what was to be widened at first goes on as what is left
-pub record Left (start : Course) (from : ℕ) (granted : Granted) (now : Course) (at : ℕ) : Type 0 where
+pub record Left (start : TransactionRun) (from : ℕ) (granted : Granted) (now : TransactionRun) (at : ℕ) : Type 0 where
   pub task : now.task ≡ start.task
   pub same : (cache : Cache) → widen_all start.task cache start.suites granted (to_widen (drop from granted.changes)) ≡ widen_all now.task cache now.suites granted (to_widen (drop at granted.changes))
 
-module _ (start : Course) (from : ℕ) (granted : Granted) (now : Course) (at : ℕ) (left : Left start from granted now at) where
+module _ (start : TransactionRun) (from : ℕ) (granted : Granted) (now : TransactionRun) (at : ℕ) (left : Left start from granted now at) where
   pub left_passed : (number : ℕ) (change : Change) → slice_get granted.changes at ≡ Some (number, change) → change.votes ≡ false → Left start from granted now (at + 1)
   left_passed number change is unset = record {
     task = left.task;
@@ -121,7 +121,7 @@ module _ (start : Course) (from : ℕ) (granted : Granted) (now : Course) (at : 
   ended : (given : Changes) → drop at given ≡ [] → to_widen (drop at given) ≡ []
   ended given none = ap to_widen none
 
-  pub left_none : (cache : Cache) (result : Option Ending) (after : Course) → slice_get granted.changes at ≡ None → Steps (prepare now.task cache now.suites (Ok granted) (locked_at now.suites)) result after cache
+  pub left_none : (cache : Cache) (result : Option Ending) (after : TransactionRun) → slice_get granted.changes at ≡ None → Steps (prepare now.task cache now.suites (Ok granted) (locked_at now.suites)) result after cache
       → Steps (widen_all start.task cache start.suites granted (to_widen (drop from granted.changes))) result after cache
   left_none cache result after none steps =
       let Stepped : Step → Type 0 = λ step. Steps step result after cache in
@@ -134,7 +134,7 @@ module _ (start : Course) (from : ℕ) (granted : Granted) (now : Course) (at : 
           of (inl found) = absurd (none-some found.0 (sym none ∙ found.2))
           of (inr over) = drop_of_length-le l over.0
 
-  module _ (number : ℕ) (change : Change) (votes : Configuration) (after : Course) (is : slice_get granted.changes at ≡ Some (number, change)) (up : IsOrdered nat_cmp granted.changes) (sets : change.votes ≡ true) (own : votes ≡ change.row.votes) where
+  module _ (number : ℕ) (change : Change) (votes : Configuration) (after : TransactionRun) (is : slice_get granted.changes at ≡ Some (number, change)) (up : IsOrdered nat_cmp granted.changes) (sets : change.votes ≡ true) (own : votes ≡ change.row.votes) where
     there : change_of granted.changes number ≡ Some change
     there = change_at granted.changes at (number, change) up is
 
@@ -159,13 +159,13 @@ module _ (start : Course) (from : ℕ) (granted : Granted) (now : Course) (at : 
     pub left_asks : (server : ℕ) (asked : Asked) (cache : Cache) → Widens number votes now (coming.Ask server asked) after
         → Steps (widen_all start.task cache start.suites granted (to_widen (drop from granted.changes))) None (record after { phase = Widening (number ∷ to_widen (drop (at + 1) granted.changes)) granted }) cache
     left_asks server asked cache w =
-        let new : Course = record after { phase = Widening (number ∷ to_widen (drop (at + 1) granted.changes)) granted } in
+        let new : TransactionRun = record after { phase = Widening (number ∷ to_widen (drop (at + 1) granted.changes)) granted } in
         let Stepped : Step → Type 0 = λ step. Steps step None new cache in
         subst Stepped (sym (step cache
         ∙ asks now.task cache granted number change (to_widen (drop (at + 1) granted.changes)) there now after server asked (owned (coming.Ask server asked) w)
         ∙ ap (λ task. on_with task cache after.suites (Widening (number ∷ to_widen (drop (at + 1) granted.changes)) granted)) (sym (same_task (coming.Ask server asked) w)))) (refl, (refl, refl))
 
-    pub left_short : (got needed : ℕ) (busy : Option (ℕ × ℕ)) (cache : Cache) (result : Option Ending) (end : Course) → Widens number votes now (coming.Short got needed busy) after
+    pub left_short : (got needed : ℕ) (busy : Option (ℕ × ℕ)) (cache : Cache) (result : Option Ending) (end : TransactionRun) → Widens number votes now (coming.Short got needed busy) after
         → Steps (give_up after.task cache after.suites (short_cause number got needed busy)) result end cache
         → Steps (widen_all start.task cache start.suites granted (to_widen (drop from granted.changes))) result end cache
     left_short got needed busy cache result end w steps =
@@ -176,7 +176,7 @@ module _ (start : Course) (from : ℕ) (granted : Granted) (now : Course) (at : 
 
 -- ---- a suite in its place
 
-pub widens_here : (before after : Course) (held : Suites) (number : ℕ) (votes : Configuration) (suite new : Suite) (what : Coming) → held ≡ before.suites → Some suite ≡ suite_of held number → IsOrdered nat_cmp held
+pub widens_here : (before after : TransactionRun) (held : Suites) (number : ℕ) (votes : Configuration) (suite new : Suite) (what : Coming) → held ≡ before.suites → Some suite ≡ suite_of held number → IsOrdered nat_cmp held
     → new ≡ record suite { collector = widen votes suite.collector } → Comes what (next new.collector) → after ≡ record before { suites = replace nat_cmp held number new } → Widens number votes before what after
 widens_here before after held number votes suite new what same there up is comes put =
     let own : Suite = record suite { collector = widen votes suite.collector } in

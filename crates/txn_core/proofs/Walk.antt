@@ -1,4 +1,4 @@
--- One walk through what a transaction does with a word, for each claim on what is left after it.
+-- One walk through what a transaction does with a response, for each claim on what is left after it.
 use Rattle.std.proofs.Common.{ℕ, List, [], ◌∷◌, Option, Some, None, Ok, Err}
 use Rattle.std.specs.Prelude.{length}
 use Rattle.suite_content.specs.declared.content.Content.{Content}
@@ -10,13 +10,13 @@ use Rattle.file_exec.specs.declared.executor.Outcome.TheVariants as exec
 use Rattle.suite_collect.specs.declared.told.Said.{Said}
 use Rattle.suite_collect.specs.Collecting.{tell, mode_of, Next, Ask, Current, Short, next}
 use Rattle.weak_cache.specs.Entries.{Cache}
-use Rattle.txn_core.specs.Suites.{First, Suite, Suites, suite_of, with_suite, settled}
-use Rattle.txn_core.specs.declared.word.Word.{Word}
+use Rattle.txn_core.specs.Suites.{ReadPoint, Suite, Suites, suite_of, with_suite, settled}
+use Rattle.txn_core.specs.declared.response.Response.{Response}
 use Rattle.txn_core.specs.declared.ending.Cause.{Cause}
-use Rattle.txn_core.specs.declared.word.Word.TheVariants.{Replied, Lacked}
+use Rattle.txn_core.specs.declared.response.Response.TheVariants.{Replied, Lacked}
 use Rattle.txn_core.specs.declared.ending.Cause.TheVariants.{Lost}
-use Rattle.txn_core.specs.Doing.{Granted, Fixed, Task, Outcome, Phase, Gathering, Fetching, Widening, Preparing, Deciding, Finishing, Course, After, GoesOn}
-use Rattle.txn_core.specs.Transactions.{Step, Gathered, give_up, prepare, locked_at, short_cause, gather_by, widen_by, widen_one, widened, widen_all, opened, heard_on, raised_or_new, keep_content, heard_of, said_to, proceed, execute, collected, hear, fetched, after_word, given_in, lack_cause}
+use Rattle.txn_core.specs.Doing.{Granted, Fixed, Task, Outcome, Phase, Gathering, Fetching, Widening, Preparing, Deciding, Finishing, TransactionRun, After, GoesOn}
+use Rattle.txn_core.specs.Transactions.{Step, Gathered, give_up, prepare, locked_at, short_cause, gather_by, widen_by, widen_one, widened, widen_all, opened, heard_on, raised_or_new, keep_content, heard_of, said_to, proceed, execute, collected, hear, fetched, after_response, given_in, lack_cause}
 
 -- a phase in which locks and contents are gathered
 abbrev pub IsEarly : Phase → Type 0
@@ -26,7 +26,7 @@ IsEarly (Widening left granted) = Unit {0}
 IsEarly _ = ⊥
 
 -- what holds of every early phase of a task, wherever it is given up, and where the servers begin to prepare, holds after every step of an early phase
-module _ (task : Task) (Left : After Course → Type 0)
+module _ (task : Task) (Left : After TransactionRun → Type 0)
     (early : (suites : Suites) (phase : Phase) → IsEarly phase → Left (GoesOn (record { task = task; suites = suites; phase = phase })))
     (given_up : (cache : Cache) (suites : Suites) (cause : Cause) → Left (give_up task cache suites cause).after)
     (prepares : (cache : Cache) (suites : Suites) (outcome : Outcome) → Left (prepare task cache suites outcome (locked_at suites)).after) where
@@ -84,22 +84,22 @@ module _ (task : Task) (Left : After Course → Type 0)
   goes_fetched fixed cache suites number (Some suite) server None = given_up cache suites (Lost server)
   goes_fetched fixed cache suites number (Some suite) server (Some content) = of suite.first
     where
-      of : (first : Option First) → Left (keep_content fixed task cache suites number suite content first server).after
+      of : (first : Option ReadPoint) → Left (keep_content fixed task cache suites number suite content first server).after
       of None = given_up cache suites (Lost server)
       of (Some first) = goes_execute fixed _
 
-  -- a word in an early phase
-  pub goes_word : (fixed : Fixed) (cache : Cache) (suites : Suites) (phase : Phase) (server : ℕ) (asked : Request) (word : Word) → IsEarly phase
-      → Left (after_word fixed (record { task = task; suites = suites; phase = phase }) cache server asked word).after
-  goes_word fixed cache suites (Gathering number) server asked (Lacked lacked) is = given_up cache suites (lack_cause server lacked)
-  goes_word fixed cache suites (Fetching number) server asked (Lacked lacked) is = given_up cache suites (lack_cause server lacked)
-  goes_word fixed cache suites (Widening left granted) server asked (Lacked lacked) is = given_up cache suites (lack_cause server lacked)
-  goes_word fixed cache suites (Preparing left outcome) server asked word is = absurd is
-  goes_word fixed cache suites (Deciding outcome) server asked word is = absurd is
-  goes_word fixed cache suites (Finishing servers v ending) server asked word is = absurd is
-  goes_word fixed cache suites (Gathering number) server asked (Replied said) is =
+  -- a response in an early phase
+  pub goes_response : (fixed : Fixed) (cache : Cache) (suites : Suites) (phase : Phase) (server : ℕ) (asked : Request) (response : Response) → IsEarly phase
+      → Left (after_response fixed (record { task = task; suites = suites; phase = phase }) cache server asked response).after
+  goes_response fixed cache suites (Gathering number) server asked (Lacked lacked) is = given_up cache suites (lack_cause server lacked)
+  goes_response fixed cache suites (Fetching number) server asked (Lacked lacked) is = given_up cache suites (lack_cause server lacked)
+  goes_response fixed cache suites (Widening left granted) server asked (Lacked lacked) is = given_up cache suites (lack_cause server lacked)
+  goes_response fixed cache suites (Preparing left outcome) server asked response is = absurd is
+  goes_response fixed cache suites (Deciding outcome) server asked response is = absurd is
+  goes_response fixed cache suites (Finishing servers v ending) server asked response is = absurd is
+  goes_response fixed cache suites (Gathering number) server asked (Replied said) is =
       goes_heard cache suites (Gathering number) number (suite_of suites number) server asked said _ tt (λ suites. goes_execute fixed (record { suites = suites; cache = cache }))
-  goes_word fixed cache suites (Fetching number) server asked (Replied said) is = goes_fetched fixed cache suites number (suite_of suites number) server (given_in said)
-  goes_word fixed cache suites (Widening [] granted) server asked (Replied said) is = given_up cache suites (Lost server)
-  goes_word fixed cache suites (Widening (number ∷ left) granted) server asked (Replied said) is =
+  goes_response fixed cache suites (Fetching number) server asked (Replied said) is = goes_fetched fixed cache suites number (suite_of suites number) server (given_in said)
+  goes_response fixed cache suites (Widening [] granted) server asked (Replied said) is = given_up cache suites (Lost server)
+  goes_response fixed cache suites (Widening (number ∷ left) granted) server asked (Replied said) is =
       goes_heard cache suites (Widening (number ∷ left) granted) number (suite_of suites number) server asked said _ tt (λ suites. goes_widen cache suites granted left)

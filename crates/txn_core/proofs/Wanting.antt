@@ -7,12 +7,12 @@ use Rattle.rep_core.specs.Fits.{is_held}
 use Rattle.rep_core.specs.declared.reply.Verdict.TheVariants as verdict
 use Rattle.rep_core.specs.Service.{is_answered}
 use Rattle.suite_collect.specs.Collecting.{Asked, Poll, Upgrade, request_for}
-use Rattle.txn_core.specs.declared.ending.Goes.{Goes}
-use Rattle.txn_core.specs.declared.word.Word.{Word}
-use Rattle.txn_core.specs.declared.word.Word.TheVariants.{Replied}
+use Rattle.txn_core.specs.declared.ending.Flow.{Flow}
+use Rattle.txn_core.specs.declared.response.Response.{Response}
+use Rattle.txn_core.specs.declared.response.Response.TheVariants.{Replied}
 use Rattle.txn_core.specs.Agents.{Agent, next_in, next_of}
-use Rattle.txn_core.specs.Doing.{Fixed, Outcome, Gathering, Fetching, Widening, Deciding, Granted, Course, Doing}
-use Rattle.txn_core.specs.Suites.{First, Suite, suite_of}
+use Rattle.txn_core.specs.Doing.{Fixed, Outcome, Gathering, Fetching, Widening, Deciding, Granted, TransactionRun, Doing}
+use Rattle.txn_core.specs.Suites.{ReadPoint, Suite, suite_of}
 use Rattle.txn_core.specs.Transactions.{given_in, verdict_in, asked_by, asked_for, fetched_at, fetched_for, request_in, request_of}
 use Rattle.txn_core.specs.Wanting.{by_reply, by_taking}
 use Rattle.txn_core.proofs.Replies.{server_of, asks_of}
@@ -23,53 +23,53 @@ told_wants : (t number : ℕ) (asked : Asked) (said : Reply) → is_held said �
 told_wants t number (Poll mode) said held = held
 told_wants t number Upgrade said held = held
 
--- ---- a course
+-- ---- a transaction's run
 
-module _ (fixed : Fixed) (course : Course) (server : ℕ) (said : Reply) where
+module _ (fixed : Fixed) (txn_run : TransactionRun) (server : ℕ) (said : Reply) where
   -- a suite asks
-  asking_wants : (number : ℕ) → request_of fixed course ≡ asked_for course.task number (suite_of course.suites number) → server_of (request_of fixed course) ≡ Some server
-      → is_held said ≡ true → by_taking (request_of fixed course) (Replied said) ≡ true
+  asking_wants : (number : ℕ) → request_of fixed txn_run ≡ asked_for txn_run.task number (suite_of txn_run.suites number) → server_of (request_of fixed txn_run) ≡ Some server
+      → is_held said ≡ true → by_taking (request_of fixed txn_run) (Replied said) ≡ true
   asking_wants number same asked told =
-      let a = asks_of course.task course.suites number server (ap server_of (sym same) ∙ asked) in
-      ap (λ what. by_taking what (Replied said)) (same ∙ ap (asked_for course.task number) a.there ∙ ap (asked_by course.task number) a.asks)
-      ∙ told_wants course.task.t number a.asked said told
+      let a = asks_of txn_run.task txn_run.suites number server (ap server_of (sym same) ∙ asked) in
+      ap (λ what. by_taking what (Replied said)) (same ∙ ap (asked_for txn_run.task number) a.there ∙ ap (asked_by txn_run.task number) a.asks)
+      ∙ told_wants txn_run.task.t number a.asked said told
 
-  told_if : (number : ℕ) (result : Result Goes AllocError) → request_of fixed course ≡ asked_for course.task number (suite_of course.suites number) → server_of (request_of fixed course) ≡ Some server
-      → IfErr result (λ _. is_held said ≡ true) → IfErr result (λ _. by_taking (request_of fixed course) (Replied said) ≡ true)
+  told_if : (number : ℕ) (result : Result Flow AllocError) → request_of fixed txn_run ≡ asked_for txn_run.task number (suite_of txn_run.suites number) → server_of (request_of fixed txn_run) ≡ Some server
+      → IfErr result (λ _. is_held said ≡ true) → IfErr result (λ _. by_taking (request_of fixed txn_run) (Replied said) ≡ true)
   told_if number (Ok ending) same asked told = tt
   told_if number (Err why) same asked told = asking_wants number same asked told
 
-  pub gathering_wants : (number : ℕ) (result : Result Goes AllocError) → course.phase ≡ Gathering number → server_of (request_of fixed course) ≡ Some server
-      → IfErr result (λ _. is_held said ≡ true) → IfErr result (λ _. by_taking (request_of fixed course) (Replied said) ≡ true)
-  gathering_wants number result is asked told = told_if number result (ap (request_in fixed course.task course.suites) is) asked told
+  pub gathering_wants : (number : ℕ) (result : Result Flow AllocError) → txn_run.phase ≡ Gathering number → server_of (request_of fixed txn_run) ≡ Some server
+      → IfErr result (λ _. is_held said ≡ true) → IfErr result (λ _. by_taking (request_of fixed txn_run) (Replied said) ≡ true)
+  gathering_wants number result is asked told = told_if number result (ap (request_in fixed txn_run.task txn_run.suites) is) asked told
 
-  pub widening_wants : (number : ℕ) (left : List ℕ) (granted : Granted) (result : Result Goes AllocError) → course.phase ≡ Widening (number ∷ left) granted → server_of (request_of fixed course) ≡ Some server
-      → IfErr result (λ _. is_held said ≡ true) → IfErr result (λ _. by_taking (request_of fixed course) (Replied said) ≡ true)
-  widening_wants number left granted result is asked told = told_if number result (ap (request_in fixed course.task course.suites) is) asked told
+  pub widening_wants : (number : ℕ) (left : List ℕ) (granted : Granted) (result : Result Flow AllocError) → txn_run.phase ≡ Widening (number ∷ left) granted → server_of (request_of fixed txn_run) ≡ Some server
+      → IfErr result (λ _. is_held said ≡ true) → IfErr result (λ _. by_taking (request_of fixed txn_run) (Replied said) ≡ true)
+  widening_wants number left granted result is asked told = told_if number result (ap (request_in fixed txn_run.task txn_run.suites) is) asked told
 
   -- a content is fetched
-  fetched_wants : (number : ℕ) (found : Option Suite) → server_of (fetched_for course.task number found) ≡ Some server → is_some (given_in said) ≡ true → by_taking (fetched_for course.task number found) (Replied said) ≡ true
+  fetched_wants : (number : ℕ) (found : Option Suite) → server_of (fetched_for txn_run.task number found) ≡ Some server → is_some (given_in said) ≡ true → by_taking (fetched_for txn_run.task number found) (Replied said) ≡ true
   fetched_wants number None asked given = cc
   fetched_wants number (Some suite) asked given = at suite.first asked
     where
-      at : (first : Option First) → server_of (fetched_at course.task number first) ≡ Some server → by_taking (fetched_at course.task number first) (Replied said) ≡ true
+      at : (first : Option ReadPoint) → server_of (fetched_at txn_run.task number first) ≡ Some server → by_taking (fetched_at txn_run.task number first) (Replied said) ≡ true
       at (Some first) asked = given
       at None asked = cc
 
-  pub fetching_wants : (number : ℕ) (result : Result Goes AllocError) → course.phase ≡ Fetching number → server_of (request_of fixed course) ≡ Some server → IfErr result (λ _. is_some (given_in said) ≡ true)
-      → IfErr result (λ _. by_taking (request_of fixed course) (Replied said) ≡ true)
+  pub fetching_wants : (number : ℕ) (result : Result Flow AllocError) → txn_run.phase ≡ Fetching number → server_of (request_of fixed txn_run) ≡ Some server → IfErr result (λ _. is_some (given_in said) ≡ true)
+      → IfErr result (λ _. by_taking (request_of fixed txn_run) (Replied said) ≡ true)
   fetching_wants number (Ok ending) is asked given = tt
   fetching_wants number (Err why) is asked given =
-      let same : request_of fixed course ≡ fetched_for course.task number (suite_of course.suites number) = ap (request_in fixed course.task course.suites) is in
-      ap (λ what. by_taking what (Replied said)) same ∙ fetched_wants number (suite_of course.suites number) (ap server_of (sym same) ∙ asked) given
+      let same : request_of fixed txn_run ≡ fetched_for txn_run.task number (suite_of txn_run.suites number) = ap (request_in fixed txn_run.task txn_run.suites) is in
+      ap (λ what. by_taking what (Replied said)) same ∙ fetched_wants number (suite_of txn_run.suites number) (ap server_of (sym same) ∙ asked) given
 
   -- the home decides
-  pub deciding_wants : (outcome : Outcome) (result : Result Goes AllocError) → course.phase ≡ Deciding outcome → IfErr result (λ _. is_answered (verdict_in said verdict.Aborted) ≡ true)
-      → IfErr result (λ _. by_taking (request_of fixed course) (Replied said) ≡ true)
+  pub deciding_wants : (outcome : Outcome) (result : Result Flow AllocError) → txn_run.phase ≡ Deciding outcome → IfErr result (λ _. is_answered (verdict_in said verdict.Aborted) ≡ true)
+      → IfErr result (λ _. by_taking (request_of fixed txn_run) (Replied said) ≡ true)
   deciding_wants outcome (Ok ending) is answered = tt
-  deciding_wants outcome (Err why) is answered = ap (λ phase. by_taking (request_in fixed course.task course.suites phase) (Replied said)) is ∙ answered
+  deciding_wants outcome (Err why) is answered = ap (λ phase. by_taking (request_in fixed txn_run.task txn_run.suites phase) (Replied said)) is ∙ answered
 
 -- ---- an agent
 
-pub taking_wants : (fixed : Fixed) (state : Agent) (word : Word) (doing : Option Doing) → state.doing ≡ doing → by_taking (next_in fixed doing) word ≡ true → by_taking (next_of fixed state) word ≡ true
-taking_wants fixed state word doing is wants = ap (λ doing. by_taking (next_in fixed doing) word) is ∙ wants
+pub taking_wants : (fixed : Fixed) (state : Agent) (response : Response) (doing : Option Doing) → state.doing ≡ doing → by_taking (next_in fixed doing) response ≡ true → by_taking (next_of fixed state) response ≡ true
+taking_wants fixed state response doing is wants = ap (λ doing. by_taking (next_in fixed doing) response) is ∙ wants

@@ -12,13 +12,13 @@ use Rattle.rep_core.specs.declared.reply.Verdict.TheVariants as verdict
 use Rattle.weak_cache.specs.Entries.{Cache}
 use Rattle.txn_core.specs.Suites.{Suites, suite_of}
 use Rattle.txn_core.specs.Writing.{parts_at}
-use Rattle.txn_core.specs.declared.word.Word.{Word}
+use Rattle.txn_core.specs.declared.response.Response.{Response}
 use Rattle.txn_core.specs.declared.ending.Ending.{Ending}
-use Rattle.txn_core.specs.declared.word.Word.TheVariants.{Replied, Lacked}
+use Rattle.txn_core.specs.declared.response.Response.TheVariants.{Replied, Lacked}
 use Rattle.txn_core.specs.declared.ending.Cause.TheVariants.{Lost}
 use Rattle.txn_core.specs.declared.ending.Ending.TheVariants.{Undecided}
-use Rattle.txn_core.specs.Doing.{Changes, home_of, Fixed, Task, Outcome, Phase, Gathering, Fetching, Widening, Preparing, Deciding, Finishing, Sweeping, Listing, Resolving, Telling, Breaking, Round, Doing, Running, Rounding, After, GoesOn, Ends}
-use Rattle.txn_core.specs.Transactions.{tell_end, give_up, prepare, locked_at, after_word, request_in, changes_of, decision_of, verdict_in, ending_by, cause_of_abort, lack_cause}
+use Rattle.txn_core.specs.Doing.{Changes, home_of, Fixed, Task, Outcome, Phase, Gathering, Fetching, Widening, Preparing, Deciding, Finishing, Sweeping, Listing, Resolving, Telling, Breaking, SweepRun, Doing, Running, RunningSweep, After, GoesOn, Ends}
+use Rattle.txn_core.specs.Transactions.{tell_end, give_up, prepare, locked_at, after_response, request_in, changes_of, decision_of, verdict_in, ending_by, cause_of_abort, lack_cause}
 use Rattle.txn_core.specs.Sweeps as sweep
 use Rattle.txn_core.specs.Agents as agents
 use Rattle.txn_core.specs.Agents.{Agent, Event, Take, Forget, next_in, next_of, take_in, take, begin, forget}
@@ -51,8 +51,8 @@ InPhase suites (Finishing servers v ending) later = AllWrite later
 InPhase suites _ later = SomeWrites later
 
 abbrev InDoing : Option Doing → List Exchange → Type 0
-InDoing (Some (Running course)) later = InPhase course.suites course.phase later
-InDoing (Some (Rounding round)) later = AllWrite later
+InDoing (Some (Running txn_run)) later = InPhase txn_run.suites txn_run.phase later
+InDoing (Some (RunningSweep sweep_run)) later = AllWrite later
 InDoing None later = AllWrite later
 
 some_of : {later : List Exchange} → AllWrite later → SomeWrites later
@@ -67,8 +67,8 @@ some_phase suites (Deciding outcome) later in' = record { suites = suites; chang
 some_phase suites (Finishing servers v ending) later in' = some_of in'
 
 some_doing : (doing : Option Doing) (later : List Exchange) → InDoing doing later → SomeWrites later
-some_doing (Some (Running course)) later in' = some_phase course.suites course.phase later in'
-some_doing (Some (Rounding round)) later in' = some_of in'
+some_doing (Some (Running txn_run)) later in' = some_phase txn_run.suites txn_run.phase later in'
+some_doing (Some (RunningSweep sweep_run)) later in' = some_of in'
 some_doing None later in' = some_of in'
 
 all_ended : (task : Task) (cache : Cache) (suites : Suites) (v : Verdict) (ending : Ending) (servers : List ℕ) (later : List Exchange) → InDoing (agents.left Running (tell_end task cache suites v ending servers).after) later → AllWrite later
@@ -84,31 +84,31 @@ writes_prepare task cache suites outcome (server ∷ servers) later in' = in'
 no_from : (suites : Suites) (changes : Changes) (server : ℕ) (asked : Request) → is_prepare asked ≡ false → IsFrom suites changes server asked
 no_from suites changes server asked other = λ t parts is. absurd (false≢true (sym other ∙ ap is_prepare is))
 
-no_prepare_round : (fixed : Fixed) (round : Round) (now : Sweeping) (server : ℕ) (asked : Request) → ◌≡◌ {A = Option (ℕ × Request)} (Some (sweep.asked_now fixed.service round now)) (Some (server, asked)) → is_prepare asked ≡ false
-no_prepare_round fixed round Listing server asked is = ap is_prepare (sym (asks_same _ server request.Locks asked is))
-no_prepare_round fixed round (Resolving t others) server asked is = ap is_prepare (sym (asks_same _ server (request.Resolve t) asked is))
-no_prepare_round fixed round (Telling t v others) server asked is = ap is_prepare (sym (asks_same _ server (request.Finish t v) asked is))
-no_prepare_round fixed round (Breaking lock others) server asked is = ap is_prepare (sym (asks_same _ server (request.Break lock.t lock.suite) asked is))
+no_prepare_round : (fixed : Fixed) (sweep_run : SweepRun) (now : Sweeping) (server : ℕ) (asked : Request) → ◌≡◌ {A = Option (ℕ × Request)} (Some (sweep.asked_now fixed.service sweep_run now)) (Some (server, asked)) → is_prepare asked ≡ false
+no_prepare_round fixed sweep_run Listing server asked is = ap is_prepare (sym (asks_same _ server request.Locks asked is))
+no_prepare_round fixed sweep_run (Resolving t others) server asked is = ap is_prepare (sym (asks_same _ server (request.Resolve t) asked is))
+no_prepare_round fixed sweep_run (Telling t v others) server asked is = ap is_prepare (sym (asks_same _ server (request.Finish t v) asked is))
+no_prepare_round fixed sweep_run (Breaking lock others) server asked is = ap is_prepare (sym (asks_same _ server (request.Break lock.t lock.suite) asked is))
 
--- ---- one word
+-- ---- one response
 
-abbrev after' : Fixed → Task → Cache → Suites → Phase → ℕ → Request → Word → Option Doing
-after' fixed task cache suites phase server asked word = agents.left Running (after_word fixed (record { task = task; suites = suites; phase = phase }) cache server asked word).after
+abbrev after' : Fixed → Task → Cache → Suites → Phase → ℕ → Request → Response → Option Doing
+after' fixed task cache suites phase server asked response = agents.left Running (after_response fixed (record { task = task; suites = suites; phase = phase }) cache server asked response).after
 
-one_more : (server : ℕ) (asked : Request) (word : Word) (later : List Exchange) → is_prepare asked ≡ false → SomeWrites later → SomeWrites (record { server = server; request = asked; word = word } ∷ later)
-one_more server asked word later other some = record { suites = some.suites; changes = some.changes; writes = (no_from some.suites some.changes server asked other, some.writes) }
+one_more : (server : ℕ) (asked : Request) (response : Response) (later : List Exchange) → is_prepare asked ≡ false → SomeWrites later → SomeWrites (record { server = server; request = asked; response = response } ∷ later)
+one_more server asked response later other some = record { suites = some.suites; changes = some.changes; writes = (no_from some.suites some.changes server asked other, some.writes) }
 
-word_writes : (fixed : Fixed) (task : Task) (cache : Cache) (suites : Suites) (phase : Phase) (server : ℕ) (asked : Request) (word : Word) (later : List Exchange) → request_in fixed task suites phase ≡ Some (server, asked)
-    → InDoing (after' fixed task cache suites phase server asked word) later → InPhase suites phase (record { server = server; request = asked; word = word } ∷ later)
-word_writes fixed task cache suites (Gathering number) server asked word later is in' =
-    one_more server asked word later (asked_as is_prepare false task number (suite_of suites number) server asked (λ mode. refl) refl is) (some_doing (after' fixed task cache suites (Gathering number) server asked word) later in')
-word_writes fixed task cache suites (Fetching number) server asked word later is in' =
-    one_more server asked word later (fetched_as is_prepare false task number (suite_of suites number) server asked refl is) (some_doing (after' fixed task cache suites (Fetching number) server asked word) later in')
-word_writes fixed task cache suites (Widening [] granted) server asked word later is in' = cc
-word_writes fixed task cache suites (Widening (number ∷ left) granted) server asked word later is in' =
-    one_more server asked word later (asked_as is_prepare false task number (suite_of suites number) server asked (λ mode. refl) refl is) (some_doing (after' fixed task cache suites (Widening (number ∷ left) granted) server asked word) later in')
-word_writes fixed task cache suites (Preparing [] outcome) server asked word later is in' = cc
-word_writes fixed task cache suites (Preparing (now ∷ left) outcome) server asked word later is in' = (from, rest word in')
+response_writes : (fixed : Fixed) (task : Task) (cache : Cache) (suites : Suites) (phase : Phase) (server : ℕ) (asked : Request) (response : Response) (later : List Exchange) → request_in fixed task suites phase ≡ Some (server, asked)
+    → InDoing (after' fixed task cache suites phase server asked response) later → InPhase suites phase (record { server = server; request = asked; response = response } ∷ later)
+response_writes fixed task cache suites (Gathering number) server asked response later is in' =
+    one_more server asked response later (asked_as is_prepare false task number (suite_of suites number) server asked (λ mode. refl) refl is) (some_doing (after' fixed task cache suites (Gathering number) server asked response) later in')
+response_writes fixed task cache suites (Fetching number) server asked response later is in' =
+    one_more server asked response later (fetched_as is_prepare false task number (suite_of suites number) server asked refl is) (some_doing (after' fixed task cache suites (Fetching number) server asked response) later in')
+response_writes fixed task cache suites (Widening [] granted) server asked response later is in' = cc
+response_writes fixed task cache suites (Widening (number ∷ left) granted) server asked response later is in' =
+    one_more server asked response later (asked_as is_prepare false task number (suite_of suites number) server asked (λ mode. refl) refl is) (some_doing (after' fixed task cache suites (Widening (number ∷ left) granted) server asked response) later in')
+response_writes fixed task cache suites (Preparing [] outcome) server asked response later is in' = cc
+response_writes fixed task cache suites (Preparing (now ∷ left) outcome) server asked response later is in' = (from, rest response in')
   where
     at : now ≡ server
     at = ap (λ (pair : ℕ × Request). pair.0) (same_Some (now, request.Prepare task.t (parts_at suites (changes_of outcome) now)) (server, asked) is)
@@ -121,46 +121,46 @@ word_writes fixed task cache suites (Preparing (now ∷ left) outcome) server as
     from = λ t parts same.
         ap parts_of (sym (asks_same now server (request.Prepare task.t (parts_at suites (changes_of outcome) now)) asked is ∙ same)) ∙ ap (parts_at suites (changes_of outcome)) at
 
-    rest : (word : Word) → InDoing (after' fixed task cache suites (Preparing (now ∷ left) outcome) server asked word) later → Writes suites (changes_of outcome) later
+    rest : (response : Response) → InDoing (after' fixed task cache suites (Preparing (now ∷ left) outcome) server asked response) later → Writes suites (changes_of outcome) later
     rest (Lacked lacked) in' = all_ended task cache suites verdict.Aborted (Undecided (lack_cause server lacked)) (locked_at suites) later in' suites (changes_of outcome)
     rest (Replied said) in' =
         elim (is_prepared said) as (λ b. InDoing (agents.left Running (cond b (prepare task cache suites outcome left) (give_up task cache suites (Lost server))).after) later → Writes suites (changes_of outcome) later) [
           | true ↦ λ in'. writes_prepare task cache suites outcome left later in'
           | false ↦ λ in'. all_ended task cache suites verdict.Aborted (Undecided (Lost server)) (locked_at suites) later in' suites (changes_of outcome)
         ] in'
-word_writes fixed task cache suites (Deciding outcome) server asked word later is in' = (no_from suites (changes_of outcome) server asked other, rest word in' suites (changes_of outcome))
+response_writes fixed task cache suites (Deciding outcome) server asked response later is in' = (no_from suites (changes_of outcome) server asked other, rest response in' suites (changes_of outcome))
   where
     other : is_prepare asked ≡ false
     other = ap is_prepare (sym (asks_same (home_of fixed.service task.t) server (request.Decide task.t (decision_of task outcome)) asked is))
 
-    rest : (word : Word) → InDoing (after' fixed task cache suites (Deciding outcome) server asked word) later → AllWrite later
+    rest : (response : Response) → InDoing (after' fixed task cache suites (Deciding outcome) server asked response) later → AllWrite later
     rest (Lacked lacked) in' = all_ended task cache suites verdict.Aborted (Undecided (lack_cause server lacked)) (locked_at suites) later in'
     rest (Replied said) in' = all_ended task cache suites (verdict_in said verdict.Aborted) (ending_by (verdict_in said verdict.Aborted) (cause_of_abort said)) (locked_at suites) later in'
-word_writes fixed task cache suites (Finishing [] v ending) server asked word later is in' = cc
-word_writes fixed task cache suites (Finishing (now ∷ left) v ending) server asked word later is in' = λ suites' changes'. (no_from suites' changes' server asked other, rest word in' suites' changes')
+response_writes fixed task cache suites (Finishing [] v ending) server asked response later is in' = cc
+response_writes fixed task cache suites (Finishing (now ∷ left) v ending) server asked response later is in' = λ suites' changes'. (no_from suites' changes' server asked other, rest response in' suites' changes')
   where
     other : is_prepare asked ≡ false
     other = ap is_prepare (sym (asks_same now server (request.Finish task.t v) asked is))
 
-    rest : (word : Word) → InDoing (after' fixed task cache suites (Finishing (now ∷ left) v ending) server asked word) later → AllWrite later
+    rest : (response : Response) → InDoing (after' fixed task cache suites (Finishing (now ∷ left) v ending) server asked response) later → AllWrite later
     rest (Lacked lacked) in' = all_ended task cache suites v ending left later in'
     rest (Replied said) in' = all_ended task cache suites v ending left later in'
 
--- ---- all words
+-- ---- all responses
 
-round_all : (after : After Round) (later : List Exchange) → InDoing (agents.left Rounding after) later → AllWrite later
-round_all (GoesOn round) later in' = in'
+round_all : (after : After SweepRun) (later : List Exchange) → InDoing (agents.left RunningSweep after) later → AllWrite later
+round_all (GoesOn sweep_run) later in' = in'
 round_all (Ends ending) later in' = in'
 
-take_writes : (fixed : Fixed) (agent : Agent) (word : Word) (later : List Exchange) (doing : Option Doing) (asked : Option (ℕ × Request)) → agent.doing ≡ doing → next_in fixed doing ≡ asked
-    → InDoing (take_in fixed agent word doing asked).agent.doing later → InDoing doing (exchange_of asked word ++ later)
-take_writes fixed agent word later (Some (Running running)) (Some asked) was is in' = word_writes fixed running.task agent.cache running.suites running.phase asked.0 asked.1 word later is in'
-take_writes fixed agent word later (Some (Running running)) None was is in' = subst (λ doing. InDoing doing later) was in'
-take_writes fixed agent word later (Some (Rounding round)) (Some asked) was is in' = λ suites changes.
-    (no_from suites changes asked.0 asked.1 (no_prepare_round fixed round round.now asked.0 asked.1 is), round_all (sweep.after_word fixed.service round asked.0 word) later in' suites changes)
-take_writes fixed agent word later (Some (Rounding round)) None was is in' = cc
-take_writes fixed agent word later None (Some asked) was is in' = cc
-take_writes fixed agent word later None None was is in' = subst (λ doing. InDoing doing later) was in'
+take_writes : (fixed : Fixed) (agent : Agent) (response : Response) (later : List Exchange) (doing : Option Doing) (asked : Option (ℕ × Request)) → agent.doing ≡ doing → next_in fixed doing ≡ asked
+    → InDoing (take_in fixed agent response doing asked).agent.doing later → InDoing doing (exchange_of asked response ++ later)
+take_writes fixed agent response later (Some (Running running)) (Some asked) was is in' = response_writes fixed running.task agent.cache running.suites running.phase asked.0 asked.1 response later is in'
+take_writes fixed agent response later (Some (Running running)) None was is in' = subst (λ doing. InDoing doing later) was in'
+take_writes fixed agent response later (Some (RunningSweep sweep_run)) (Some asked) was is in' = λ suites changes.
+    (no_from suites changes asked.0 asked.1 (no_prepare_round fixed sweep_run sweep_run.now asked.0 asked.1 is), round_all (sweep.after_response fixed.service sweep_run asked.0 response) later in' suites changes)
+take_writes fixed agent response later (Some (RunningSweep sweep_run)) None was is in' = cc
+take_writes fixed agent response later None (Some asked) was is in' = cc
+take_writes fixed agent response later None None was is in' = subst (λ doing. InDoing doing later) was in'
 
 all_none : AllWrite []
 all_none = λ suites changes. tt
@@ -174,15 +174,15 @@ phase_none suites (Deciding outcome) = tt
 phase_none suites (Finishing servers v ending) = all_none
 
 doing_none : (doing : Option Doing) → InDoing doing []
-doing_none (Some (Running course)) = phase_none course.suites course.phase
-doing_none (Some (Rounding round)) = all_none
+doing_none (Some (Running txn_run)) = phase_none txn_run.suites txn_run.phase
+doing_none (Some (RunningSweep sweep_run)) = all_none
 doing_none None = all_none
 
 all_writes : (fixed : Fixed) (agent : Agent) (events : List Event) → InDoing agent.doing (exchanges fixed agent events)
 all_writes fixed agent [] = doing_none agent.doing
 all_writes fixed agent (Forget site ∷ events) = all_writes fixed (forget agent site) events
-all_writes fixed agent (Take word ∷ events) =
-    take_writes fixed agent word (exchanges fixed (take fixed agent word).agent events) agent.doing (next_of fixed agent) refl refl (all_writes fixed (take fixed agent word).agent events)
+all_writes fixed agent (Take response ∷ events) =
+    take_writes fixed agent response (exchanges fixed (take fixed agent response).agent events) agent.doing (next_of fixed agent) refl refl (all_writes fixed (take fixed agent response).agent events)
 
 from_has : (suites : Suites) (changes : Changes) (past : List Exchange) (one : Exchange) → Writes suites changes past → Has past one → IsFrom suites changes one.server one.request
 from_has suites changes [] one writes has = absurd has

@@ -3,12 +3,12 @@ use Rattle.std.specs.Prelude.{ℕ, ◌+◌, ◌*◌, ◌-◌, ◌^◌, nat_lt, B
 use Rattle.suite_prefix.specs.SettingsRules.{Opening}
 use Rattle.rep_core.specs.declared.request.Request.{Request}
 use Rattle.weak_cache.specs.Entries.{Cache, forgotten}
-use Rattle.txn_core.specs.declared.word.Word.{Word}
+use Rattle.txn_core.specs.declared.response.Response.{Response}
 use Rattle.txn_core.specs.declared.ending.Ending.{Ending}
 use Rattle.txn_core.specs.declared.job.Job.{Job}
 use Rattle.txn_core.specs.declared.job.Job.TheVariants.{Transaction, Sweep}
-use Rattle.txn_core.specs.Doing.{Fixed, Task, Listing, Doing, Running, Rounding, After, GoesOn, Ends}
-use Rattle.txn_core.specs.Transactions as course
+use Rattle.txn_core.specs.Doing.{Fixed, Task, Listing, Doing, Running, RunningSweep, After, GoesOn, Ends}
+use Rattle.txn_core.specs.Transactions as txn_run
 use Rattle.txn_core.specs.Transactions.{Step, execute, request_of}
 use Rattle.txn_core.specs.Sweeps as sweep
 use Rattle.txn_core.specs.Sweeps.{asked_now}
@@ -33,8 +33,8 @@ opening index = record { index = index; count = 0; cache = []; doing = None }
 
 abbrev pub next_in : Fixed → Option Doing → Option (ℕ × Request)
 next_in fixed None = None
-next_in fixed (Some (Running course)) = request_of fixed course
-next_in fixed (Some (Rounding round)) = Some (asked_now fixed.service round round.now)
+next_in fixed (Some (Running txn_run)) = request_of fixed txn_run
+next_in fixed (Some (RunningSweep sweep_run)) = Some (asked_now fixed.service sweep_run sweep_run.now)
 
 abbrev pub next_of : Fixed → Agent → Option (ℕ × Request)
 next_of fixed agent = next_in fixed agent.doing
@@ -57,16 +57,16 @@ end_of (Ends ending) = Some ending
 abbrev pub with_step : Agent → Step → Taken
 with_step agent step = record { agent = record agent { cache = step.cache; doing = left Running step.after }; ending = end_of step.after }
 
-abbrev pub take_in : Fixed → Agent → Word → Option Doing → Option (ℕ × Request) → Taken
-take_in fixed agent word (Some (Running running)) (Some asked) = with_step agent (course.after_word fixed running agent.cache asked.0 asked.1 word)
-take_in fixed agent word (Some (Rounding round)) (Some asked) =
-    let after = sweep.after_word fixed.service round asked.0 word in
-    record { agent = record agent { doing = left Rounding after }; ending = end_of after }
-take_in fixed agent word doing asked = record { agent = agent; ending = None }
+abbrev pub take_in : Fixed → Agent → Response → Option Doing → Option (ℕ × Request) → Taken
+take_in fixed agent response (Some (Running running)) (Some asked) = with_step agent (txn_run.after_response fixed running agent.cache asked.0 asked.1 response)
+take_in fixed agent response (Some (RunningSweep sweep_run)) (Some asked) =
+    let after = sweep.after_response fixed.service sweep_run asked.0 response in
+    record { agent = record agent { doing = left RunningSweep after }; ending = end_of after }
+take_in fixed agent response doing asked = record { agent = agent; ending = None }
 
 -- an agent that was told something of what it asked
-abbrev pub take : Fixed → Agent → Word → Taken
-take fixed agent word = take_in fixed agent word agent.doing (next_of fixed agent)
+abbrev pub take : Fixed → Agent → Response → Taken
+take fixed agent response = take_in fixed agent response agent.doing (next_of fixed agent)
 
 -- ---- begin and forget
 
@@ -89,7 +89,7 @@ abbrev pub started : Fixed → Agent → Job → Agent
 started fixed agent (Transaction caller site ops) =
     let task : Task = record { t = 64 * agent.count + agent.index; caller = caller; site = site; ops = ops } in
     (with_step agent (execute fixed task (record { suites = []; cache = agent.cache }))).agent
-started fixed agent (Sweep server) = record agent { doing = Some (Rounding (record { server = server; broken = 0; finished = 0; left = 0; now = Listing })) }
+started fixed agent (Sweep server) = record agent { doing = Some (RunningSweep (record { server = server; broken = 0; finished = 0; left = 0; now = Listing })) }
 
 -- a job begins, or nothing changes
 abbrev pub begins : Fixed → Agent → Job → Bool
@@ -108,11 +108,11 @@ forget agent site = record agent { cache = forgotten site agent.cache }
 
 -- what an agent is told, or told to forget
 pub data Event : Type 0 where
-  Take : Word → Event
+  Take : Response → Event
   Forget : ℕ → Event
 
 abbrev pub after_event : Fixed → Agent → Event → Agent
-after_event fixed agent (Take word) = (take fixed agent word).agent
+after_event fixed agent (Take response) = (take fixed agent response).agent
 after_event fixed agent (Forget site) = forget agent site
 
 -- after a job was begun and all this, oldest first

@@ -12,12 +12,12 @@ use Rattle.rep_core.specs.declared.reply.Reply.TheVariants as reply
 use Rattle.suite_collect.specs.Collecting.{Collector, Next, Current, next}
 use Rattle.weak_cache.specs.Entries.{Entry, is_at}
 use Rattle.weak_cache.specs.Cache.{content_at}
-use Rattle.txn_core.specs.Suites.{First, Suite, suite_of, source_of}
-use Rattle.txn_core.specs.declared.word.Word.{Word}
-use Rattle.txn_core.specs.declared.word.Word.TheVariants.{Replied}
+use Rattle.txn_core.specs.Suites.{ReadPoint, Suite, suite_of, source_of}
+use Rattle.txn_core.specs.declared.response.Response.{Response}
+use Rattle.txn_core.specs.declared.response.Response.TheVariants.{Replied}
 use Rattle.txn_core.specs.declared.job.Job.{Job}
 use Rattle.txn_core.specs.declared.job.Job.TheVariants.{Transaction}
-use Rattle.txn_core.specs.Doing.{Fixed, Course, Running}
+use Rattle.txn_core.specs.Doing.{Fixed, TransactionRun, Running}
 use Rattle.txn_core.specs.Agents.{Agent, Event, Take, next_of, begin, forget, is_idle, after_all}
 use Rattle.txn_core.specs.Laws.{Exchange, of_job, told_of, IsStart}
 
@@ -31,7 +31,7 @@ abbrev pub IsCurrent : Next → Type 0
 IsCurrent next = (prefix : Prefix) × (dver : ℕ) × (members : List ℕ) × (next ≡ Current prefix dver members)
 
 -- among these exchanges, once some of them were made, the suite was Current, and never before
-pub record FirstGave (start : Prefix) (suite : ℕ) (past : List Exchange) (first : First) : Type 0 where
+pub record FirstGave (start : Prefix) (suite : ℕ) (past : List Exchange) (first : ReadPoint) : Type 0 where
   pub mode : LockMode
   pub members : List ℕ
   pub before : List Exchange
@@ -43,9 +43,9 @@ pub record FirstGave (start : Prefix) (suite : ℕ) (past : List Exchange) (firs
 
 -- ---- the cache
 
--- An entry that the last word put: it told the content, fetched at the first server that showed the version that the suite's first Current
+-- An entry that the last response put: it told the content, fetched at the first server that showed the version that the suite's first Current
 -- gave; with it stand that version, and the prefix that this Current gave.
-pub record IsFetched (fixed : Fixed) (agent : Agent) (job : Job) (events : List Event) (word : Word) (entry : Entry) : Type 0 where
+pub record IsFetched (fixed : Fixed) (agent : Agent) (job : Job) (events : List Event) (response : Response) (entry : Entry) : Type 0 where
   pub caller : Identity
   pub site : ℕ
   pub ops : List Op
@@ -53,20 +53,20 @@ pub record IsFetched (fixed : Fixed) (agent : Agent) (job : Job) (events : List 
   pub at : entry.site ≡ site
   pub start : Prefix
   pub gathered : IsStart fixed agent job events entry.suite start
-  pub first : First
+  pub first : ReadPoint
   pub gave : FirstGave start entry.suite (of_job fixed agent job events) first
   pub t : ℕ
   pub asked : next_of fixed (after_all fixed (begin fixed agent job) events) ≡ Some (first.source, request.Fetch t entry.suite)
   pub prefix : entry.prefix ≡ first.prefix
   pub dver : entry.dver ≡ first.dver
-  pub told : (dver : ℕ) × (word ≡ Replied (reply.Given dver entry.content))
+  pub told : (dver : ℕ) × (response ≡ Replied (reply.Given dver entry.content))
 
--- What the cache keeps was there before, perhaps at another place, but for what a word puts; and of a site that is forgotten nothing is left.
+-- What the cache keeps was there before, perhaps at another place, but for what a response puts; and of a site that is forgotten nothing is left.
 pub record CachesWhatWasFetched : Type 0 where
   pub begun : (fixed : Fixed) (agent : Agent) (job : Job) (entry : Entry) → Contains (begin fixed agent job).cache entry → Contains agent.cache entry
-  pub told : (fixed : Fixed) (agent : Agent) (job : Job) (events : List Event) (word : Word) (entry : Entry) → is_idle agent.doing ≡ true
-      → Contains (after_all fixed (begin fixed agent job) (events ++ Take word ∷ [])).cache entry
-      → Contains (after_all fixed (begin fixed agent job) events).cache entry ⊎ IsFetched fixed agent job events word entry
+  pub told : (fixed : Fixed) (agent : Agent) (job : Job) (events : List Event) (response : Response) (entry : Entry) → is_idle agent.doing ≡ true
+      → Contains (after_all fixed (begin fixed agent job) (events ++ Take response ∷ [])).cache entry
+      → Contains (after_all fixed (begin fixed agent job) events).cache entry ⊎ IsFetched fixed agent job events response entry
   pub forgotten : (agent : Agent) (site : ℕ) (entry : Entry) → Contains (forget agent site).cache entry → Contains agent.cache entry × (is_at site entry ≡ false)
 
 -- ---- contents
@@ -82,11 +82,11 @@ pub record WasCached (fixed : Fixed) (agent : Agent) (job : Job) (events : List 
 pub record WasGiven (past : List Exchange) (server suite : ℕ) (content : Content) : Type 0 where
   pub t : ℕ
   pub dver : ℕ
-  pub there : Contains past (record { server = server; request = request.Fetch t suite; word = Replied (reply.Given dver content) })
+  pub there : Contains past (record { server = server; request = request.Fetch t suite; response = Replied (reply.Given dver content) })
 
 -- It is the empty content of what has none yet; or the site's cache had it at the version that the suite's first Current gave; or the first
 -- server that showed this version told it.
-abbrev pub IsContentOf : Fixed → Agent → Job → List Event → ℕ → ℕ → First → Content → Type 0
+abbrev pub IsContentOf : Fixed → Agent → Job → List Event → ℕ → ℕ → ReadPoint → Content → Type 0
 IsContentOf fixed agent job events site suite first content =
     ((first.dver ≡ 0) × (content ≡ empty_content (held_by first.prefix.kind)))
     ⊎ (WasCached fixed agent job events site suite first.dver content ⊎ WasGiven (of_job fixed agent job events) first.source suite content)
@@ -94,6 +94,6 @@ IsContentOf fixed agent job events site suite first content =
 -- whatever content a transaction knows of a suite
 abbrev pub KnowsContents : Type 0
 KnowsContents =
-    (fixed : Fixed) (agent : Agent) (job : Job) (events : List Event) (course : Course) (number : ℕ) (suite : Suite) (content : Content) → is_idle agent.doing ≡ true
-    → (after_all fixed (begin fixed agent job) events).doing ≡ Some (Running course) → suite_of course.suites number ≡ Some suite → suite.content ≡ Some content
-    → (first : First) × (suite.first ≡ Some first) × IsContentOf fixed agent job events course.task.site number first content
+    (fixed : Fixed) (agent : Agent) (job : Job) (events : List Event) (txn_run : TransactionRun) (number : ℕ) (suite : Suite) (content : Content) → is_idle agent.doing ≡ true
+    → (after_all fixed (begin fixed agent job) events).doing ≡ Some (Running txn_run) → suite_of txn_run.suites number ≡ Some suite → suite.content ≡ Some content
+    → (first : ReadPoint) × (suite.first ≡ Some first) × IsContentOf fixed agent job events txn_run.task.site number first content

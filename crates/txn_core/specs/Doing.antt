@@ -51,7 +51,7 @@ pub data Phase : Type 0 where
   Deciding : Outcome → Phase
   Finishing : List ℕ → Verdict → Ending → Phase
 
-pub record Course : Type 0 where
+pub record TransactionRun : Type 0 where
   pub task : Task
   pub suites : Suites
   pub phase : Phase
@@ -63,7 +63,7 @@ pub data Sweeping : Type 0 where
   Telling : ℕ → Verdict → List Lock → Sweeping
   Breaking : Lock → List Lock → Sweeping
 
-pub record Round : Type 0 where
+pub record SweepRun : Type 0 where
   pub server : ℕ
   pub broken : ℕ
   pub finished : ℕ
@@ -71,10 +71,10 @@ pub record Round : Type 0 where
   pub now : Sweeping
 
 pub data Doing : Type 0 where
-  Running : Course → Doing
-  Rounding : Round → Doing
+  Running : TransactionRun → Doing
+  RunningSweep : SweepRun → Doing
 
--- what comes of a word: it goes on, or is at an end
+-- what comes of a response: it goes on, or is at an end
 pub data After (D : Type 0) : Type 0 where
   GoesOn : D → After D
   Ends : Ending → After D

@@ -24,30 +24,30 @@ use Rattle.suite_collect.specs.Telling as telling
 use Rattle.suite_collect.specs.declared.told.Said.TheVariants as told
 use Rattle.suite_prefix.specs.LockModes.{serves}
 use Rattle.suite_collect.specs.Collecting.{needed_of, all_told, mode_of}
-use Rattle.txn_core.specs.Suites.{Suite, Suites, First, suite_of, holds_exclusively}
+use Rattle.txn_core.specs.Suites.{Suite, Suites, ReadPoint, suite_of, holds_exclusively}
 use Rattle.txn_core.specs.Writing.{parts_at, is_changed, sets_votes}
-use Rattle.txn_core.specs.declared.word.Word.{Word}
+use Rattle.txn_core.specs.declared.response.Response.{Response}
 use Rattle.txn_core.specs.declared.ending.Ending.{Ending}
 use Rattle.txn_core.specs.declared.job.Job.{Job}
-use Rattle.txn_core.specs.declared.word.Word.TheVariants.{Replied, Lacked}
+use Rattle.txn_core.specs.declared.response.Response.TheVariants.{Replied, Lacked}
 use Rattle.txn_core.specs.declared.job.Job.TheVariants.{Transaction, Sweep}
-use Rattle.txn_core.specs.Doing.{Changes, Fixed, Task, Outcome, Deciding, Finishing, Course, Running}
+use Rattle.txn_core.specs.Doing.{Changes, Fixed, Task, Outcome, Deciding, Finishing, TransactionRun, Running}
 use Rattle.txn_core.specs.Transactions.{changes_of, votes_after, verdict_in, said_to, start_from}
 use Rattle.txn_core.specs.Agents.{Agent, Event, Take, Forget, next_of, take, begin, forget, is_idle, after_all}
 
 pub record Exchange : Type 0 where
   pub server : ℕ
   pub request : Request
-  pub word : Word
+  pub response : Response
 
-abbrev pub exchange_of : Option (ℕ × Request) → Word → List Exchange
-exchange_of (Some asked) word = record { server = asked.0; request = asked.1; word = word } ∷ []
-exchange_of None word = []
+abbrev pub exchange_of : Option (ℕ × Request) → Response → List Exchange
+exchange_of (Some asked) response = record { server = asked.0; request = asked.1; response = response } ∷ []
+exchange_of None response = []
 
 -- the exchanges of an agent, oldest first
 abbrev pub exchanges : Fixed → Agent → List Event → List Exchange
 exchanges fixed agent [] = []
-exchanges fixed agent (Take word ∷ events) = exchange_of (next_of fixed agent) word ++ exchanges fixed (take fixed agent word).agent events
+exchanges fixed agent (Take response ∷ events) = exchange_of (next_of fixed agent) response ++ exchanges fixed (take fixed agent response).agent events
 exchanges fixed agent (Forget site ∷ events) = exchanges fixed (forget agent site) events
 
 -- those of a job, from its begin on
@@ -70,20 +70,20 @@ locks suite (request.Poll t number mode) = number == suite
 locks suite (request.Upgrade t number) = number == suite
 locks suite _ = false
 
-abbrev pub says_held : Word → Bool
+abbrev pub says_held : Response → Bool
 says_held (Replied (reply.Held prefix dver)) = true
 says_held _ = false
 
-abbrev pub says_prepared : Word → Bool
+abbrev pub says_prepared : Response → Bool
 says_prepared (Replied said) = is_prepared said
 says_prepared (Lacked lack) = false
 
 -- whether a server was heard to hold a lock on a suite; whether it prepared
 abbrev pub was_held : List Exchange → ℕ → ℕ → Bool
-was_held past suite server = list_any (λ one. (one.server == server) && locks suite one.request && says_held one.word) past
+was_held past suite server = list_any (λ one. (one.server == server) && locks suite one.request && says_held one.response) past
 
 abbrev pub was_prepared : List Exchange → ℕ → Bool
-was_prepared past server = list_any (λ one. (one.server == server) && is_prepare one.request && says_prepared one.word) past
+was_prepared past server = list_any (λ one. (one.server == server) && is_prepare one.request && says_prepared one.response) past
 
 -- how many there are of a kind
 abbrev pub count_of : (Exchange → Bool) → List Exchange → ℕ
@@ -113,7 +113,7 @@ abbrev pub is_down : Request → Bool
 is_down (request.Poll t suite mode) = false
 is_down _ = true
 
-abbrev pub ends_it : Request → Word → Bool
+abbrev pub ends_it : Request → Response → Bool
 ends_it asked (Lacked lack) = true
 ends_it asked (Replied reply.Lost) = true
 ends_it asked (Replied reply.Down) = is_down asked
@@ -124,7 +124,7 @@ ends_it asked (Replied _) = false
 abbrev pub NothingFollowsAnEnd : Type 0
 NothingFollowsAnEnd =
     (fixed : Fixed) (agent : Agent) (job : Job) (events : List Event) (server : ℕ) (asked : Request) → is_idle agent.doing ≡ true
-    → list_any (λ one. ends_it one.request one.word) (of_job fixed agent job events) ≡ true
+    → list_any (λ one. ends_it one.request one.response) (of_job fixed agent job events) ≡ true
     → next_of fixed (after_all fixed (begin fixed agent job) events) ≡ Some (server, asked)
     → (is_decide asked || is_prepare asked) ≡ false
 
@@ -174,7 +174,7 @@ newest_of suite = newest suite.collector.start suite.collector.told
 -- after. Where its votes were not set those after are the votes that its first Current gave: that they are the votes before too holds where
 -- no newer prefix was seen since.
 pub record IsReady (suite : Suite) (number : ℕ) (changes : Changes) : Type 0 where
-  pub first : First
+  pub first : ReadPoint
   pub was : suite.first ≡ Some first
   pub not_older : first.prefix.pver ≤ (newest_of suite).pver
   pub quorum : needed_of suite.mode (newest_of suite).votes ≤ votes_in (newest_of suite).votes.reps (holds suite.mode (all_told suite.collector))
@@ -184,26 +184,26 @@ pub record IsReady (suite : Suite) (number : ℕ) (changes : Changes) : Type 0 w
 
 abbrev pub DecidesOnQuorums : Type 0
 DecidesOnQuorums =
-    (fixed : Fixed) (agent : Agent) (job : Job) (events : List Event) (course : Course) (outcome : Outcome) (number : ℕ) (suite : Suite) → is_idle agent.doing ≡ true
-    → (after_all fixed (begin fixed agent job) events).doing ≡ Some (Running course) → course.phase ≡ Deciding outcome
-    → suite_of course.suites number ≡ Some suite → IsReady suite number (changes_of outcome)
+    (fixed : Fixed) (agent : Agent) (job : Job) (events : List Event) (txn_run : TransactionRun) (outcome : Outcome) (number : ℕ) (suite : Suite) → is_idle agent.doing ≡ true
+    → (after_all fixed (begin fixed agent job) events).doing ≡ Some (Running txn_run) → txn_run.phase ≡ Deciding outcome
+    → suite_of txn_run.suites number ≡ Some suite → IsReady suite number (changes_of outcome)
 
 -- ---- how the end is told
 
 -- how a transaction ended, as its home said; Aborted, where it said nothing
-abbrev pub said_by : Word → Verdict → Verdict
+abbrev pub said_by : Response → Verdict → Verdict
 said_by (Replied said) before = verdict_in said before
 said_by (Lacked lack) before = before
 
 abbrev pub told_verdict : Verdict → List Exchange → Verdict
 told_verdict before [] = before
-told_verdict before (one ∷ later) = told_verdict (if is_decide one.request then said_by one.word before else before) later
+told_verdict before (one ∷ later) = told_verdict (if is_decide one.request then said_by one.response before else before) later
 
 -- each Finish carries it
 abbrev pub FinishCarriesTheVerdict : Type 0
 FinishCarriesTheVerdict =
-    (fixed : Fixed) (agent : Agent) (job : Job) (events : List Event) (course : Course) (servers : List ℕ) (v : Verdict) (ending : Ending) → is_idle agent.doing ≡ true
-    → (after_all fixed (begin fixed agent job) events).doing ≡ Some (Running course) → course.phase ≡ Finishing servers v ending
+    (fixed : Fixed) (agent : Agent) (job : Job) (events : List Event) (txn_run : TransactionRun) (servers : List ℕ) (v : Verdict) (ending : Ending) → is_idle agent.doing ≡ true
+    → (after_all fixed (begin fixed agent job) events).doing ≡ Some (Running txn_run) → txn_run.phase ≡ Finishing servers v ending
     → v ≡ told_verdict verdict.Aborted (of_job fixed agent job events)
 
 -- ---- why a job ends undecided
@@ -213,16 +213,16 @@ abbrev pub more_told : List Told → ℕ → Request → Option Said → List To
 more_told before server asked (Some said) = record { server = server; mode = mode_of asked; said = said } ∷ before
 more_told before server asked None = before
 
-abbrev pub told_by : List Told → Exchange → Word → List Told
+abbrev pub told_by : List Told → Exchange → Response → List Told
 told_by before one (Replied said) = more_told before one.server one.request (said_to one.request said)
 told_by before one (Lacked lack) = before
 
 abbrev pub told_of : ℕ → List Told → List Exchange → List Told
 told_of suite before [] = before
-told_of suite before (one ∷ later) = told_of suite (if locks suite one.request then told_by before one one.word else before) later
+told_of suite before (one ∷ later) = told_of suite (if locks suite one.request then told_by before one one.response else before) later
 
--- what a word says of a lock that was asked for
-abbrev pub heard_in : Request → Word → Option Said
+-- what a response says of a lock that was asked for
+abbrev pub heard_in : Request → Response → Option Said
 heard_in asked (Replied said) = said_to asked said
 heard_in asked (Lacked lack) = None
 
@@ -233,7 +233,7 @@ is_said kind asked None = false
 -- whether a server that was asked for a lock on a suite said something of a kind
 abbrev pub has_said : List Exchange → ℕ → (LockMode → Said → Bool) → ℕ → Bool
 has_said past suite kind server =
-    list_any (λ one. (one.server == server) && locks suite one.request && is_said kind one.request (heard_in one.request one.word)) past
+    list_any (λ one. (one.server == server) && locks suite one.request && is_said kind one.request (heard_in one.request one.response)) past
 
 -- that it holds the lock in a mode or a stronger one; that it does not; that it is down
 abbrev pub holding : LockMode → LockMode → Said → Bool
@@ -257,7 +257,7 @@ first_of None later = later
 abbrev pub first_busy_in : ℕ → List Exchange → Option (ℕ × ℕ)
 first_busy_in suite [] = None
 first_busy_in suite (one ∷ later) =
-    first_of (if locks suite one.request then busy_at one.server (heard_in one.request one.word) else None) (first_busy_in suite later)
+    first_of (if locks suite one.request then busy_at one.server (heard_in one.request one.response) else None) (first_busy_in suite later)
 
 -- the task of a transaction that an agent begins
 abbrev pub task_of : Agent → Identity → ℕ → List Op → Task
@@ -283,12 +283,12 @@ pub record IsStart (fixed : Fixed) (agent : Agent) (job : Job) (events : List Ev
   pub from : start ≡ start_from fixed (task_of agent caller site ops) (after_all fixed (begin fixed agent job) before).cache suite
 
 -- what was told fits what was asked, as all replies of servers do
-abbrev pub fits_word : Request → Word → Bool
-fits_word asked (Replied said) = fits asked said
-fits_word asked (Lacked lack) = true
+abbrev pub fits_response : Request → Response → Bool
+fits_response asked (Replied said) = fits asked said
+fits_response asked (Lacked lack) = true
 
 abbrev pub all_fit : List Exchange → Bool
-all_fit past = list_all (λ one. fits_word one.request one.word) past
+all_fit past = list_all (λ one. fits_response one.request one.response) past
 
 -- ---- how many steps it takes
 
@@ -335,13 +335,13 @@ EndsInTime =
     → length (of_job fixed agent (Transaction caller site ops) events) ≤ length suites * (2 * length servers + 1) + 2 * length servers + 1
 
 -- how many locks were listed
-abbrev pub listed_in : Request → Word → ℕ
+abbrev pub listed_in : Request → Response → ℕ
 listed_in request.Locks (Replied (reply.Locked locks)) = length locks
 listed_in _ _ = 0
 
 abbrev pub listed : List Exchange → ℕ
 listed [] = 0
-listed (one ∷ past) = listed_in one.request one.word + listed past
+listed (one ∷ past) = listed_in one.request one.response + listed past
 
 -- a sweep lists the locks, and takes at most two steps for each that it was told
 abbrev pub SweepEndsInTime : Type 0

@@ -1,20 +1,20 @@
 -- An agent as its contracts see it: what never changes, and its state.
 use Rattle.std.specs.Prelude.{◌≡◌, ℕ, true, Option, Some, None}
 use Rattle.rep_core.specs.declared.request.Request.{Request}
-use Rattle.txn_core.specs.declared.word.Word.{Word}
+use Rattle.txn_core.specs.declared.response.Response.{Response}
 use Rattle.txn_core.specs.declared.ending.Ending.{Ending}
 use Rattle.txn_core.specs.Doing.{Fixed, Doing}
 use Rattle.txn_core.specs.Agents.{Agent}
-use Rattle.txn_core.specs.Laws.{fits_word}
+use Rattle.txn_core.specs.Laws.{fits_response}
 
 pub record Standing : Type 0 where
   pub fixed : Fixed
   pub state : Agent
 
--- a word answers what was asked; where nothing was asked, any does
-abbrev pub FitsAsked : Option (ℕ × Request) → Word → Type 0
-FitsAsked (Some asked) word = fits_word asked.1 word ≡ true
-FitsAsked None word = Unit {0}
+-- a response answers what was asked; where nothing was asked, any does
+abbrev pub FitsAsked : Option (ℕ × Request) → Response → Type 0
+FitsAsked (Some asked) response = fits_response asked.1 response ≡ true
+FitsAsked None response = Unit {0}
 
 -- what is done once there is an ending, or none
 abbrev pub left_by : Option Ending → Option Doing → Option Doing

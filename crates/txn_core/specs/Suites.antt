@@ -19,7 +19,7 @@ use Rattle.suite_collect.specs.Telling.{holds, shown}
 use Rattle.suite_collect.specs.Collecting.{Collector, all_told}
 
 -- what the first Current of a suite gave: its prefix, the version of its content, and the first server that showed that version
-pub record First : Type 0 where
+pub record ReadPoint : Type 0 where
   pub prefix : Prefix
   pub dver : ℕ
   pub source : ℕ
@@ -27,7 +27,7 @@ pub record First : Type 0 where
 -- a suite that was asked for: its collector; what the first Current gave; in which mode a Current was had last; and its content, once it is there
 pub record Suite : Type 0 where
   pub collector : Collector
-  pub first : Option First
+  pub first : Option ReadPoint
   pub mode : LockMode
   pub content : Option Content
 
@@ -57,12 +57,12 @@ row_with kind.Absent prefix content = None
 row_with made prefix content =
     Some (record { owner = prefix.owner; group = prefix.group; acl = prefix.acl; votes = prefix.votes; content = unwrap_or content (empty_content (held_by made)) })
 
-abbrev pub known_row : Suite → First → KnownSuite
+abbrev pub known_row : Suite → ReadPoint → KnownSuite
 known_row suite first =
     record { mode = suite.mode; row = row_with first.prefix.kind first.prefix suite.content; opened = is_some suite.content }
 
 -- what is known of the suites that had a Current
-abbrev pub known_if : ℕ → Suite → Option First → Known → Known
+abbrev pub known_if : ℕ → Suite → Option ReadPoint → Known → Known
 known_if number suite (Some first) known = (number, known_row suite first) ∷ known
 known_if number suite None known = known
 
@@ -94,7 +94,7 @@ source_of collector dver [] = 0
 source_of collector dver (server ∷ servers) = if shown collector.told server == dver then server else source_of collector dver servers
 
 -- the first Current stays
-abbrev pub first_or : Option First → First → Option First
+abbrev pub first_or : Option ReadPoint → ReadPoint → Option ReadPoint
 first_or (Some first) new = Some first
 first_or None new = Some new
 

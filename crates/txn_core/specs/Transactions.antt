@@ -1,4 +1,4 @@
--- How a transaction goes: what it asks next, and what comes of a word that it is told.
+-- How a transaction goes: what it asks next, and what comes of a response that it is told.
 use Rattle.std.specs.Prelude.{ℕ, zero, suc, ◌+◌, ◌==◌, Bool, true, false, if◌then◌else◌, List, [], ◌∷◌, length, map, filter, unwrap_or, Option, Some, None, Ok, Err}
 use Rattle.vote_core.specs.Quorums.{Configuration}
 use Rattle.vote_core.specs.Validity.{max_servers}
@@ -31,20 +31,20 @@ use Rattle.suite_collect.specs.declared.told.Said.{Said}
 use Rattle.suite_collect.specs.Collecting.{Next, Ask, Current, Short, collect, raise, widen, tell, request_for, mode_of, next}
 use Rattle.weak_cache.specs.Entries.{Cache}
 use Rattle.weak_cache.specs.Cache.{hint, content_at, searched, put}
-use Rattle.txn_core.specs.Suites.{First, Suite, Suites, suite_of, with_suite, known_of, has_locks, settled}
+use Rattle.txn_core.specs.Suites.{ReadPoint, Suite, Suites, suite_of, with_suite, known_of, has_locks, settled}
 use Rattle.txn_core.specs.Writing.{change_of, parts_at}
-use Rattle.txn_core.specs.declared.word.Word.{Word}
+use Rattle.txn_core.specs.declared.response.Response.{Response}
 use Rattle.txn_core.specs.declared.ending.Cause.{Cause}
 use Rattle.txn_core.specs.declared.ending.Ending.{Ending}
-use Rattle.txn_core.specs.declared.word.Word.TheVariants.{Replied, Lacked}
+use Rattle.txn_core.specs.declared.response.Response.TheVariants.{Replied, Lacked}
 use Rattle.txn_core.specs.declared.ending.Cause.TheVariants.{Unavailable, Busy, Lost, Overruled, HomeDown, Full, Memory}
 use Rattle.txn_core.specs.declared.ending.Ending.TheVariants.{Answered, Refused, Undecided}
-use Rattle.txn_core.specs.Doing.{Changes, Granted, Fixed, Task, home_of, Outcome, Phase, Gathering, Fetching, Widening, Preparing, Deciding, Finishing, Course, After, GoesOn, Ends}
+use Rattle.txn_core.specs.Doing.{Changes, Granted, Fixed, Task, home_of, Outcome, Phase, Gathering, Fetching, Widening, Preparing, Deciding, Finishing, TransactionRun, After, GoesOn, Ends}
 
--- what comes of a word, with the cache after it
+-- what comes of a response, with the cache after it
 pub record Step : Type 0 where
   pub cache : Cache
-  pub after : After Course
+  pub after : After TransactionRun
 
 -- a transaction that goes on with these suites in this phase, the cache as it was
 abbrev pub on_with : Task → Cache → Suites → Phase → Step
@@ -104,7 +104,7 @@ raised_or_new fixed task cache number mode None =
 -- ---- before: the suites that get votes are widened to them
 
 -- the votes of a suite after what is set of it
-abbrev pub votes_then : Option Change → Option First → Configuration → Configuration
+abbrev pub votes_then : Option Change → Option ReadPoint → Configuration → Configuration
 votes_then (Some change) first before = change.row.votes
 votes_then None (Some first) before = first.prefix.votes
 votes_then None None before = before
@@ -147,22 +147,22 @@ pub record Gathered : Type 0 where
   pub cache : Cache
 
 -- a content that is to be had without asking: an empty one of version 0, or one of the cache
-abbrev pub free_content : Task → Cache → ℕ → First → Option Content
+abbrev pub free_content : Task → Cache → ℕ → ReadPoint → Option Content
 free_content task cache number first =
     if first.dver == 0 then Some (empty_content (held_by first.prefix.kind)) else content_at cache task.site number first.dver
 
 -- what was looked for in the cache is its newest entry from then on
-abbrev pub after_search : Task → Cache → ℕ → First → Cache
+abbrev pub after_search : Task → Cache → ℕ → ReadPoint → Cache
 after_search task cache number first = if first.dver == 0 then cache else searched task.site number first.dver cache
 
-abbrev pub opened_with : Task → Gathered → ℕ → Suite → First → Option Content → Option Gathered
+abbrev pub opened_with : Task → Gathered → ℕ → Suite → ReadPoint → Option Content → Option Gathered
 opened_with task all number suite first (Some content) = Some (record {
   suites = with_suite number (record suite { content = Some content }) all.suites;
   cache = after_search task all.cache number first;
 })
 opened_with task all number suite first None = None
 
-abbrev pub open_first : Task → Gathered → ℕ → Suite → Option First → Option Gathered
+abbrev pub open_first : Task → Gathered → ℕ → Suite → Option ReadPoint → Option Gathered
 open_first task all number suite (Some first) = opened_with task all number suite first (free_content task all.cache number first)
 open_first task all number suite None = None
 
@@ -206,7 +206,7 @@ abbrev pub asked_for : Task → ℕ → Option Suite → Option (ℕ × Request)
 asked_for task number (Some suite) = asked_by task number (next suite.collector)
 asked_for task number None = None
 
-abbrev pub fetched_at : Task → ℕ → Option First → Option (ℕ × Request)
+abbrev pub fetched_at : Task → ℕ → Option ReadPoint → Option (ℕ × Request)
 fetched_at task number (Some first) = Some (first.source, request.Fetch task.t number)
 fetched_at task number None = None
 
@@ -235,8 +235,8 @@ request_in fixed task suites (Deciding outcome) = Some (home_of fixed.service ta
 request_in fixed task suites (Finishing [] verdict ending) = None
 request_in fixed task suites (Finishing (server ∷ left) verdict ending) = Some (server, request.Finish task.t verdict)
 
-abbrev pub request_of : Fixed → Course → Option (ℕ × Request)
-request_of fixed course = request_in fixed course.task course.suites course.phase
+abbrev pub request_of : Fixed → TransactionRun → Option (ℕ × Request)
+request_of fixed txn_run = request_in fixed txn_run.task txn_run.suites txn_run.phase
 
 -- ---- what comes of a reply
 
@@ -264,7 +264,7 @@ hear task cache suites phase number suite server asked (Some said) go_on =
 hear task cache suites phase number suite server asked None go_on = give_up task cache suites (Lost server)
 
 -- a content that was fetched; the cache keeps it with the prefix that the first Current gave
-abbrev pub keep_content : Fixed → Task → Cache → Suites → ℕ → Suite → Content → Option First → ℕ → Step
+abbrev pub keep_content : Fixed → Task → Cache → Suites → ℕ → Suite → Content → Option ReadPoint → ℕ → Step
 keep_content fixed task cache suites number suite content (Some first) server = execute fixed task (record {
   suites = with_suite number (record suite { content = Some content }) suites;
   cache = put fixed.limits (record { site = task.site; suite = number; prefix = first.prefix; dver = first.dver; content = content }) cache;
@@ -332,6 +332,6 @@ after_lack task cache suites (Finishing [] verdict ending) server lacked = tell_
 after_lack task cache suites (Finishing (now ∷ left) verdict ending) server lacked = tell_end task cache suites verdict ending left
 after_lack task cache suites other server lacked = give_up task cache suites (lack_cause server lacked)
 
-abbrev pub after_word : Fixed → Course → Cache → ℕ → Request → Word → Step
-after_word fixed course cache server asked (Replied said) = after_reply fixed course.task cache course.suites course.phase server asked said
-after_word fixed course cache server asked (Lacked lacked) = after_lack course.task cache course.suites course.phase server lacked
+abbrev pub after_response : Fixed → TransactionRun → Cache → ℕ → Request → Response → Step
+after_response fixed txn_run cache server asked (Replied said) = after_reply fixed txn_run.task cache txn_run.suites txn_run.phase server asked said
+after_response fixed txn_run cache server asked (Lacked lacked) = after_lack txn_run.task cache txn_run.suites txn_run.phase server lacked

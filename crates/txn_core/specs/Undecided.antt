@@ -18,10 +18,10 @@ use Rattle.rep_core.specs.declared.stamped.Lack.{Lack}
 use Rattle.rep_core.specs.declared.stamped.Lack.TheVariants as lack
 use Rattle.suite_collect.specs.Telling.{newest}
 use Rattle.suite_collect.specs.Collecting.{needed_of}
-use Rattle.txn_core.specs.Suites.{First, Suite, Suites, suite_of}
+use Rattle.txn_core.specs.Suites.{ReadPoint, Suite, Suites, suite_of}
 use Rattle.txn_core.specs.Writing.{change_of}
-use Rattle.txn_core.specs.declared.word.Word.{Word}
-use Rattle.txn_core.specs.declared.word.Word.TheVariants.{Replied, Lacked}
+use Rattle.txn_core.specs.declared.response.Response.{Response}
+use Rattle.txn_core.specs.declared.response.Response.TheVariants.{Replied, Lacked}
 use Rattle.txn_core.specs.declared.ending.Cause.{Cause}
 use Rattle.txn_core.specs.declared.ending.Cause.TheVariants.{Unavailable, Busy, Lost, Overruled, HomeDown, Full, Memory}
 use Rattle.txn_core.specs.declared.ending.Ending.TheVariants.{Undecided}
@@ -40,7 +40,7 @@ use Rattle.txn_core.specs.Caching.{FirstGave, IsContentOf}
 pub record WasGathered (fixed : Fixed) (agent : Agent) (job : Job) (events : List Event) (number : ℕ) (suite : Suite) : Type 0 where
   pub start : Prefix
   pub gathered : IsStart fixed agent job events number start
-  pub first : First
+  pub first : ReadPoint
   pub was : suite.first ≡ Some first
   pub gave : FirstGave start number (of_job fixed agent job events) first
   pub content : (content : Content) → suite.content ≡ Some content → IsContentOf fixed agent job events gathered.site number first content
@@ -94,11 +94,11 @@ pub record IsShort (fixed : Fixed) (agent : Agent) (job : Job) (events : List Ev
   pub all_down : busy ≡ None → (server : ℕ) → has_said (of_job fixed agent job events) suite refusing server ≡ true → has_said (of_job fixed agent job events) suite down server ≡ true
 
 -- an exchange of a kind
-pub record Was (past : List Exchange) (server : ℕ) (kind : Request → Word → Bool) : Type 0 where
+pub record Was (past : List Exchange) (server : ℕ) (kind : Request → Response → Bool) : Type 0 where
   pub one : Exchange
   pub there : Contains past one
   pub at : one.server ≡ server
-  pub is : kind one.request one.word ≡ true
+  pub is : kind one.request one.response ≡ true
 
 -- the requests of a transaction that stand on its locks at a server
 abbrev pub stands_on_locks : Request → Bool
@@ -108,20 +108,20 @@ stands_on_locks (request.Prepare t parts) = true
 stands_on_locks _ = false
 
 -- the server has lost them
-abbrev pub loses : Request → Word → Bool
+abbrev pub loses : Request → Response → Bool
 loses asked (Replied reply.Lost) = true
 loses asked (Replied reply.Down) = stands_on_locks asked
 loses asked _ = false
 
-abbrev pub says_aborted : Word → Bool
+abbrev pub says_aborted : Response → Bool
 says_aborted (Replied (reply.Verdict verdict.Aborted)) = true
 says_aborted _ = false
 
-abbrev pub says_down : Word → Bool
+abbrev pub says_down : Response → Bool
 says_down (Replied reply.Down) = true
 says_down _ = false
 
-abbrev pub is_lack : Lack → Word → Bool
+abbrev pub is_lack : Lack → Response → Bool
 is_lack lack.Full (Lacked lack.Full) = true
 is_lack lack.Memory (Lacked lack.Memory) = true
 is_lack _ _ = false
@@ -131,33 +131,33 @@ is_finish (request.Finish t v) = true
 is_finish _ = false
 
 -- a request of a transaction that was not served while it was open how it ends
-abbrev pub stops : Lack → Request → Word → Bool
-stops lacked asked word = not (is_finish asked) && is_lack lacked word
+abbrev pub stops : Lack → Request → Response → Bool
+stops lacked asked response = not (is_finish asked) && is_lack lacked response
 
 -- A server was lost to the job: it lost locks of a transaction, or it is the one that was to be swept and was down.
 abbrev pub WasLost : List Exchange → Job → ℕ → Type 0
 WasLost past (Transaction caller site ops) server = Was past server loses
-WasLost past (Sweep swept) server = (server ≡ swept) × Was past server (λ asked word. says_down word)
+WasLost past (Sweep swept) server = (server ≡ swept) × Was past server (λ asked response. says_down response)
 
 -- It did not serve a request: of a transaction one before its end is told, of a sweep any.
 abbrev pub DidNotServe : List Exchange → Job → Lack → ℕ → Type 0
 DidNotServe past (Transaction caller site ops) lacked server = Was past server (stops lacked)
-DidNotServe past (Sweep swept) lacked server = Was past server (λ asked word. is_lack lacked word)
+DidNotServe past (Sweep swept) lacked server = Was past server (λ asked response. is_lack lacked response)
 
 -- what an undecided end must find in the exchanges of its job
 abbrev pub IsCaused : Fixed → Agent → Job → List Event → Cause → Type 0
 IsCaused fixed agent job events (Unavailable suite got needed) = IsShort fixed agent job events suite got needed None
 IsCaused fixed agent job events (Busy server holder) = (suite got needed : ℕ) × IsShort fixed agent job events suite got needed (Some (server, holder))
 IsCaused fixed agent job events (Lost server) = WasLost (of_job fixed agent job events) job server
-IsCaused fixed agent job events Overruled = (server : ℕ) × Was (of_job fixed agent job events) server (λ asked word. is_decide asked && says_aborted word)
-IsCaused fixed agent job events HomeDown = (server : ℕ) × Was (of_job fixed agent job events) server (λ asked word. is_decide asked && says_down word)
+IsCaused fixed agent job events Overruled = (server : ℕ) × Was (of_job fixed agent job events) server (λ asked response. is_decide asked && says_aborted response)
+IsCaused fixed agent job events HomeDown = (server : ℕ) × Was (of_job fixed agent job events) server (λ asked response. is_decide asked && says_down response)
 IsCaused fixed agent job events (Full server) = DidNotServe (of_job fixed agent job events) job lack.Full server
 IsCaused fixed agent job events Memory = (server : ℕ) × DidNotServe (of_job fixed agent job events) job lack.Memory server
 
 -- the ending of the last event, if it ended the job
 abbrev pub EndsAreCaused : Type 0
 EndsAreCaused =
-    (fixed : Fixed) (agent : Agent) (job : Job) (events : List Event) (word : Word) (cause : Cause) → is_idle agent.doing ≡ true
-    → all_fit (of_job fixed agent job (events ++ Take word ∷ [])) ≡ true
-    → (take fixed (after_all fixed (begin fixed agent job) events) word).ending ≡ Some (Undecided cause)
-    → IsCaused fixed agent job (events ++ Take word ∷ []) cause
+    (fixed : Fixed) (agent : Agent) (job : Job) (events : List Event) (response : Response) (cause : Cause) → is_idle agent.doing ≡ true
+    → all_fit (of_job fixed agent job (events ++ Take response ∷ [])) ≡ true
+    → (take fixed (after_all fixed (begin fixed agent job) events) response).ending ≡ Some (Undecided cause)
+    → IsCaused fixed agent job (events ++ Take response ∷ []) cause

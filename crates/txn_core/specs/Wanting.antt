@@ -7,8 +7,8 @@ use Rattle.rep_core.specs.declared.reply.Reply.{Reply}
 use Rattle.rep_core.specs.Fits.{is_held, is_locked}
 use Rattle.rep_core.specs.Service.{is_answered}
 use Rattle.rep_core.specs.Wanting.{by_request}
-use Rattle.txn_core.specs.declared.word.Word.{Word}
-use Rattle.txn_core.specs.declared.word.Word.TheVariants.{Replied, Lacked}
+use Rattle.txn_core.specs.declared.response.Response.{Response}
+use Rattle.txn_core.specs.declared.response.Response.TheVariants.{Replied, Lacked}
 use Rattle.txn_core.specs.declared.job.Job.{Job}
 use Rattle.txn_core.specs.declared.job.Job.TheVariants.{Transaction, Sweep}
 use Rattle.txn_core.specs.Doing.{Fixed}
@@ -46,6 +46,6 @@ by_said said (Some asked) = by_reply asked.1 said
 by_said said None = false
 
 -- and nothing where the request was not served
-abbrev pub by_taking : Option (ℕ × Request) → Word → Bool
+abbrev pub by_taking : Option (ℕ × Request) → Response → Bool
 by_taking asked (Replied said) = by_said said asked
 by_taking asked (Lacked lack) = false

@@ -8,7 +8,7 @@ use Rattle.rep_core.specs.State.{State}
 use Rattle.rep_core.specs.Service.{reply_of, after}
 use Rattle.txn_core.specs.declared.ending.Ending.{Ending}
 use Rattle.txn_core.specs.declared.job.Job.{Job}
-use Rattle.txn_core.specs.declared.word.Word.TheVariants.{Replied}
+use Rattle.txn_core.specs.declared.response.Response.TheVariants.{Replied}
 use Rattle.txn_core.specs.Doing.{Fixed}
 use Rattle.txn_core.specs.Agents.{Agent, opening, next_of, take, begin}
 

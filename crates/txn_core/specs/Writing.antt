@@ -15,7 +15,7 @@ use Rattle.rep_core.specs.declared.request.Take.{Take}
 use Rattle.rep_core.specs.declared.request.Take.TheVariants as take
 use Rattle.rep_core.specs.declared.request.Part.{Part}
 use Rattle.file_exec.specs.declared.changes.Change.{Change}
-use Rattle.txn_core.specs.Suites.{First, Suite, Suites, holds_lock, holds_exclusively, lock_mode}
+use Rattle.txn_core.specs.Suites.{ReadPoint, Suite, Suites, holds_lock, holds_exclusively, lock_mode}
 use Rattle.txn_core.specs.Doing.{Changes}
 
 -- ---- what is set
@@ -49,7 +49,7 @@ abbrev pub prefix_kind : Kind → PrefixKind
 prefix_kind holds.File = File
 prefix_kind holds.Folder = Folder
 
-abbrev pub new_prefix : First → Change → Prefix
+abbrev pub new_prefix : ReadPoint → Change → Prefix
 new_prefix first change = record {
   pver = first.prefix.pver + one_if (sets_prefix change);
   kind = prefix_kind (kind_of change.row.content);
@@ -59,7 +59,7 @@ new_prefix first change = record {
   votes = change.row.votes;
 }
 
-abbrev pub new_copy : First → Change → Replica
+abbrev pub new_copy : ReadPoint → Change → Replica
 new_copy first change = record {
   prefix = new_prefix first change;
   dver = first.dver + one_if change.content;
@@ -76,13 +76,13 @@ abbrev pub takes_whole : Change → ℕ → Bool
 takes_whole change server = (change.content || change.votes) && has_vote change.row.votes server
 
 -- what one server that holds the suite exclusively takes of a changed copy
-abbrev pub take_of_changed : First → Change → ℕ → Take
+abbrev pub take_of_changed : ReadPoint → Change → ℕ → Take
 take_of_changed first change server =
     if takes_whole change server then take.Whole (new_copy first change)
     else if sets_prefix change then take.Prefix (new_prefix first change)
     else take.Keep
 
-abbrev pub take_from : Suite → ℕ → Option First → Option Change → Take
+abbrev pub take_from : Suite → ℕ → Option ReadPoint → Option Change → Take
 take_from suite server (Some first) (Some change) = if holds_exclusively suite server then take_of_changed first change server else take.Keep
 take_from suite server first change = take.Keep
 

@@ -1,11 +1,11 @@
 pub mod FirstFields
 pub mod SuiteFields
-pub mod RoundFields
+pub mod SweepRunFields
 pub mod TaskFields
 pub mod GrantedFields
-pub mod CourseFields
+pub mod TransactionRunFields
 pub mod Unused
-pub mod Sequels
+pub mod NextPhases
 pub mod Plans
 pub mod Seeing
 pub mod Hearing

@@ -11,16 +11,16 @@ ghost use Rattle.txn_core.specs.code.Asking.{Asks, Wants, fixed_on};
 ghost use Rattle.txn_core.specs.code.Goings.{begun, ending_of};
 ghost use Rattle.txn_core.specs.code.Telling.{Tells};
 ghost use Rattle.txn_core.specs.declared.job.Job.TheVariants.{Sweep};
-ghost use Rattle.txn_core.specs.declared.word.Word.TheVariants.{Replied, Lacked};
+ghost use Rattle.txn_core.specs.declared.response.Response.TheVariants.{Replied, Lacked};
 
-use crate::course::Course;
-use crate::ending::{Ending, Goes};
-use crate::ground::Ground;
+use crate::ending::{Ending, Flow};
+use crate::fixed_parts::FixedParts;
 use crate::job::Job;
-use crate::means::Means;
-use crate::sweep::Round;
+use crate::resources::Resources;
+use crate::response::Response;
+use crate::sweep_run::SweepRun;
 use crate::task::Task;
-use crate::word::Word;
+use crate::transaction_run::TransactionRun;
 use file_exec::Progress;
 use file_ops::Service;
 use rep_core::{Lack, Reply, Request};
@@ -37,9 +37,9 @@ pub const MAX_JOBS: u64 = u32::MAX as u64;
 #[derive(Drop)]
 enum Doing {
     /// It carries out a transaction.
-    Running(Course),
+    Running(TransactionRun),
     /// It sweeps a server.
-    Rounding(Round),
+    RunningSweep(SweepRun),
 }
 
 /// An agent: it carries out one job at a time, a transaction or a sweep. It says what is to be asked of
@@ -48,7 +48,7 @@ enum Doing {
 pub struct Agent {
     index: u8,
     count: u64,
-    means: Means,
+    resources: Resources,
     doing: Option<Doing>,
 }
 
@@ -74,15 +74,15 @@ impl Agent {
             servers: settings.servers(),
             c0: *settings.c0(),
         };
-        let ground = Ground::new(alloc, service)?;
+        let fixed_parts = FixedParts::new(alloc, service)?;
         let cache = WeakCache::new(alloc, settings.budget(), settings.quota(), settings.slots())?;
         let progress = Progress::new(alloc);
         Ok(Agent {
             index,
             count: 0,
-            means: Means {
+            resources: Resources {
                 alloc,
-                ground,
+                fixed_parts,
                 cache,
                 progress,
             },
@@ -112,7 +112,7 @@ impl Agent {
     {
         match job {
             Job::Transaction { site, .. } => *site < MAX_SITES,
-            Job::Sweep { server } => usize::from(*server) < self.means.ground.servers(),
+            Job::Sweep { server } => usize::from(*server) < self.resources.fixed_parts.servers(),
         }
     }
 
@@ -148,8 +148,8 @@ impl Agent {
         ensures ok { OnOk result (self.new ≡ record self.old { state = (agents.with_step self.old.state (begun self.old.fixed task self.old.state.cache)).agent }) }
         ensures err { OnErr result (self.new ≡ self.old) }
     {
-        let course = Course::begin(&mut self.means, task)?;
-        self.doing = course.map(Doing::Running);
+        let txn_run = TransactionRun::begin(&mut self.resources, task)?;
+        self.doing = txn_run.map(Doing::Running);
         Ok(())
     }
 
@@ -157,8 +157,8 @@ impl Agent {
     fn sweep(&mut self, server: u8)
         ensures { self.new ≡ record self.old { state = agents.started self.old.fixed self.old.state (Sweep server) } }
     {
-        let round = Round::new(self.means.alloc, server);
-        self.doing = Some(Doing::Rounding(round));
+        let sweep_run = SweepRun::new(self.resources.alloc, server);
+        self.doing = Some(Doing::RunningSweep(sweep_run));
     }
 
     /// Of which server it asks next, and what, which is put into a place of the caller's: nothing is, where
@@ -171,7 +171,7 @@ impl Agent {
         ensures memory { IfErr result (λ _. IsTrue (wanting.by_asking (agents.next_of self.now.fixed self.now.state))) }
     {
         match &self.doing {
-            Some(doing) => doing.ask(&self.means, request),
+            Some(doing) => doing.ask(&self.resources, request),
             None => Ok(None),
         }
     }
@@ -193,7 +193,7 @@ impl Agent {
         ensures { result ≡ option_map (λ asked. asked.0) (agents.next_of self.now.fixed self.now.state) }
     {
         match &self.doing {
-            Some(doing) => doing.asked(&self.means.ground),
+            Some(doing) => doing.asked(&self.resources.fixed_parts),
             None => None,
         }
     }
@@ -202,20 +202,20 @@ impl Agent {
     /// An error leaves the agent as it was, and the same may be taken again. Memory may be wanting for
     /// a lock that is held, a content, answers and a list of locks, and for nothing else: never where a
     /// request was not served, at a Prepare, a Finish or a Break, or where a lock or a decision was lost.
-    pub fn take(&mut self, word: &Word) -> Result<Option<Ending>, AllocError>
-        requires { FitsAsked (agents.next_of self.old.fixed self.old.state) word.now }
-        ensures ok { IfOk result (λ ending. ending ≡ (agents.take self.old.fixed self.old.state word.now).ending) }
-        ensures new { OnOk result (self.new ≡ record self.old { state = (agents.take self.old.fixed self.old.state word.now).agent }) }
+    pub fn take(&mut self, response: &Response) -> Result<Option<Ending>, AllocError>
+        requires { FitsAsked (agents.next_of self.old.fixed self.old.state) response.now }
+        ensures ok { IfOk result (λ ending. ending ≡ (agents.take self.old.fixed self.old.state response.now).ending) }
+        ensures new { OnOk result (self.new ≡ record self.old { state = (agents.take self.old.fixed self.old.state response.now).agent }) }
         ensures err { OnErr result (self.new ≡ self.old) }
-        ensures memory { IfErr result (λ _. IsTrue (wanting.by_taking (agents.next_of self.old.fixed self.old.state) word.now)) }
+        ensures memory { IfErr result (λ _. IsTrue (wanting.by_taking (agents.next_of self.old.fixed self.old.state) response.now)) }
     {
         let Some(server) = self.asked() else {
             return Ok(None);
         };
         let mut ended = None;
-        match word {
-            Word::Replied(said) => self.hear(server, said, &mut ended)?,
-            Word::Lacked(lack) => ended = self.lack(*lack),
+        match response {
+            Response::Replied(said) => self.hear(server, said, &mut ended)?,
+            Response::Lacked(lack) => ended = self.lack(*lack),
         }
         Ok(ended)
     }
@@ -236,7 +236,7 @@ impl Agent {
         ensures err { OnErr result ((self.new ≡ self.old) × (ended.new ≡ ended.old)) }
         ensures memory { IfErr result (λ _. IsTrue (wanting.by_taking (agents.next_of self.old.fixed self.old.state) (Replied said.now))) }
     {
-        if let Goes::Ended(ending) = self.on_reply(server, said)? {
+        if let Flow::Ended(ending) = self.on_reply(server, said)? {
             self.doing = None;
             *ended = Some(ending);
         }
@@ -244,19 +244,19 @@ impl Agent {
     }
 
     /// The server that it asks next replied.
-    fn on_reply(&mut self, server: u8, said: &Reply) -> Result<Goes, AllocError>
+    fn on_reply(&mut self, server: u8, said: &Reply) -> Result<Flow, AllocError>
         requires asked { option_map (λ asked. asked.0) (agents.next_of self.old.fixed self.old.state) ≡ Some server }
         requires fits { FitsAsked (agents.next_of self.old.fixed self.old.state) (Replied said.now) }
-        ensures ok { IfOk result (λ goes. Tells self.old (Replied said.now) (ending_of goes) self.new) }
+        ensures ok { IfOk result (λ flow. Tells self.old (Replied said.now) (ending_of flow) self.new) }
         ensures err { OnErr result (self.new ≡ self.old) }
         ensures memory { IfErr result (λ _. IsTrue (wanting.by_taking (agents.next_of self.old.fixed self.old.state) (Replied said.now))) }
     {
         match &mut self.doing {
-            Some(Doing::Running(course)) => course.on_reply(&mut self.means, server, said),
-            Some(Doing::Rounding(round)) => {
-                round.on_reply(self.means.alloc, &self.means.ground, said)
+            Some(Doing::Running(txn_run)) => txn_run.on_reply(&mut self.resources, server, said),
+            Some(Doing::RunningSweep(sweep_run)) => {
+                sweep_run.on_reply(self.resources.alloc, &self.resources.fixed_parts, said)
             }
-            None => Ok(Goes::On),
+            None => Ok(Flow::On),
         }
     }
 
@@ -266,8 +266,8 @@ impl Agent {
         ensures new { self.new ≡ record self.old { state = (agents.take self.old.fixed self.old.state (Lacked lack)).agent } }
     {
         match self.on_lack(lack) {
-            Goes::On => None,
-            Goes::Ended(ending) => {
+            Flow::On => None,
+            Flow::Ended(ending) => {
                 self.doing = None;
                 Some(ending)
             }
@@ -275,13 +275,16 @@ impl Agent {
     }
 
     /// What it asks next was not served.
-    fn on_lack(&mut self, lack: Lack) -> Goes
+    fn on_lack(&mut self, lack: Lack) -> Flow
         ensures { Tells self.old (Lacked lack) (ending_of result) self.new }
     {
         match &mut self.doing {
-            Some(Doing::Running(course)) => course.on_lack(&mut self.means, lack),
-            Some(Doing::Rounding(round)) => round.on_lack(&self.means.ground, lack),
-            None => Goes::On,
+            Some(Doing::Running(txn_run)) => txn_run.on_lack(&mut self.resources, lack),
+            Some(Doing::RunningSweep(sweep_run)) => sweep_run.on_lack(
+                &self.resources.fixed_parts,
+                lack,
+            ),
+            None => Flow::On,
         }
     }
 
@@ -289,7 +292,7 @@ impl Agent {
     pub fn forget(&mut self, site: u8)
         ensures { self.new ≡ record self.old { state = agents.forget self.old.state site } }
     {
-        self.means.cache.forget(site);
+        self.resources.cache.forget(site);
     }
 
     /// Whether it does no job.
@@ -309,28 +312,32 @@ impl Agent {
 
 impl Doing {
     /// The server that is asked next.
-    fn asked(&self, ground: &Ground) -> Option<u8>
-        requires { (0 < ground.now.servers) × (ground.now.servers ≤ MAX_SERVERS) }
-        ensures { (limits : Limits) → result ≡ option_map (λ asked. asked.0) (agents.next_in (fixed_on ground.now limits) (Some (doing_of self.now))) }
+    fn asked(&self, fixed_parts: &FixedParts) -> Option<u8>
+        requires { (0 < fixed_parts.now.servers) × (fixed_parts.now.servers ≤ MAX_SERVERS) }
+        ensures { (limits : Limits) → result ≡ option_map (λ asked. asked.0) (agents.next_in (fixed_on fixed_parts.now limits) (Some (doing_of self.now))) }
     {
         match self {
-            Doing::Running(course) => course.asked(ground),
-            Doing::Rounding(round) => Some(round.asked(ground)),
+            Doing::Running(txn_run) => txn_run.asked(fixed_parts),
+            Doing::RunningSweep(sweep_run) => Some(sweep_run.asked(fixed_parts)),
         }
     }
 
     /// Of which server is asked next, and what, which is put into its place.
-    fn ask(&self, means: &Means, request: &mut Request) -> Result<Option<u8>, AllocError>
-        requires { (0 < means.now.ground.servers) × (means.now.ground.servers ≤ MAX_SERVERS) }
-        ensures ok { IfOk result (λ server. Asks (λ fixed. agents.next_in fixed (Some (doing_of self.now))) means.now.ground server request.new) }
+    fn ask(&self, resources: &Resources, request: &mut Request) -> Result<Option<u8>, AllocError>
+        requires { (0 < resources.now.fixed_parts.servers) × (resources.now.fixed_parts.servers ≤ MAX_SERVERS) }
+        ensures ok { IfOk result (λ server. Asks (λ fixed. agents.next_in fixed (Some (doing_of self.now))) resources.now.fixed_parts server request.new) }
         ensures none { IfOk result (λ server. IfNone server (request.new ≡ request.old)) }
         ensures err { OnErr result (request.new ≡ request.old) }
-        ensures memory { IfErr result (λ _. Wants (λ fixed. agents.next_in fixed (Some (doing_of self.now))) means.now.ground) }
+        ensures memory { IfErr result (λ _. Wants (λ fixed. agents.next_in fixed (Some (doing_of self.now))) resources.now.fixed_parts) }
     {
         match self {
-            Doing::Running(course) => course.ask(means.alloc, &means.ground, request),
-            Doing::Rounding(round) => {
-                let server = round.ask(&means.ground, request)?;
+            Doing::Running(txn_run) => txn_run.ask(
+                resources.alloc,
+                &resources.fixed_parts,
+                request,
+            ),
+            Doing::RunningSweep(sweep_run) => {
+                let server = sweep_run.ask(&resources.fixed_parts, request)?;
                 Ok(Some(server))
             }
         }

@@ -5,37 +5,37 @@ ghost use Rattle.rep_core.specs.Wanting.{records_answers};
 ghost use Rattle.weak_cache.specs.Cache.{Limits};
 ghost use Rattle.txn_core.specs.Doing as doing;
 ghost use Rattle.txn_core.specs.Suites.{suite_of};
-ghost use Rattle.txn_core.specs.Transactions as course;
+ghost use Rattle.txn_core.specs.Transactions as txn_run;
 ghost use Rattle.txn_core.specs.code.Asking.{Asks, AsksIn, Wants, WantsIn, asked_in, fixed_on};
 ghost use Rattle.txn_core.specs.declared.ending.Ending.{Ending};
 
-use crate::course::Course;
+use crate::fixed_parts::FixedParts;
 use crate::granted::Outcome;
-use crate::ground::Ground;
 use crate::home::home_of;
 use crate::phase::Phase;
 use crate::servers::Servers;
 use crate::task::Task;
+use crate::transaction_run::TransactionRun;
 use crate::writing::parts_at;
 use rep_core::{Decision, Request, Verdict};
 use std::alloc::{AllocError, Global};
 use suite_collect::Coming;
 use vote_core::MAX_SERVERS;
 
-impl Course {
+impl TransactionRun {
     /// Of which server is asked next, and what, which is put into its place. A Prepare wants memory for its
     /// list, and a Decide or a Finish at most to copy answers; nothing else does.
     pub(crate) fn ask(
         &self,
         alloc: Global,
-        ground: &Ground,
+        fixed_parts: &FixedParts,
         request: &mut Request,
     ) -> Result<Option<u8>, AllocError>
-        requires { (0 < ground.now.servers) × (ground.now.servers ≤ MAX_SERVERS) }
-        ensures ok { IfOk result (λ server. Asks (λ fixed. course.request_of fixed self.now) ground.now server request.new) }
+        requires { (0 < fixed_parts.now.servers) × (fixed_parts.now.servers ≤ MAX_SERVERS) }
+        ensures ok { IfOk result (λ server. Asks (λ fixed. txn_run.request_of fixed self.now) fixed_parts.now server request.new) }
         ensures none { IfOk result (λ server. IfNone server (request.new ≡ request.old)) }
         ensures err { OnErr result (request.new ≡ request.old) }
-        ensures memory { IfErr result (λ _. Wants (λ fixed. course.request_of fixed self.now) ground.now) }
+        ensures memory { IfErr result (λ _. Wants (λ fixed. txn_run.request_of fixed self.now) fixed_parts.now) }
     {
         match &self.phase {
             Phase::Gathering(number) | Phase::Widening { number, .. } => {
@@ -45,27 +45,27 @@ impl Course {
             Phase::Preparing(servers, outcome) => {
                 self.ask_prepare(alloc, servers, outcome, request)
             }
-            Phase::Deciding(outcome) => self.ask_decide(ground, outcome, request),
+            Phase::Deciding(outcome) => self.ask_decide(fixed_parts, outcome, request),
             Phase::Finishing(servers, verdict, _) => self.ask_finish(servers, verdict, request),
         }
     }
 
     /// The server that is asked next.
-    pub(crate) fn asked(&self, ground: &Ground) -> Option<u8>
-        requires { (0 < ground.now.servers) × (ground.now.servers ≤ MAX_SERVERS) }
-        ensures { (limits : Limits) → result ≡ option_map (λ asked. asked.0) (course.request_of (fixed_on ground.now limits) self.now) }
+    pub(crate) fn asked(&self, fixed_parts: &FixedParts) -> Option<u8>
+        requires { (0 < fixed_parts.now.servers) × (fixed_parts.now.servers ≤ MAX_SERVERS) }
+        ensures { (limits : Limits) → result ≡ option_map (λ asked. asked.0) (txn_run.request_of (fixed_on fixed_parts.now limits) self.now) }
     {
         match &self.phase {
             Phase::Gathering(number) | Phase::Widening { number, .. } => self.asked_for(*number),
             Phase::Fetching(number) => self.fetched_from(*number),
             Phase::Preparing(servers, _) | Phase::Finishing(servers, ..) => servers.first(),
-            Phase::Deciding(_) => Some(home_of(ground, self.task.t)),
+            Phase::Deciding(_) => Some(home_of(fixed_parts, self.task.t)),
         }
     }
 
     /// The server that a suite asks.
     fn asked_for(&self, number: u64) -> Option<u8>
-        ensures { result ≡ option_map (λ asked. asked.0) (course.asked_for self.now.task number (suite_of self.now.suites number)) }
+        ensures { result ≡ option_map (λ asked. asked.0) (txn_run.asked_for self.now.task number (suite_of self.now.suites number)) }
     {
         match self.suites.get(&number)?.next() {
             Coming::Ask { server, .. } => Some(server),
@@ -75,7 +75,7 @@ impl Course {
 
     /// The server at which the first quorum of a suite found its content.
     fn fetched_from(&self, number: u64) -> Option<u8>
-        ensures { result ≡ option_map (λ asked. asked.0) (course.fetched_for self.now.task number (suite_of self.now.suites number)) }
+        ensures { result ≡ option_map (λ asked. asked.0) (txn_run.fetched_for self.now.task number (suite_of self.now.suites number)) }
     {
         let first = self.suites.get(&number)?.first()?;
         Some(first.source)
@@ -83,7 +83,7 @@ impl Course {
 
     /// What a suite asks.
     fn ask_for(&self, number: u64, request: &mut Request) -> Option<u8>
-        ensures asked { option_map (λ server. (server, request.new)) result ≡ course.asked_for self.now.task number (suite_of self.now.suites number) }
+        ensures asked { option_map (λ server. (server, request.new)) result ≡ txn_run.asked_for self.now.task number (suite_of self.now.suites number) }
         ensures none { IfNone result (request.new ≡ request.old) }
     {
         match self.suites.get(&number)?.next() {
@@ -97,7 +97,7 @@ impl Course {
 
     /// The content of a suite is asked for where its first quorum found it.
     fn fetch_for(&self, number: u64, request: &mut Request) -> Option<u8>
-        ensures asked { option_map (λ server. (server, request.new)) result ≡ course.fetched_for self.now.task number (suite_of self.now.suites number) }
+        ensures asked { option_map (λ server. (server, request.new)) result ≡ txn_run.fetched_for self.now.task number (suite_of self.now.suites number) }
         ensures none { IfNone result (request.new ≡ request.old) }
     {
         let server = self.fetched_from(number)?;
@@ -136,20 +136,20 @@ impl Course {
     /// The home is asked to record an outcome.
     fn ask_decide(
         &self,
-        ground: &Ground,
+        fixed_parts: &FixedParts,
         outcome: &Outcome,
         request: &mut Request,
     ) -> Result<Option<u8>, AllocError>
-        requires { (0 < ground.now.servers) × (ground.now.servers ≤ MAX_SERVERS) }
-        ensures ok { IfOk result (λ server. Asks (asked_in (doing.Deciding outcome.now) self.now) ground.now server request.new) }
+        requires { (0 < fixed_parts.now.servers) × (fixed_parts.now.servers ≤ MAX_SERVERS) }
+        ensures ok { IfOk result (λ server. Asks (asked_in (doing.Deciding outcome.now) self.now) fixed_parts.now server request.new) }
         ensures none { IfOk result (λ server. IfNone server (request.new ≡ request.old)) }
         ensures err { OnErr result (request.new ≡ request.old) }
-        ensures memory { IfErr result (λ _. Wants (asked_in (doing.Deciding outcome.now) self.now) ground.now) }
+        ensures memory { IfErr result (λ _. Wants (asked_in (doing.Deciding outcome.now) self.now) fixed_parts.now) }
     {
         let decision = decision_of(&self.task, outcome)?;
         let t = self.task.t;
         *request = Request::Decide { t, decision };
-        Ok(Some(home_of(ground, t)))
+        Ok(Some(home_of(fixed_parts, t)))
     }
 
     /// The first of these servers is told how the transaction ended.
@@ -178,8 +178,8 @@ impl Course {
 
 /// What is to be recorded of an outcome.
 fn decision_of(task: &Task, outcome: &Outcome) -> Result<Decision, AllocError>
-    ensures ok { IfOk result (λ decision. decision ≡ course.decision_of task.now outcome.now) }
-    ensures memory { IfErr result (λ _. IsTrue (records_answers (course.decision_of task.now outcome.now))) }
+    ensures ok { IfOk result (λ decision. decision ≡ txn_run.decision_of task.now outcome.now) }
+    ensures memory { IfErr result (λ _. IsTrue (records_answers (txn_run.decision_of task.now outcome.now))) }
 {
     Ok(match outcome {
         Ok(granted) => Decision::Answered(granted.answers.clone()?),

@@ -2,14 +2,14 @@
 
 ghost use Rattle.std.specs.Prelude.{◌≡◌, ◌<◌, IsSome, OnOk};
 ghost use Rattle.txn_core.specs.code.Plans as spec;
-ghost use Rattle.txn_core.specs.code.Sequels.{sequel_of};
+ghost use Rattle.txn_core.specs.code.NextPhases.{next_phase_of};
 ghost use Rattle.txn_core.specs.Suites.{suite_of};
 ghost use Rattle.txn_core.specs.Transactions.{after_search};
 
-use crate::first::First;
 use crate::granted::Granted;
+use crate::next_phase::NextPhase;
 use crate::plan::Plan;
-use crate::sequel::Sequel;
+use crate::read_point::ReadPoint;
 use crate::suites::Suite;
 use crate::task::Task;
 use file_exec::{Need, Outcome};
@@ -36,11 +36,11 @@ impl Plan {
         task: &Task,
         suites: &mut RoomyMap<u64, Suite>,
         cache: &mut WeakCache,
-    ) -> Sequel
+    ) -> NextPhase
         requires { IsSome self.new → 0 < suites.old.room }
         ensures suites { suites.new.pairs ≡ (spec.carried_out task.now self (spec.all_in suites.old.pairs cache.old)).suites }
         ensures cache { cache.new ≡ record cache.old { entries = (spec.carried_out task.now self (spec.all_in suites.old.pairs cache.old)).cache } }
-        ensures sequel { result ≡ sequel_of self.outcome }
+        ensures next_phase { result ≡ next_phase_of self.outcome }
     {
         let Plan {
             opened,
@@ -49,7 +49,7 @@ impl Plan {
         } = self;
         open_all(task, suites, cache, opened);
         ask(suites, &outcome, new);
-        sequel_of(outcome)
+        next_phase_of(outcome)
     }
 }
 
@@ -92,7 +92,7 @@ fn open(
 }
 
 /// What is looked for in the cache is its newest entry from then on.
-fn look_up(task: &Task, cache: &mut WeakCache, number: u64, first: &First)
+fn look_up(task: &Task, cache: &mut WeakCache, number: u64, first: &ReadPoint)
     ensures { cache.new ≡ record cache.old { entries = after_search task.now cache.old.entries number first.now } }
 {
     if first.dver != 0 {
@@ -126,13 +126,13 @@ fn raise(suites: &mut RoomyMap<u64, Suite>, number: u64)
 }
 
 /// What follows what a transaction comes to.
-fn sequel_of(outcome: Outcome) -> Sequel
-    ensures { result ≡ sequel_of outcome }
+fn next_phase_of(outcome: Outcome) -> NextPhase
+    ensures { result ≡ next_phase_of outcome }
 {
     match outcome {
-        Outcome::Need(Need::Hold(number, _)) => Sequel::Gather(number),
-        Outcome::Need(Need::Know(number)) => Sequel::Fetch(number),
-        Outcome::Done(answers, changes) => Sequel::Grant(Granted { answers, changes }),
-        Outcome::Refused(refusal) => Sequel::Refuse(refusal),
+        Outcome::Need(Need::Hold(number, _)) => NextPhase::Gather(number),
+        Outcome::Need(Need::Know(number)) => NextPhase::Fetch(number),
+        Outcome::Done(answers, changes) => NextPhase::Grant(Granted { answers, changes }),
+        Outcome::Refused(refusal) => NextPhase::Refuse(refusal),
     }
 }

@@ -45,9 +45,9 @@ pub enum Ending {
     Undecided(Cause),
 }
 
-/// How a job goes on after a word.
+/// How a job goes on after a response.
 #[derive(Drop)]
-pub(crate) enum Goes {
+pub(crate) enum Flow {
     /// Something more is to be asked.
     On,
     /// It is at its end.

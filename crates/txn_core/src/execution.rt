@@ -8,13 +8,13 @@ ghost use Rattle.txn_core.specs.code.Planning.{IsPlanBy, IsReachedAfter, execute
 ghost use Rattle.txn_core.specs.code.Reaching.{IsReachedIn};
 ghost use Rattle.txn_core.specs.code.Unused.{HasUnused};
 
-use crate::ground::Ground;
-use crate::news::News;
+use crate::cache_after::CacheAfter;
+use crate::fixed_parts::FixedParts;
+use crate::learned::Learned;
+use crate::next_phase::NextPhase;
 use crate::plan::Plan;
-use crate::seen::Seen;
-use crate::sequel::Sequel;
-use crate::shelf::Shelf;
 use crate::suites::Suite;
+use crate::suites_after::SuitesAfter;
 use crate::task::Task;
 use file_exec::Progress;
 use sorted_map::RoomyMap;
@@ -25,7 +25,7 @@ use weak_cache::WeakCache;
 #[derive(Clone, Copy)]
 pub(crate) struct Execution<'a> {
     pub(crate) alloc: Global,
-    pub(crate) ground: &'a Ground,
+    pub(crate) fixed_parts: &'a FixedParts,
     pub(crate) task: &'a Task,
 }
 
@@ -37,19 +37,19 @@ impl<'a> Execution<'a> {
         suites: &mut RoomyMap<u64, Suite>,
         cache: &mut WeakCache,
         progress: &mut Progress,
-        news: News,
-    ) -> Result<Sequel, AllocError>
-        requires reached { IsReachedIn self.ground.now self.task.now suites.old.pairs progress.old }
+        just_learned: Learned,
+    ) -> Result<NextPhase, AllocError>
+        requires reached { IsReachedIn self.fixed_parts.now self.task.now suites.old.pairs progress.old }
         requires hints { HasUnused cache.old.entries }
-        requires fits { Fits news }
-        ensures ok { IfOk result (λ sequel. follows self.entry cache.new suites.new.pairs sequel ≡ executes self.entry cache.old news suites.old.pairs) }
+        requires fits { Fits just_learned }
+        ensures ok { IfOk result (λ next. follows self.entry cache.new suites.new.pairs next ≡ executes self.entry cache.old just_learned suites.old.pairs) }
         ensures limits { cache.new.limits ≡ cache.old.limits }
         ensures unused { HasUnused cache.new.entries }
-        ensures reached { IfOk result (λ _. IsReachedIn self.entry.ground.now self.entry.task.now suites.new.pairs progress.new) }
+        ensures reached { IfOk result (λ _. IsReachedIn self.entry.fixed_parts.now self.entry.task.now suites.new.pairs progress.new) }
         ensures err { OnErr result ((suites.new.pairs ≡ suites.old.pairs) × (cache.new ≡ cache.old)) }
     {
-        let plan = self.prepare(suites, cache, progress, &news)?;
-        news.set(suites, cache)?;
+        let plan = self.prepare(suites, cache, progress, &just_learned)?;
+        just_learned.set(suites, cache)?;
         Ok(plan.carry_out(self.task, suites, cache))
     }
 
@@ -59,21 +59,24 @@ impl<'a> Execution<'a> {
         suites: &mut RoomyMap<u64, Suite>,
         cache: &WeakCache,
         progress: &mut Progress,
-        news: &News,
+        just_learned: &Learned,
     ) -> Result<Plan, AllocError>
-        requires unused { HasUnused (learned news.now cache.now suites.old.pairs).cache }
-        requires reached { IsReachedIn self.ground.now self.task.now suites.old.pairs progress.old }
-        ensures plan { IfOk result (λ plan. IsPlanBy self.entry cache.now news.now suites.old.pairs plan) }
-        ensures reached { IfOk result (λ plan. IsReachedAfter self.entry cache.now news.now suites.old.pairs plan progress.new) }
+        requires unused { HasUnused (learned just_learned.now cache.now suites.old.pairs).cache }
+        requires reached { IsReachedIn self.fixed_parts.now self.task.now suites.old.pairs progress.old }
+        ensures plan { IfOk result (λ plan. IsPlanBy self.entry cache.now just_learned.now suites.old.pairs plan) }
+        ensures reached { IfOk result (λ plan. IsReachedAfter self.entry cache.now just_learned.now suites.old.pairs plan progress.new) }
         ensures ordered { OnOk result (IsOrdered nat_cmp suites.old.pairs) }
         ensures room { IfOk result (λ plan. IsSome plan.new → 0 < suites.new.room) }
         ensures pairs { suites.new.pairs ≡ suites.old.pairs }
     {
         let plan = self.plan(
-            Seen { suites, news },
-            Shelf {
+            SuitesAfter {
+                suites,
+                just_learned,
+            },
+            CacheAfter {
                 cache,
-                fetched: news.fetched(),
+                fetched: just_learned.fetched(),
             },
             progress,
         )?;

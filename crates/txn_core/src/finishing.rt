@@ -4,36 +4,36 @@ ghost use Rattle.std.specs.Prelude.{◌≡◌, ◌<◌, ◌≤◌, IfOk, IfErr, 
 ghost use Rattle.file_exec.specs.Reaching.{unbegun};
 ghost use Rattle.rep_core.specs.Service.{is_answered};
 ghost use Rattle.weak_cache.specs.Entries.{Cache};
-ghost use Rattle.txn_core.specs.code.CourseFields.{phase_of};
+ghost use Rattle.txn_core.specs.code.TransactionRunFields.{phase_of};
 ghost use Rattle.txn_core.specs.code.Goings.{GoesBy, HasPrepared, HasTold, IsPreparedBy, PreparesOn, TellsOn, fixed_by, lacked};
 ghost use Rattle.txn_core.specs.code.Passing.{passed, passes_last};
-ghost use Rattle.txn_core.specs.Transactions as course;
+ghost use Rattle.txn_core.specs.Transactions as txn_run;
 
-use crate::course::Course;
-use crate::ending::{Cause, Ending, Goes};
+use crate::ending::{Cause, Ending, Flow};
 use crate::granted::Outcome;
-use crate::means::Means;
 use crate::phase::Phase;
+use crate::resources::Resources;
 use crate::servers::{Servers, locked_at};
+use crate::transaction_run::TransactionRun;
 use rep_core::{Lack, Reply, Verdict};
 use std::alloc::AllocError;
 use std::mem;
 use vote_core::MAX_SERVERS;
 
-impl Course {
+impl TransactionRun {
     /// These servers prepare, one after the other; then the home decides.
-    pub(crate) fn prepare(&mut self, servers: Servers, outcome: Outcome) -> Goes
-        ensures { (cache : Cache) → GoesBy (course.prepare self.old.task cache self.old.suites outcome servers) result self.new cache }
+    pub(crate) fn prepare(&mut self, servers: Servers, outcome: Outcome) -> Flow
+        ensures { (cache : Cache) → GoesBy (txn_run.prepare self.old.task cache self.old.suites outcome servers) result self.new cache }
     {
         self.phase = match servers.first() {
             Some(_) => Phase::Preparing(servers, outcome),
             None => Phase::Deciding(outcome),
         };
-        Goes::On
+        Flow::On
     }
 
     /// The first server has prepared, or it has not.
-    pub(crate) fn on_prepared(&mut self, server: u8, said: &Reply) -> Goes
+    pub(crate) fn on_prepared(&mut self, server: u8, said: &Reply) -> Flow
         ensures { IsPreparedBy self.old server said.now result self.new }
     {
         if !matches!(said, Reply::Prepared) {
@@ -43,13 +43,13 @@ impl Course {
     }
 
     /// The next server prepares; or all have, and the home decides.
-    fn prepare_on(&mut self) -> Goes
+    fn prepare_on(&mut self) -> Flow
         ensures { PreparesOn self.old result self.new }
     {
         if self.pass() {
             return self.decide();
         }
-        Goes::On
+        Flow::On
     }
 
     /// The first of the servers that are asked one after the other was asked. Tells whether it was the
@@ -66,21 +66,21 @@ impl Course {
     }
 
     /// All servers have prepared: the home decides.
-    fn decide(&mut self) -> Goes
+    fn decide(&mut self) -> Flow
         ensures { HasPrepared self.old result self.new }
     {
         self.phase = match self.leave() {
             Phase::Preparing(_, outcome) => Phase::Deciding(outcome),
             other => other,
         };
-        Goes::On
+        Flow::On
     }
 
     /// What the home said. Only to tell answers again it may want memory.
-    pub(crate) fn on_verdict(&mut self, said: &Reply) -> Result<Goes, AllocError>
-        ensures ok { IfOk result (λ goes. (cache : Cache) → GoesBy (course.decided self.old.task cache self.old.suites said.now) goes self.new cache) }
+    pub(crate) fn on_verdict(&mut self, said: &Reply) -> Result<Flow, AllocError>
+        ensures ok { IfOk result (λ flow. (cache : Cache) → GoesBy (txn_run.decided self.old.task cache self.old.suites said.now) flow self.new cache) }
         ensures err { OnErr result (self.new ≡ self.old) }
-        ensures memory { IfErr result (λ _. IsTrue (is_answered (course.verdict_in said.now Verdict.Aborted))) }
+        ensures memory { IfErr result (λ _. IsTrue (is_answered (txn_run.verdict_in said.now Verdict.Aborted))) }
     {
         let verdict = verdict_in(said)?;
         let ending = ending_by(&verdict, cause_of_abort(said))?;
@@ -88,71 +88,71 @@ impl Course {
     }
 
     /// The end is told to each server that holds a lock.
-    fn finish(&mut self, verdict: Verdict, ending: Ending) -> Goes
-        ensures { (cache : Cache) → GoesBy (course.finish self.old.task cache self.old.suites verdict ending) result self.new cache }
+    fn finish(&mut self, verdict: Verdict, ending: Ending) -> Flow
+        ensures { (cache : Cache) → GoesBy (txn_run.finish self.old.task cache self.old.suites verdict ending) result self.new cache }
     {
         let servers = locked_at(self.suites.as_slice());
         self.tell_end(servers, verdict, ending)
     }
 
     /// A cause was met: nothing is decided any more.
-    pub(crate) fn give_up(&mut self, cause: Cause) -> Goes
-        ensures { (cache : Cache) → GoesBy (course.give_up self.old.task cache self.old.suites cause) result self.new cache }
+    pub(crate) fn give_up(&mut self, cause: Cause) -> Flow
+        ensures { (cache : Cache) → GoesBy (txn_run.give_up self.old.task cache self.old.suites cause) result self.new cache }
     {
         self.finish(Verdict::Aborted, Ending::Undecided(cause))
     }
 
     /// The end is told to these servers, one after the other.
-    fn tell_end(&mut self, servers: Servers, verdict: Verdict, ending: Ending) -> Goes
-        ensures { (cache : Cache) → GoesBy (course.tell_end self.old.task cache self.old.suites verdict ending servers) result self.new cache }
+    fn tell_end(&mut self, servers: Servers, verdict: Verdict, ending: Ending) -> Flow
+        ensures { (cache : Cache) → GoesBy (txn_run.tell_end self.old.task cache self.old.suites verdict ending servers) result self.new cache }
     {
         if servers.first().is_none() {
-            return Goes::Ended(ending);
+            return Flow::Ended(ending);
         }
         self.phase = Phase::Finishing(servers, verdict, ending);
-        Goes::On
+        Flow::On
     }
 
     /// The end was told to the first server. Whatever comes of it changes nothing.
-    pub(crate) fn on_told(&mut self) -> Goes
+    pub(crate) fn on_told(&mut self) -> Flow
         ensures { TellsOn self.old result self.new }
     {
         if self.pass() {
             return self.end();
         }
-        Goes::On
+        Flow::On
     }
 
     /// The end was told to all: the transaction is at its end.
-    fn end(&mut self) -> Goes
+    fn end(&mut self) -> Flow
         ensures { HasTold self.old result self.new }
     {
         match self.leave() {
-            Phase::Finishing(_, _, ending) => Goes::Ended(ending),
+            Phase::Finishing(_, _, ending) => Flow::Ended(ending),
             other => {
                 self.phase = other;
-                Goes::On
+                Flow::On
             }
         }
     }
 
     /// What was asked next was not served: the transaction is not executed any more.
-    pub(crate) fn on_lack(&mut self, means: &mut Means, lack: Lack) -> Goes
-        requires { (0 < means.old.ground.servers) × (means.old.ground.servers ≤ MAX_SERVERS) }
-        ensures steps { let cache = means.old.cache.entries in GoesBy (lacked (fixed_by means.old) self.old cache lack) result self.new cache }
-        ensures means { means.new ≡ record means.old { progress = unbegun } }
+    pub(crate) fn on_lack(&mut self, resources: &mut Resources, lack: Lack) -> Flow
+        requires { (0 < resources.old.fixed_parts.servers) × (resources.old.fixed_parts.servers ≤ MAX_SERVERS) }
+        ensures steps { let cache = resources.old.cache.entries in GoesBy (lacked (fixed_by resources.old) self.old cache lack) result self.new cache }
+        ensures resources { resources.new ≡ record resources.old { progress = unbegun } }
     {
-        let asked = self.asked(&means.ground);
-        means.begin_anew();
+        let asked = self.asked(&resources.fixed_parts);
+        resources.begin_anew();
         match asked {
             Some(server) => self.on_lack_at(server, lack),
-            None => Goes::On,
+            None => Flow::On,
         }
     }
 
     /// A server did not serve what it was asked.
-    fn on_lack_at(&mut self, server: u8, lack: Lack) -> Goes
-        ensures { (cache : Cache) → GoesBy (course.after_lack self.old.task cache self.old.suites self.old.phase server lack) result self.new cache }
+    fn on_lack_at(&mut self, server: u8, lack: Lack) -> Flow
+        ensures { (cache : Cache) → GoesBy (txn_run.after_lack self.old.task cache self.old.suites self.old.phase server lack) result self.new cache }
     {
         match &self.phase {
             Phase::Finishing(..) => self.on_told(),
@@ -172,8 +172,8 @@ impl Course {
 
 /// The verdict that a home said; where it said none, Aborted.
 fn verdict_in(said: &Reply) -> Result<Verdict, AllocError>
-    ensures ok { IfOk result (λ verdict. verdict ≡ course.verdict_in said.now Verdict.Aborted) }
-    ensures memory { IfErr result (λ _. IsTrue (is_answered (course.verdict_in said.now Verdict.Aborted))) }
+    ensures ok { IfOk result (λ verdict. verdict ≡ txn_run.verdict_in said.now Verdict.Aborted) }
+    ensures memory { IfErr result (λ _. IsTrue (is_answered (txn_run.verdict_in said.now Verdict.Aborted))) }
 {
     match said {
         Reply::Verdict(verdict) => verdict.clone(),
@@ -183,7 +183,7 @@ fn verdict_in(said: &Reply) -> Result<Verdict, AllocError>
 
 /// The ending that a verdict is, with a cause, should it be none.
 fn ending_by(verdict: &Verdict, cause: Cause) -> Result<Ending, AllocError>
-    ensures ok { IfOk result (λ ending. ending ≡ course.ending_by verdict.now cause) }
+    ensures ok { IfOk result (λ ending. ending ≡ txn_run.ending_by verdict.now cause) }
     ensures memory { IfErr result (λ _. IsTrue (is_answered verdict.now)) }
 {
     Ok(match verdict {
@@ -195,7 +195,7 @@ fn ending_by(verdict: &Verdict, cause: Cause) -> Result<Ending, AllocError>
 
 /// Why a Decide did not decide: the home was down, or somebody else had it aborted.
 fn cause_of_abort(said: &Reply) -> Cause
-    ensures { result ≡ course.cause_of_abort said.now }
+    ensures { result ≡ txn_run.cause_of_abort said.now }
 {
     match said {
         Reply::Down => Cause::HomeDown,

@@ -3,14 +3,14 @@
 ghost use Rattle.std.specs.Prelude.{◌≡◌, ◌<◌, ◌≤◌};
 ghost use Rattle.txn_core.specs.Doing as doing;
 
-use crate::ground::Ground;
+use crate::fixed_parts::FixedParts;
 use vote_core::MAX_SERVERS;
 
 /// The server at which it is decided how a transaction ended.
-pub(crate) fn home_of(ground: &Ground, t: u64) -> u8
-    requires { (0 < ground.now.servers) × (ground.now.servers ≤ MAX_SERVERS) }
-    ensures value { result ≡ doing.home_of ground.now t }
-    ensures known { result < ground.now.servers }
+pub(crate) fn home_of(fixed_parts: &FixedParts, t: u64) -> u8
+    requires { (0 < fixed_parts.now.servers) × (fixed_parts.now.servers ≤ MAX_SERVERS) }
+    ensures value { result ≡ doing.home_of fixed_parts.now t }
+    ensures known { result < fixed_parts.now.servers }
 {
-    ((t % 64 + t / 64) % ground.servers() as u64) as u8
+    ((t % 64 + t / 64) % fixed_parts.servers() as u64) as u8
 }

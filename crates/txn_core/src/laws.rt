@@ -65,7 +65,7 @@ pub fn late_steps_are_few()
     ensures { LateStepsAreFew }
 {}
 
-/// A law: what the cache keeps after a word was there before, but for an entry with the content that the
+/// A law: what the cache keeps after a response was there before, but for an entry with the content that the
 /// word told: it has the prefix and the version that the suite's first quorum gave, so never a prefix that
 /// the transaction itself changes. Of a site that is forgotten nothing is left. It does nothing.
 pub fn caches_what_was_fetched()

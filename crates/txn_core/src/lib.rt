@@ -3,34 +3,34 @@
 
 mod agent;
 mod asking;
+mod cache_after;
 mod carrying;
-mod course;
 mod empty;
 mod ending;
 mod execution;
 mod finishing;
-mod first;
+mod fixed_parts;
 mod granted;
-mod ground;
 mod home;
 mod job;
 mod knowing;
 mod laws;
-mod means;
-mod news;
+mod learned;
+mod next_phase;
+mod pending_quorum;
 mod phase;
 mod plan;
-mod seen;
-mod sequel;
+mod read_point;
+mod resources;
+mod response;
 mod servers;
-mod settling;
-mod shelf;
 mod sorting;
 mod suites;
-mod sweep;
+mod suites_after;
+mod sweep_run;
 mod task;
+mod transaction_run;
 mod widening;
-mod word;
 mod writing;
 
 pub use agent::{Agent, MAX_JOBS};
@@ -42,4 +42,4 @@ pub use laws::{
     late_steps_are_few, nobody_is_polled_twice, nothing_follows_an_end, prepare_lists_the_locks,
     sweep_ends_in_time, what_is_written_is_fixed, worked_runs,
 };
-pub use word::Word;
+pub use response::Response;

@@ -12,12 +12,12 @@ ghost use Rattle.txn_core.specs.code.Reaching.{IsReachedIn};
 ghost use Rattle.txn_core.specs.code.Seeing.{seen_in};
 ghost use Rattle.txn_core.specs.code.Unused.{HasUnused};
 
+use crate::cache_after::CacheAfter;
 use crate::execution::Execution;
-use crate::first::First;
 use crate::knowing::known_of;
-use crate::seen::Seen;
-use crate::shelf::Shelf;
+use crate::read_point::ReadPoint;
 use crate::suites::Suite;
+use crate::suites_after::SuitesAfter;
 use file_exec::{Need, Outcome, Progress, exec};
 use std::alloc::AllocError;
 use suite_content::Content;
@@ -38,18 +38,18 @@ impl<'a> Execution<'a> {
     /// The plan of an execution, which goes on from where the transaction came. Nothing else is changed.
     pub(crate) fn plan(
         self,
-        seen: Seen<'_>,
-        shelf: Shelf<'_>,
+        after: SuitesAfter<'_>,
+        cache_after: CacheAfter<'_>,
         progress: &mut Progress,
     ) -> Result<Plan, AllocError>
-        requires unused { HasUnused (spec.entries_on shelf) }
-        requires reached { IsReachedIn self.ground.now self.task.now seen.suites.now.pairs progress.old }
-        ensures ordered { OnOk result (IsOrdered nat_cmp seen.entry.suites.now.pairs) }
-        ensures plan { IfOk result (λ plan. IsPlanFor self.entry shelf.entry seen.entry plan) }
-        ensures reached { IfOk result (λ plan. IsReachedWith self.entry shelf.entry seen.entry plan.opened.items progress.new) }
+        requires unused { HasUnused (spec.entries_on cache_after) }
+        requires reached { IsReachedIn self.fixed_parts.now self.task.now after.suites.now.pairs progress.old }
+        ensures ordered { OnOk result (IsOrdered nat_cmp after.entry.suites.now.pairs) }
+        ensures plan { IfOk result (λ plan. IsPlanFor self.entry cache_after.entry after.entry plan) }
+        ensures reached { IfOk result (λ plan. IsReachedWith self.entry cache_after.entry after.entry plan.opened.items progress.new) }
     {
-        let (opened, outcome) = self.play(seen, shelf, progress)?;
-        let new = self.new_for(seen, shelf, &outcome)?;
+        let (opened, outcome) = self.execute_opening(after, cache_after, progress)?;
+        let new = self.new_for(after, cache_after, &outcome)?;
         Ok(Plan {
             opened,
             outcome,
@@ -58,30 +58,30 @@ impl<'a> Execution<'a> {
     }
 
     /// Executes the transaction, opens what it needs and is to be had without asking, and goes on.
-    fn play(
+    fn execute_opening(
         self,
-        seen: Seen<'_>,
-        shelf: Shelf<'_>,
+        after: SuitesAfter<'_>,
+        cache_after: CacheAfter<'_>,
         progress: &mut Progress,
     ) -> Result<(Vec<(u64, Content)>, Outcome), AllocError>
-        requires { IsReachedIn self.ground.now self.task.now seen.suites.now.pairs progress.old }
-        ensures reached { IfOk result (λ played. IsReachedWith self.entry shelf.entry seen.entry played.0.items progress.new) }
-        ensures ordered { OnOk result (IsOrdered nat_cmp seen.entry.suites.now.pairs) }
-        ensures played { IfOk result (λ played. IsPlayedFor self.entry shelf.entry seen.entry played.0.items played.1) }
+        requires { IsReachedIn self.fixed_parts.now self.task.now after.suites.now.pairs progress.old }
+        ensures reached { IfOk result (λ played. IsReachedWith self.entry cache_after.entry after.entry played.0.items progress.new) }
+        ensures ordered { OnOk result (IsOrdered nat_cmp after.entry.suites.now.pairs) }
+        ensures played { IfOk result (λ played. IsPlayedFor self.entry cache_after.entry after.entry played.0.items played.1) }
     {
         let task = self.task;
         task.facts();
-        let mut known = known_of(self.alloc, self.ground, seen)?;
-        if !seen.news.adds_to(seen.suites) {
+        let mut known = known_of(self.alloc, self.fixed_parts, after)?;
+        if !after.just_learned.adds_to(after.suites) {
             *progress = Progress::new(self.alloc);
         }
         let mut opened = Vec::new(self.alloc);
         loop {
             let outcome = exec(&known, task.t, &task.caller, task.ops.as_slice(), progress)?;
-            if opened.len() == seen.len() {
+            if opened.len() == after.len() {
                 return Ok((opened, outcome));
             }
-            let Some((number, content)) = self.to_open(seen, shelf, &outcome) else {
+            let Some((number, content)) = self.to_open(after, cache_after, &outcome) else {
                 return Ok((opened, outcome));
             };
             // With a content that it takes more is known of a suite; with any other something else.
@@ -96,69 +96,79 @@ impl<'a> Execution<'a> {
     /// The content that is needed, where it is to be had without asking.
     fn to_open(
         self,
-        seen: Seen<'_>,
-        shelf: Shelf<'a>,
+        after: SuitesAfter<'_>,
+        cache_after: CacheAfter<'a>,
         outcome: &Outcome,
     ) -> Option<(u64, &'a Content)>
-        ensures { option_map (λ one. (one.0, one.1.now)) result ≡ spec.to_open self.entry.task.now (all_seen shelf.entry seen.entry) outcome.now }
+        ensures { option_map (λ one. (one.0, one.1.now)) result ≡ spec.to_open self.entry.task.now (all_seen cache_after.entry after.entry) outcome.now }
     {
         let Outcome::Need(Need::Know(number)) = outcome else {
             return None;
         };
-        let content = self.free_of(seen, shelf, *number)?;
+        let content = self.free_of(after, cache_after, *number)?;
         Some((*number, content))
     }
 
     /// The content of a suite, where it is to be had without asking.
-    fn free_of(self, seen: Seen<'_>, shelf: Shelf<'a>, number: u64) -> Option<&'a Content>
-        ensures { option_copied result ≡ spec.free_of self.entry.task.now (spec.entries_on shelf.entry) number (suite_of (seen_in seen.entry) number) }
+    fn free_of(
+        self,
+        after: SuitesAfter<'_>,
+        cache_after: CacheAfter<'a>,
+        number: u64,
+    ) -> Option<&'a Content>
+        ensures { option_copied result ≡ spec.free_of self.entry.task.now (spec.entries_on cache_after.entry) number (suite_of (seen_in after.entry) number) }
     {
-        let first = seen.first(number)?;
-        self.free_content(shelf, number, first)
+        let first = after.first(number)?;
+        self.free_content(cache_after, number, first)
     }
 
     /// An empty content of version 0, or one of the cache.
-    fn free_content(self, shelf: Shelf<'a>, number: u64, first: &First) -> Option<&'a Content>
-        ensures { option_copied result ≡ free_content self.entry.task.now (spec.entries_on shelf.entry) number first.now }
+    fn free_content(
+        self,
+        cache_after: CacheAfter<'a>,
+        number: u64,
+        first: &ReadPoint,
+    ) -> Option<&'a Content>
+        ensures { option_copied result ≡ free_content self.entry.task.now (spec.entries_on cache_after.entry) number first.now }
     {
         if first.dver == 0 {
-            let empty = self.ground.empty();
+            let empty = self.fixed_parts.empty();
             return Some(empty.content(first.prefix.kind.held()));
         }
         let task = self.task;
-        shelf.content(task.site, number, first.dver)
+        cache_after.content(task.site, number, first.dver)
     }
 
     /// The suite that is needed, where it was not asked for yet.
     fn new_for(
         self,
-        seen: Seen<'_>,
-        shelf: Shelf<'_>,
+        after: SuitesAfter<'_>,
+        cache_after: CacheAfter<'_>,
         outcome: &Outcome,
     ) -> Result<Option<Suite>, AllocError>
-        requires { HasUnused (spec.entries_on shelf) }
-        ensures { IfOk result (λ new. new ≡ spec.new_for (fixed_at self.entry shelf.entry) self.entry.task.now (all_seen shelf.entry seen.entry) outcome.now) }
+        requires { HasUnused (spec.entries_on cache_after) }
+        ensures { IfOk result (λ it. it ≡ spec.new_for (fixed_at self.entry cache_after.entry) self.entry.task.now (all_seen cache_after.entry after.entry) outcome.now) }
     {
         let Outcome::Need(Need::Hold(number, mode)) = outcome else {
             return Ok(None);
         };
-        if seen.contains(*number) {
+        if after.contains(*number) {
             return Ok(None);
         }
         let task = self.task;
-        let start = self.start_of(shelf, *number).clone()?;
+        let start = self.start_of(cache_after, *number).clone()?;
         let suite = Suite::new(self.alloc, task.t, *number, *mode, start)?;
         Ok(Some(suite))
     }
 
     /// From which prefix a suite is gathered: the site's hint, or that of what was never made.
-    fn start_of(self, shelf: Shelf<'a>, number: u64) -> &'a SharedPrefix
-        ensures { result.now ≡ start_from (fixed_at self.entry shelf.entry) self.entry.task.now (spec.entries_on shelf.entry) number }
+    fn start_of(self, cache_after: CacheAfter<'a>, number: u64) -> &'a SharedPrefix
+        ensures { result.now ≡ start_from (fixed_at self.entry cache_after.entry) self.entry.task.now (spec.entries_on cache_after.entry) number }
     {
         let task = self.task;
-        match shelf.hint(task.site, number) {
+        match cache_after.hint(task.site, number) {
             Some(prefix) => prefix,
-            None => self.ground.absent(),
+            None => self.fixed_parts.absent(),
         }
     }
 }

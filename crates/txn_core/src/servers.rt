@@ -4,7 +4,7 @@ ghost use Rattle.std.specs.FinSet.{contains};
 ghost use Rattle.std.specs.Prelude.{◌≡◌, ℕ, drop, slice_get};
 ghost use Rattle.txn_core.specs.code.Passing.{is_none};
 ghost use Rattle.txn_core.specs.Suites as gathering;
-ghost use Rattle.txn_core.specs.Transactions as course;
+ghost use Rattle.txn_core.specs.Transactions as txn_run;
 
 use crate::suites::Suite;
 use arrayvec::ArrayVec;
@@ -56,7 +56,7 @@ impl Servers {
 
 /// The servers that answered that they hold a lock, which rise.
 pub(crate) fn locked_at(suites: &[(u64, Suite)]) -> Servers
-    ensures { result ≡ course.locked_at suites.now }
+    ensures { result ≡ txn_run.locked_at suites.now }
 {
     let holders = holders_of(suites);
     let mut all = ArrayVec::new();

@@ -9,13 +9,13 @@ ghost use Rattle.suite_collect.specs.Answering.{Comes};
 ghost use Rattle.suite_collect.specs.Collecting as spec;
 ghost use Rattle.txn_core.specs.code.Hearing.{Hears, IsFirstAfter, Settles};
 ghost use Rattle.txn_core.specs.code.Plans.{takes_in};
-ghost use Rattle.txn_core.specs.code.Seeing.{settled_with, sight_of, sight_of_suite};
+ghost use Rattle.txn_core.specs.code.Seeing.{settled_with, suite_view_of, view_of_suite};
 ghost use Rattle.txn_core.specs.Suites as gathering;
 ghost use Rattle.txn_core.specs.code.Unused.{shows_unused, says_unused};
 
-use crate::first::First;
-use crate::seen::Sight;
-use crate::settling::Settling;
+use crate::pending_quorum::PendingQuorum;
+use crate::read_point::ReadPoint;
+use crate::suites_after::SuiteView;
 use rep_core::Reply;
 use std::alloc::{AllocError, Global};
 use std::marker::Model;
@@ -35,7 +35,7 @@ pub(crate) struct Suite {
 #[derive(Drop)]
 struct Gathered {
     collect: Collect,
-    first: Option<First>,
+    first: Option<ReadPoint>,
     mode: LockMode,
     content: Option<Content>,
 }
@@ -75,7 +75,7 @@ impl Suite {
     }
 
     /// What its first quorum gave.
-    pub(crate) fn first(&self) -> Option<&First>
+    pub(crate) fn first(&self) -> Option<&ReadPoint>
         ensures { option_copied result ≡ self.now.first }
     {
         self.gathered.first.as_ref()
@@ -92,7 +92,7 @@ impl Suite {
     pub(crate) fn takes(&self, content: &Content) -> bool
         ensures { result ≡ takes_in (Some self.now) content.now }
     {
-        match self.sight().known() {
+        match self.suite_view().known() {
             Some(known) => known.takes(content),
             None => false,
         }
@@ -131,20 +131,20 @@ impl Suite {
     }
 
     /// The quorum that it is to have with a reply that completes one; none, where a lock is lost.
-    pub(crate) fn settling(&self, reply: &Reply) -> Result<Option<Settling>, AllocError>
+    pub(crate) fn pending(&self, reply: &Reply) -> Result<Option<PendingQuorum>, AllocError>
         requires { shows_unused reply.now ≡ true }
-        ensures { IfOk result (λ settling. Settles settling self.now reply.now) }
+        ensures { IfOk result (λ pending. Settles pending self.now reply.now) }
     {
         let Some(last) = self.gathered.collect.told_by(reply)? else {
             return Ok(None);
         };
         let first = self.first_after(&last)?;
-        let settling = Settling { last, first };
-        Ok(Some(settling))
+        let pending = PendingQuorum { last, first };
+        Ok(Some(pending))
     }
 
     /// What the first quorum gives, where there is one once this is told, and was none before.
-    fn first_after(&self, last: &Told) -> Result<Option<First>, AllocError>
+    fn first_after(&self, last: &Told) -> Result<Option<ReadPoint>, AllocError>
         requires known { last.now.server < MAX_SERVERS }
         requires unused { says_unused last.now.said ≡ true }
         ensures { IfOk result (λ first. IsFirstAfter self.now last.now first) }
@@ -154,7 +154,7 @@ impl Suite {
         }
         let quorum = self.gathered.collect.quorum_after(last);
         let prefix = quorum.prefix.clone()?;
-        Ok(Some(First {
+        Ok(Some(ReadPoint {
             prefix,
             dver: quorum.dver,
             source: quorum.source.unwrap_or(0),
@@ -162,21 +162,21 @@ impl Suite {
     }
 
     /// From now on it has the quorum. It takes no memory.
-    pub(crate) fn settle(&mut self, settling: Settling)
-        ensures { self.new ≡ settled_with settling self.old }
+    pub(crate) fn settle(&mut self, pending: PendingQuorum)
+        ensures { self.new ≡ settled_with pending self.old }
     {
         let gathered = &mut self.gathered;
-        gathered.collect.tell(settling.last);
+        gathered.collect.tell(pending.last);
         gathered.mode = gathered.collect.mode();
-        keep_first(&mut gathered.first, settling.first);
+        keep_first(&mut gathered.first, pending.first);
     }
 
     /// What is known of it.
-    pub(crate) fn sight(&self) -> Sight<'_>
-        ensures { sight_of result ≡ sight_of_suite self.now }
+    pub(crate) fn suite_view(&self) -> SuiteView<'_>
+        ensures { suite_view_of result ≡ view_of_suite self.now }
     {
         let gathered = &self.gathered;
-        Sight {
+        SuiteView {
             first: gathered.first.as_ref(),
             mode: gathered.mode,
             content: gathered.content.as_ref(),
@@ -184,12 +184,12 @@ impl Suite {
     }
 
     /// What is known of it once it has a quorum.
-    pub(crate) fn sight_settled<'a>(&'a self, settling: &'a Settling) -> Sight<'a>
-        ensures { sight_of result ≡ sight_of_suite (settled_with settling.now self.now) }
+    pub(crate) fn view_settled<'a>(&'a self, pending: &'a PendingQuorum) -> SuiteView<'a>
+        ensures { suite_view_of result ≡ view_of_suite (settled_with pending.now self.now) }
     {
         let gathered = &self.gathered;
-        Sight {
-            first: gathered.first.as_ref().or(settling.first.as_ref()),
+        SuiteView {
+            first: gathered.first.as_ref().or(pending.first.as_ref()),
             mode: gathered.collect.mode(),
             content: gathered.content.as_ref(),
         }
@@ -229,7 +229,7 @@ impl Suite {
 }
 
 /// What a first quorum gave stays; where there was none, another is the first.
-fn keep_first(first: &mut Option<First>, given: Option<First>)
+fn keep_first(first: &mut Option<ReadPoint>, given: Option<ReadPoint>)
     ensures { first.new ≡ option_or first.old given }
 {
     if first.is_none() {

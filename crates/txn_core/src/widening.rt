@@ -4,21 +4,21 @@ ghost use Rattle.std.specs.Prelude.{drop};
 ghost use Rattle.weak_cache.specs.Entries.{Cache};
 ghost use Rattle.txn_core.specs.code.Goings.{GoesBy, WidensOn, widens};
 ghost use Rattle.txn_core.specs.code.Steps.{Widens};
-ghost use Rattle.txn_core.specs.Transactions as course;
+ghost use Rattle.txn_core.specs.Transactions as txn_run;
 
-use crate::course::Course;
-use crate::ending::{Cause, Goes};
+use crate::ending::{Cause, Flow};
 use crate::granted::Granted;
 use crate::phase::Phase;
 use crate::servers::locked_at;
+use crate::transaction_run::TransactionRun;
 use suite_collect::Coming;
 use vote_core::Votes;
 
-impl Course {
+impl TransactionRun {
     /// The suites that get votes are widened to them, those of the changes from a place on; then the
     /// servers prepare.
-    pub(crate) fn widen_all(&mut self, from: usize, granted: Granted) -> Goes
-        ensures { (cache : Cache) → GoesBy (widens self.old cache granted (course.to_widen (drop from granted.changes))) result self.new cache }
+    pub(crate) fn widen_all(&mut self, from: usize, granted: Granted) -> Flow
+        ensures { (cache : Cache) → GoesBy (widens self.old cache granted (txn_run.to_widen (drop from granted.changes))) result self.new cache }
     {
         let mut after = from;
         while let Some((number, change)) = granted.changes.as_slice().get(after) {
@@ -35,7 +35,7 @@ impl Course {
                         after,
                         granted,
                     };
-                    return Goes::On;
+                    return Flow::On;
                 }
                 Coming::Short { got, needed, busy } => {
                     return self.give_up(Cause::of_short(number, got, needed, busy));
@@ -47,14 +47,14 @@ impl Course {
     }
 
     /// The suites that are left are widened, once one has its quorum.
-    pub(crate) fn widen_on(&mut self) -> Goes
+    pub(crate) fn widen_on(&mut self) -> Flow
         ensures { WidensOn self.old result self.new }
     {
         match self.leave() {
             Phase::Widening { after, granted, .. } => self.widen_all(after, granted),
             other => {
                 self.phase = other;
-                Goes::On
+                Flow::On
             }
         }
     }

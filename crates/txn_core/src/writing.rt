@@ -6,7 +6,7 @@ ghost use Rattle.rep_core.specs.Store.{is_used_up};
 ghost use Rattle.txn_core.specs.Writing as spec;
 ghost use Rattle.txn_core.specs.code.Leaving.{take_of};
 
-use crate::first::First;
+use crate::read_point::ReadPoint;
 use crate::suites::Suite;
 use file_exec::{Change, Changes};
 use rep_core::{Part, Parts, Take};
@@ -71,7 +71,7 @@ fn taken<'a>(
     suite: &'a Suite,
     changes: Option<&'a Changes>,
     server: u8,
-) -> Option<(&'a First, &'a Change)>
+) -> Option<(&'a ReadPoint, &'a Change)>
     ensures some { IfSome result (λ one. take_of suite.now server (option_copied changes.entry) number ≡ spec.take_of_changed one.0.now one.1.now server) }
     ensures none { IfNone result (take_of suite.now server (option_copied changes.entry) number ≡ Take.Keep) }
 {
@@ -92,7 +92,7 @@ fn change_of(changes: Option<&Changes>, number: u64) -> Option<&Change>
 }
 
 /// What a server that holds a suite exclusively takes of it, where it is changed.
-fn take_of_changed(first: &First, change: &Change, server: u8) -> Result<Take, AllocError>
+fn take_of_changed(first: &ReadPoint, change: &Change, server: u8) -> Result<Take, AllocError>
     ensures { IfOk result (λ what. what ≡ spec.take_of_changed first.now change.now server) }
 {
     if takes_whole(change, server) {
@@ -130,7 +130,7 @@ fn sets_prefix(change: &Change) -> bool
 }
 
 /// The copy after a change.
-fn new_copy(first: &First, change: &Change) -> Result<Replica, AllocError>
+fn new_copy(first: &ReadPoint, change: &Change) -> Result<Replica, AllocError>
     ensures { IfOk result (λ copy. copy ≡ spec.new_copy first.now change.now) }
 {
     let prefix = new_prefix(first, change)?;
@@ -143,7 +143,7 @@ fn new_copy(first: &First, change: &Change) -> Result<Replica, AllocError>
 }
 
 /// The prefix after a change.
-fn new_prefix(first: &First, change: &Change) -> Result<Prefix, AllocError>
+fn new_prefix(first: &ReadPoint, change: &Change) -> Result<Prefix, AllocError>
     ensures { IfOk result (λ prefix. prefix ≡ spec.new_prefix first.now change.now) }
 {
     let row = &change.row;

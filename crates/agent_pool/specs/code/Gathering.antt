@@ -9,7 +9,7 @@ use Rattle.agent_pool.specs.declared.outcome.JobOutcome.{JobOutcome}
 use Rattle.agent_pool.specs.declared.work.Done.{Done}
 use Rattle.agent_pool.specs.declared.work.Seat.{Seat}
 use Rattle.agent_pool.specs.declared.work.Worked.{Worked}
-use Rattle.agent_pool.specs.declared.workshop.NamedJob.{NamedJob}
+use Rattle.agent_pool.specs.declared.pool_context.NamedJob.{NamedJob}
 use Rattle.agent_pool.specs.Pools.{AreApart, AreOutcomes}
 use Rattle.agent_pool.specs.code.Filled.{AreNone, done_in, passes_of, players_of, sitting}
 use Rattle.agent_pool.specs.Seats.{AreDistinct}

@@ -1,6 +1,6 @@
 -- What comes of an agent's thread.
 use Rattle.std.specs.Prelude.{◌≡◌, List}
-use Rattle.agent_pool.specs.declared.workshop.NamedJob.{NamedJob}
+use Rattle.agent_pool.specs.declared.pool_context.NamedJob.{NamedJob}
 use Rattle.agent_pool.specs.declared.work.Seat.{Seat}
 use Rattle.agent_pool.specs.declared.work.Worked.{Worked}
 use Rattle.agent_pool.specs.declared.start.Start.{Start}

@@ -7,7 +7,7 @@ use Rattle.server_lock.specs.declared.miss.Miss.{Miss}
 use Rattle.server_lock.specs.declared.miss.Miss.TheVariants.{Lack, Stale}
 use Rattle.server_lock.specs.Passes.{Held, front_at}
 use Rattle.txn_core.specs.declared.ending.Ending.{Ending}
-use Rattle.txn_core.specs.declared.word.Word.TheVariants.{Replied, Lacked as NotServed}
+use Rattle.txn_core.specs.declared.response.Response.TheVariants.{Replied, Lacked as NotServed}
 use Rattle.run_certify.specs.declared.entry.Entry.{Entry}
 use Rattle.run_certify.specs.declared.entry.Entry.TheVariants.{Asked, Lacked as AskedInVain, Ended}
 use Rattle.txn_core.specs.declared.job.Job.{Job}
@@ -21,8 +21,8 @@ use Rattle.agent_pool.specs.Transcripts.{Played, AreAsks, GoesOn, IsIdle, IsLong
 
 -- what is written down of an answer, and what the agent is told; nothing, where its pass is of other servers
 abbrev pub told_by : ℕ → Result (Stamped Reply) Miss → Option Told
-told_by server (Ok reply) = Some (record { entry = Asked server reply.stamp; word = Replied reply.value })
-told_by server (Err (Lack lack)) = Some (record { entry = AskedInVain server lack; word = NotServed lack })
+told_by server (Ok reply) = Some (record { entry = Asked server reply.stamp; response = Replied reply.value })
+told_by server (Err (Lack lack)) = Some (record { entry = AskedInVain server lack; response = NotServed lack })
 told_by server (Err Stale) = None
 
 -- how a job of an agent ended, as it is written down
@@ -41,7 +41,7 @@ Leaves begun old rest new came.Lacked = AreAsks rest
 
 -- the agent takes what it is told, and gives this end
 abbrev pub Takes : Told → Standing → Standing → Option Ending → Type 0
-Takes told old new ending = (new.state ≡ (agents.take old.fixed old.state told.word).agent) × ((agents.take old.fixed old.state told.word).ending ≡ ending)
+Takes told old new ending = (new.state ≡ (agents.take old.fixed old.state told.response).agent) × ((agents.take old.fixed old.state told.response).ending ≡ ending)
 
 -- What is written down when an agent is told something: how its job ended too, where it did, as it gave it. Where memory was refused to it, it did not take
 -- what is written down.

@@ -11,9 +11,9 @@ use Rattle.file_ops.specs.Lists.{lists_of}
 use Rattle.file_ops.specs.Rows.{Row, new_row}
 use Rattle.file_exec.specs.declared.act.New.{New}
 use Rattle.file_exec.specs.declared.act.Transaction.{Transaction}
-use Rattle.file_exec.specs.declared.log.Edit.{Edit}
-use Rattle.file_exec.specs.declared.log.Edit.TheVariants.{SetContent, Make}
-use Rattle.file_exec.specs.declared.progress.Way.{Way}
+use Rattle.file_exec.specs.declared.edit_log.Edit.{Edit}
+use Rattle.file_exec.specs.declared.edit_log.Edit.TheVariants.{SetContent, Make}
+use Rattle.file_exec.specs.declared.progress.WalkPoint.{WalkPoint}
 use Rattle.file_exec.specs.declared.stop.Stop.{Stop}
 use Rattle.file_exec.specs.declared.view.Parent.{Parent}
 use Rattle.file_exec.specs.Courses.{Course}
@@ -27,8 +27,8 @@ abbrev pub Acts : Result Answer Stop → Transaction → Edits → Edits → Cou
 Acts result transaction before after course = Runs (λ answer. answer) result transaction.known.now.suites before after course
 
 -- a walk of the transaction's caller along the first of some names came so far
-abbrev pub LeadsFor : Transaction → Edits → List (List ℕ) → Way → Type 0
-LeadsFor transaction edits names way = LeadsTo transaction.known.now.suites edits transaction.caller.now names way
+abbrev pub LeadsFor : Transaction → Edits → List (List ℕ) → WalkPoint → Type 0
+LeadsFor transaction edits names point = LeadsTo transaction.known.now.suites edits transaction.caller.now names point
 
 -- an operation at a place, counted from 0
 abbrev pub operation_at : Transaction → ℕ → Op → Course Answer Why

@@ -4,7 +4,7 @@ use Rattle.file_ops.specs.declared.refusal.Why.{Why}
 use Rattle.file_exec.specs.declared.stop.Stop.{Stop}
 use Rattle.file_exec.specs.declared.stop.Stop.TheVariants as stop
 use Rattle.file_exec.specs.declared.view.View.{View}
-use Rattle.file_exec.specs.declared.log.Edit.{Edit}
+use Rattle.file_exec.specs.declared.edit_log.Edit.{Edit}
 use Rattle.file_exec.specs.Courses.{Course, ◌>>=◌, ◌>>◌, look, set}
 use Rattle.file_exec.specs.Following.{Edits}
 use Rattle.file_exec.specs.Known.{Known, Heard, Needs, Done, is_given}

@@ -5,7 +5,7 @@ use Rattle.file_ops.specs.declared.operation.Op.{Op}
 use Rattle.file_exec.specs.declared.act.Transaction.{Transaction}
 use Rattle.file_exec.specs.declared.executor.Outcome.{Outcome}
 use Rattle.file_exec.specs.declared.progress.Stage.{Stage}
-use Rattle.file_exec.specs.declared.progress.Way.{Way}
+use Rattle.file_exec.specs.declared.progress.WalkPoint.{WalkPoint}
 use Rattle.file_exec.specs.Following.{Edits}
 use Rattle.file_exec.specs.Changes.{answered}
 use Rattle.file_exec.specs.Known.{Known, Done, is_given, exec_of}
@@ -14,11 +14,11 @@ use Rattle.file_exec.specs.Runs.{run}
 use Rattle.file_exec.specs.Reaching.{Reached, Leads, IsReached}
 
 abbrev pub reached_of : Stage → Reached
-reached_of stage = record { at = stage.at; answers = stage.answers.items; edits = stage.log; suite = stage.way.suite; depth = stage.way.depth }
+reached_of stage = record { at = stage.at; answers = stage.answers.items; edits = stage.log; suite = stage.point.suite; depth = stage.point.depth }
 
 -- a walk along the first of some names came so far
-abbrev pub LeadsTo : Known → Edits → Identity → List (List ℕ) → Way → Type 0
-LeadsTo known edits caller names way = Leads known edits caller names way.depth way.suite
+abbrev pub LeadsTo : Known → Edits → Identity → List (List ℕ) → WalkPoint → Type 0
+LeadsTo known edits caller names point = Leads known edits caller names point.depth point.suite
 
 -- what the transaction comes to: what is told, or, where nothing is, the stage that was reached
 abbrev pub PlaysTo : Transaction → List Op → Option Outcome → Stage → Type 0

@@ -1,8 +1,8 @@
 -- What a server holds, as contracts see it.
-use Rattle.rep_core.specs.declared.holdings.Holdings.{Holdings}
+use Rattle.rep_core.specs.declared.server_state.ServerState.{ServerState}
 use Rattle.rep_core.specs.State.{State}
 
-abbrev pub state_of : Holdings → State
+abbrev pub state_of : ServerState → State
 state_of held = record {
   store = held.store.store;
   locks = held.locks.locks;

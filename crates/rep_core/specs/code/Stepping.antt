@@ -5,7 +5,7 @@ use Rattle.std.specs.Ordering.{nat_cmp}
 use Rattle.std.specs.Vec.{vec_len, vec_capacity}
 use Rattle.sorted_map.specs.SortedMap.{insert}
 use Rattle.suite_prefix.specs.declared.lock_mode.LockMode.TheVariants.{Exclusive}
-use Rattle.rep_core.specs.declared.holdings.Holdings.{Holdings}
+use Rattle.rep_core.specs.declared.server_state.ServerState.{ServerState}
 use Rattle.rep_core.specs.declared.lock.Lock.{Lock}
 use Rattle.rep_core.specs.declared.step.Change.{Change}
 use Rattle.rep_core.specs.declared.step.Change.TheVariants as change
@@ -23,7 +23,7 @@ use Rattle.rep_core.specs.code.Planning.{planned_of}
 use Rattle.rep_core.specs.code.ServerFields.{state_of}
 
 -- a server with its room
-abbrev pub roomed_of : Holdings → Roomed
+abbrev pub roomed_of : ServerState → Roomed
 roomed_of held = record {
   state = state_of held;
   locks = held.locks.room;

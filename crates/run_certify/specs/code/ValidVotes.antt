@@ -1,7 +1,7 @@
 -- That all votes in transcripts are valid.
 use Rattle.std.specs.Prelude.{List}
 use Rattle.std.specs.List.{AllByRecursion}
-use Rattle.headline.specs.Premises.{JobGivesValidVotes}
+use Rattle.law_headline.specs.Premises.{JobGivesValidVotes}
 use Rattle.run_certify.specs.declared.entry.Entry.{Entry}
 use Rattle.run_certify.specs.declared.entry.Entry.TheVariants.{Begun}
 

@@ -7,7 +7,7 @@ use Rattle.txn_core.specs.declared.job.Job.{Job}
 use Rattle.txn_core.specs.Agents.{fixed_of}
 use Rattle.run_core.specs.Decisions.{Decided, decisions_from}
 use Rattle.run_core.specs.declared.done.Done.{Done}
-use Rattle.run_core.specs.declared.done.Outcome.{Outcome}
+use Rattle.run_core.specs.declared.done.EndedJob.{EndedJob}
 use Rattle.run_core.specs.declared.done.Served.{Served}
 use Rattle.run_core.specs.declared.event.Event.{Event}
 use Rattle.run_core.specs.Worlds.{World, opening, step}
@@ -87,7 +87,7 @@ abbrev pub with_decision : Walked → ℕ → Option Served → Walked
 with_decision was agent served = record was { made = was.made ++ cons_option (decision_by (job_at was.begun.jobs agent) served) [] }
 
 -- the end of a job is used, if it ended, and nothing else has changed
-pub record IsEnd (was : Walked) (agent : ℕ) (outcome : Option Outcome) (now : Walked) : Type 0 where
+pub record IsEnd (was : Walked) (agent : ℕ) (outcome : Option EndedJob) (now : Walked) : Type 0 where
   pub ended : HasEnded was.unused agent outcome now.unused
   pub kept : now ≡ record was { unused = now.unused }
 

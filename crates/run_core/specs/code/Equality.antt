@@ -5,12 +5,12 @@ use Rattle.std.specs.Cmp.{IsEquivalence, IsPartialEquivalence, partial_equiv_fro
 use Rattle.std.proofs.Common.{ap}
 use Rattle.std.proofs.lemmas.Bool.Decides.{Decides-eqb, Decides-and, Decides-like}
 use Rattle.txn_core.specs.code.Equality.{same_ending, same_ending_decides}
-use Rattle.run_core.specs.declared.done.Outcome.{Outcome}
+use Rattle.run_core.specs.declared.done.EndedJob.{EndedJob}
 
-abbrev pub same_outcome : Outcome → Outcome → Bool
+abbrev pub same_outcome : EndedJob → EndedJob → Bool
 same_outcome a b = (a.agent == b.agent) && ((a.count == b.count) && ((a.steps == b.steps) && same_ending a.ending b.ending))
 
-pub same_outcome_decides : (a b : Outcome) → Decides (same_outcome a b) (a ≡ b)
+pub same_outcome_decides : (a b : EndedJob) → Decides (same_outcome a b) (a ≡ b)
 same_outcome_decides a b =
     Decides-like _ (λ same i. record { agent = same.0 i; count = same.1.0 i; steps = same.1.1.0 i; ending = same.1.1.1 i })
     (λ same. (ap (λ o. o.agent) same, (ap (λ o. o.count) same, (ap (λ o. o.steps) same, ap (λ o. o.ending) same))))

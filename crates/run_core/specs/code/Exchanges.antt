@@ -4,7 +4,7 @@ use Rattle.std.specs.Option.{option_or}
 use Rattle.rep_core.specs.declared.request.Request.{Request}
 use Rattle.rep_core.specs.State.{State}
 use Rattle.run_core.specs.declared.done.Done.{Done}
-use Rattle.run_core.specs.declared.done.Outcome.{Outcome}
+use Rattle.run_core.specs.declared.done.EndedJob.{EndedJob}
 use Rattle.run_core.specs.declared.done.Served.{Served}
 use Rattle.run_core.specs.Worlds.{Stepped, World, server_at, with_server, with_actor, serve, answered}
 use Rattle.run_core.specs.code.Seats.{Seated}
@@ -22,17 +22,17 @@ served_if true asked = Some asked
 served_if false asked = None
 
 -- what was done is told: how a job ended is put into a place that else keeps what it has, and what was served into another
-pub record IsTold (done : Done) (asked : Served) (ended ended' : Option Outcome) (is_served : Bool) : Type 0 where
+pub record IsTold (done : Done) (asked : Served) (ended ended' : Option EndedJob) (is_served : Bool) : Type 0 where
   pub ended_is : ended' ≡ option_or done.outcome ended
   pub served_is : done.served ≡ served_if is_served asked
 
 -- an exchange, and what is told of it
-pub record IsExchangeOf (host host' : State) (seat seat' : Seated) (number : ℕ) (asked asked' : Served) (ended ended' : Option Outcome) (is_served : Bool) : Type 0 where
+pub record IsExchangeOf (host host' : State) (seat seat' : Seated) (number : ℕ) (asked asked' : Served) (ended ended' : Option EndedJob) (is_served : Bool) : Type 0 where
   pub done : Done
   pub exchange : IsExchange host host' seat seat' asked.server number asked.request.value done
   pub told : IsTold done asked' ended ended' is_served
 
 -- an event makes this of a world, and what was done is told
-pub record ComesTo (stepped : Stepped) (world : World) (asked : Served) (ended ended' : Option Outcome) (is_served : Bool) : Type 0 where
+pub record ComesTo (stepped : Stepped) (world : World) (asked : Served) (ended ended' : Option EndedJob) (is_served : Bool) : Type 0 where
   pub world_is : world ≡ stepped.world
   pub told : IsTold stepped.done asked ended ended' is_served

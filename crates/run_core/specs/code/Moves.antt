@@ -3,10 +3,10 @@ use Rattle.std.specs.Prelude.{◌≡◌, ℕ, Bool, false, IsTrue, List, slice_g
 use Rattle.rep_core.specs.declared.stamped.Lack.{Lack}
 use Rattle.rep_core.specs.State.{State}
 use Rattle.txn_core.specs.declared.job.Job.{Job}
-use Rattle.txn_core.specs.declared.word.Word.TheVariants.{Lacked}
+use Rattle.txn_core.specs.declared.response.Response.TheVariants.{Lacked}
 use Rattle.txn_core.specs.Doing.{Fixed}
 use Rattle.txn_core.specs.Agents.{begin}
-use Rattle.run_core.specs.declared.done.Outcome.{Outcome}
+use Rattle.run_core.specs.declared.done.EndedJob.{EndedJob}
 use Rattle.run_core.specs.declared.done.Served.{Served}
 use Rattle.run_core.specs.declared.operator.Order.{Order}
 use Rattle.run_core.specs.Wanting.{by_begin, by_step}
@@ -29,7 +29,7 @@ abbrev pub step_of : Fixed → List State → List Seated → ℕ → Stepped
 step_of fixed servers seats number = steps_once fixed (world_of servers seats) number (slice_get (actors_in seats) number)
 
 -- what was asked is told, with the reply, if it was served, and how a job ended
-abbrev pub IsAsked : List State → List State → List Seated → List Seated → ℕ → Served → Option Outcome → Option Outcome → Bool → Type 0
+abbrev pub IsAsked : List State → List State → List Seated → List Seated → ℕ → Served → Option EndedJob → Option EndedJob → Bool → Type 0
 IsAsked servers servers' seats seats' number asked ended ended' is_served =
     (fixed : Fixed) → AreOf fixed seats → ComesTo (step_of fixed servers seats number) (world_of servers' seats') asked ended ended' is_served
 
@@ -38,7 +38,7 @@ StepWants servers seats number = (fixed : Fixed) → AreOf fixed seats → IsTru
 
 -- ---- an agent is told that its request is not served
 
-abbrev pub IsLacked : List Seated → List Seated → ℕ → Lack → Option Outcome → Option Outcome → Type 0
+abbrev pub IsLacked : List Seated → List Seated → ℕ → Lack → Option EndedJob → Option EndedJob → Type 0
 IsLacked seats seats' number lack ended ended' =
     (fixed : Fixed) (servers : List State) (asked : Served) → AreOf fixed seats
     → ComesTo (lacks fixed (world_of servers seats) number (Lacked lack) (slice_get (actors_in seats) number)) (world_of servers seats') asked ended ended' false

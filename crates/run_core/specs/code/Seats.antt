@@ -3,12 +3,12 @@ use Rattle.std.specs.Prelude.{◌≡◌, ℕ, zero, suc, ◌+◌, List, [], ◌�
 use Rattle.suite_prefix.specs.SettingsRules.{Opening}
 use Rattle.rep_core.specs.State.{State}
 use Rattle.txn_core.specs.declared.ending.Ending.{Ending}
-use Rattle.txn_core.specs.declared.word.Word.{Word}
+use Rattle.txn_core.specs.declared.response.Response.{Response}
 use Rattle.txn_core.specs.Doing.{Fixed}
 use Rattle.txn_core.specs.Agents as agents
 use Rattle.txn_core.specs.Agents.{Agent, fixed_of, next_of, take}
 use Rattle.txn_core.specs.Standing.{FitsAsked}
-use Rattle.run_core.specs.declared.done.Outcome.{Outcome}
+use Rattle.run_core.specs.declared.done.EndedJob.{EndedJob}
 use Rattle.run_core.specs.Worlds.{Actor, World, moved, one_more, outcome_of}
 
 -- an agent in a world, with what never changes
@@ -22,20 +22,20 @@ opening given index = record { fixed = fixed_of given; actor = record { agent = 
 abbrev pub changed : Seated → Agent → Seated
 changed seat agent = record seat { actor = record seat.actor { agent = agent } }
 
--- a word answers what was asked
-abbrev pub Fits : Seated → Word → Type 0
-Fits seat word = FitsAsked (next_of seat.fixed seat.actor.agent) word
+-- a response answers what was asked
+abbrev pub Fits : Seated → Response → Type 0
+Fits seat response = FitsAsked (next_of seat.fixed seat.actor.agent) response
 
--- it took a word, and has this stamp from then on
-abbrev pub after_word : Seated → ℕ → Word → Seated
-after_word seat stamp word = record seat { actor = moved seat.actor stamp (take seat.fixed seat.actor.agent word) }
+-- it took a response, and has this stamp from then on
+abbrev pub after_response : Seated → ℕ → Response → Seated
+after_response seat stamp response = record seat { actor = moved seat.actor stamp (take seat.fixed seat.actor.agent response) }
 
--- how its job ends with a word, if it does
-abbrev pub ending_by : ℕ → Seated → Word → Option Outcome
-ending_by number seat word = outcome_of number seat.actor (take seat.fixed seat.actor.agent word).ending
+-- how its job ends with a response, if it does
+abbrev pub ending_by : ℕ → Seated → Response → Option EndedJob
+ending_by number seat response = outcome_of number seat.actor (take seat.fixed seat.actor.agent response).ending
 
 -- how a job ended that took so many steps before its last
-abbrev pub ended_with : ℕ → ℕ → ℕ → Ending → Outcome
+abbrev pub ended_with : ℕ → ℕ → ℕ → Ending → EndedJob
 ended_with number count steps ending = record { agent = number; count = count; steps = one_more steps; ending = ending }
 
 -- ---- all agents of a world

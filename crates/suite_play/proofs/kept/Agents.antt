@@ -3,20 +3,20 @@ use Rattle.std.proofs.Common.{◌≡◌, ℕ, ◌+◌, ◌*◌, Bool, true, fals
 use Rattle.std.specs.Prelude.{option_map, nat_lt, ◌&&◌}
 use Rattle.rep_core.specs.declared.request.Request.{Request}
 use Rattle.weak_cache.specs.Entries.{Cache}
-use Rattle.txn_core.specs.declared.word.Word.{Word}
+use Rattle.txn_core.specs.declared.response.Response.{Response}
 use Rattle.txn_core.specs.declared.job.Job.{Job}
 use Rattle.txn_core.specs.declared.job.Job.TheVariants.{Transaction, Sweep}
-use Rattle.txn_core.specs.Doing.{Fixed, Task, Course, Round, Doing, Running, Rounding, After, GoesOn, Ends}
-use Rattle.txn_core.specs.Transactions as course
+use Rattle.txn_core.specs.Doing.{Fixed, Task, TransactionRun, SweepRun, Doing, Running, RunningSweep, After, GoesOn, Ends}
+use Rattle.txn_core.specs.Transactions as txn_run
 use Rattle.txn_core.specs.Transactions.{execute}
 use Rattle.txn_core.specs.Sweeps as sweep
 use Rattle.txn_core.specs.Agents.{Agent, Taken, next_in, next_of, left, end_of, with_step, take_in, take, begin, begins, has_sense, is_idle, max_jobs, started}
 use Rattle.suite_play.specs.code.Kept.{kept_job}
-use Rattle.suite_play.proofs.kept.Courses.{cut_course, cut_after, asks_the_same, executes, hears_word}
+use Rattle.suite_play.proofs.kept.Courses.{cut_course, cut_after, asks_the_same, executes, hears_response}
 
 abbrev pub cut_doing : Doing → Doing
-cut_doing (Running course) = Running (cut_course course)
-cut_doing (Rounding round) = Rounding round
+cut_doing (Running txn_run) = Running (cut_course txn_run)
+cut_doing (RunningSweep sweep_run) = RunningSweep sweep_run
 
 abbrev pub cut_agent : Agent → Agent
 cut_agent agent = record agent { doing = option_map cut_doing agent.doing }
@@ -28,37 +28,37 @@ cut_taken taken = record taken { agent = cut_agent taken.agent }
 
 next_is : (fixed : Fixed) (doing : Option Doing) → next_in fixed (option_map cut_doing doing) ≡ next_in fixed doing
 next_is fixed None = refl
-next_is fixed (Some (Running course)) = asks_the_same fixed course.task course.suites course.phase
-next_is fixed (Some (Rounding round)) = refl
+next_is fixed (Some (Running txn_run)) = asks_the_same fixed txn_run.task txn_run.suites txn_run.phase
+next_is fixed (Some (RunningSweep sweep_run)) = refl
 
 pub next_same : (fixed : Fixed) (agent : Agent) → next_of fixed (cut_agent agent) ≡ next_of fixed agent
 next_same fixed agent = next_is fixed agent.doing
 
 -- ---- take
 
-with_after : (agent : Agent) (cache : Cache) (after : After Course) → with_step (cut_agent agent) (record { cache = cache; after = cut_after after }) ≡ cut_taken (with_step agent (record { cache = cache; after = after }))
+with_after : (agent : Agent) (cache : Cache) (after : After TransactionRun) → with_step (cut_agent agent) (record { cache = cache; after = cut_after after }) ≡ cut_taken (with_step agent (record { cache = cache; after = after }))
 with_after agent cache (GoesOn more) = refl
 with_after agent cache (Ends ending) = refl
 
-swept : (agent : Agent) (after : After Round)
-    → ◌≡◌ {A = Taken} (record { agent = record (cut_agent agent) { doing = left Rounding after }; ending = end_of after }) (cut_taken (record { agent = record agent { doing = left Rounding after }; ending = end_of after }))
+swept : (agent : Agent) (after : After SweepRun)
+    → ◌≡◌ {A = Taken} (record { agent = record (cut_agent agent) { doing = left RunningSweep after }; ending = end_of after }) (cut_taken (record { agent = record agent { doing = left RunningSweep after }; ending = end_of after }))
 swept agent (GoesOn more) = refl
 swept agent (Ends ending) = refl
 
-takes : (fixed : Fixed) (agent : Agent) (word : Word) (doing : Option Doing) (asked : Option (ℕ × Request)) → take_in fixed (cut_agent agent) word (option_map cut_doing doing) asked ≡ cut_taken (take_in fixed agent word doing asked)
-takes fixed agent word (Some (Running running)) (Some asked) =
-    let step = course.after_word fixed running agent.cache asked.0 asked.1 word in
-    ap (with_step (cut_agent agent)) (hears_word running.task fixed agent.cache running.suites running.phase asked.0 asked.1 word)
+takes : (fixed : Fixed) (agent : Agent) (response : Response) (doing : Option Doing) (asked : Option (ℕ × Request)) → take_in fixed (cut_agent agent) response (option_map cut_doing doing) asked ≡ cut_taken (take_in fixed agent response doing asked)
+takes fixed agent response (Some (Running running)) (Some asked) =
+    let step = txn_run.after_response fixed running agent.cache asked.0 asked.1 response in
+    ap (with_step (cut_agent agent)) (hears_response running.task fixed agent.cache running.suites running.phase asked.0 asked.1 response)
     ∙ with_after agent step.cache step.after
-takes fixed agent word (Some (Rounding round)) (Some asked) = swept agent (sweep.after_word fixed.service round asked.0 word)
-takes fixed agent word (Some (Running running)) None = refl
-takes fixed agent word (Some (Rounding round)) None = refl
-takes fixed agent word None asked = refl
+takes fixed agent response (Some (RunningSweep sweep_run)) (Some asked) = swept agent (sweep.after_response fixed.service sweep_run asked.0 response)
+takes fixed agent response (Some (Running running)) None = refl
+takes fixed agent response (Some (RunningSweep sweep_run)) None = refl
+takes fixed agent response None asked = refl
 
-pub take_same : (fixed : Fixed) (agent : Agent) (word : Word) → take fixed (cut_agent agent) word ≡ cut_taken (take fixed agent word)
-take_same fixed agent word =
-    ap (take_in fixed (cut_agent agent) word (option_map cut_doing agent.doing)) (next_same fixed agent)
-    ∙ takes fixed agent word agent.doing (next_of fixed agent)
+pub take_same : (fixed : Fixed) (agent : Agent) (response : Response) → take fixed (cut_agent agent) response ≡ cut_taken (take fixed agent response)
+take_same fixed agent response =
+    ap (take_in fixed (cut_agent agent) response (option_map cut_doing agent.doing)) (next_same fixed agent)
+    ∙ takes fixed agent response agent.doing (next_of fixed agent)
 
 -- ---- begin
 

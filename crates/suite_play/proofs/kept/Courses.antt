@@ -15,26 +15,26 @@ use Rattle.file_exec.specs.declared.executor.Outcome.TheVariants as exec
 use Rattle.suite_collect.specs.declared.told.Said.{Said}
 use Rattle.suite_collect.specs.Collecting.{tell, mode_of, Next, Ask, Current, Short, next}
 use Rattle.weak_cache.specs.Entries.{Cache}
-use Rattle.txn_core.specs.Suites.{First, Suite, Suites, suite_of, with_suite, known_of, settled}
-use Rattle.txn_core.specs.declared.word.Word.{Word}
-use Rattle.txn_core.specs.declared.word.Word.TheVariants.{Replied, Lacked}
+use Rattle.txn_core.specs.Suites.{ReadPoint, Suite, Suites, suite_of, with_suite, known_of, settled}
+use Rattle.txn_core.specs.declared.response.Response.{Response}
+use Rattle.txn_core.specs.declared.response.Response.TheVariants.{Replied, Lacked}
 use Rattle.txn_core.specs.declared.ending.Cause.{Cause}
 use Rattle.txn_core.specs.declared.ending.Cause.TheVariants.{Lost}
 use Rattle.txn_core.specs.declared.ending.Ending.{Ending}
 use Rattle.txn_core.specs.declared.ending.Ending.TheVariants.{Undecided}
-use Rattle.txn_core.specs.Doing.{Changes, Granted, Fixed, Task, Outcome, Phase, Gathering, Fetching, Widening, Preparing, Deciding, Finishing, Course, After, GoesOn, Ends}
-use Rattle.txn_core.specs.Transactions.{Step, Gathered, tell_end, give_up, prepare, locked_at, short_cause, gather_by, raised_or_new, widen_by, widen_one, widened, widen_all, to_widen, heard_on, or_all, open_needed, opened, proceed, execute, request_of, collected, hear, keep_content, fetched, given_in, heard_of, said_to, after_reply, lack_cause, after_lack, after_word, decided, verdict_in, ending_by, cause_of_abort}
+use Rattle.txn_core.specs.Doing.{Changes, Granted, Fixed, Task, Outcome, Phase, Gathering, Fetching, Widening, Preparing, Deciding, Finishing, TransactionRun, After, GoesOn, Ends}
+use Rattle.txn_core.specs.Transactions.{Step, Gathered, tell_end, give_up, prepare, locked_at, short_cause, gather_by, raised_or_new, widen_by, widen_one, widened, widen_all, to_widen, heard_on, or_all, open_needed, opened, proceed, execute, request_of, collected, hear, keep_content, fetched, given_in, heard_of, said_to, after_reply, lack_cause, after_lack, after_response, decided, verdict_in, ending_by, cause_of_abort}
 use Rattle.suite_play.proofs.kept.Executed.{few, same_executed}
 
 -- a transaction with the operations that are kept of it
 abbrev pub cut : Task → Task
 cut task = record task { ops = few task.ops }
 
-abbrev pub cut_course : Course → Course
-cut_course course = record course { task = cut course.task }
+abbrev pub cut_course : TransactionRun → TransactionRun
+cut_course txn_run = record txn_run { task = cut txn_run.task }
 
-abbrev pub cut_after : After Course → After Course
-cut_after (GoesOn course) = GoesOn (cut_course course)
+abbrev pub cut_after : After TransactionRun → After TransactionRun
+cut_after (GoesOn txn_run) = GoesOn (cut_course txn_run)
 cut_after (Ends ending) = Ends ending
 
 abbrev pub cut_step : Step → Step
@@ -127,7 +127,7 @@ module _ (task : Task) where
       hears cache suites phase number suite server asked (said_to asked said) (λ suite. go_on (with_suite number suite suites)) (λ suite. go_on' (with_suite number suite suites)) (λ suite. same (with_suite number suite suites))
   hears_of cache suites phase number None server asked said go_on go_on' same = gives_up cache suites (Lost server)
 
-  keeps : (fixed : Fixed) (cache : Cache) (suites : Suites) (number : ℕ) (suite : Suite) (content : Content) (first : Option First) (server : ℕ)
+  keeps : (fixed : Fixed) (cache : Cache) (suites : Suites) (number : ℕ) (suite : Suite) (content : Content) (first : Option ReadPoint) (server : ℕ)
       → keep_content fixed (cut task) cache suites number suite content first server ≡ cut_step (keep_content fixed task cache suites number suite content first server)
   keeps fixed cache suites number suite content (Some first) server = executes fixed _
   keeps fixed cache suites number suite content None server = gives_up cache suites (Lost server)
@@ -171,7 +171,7 @@ module _ (task : Task) where
   lacks cache suites (Preparing left outcome) server lacked = gives_up cache suites (lack_cause server lacked)
   lacks cache suites (Deciding outcome) server lacked = gives_up cache suites (lack_cause server lacked)
 
-  pub hears_word : (fixed : Fixed) (cache : Cache) (suites : Suites) (phase : Phase) (server : ℕ) (asked : Request) (word : Word)
-      → after_word fixed (record { task = cut task; suites = suites; phase = phase }) cache server asked word ≡ cut_step (after_word fixed (record { task = task; suites = suites; phase = phase }) cache server asked word)
-  hears_word fixed cache suites phase server asked (Replied said) = replies fixed cache suites phase server asked said
-  hears_word fixed cache suites phase server asked (Lacked lacked) = lacks cache suites phase server lacked
+  pub hears_response : (fixed : Fixed) (cache : Cache) (suites : Suites) (phase : Phase) (server : ℕ) (asked : Request) (response : Response)
+      → after_response fixed (record { task = cut task; suites = suites; phase = phase }) cache server asked response ≡ cut_step (after_response fixed (record { task = task; suites = suites; phase = phase }) cache server asked response)
+  hears_response fixed cache suites phase server asked (Replied said) = replies fixed cache suites phase server asked said
+  hears_response fixed cache suites phase server asked (Lacked lacked) = lacks cache suites phase server lacked

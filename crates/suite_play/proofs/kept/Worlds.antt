@@ -8,8 +8,8 @@ use Rattle.rep_core.specs.declared.request.Request.{Request}
 use Rattle.rep_core.specs.declared.request.Request.TheVariants as request
 use Rattle.rep_core.specs.declared.stamped.Lack.TheVariants as lack
 use Rattle.rep_core.specs.State.{State}
-use Rattle.txn_core.specs.declared.word.Word.{Word}
-use Rattle.txn_core.specs.declared.word.Word.TheVariants.{Replied, Lacked}
+use Rattle.txn_core.specs.declared.response.Response.{Response}
+use Rattle.txn_core.specs.declared.response.Response.TheVariants.{Replied, Lacked}
 use Rattle.txn_core.specs.Doing.{Fixed}
 use Rattle.txn_core.specs.Agents as agent
 use Rattle.txn_core.specs.Agents.{Agent, Taken, begin, forget, next_of, take}
@@ -53,11 +53,11 @@ took_same world number actor stamp taken what =
     ap (λ (after : World). record { world = after; done = record { served = what; outcome = outcome_of number actor taken.ending } }) (put_back world number (moved actor stamp taken))
 
 -- it took a word
-told_same : (fixed : Fixed) (world : World) (number : ℕ) (actor : Actor) (stamp : ℕ) (word : Word) (what : Option Served)
-    → took (cut_world world) number (cut_actor actor) stamp (take fixed (cut_agent actor.agent) word) what ≡ cut_stepped (took world number actor stamp (take fixed actor.agent word) what)
-told_same fixed world number actor stamp word what =
-    ap (λ taken. took (cut_world world) number (cut_actor actor) stamp taken what) (take_same fixed actor.agent word)
-    ∙ took_same world number actor stamp (take fixed actor.agent word) what
+told_same : (fixed : Fixed) (world : World) (number : ℕ) (actor : Actor) (stamp : ℕ) (response : Response) (what : Option Served)
+    → took (cut_world world) number (cut_actor actor) stamp (take fixed (cut_agent actor.agent) response) what ≡ cut_stepped (took world number actor stamp (take fixed actor.agent response) what)
+told_same fixed world number actor stamp response what =
+    ap (λ taken. took (cut_world world) number (cut_actor actor) stamp taken what) (take_same fixed actor.agent response)
+    ∙ took_same world number actor stamp (take fixed actor.agent response) what
 
 answered_same : (fixed : Fixed) (world : World) (number : ℕ) (actor : Actor) (st : State) (what : Option Served)
     → answered fixed (cut_world world) number (cut_actor actor) st what ≡ cut_stepped (answered fixed world number actor st what)
@@ -89,16 +89,16 @@ steps_same fixed world number (Some actor) =
     ∙ asks_same fixed world number actor (next_of fixed actor.agent)
 steps_same fixed world number None = refl
 
-lacks_for_same : (fixed : Fixed) (world : World) (number : ℕ) (actor : Actor) (word : Word) (asked : Option (ℕ × Request))
-    → lacks_for fixed (cut_world world) number (cut_actor actor) word asked ≡ cut_stepped (lacks_for fixed world number actor word asked)
-lacks_for_same fixed world number actor word (Some asked) = told_same fixed world number actor actor.stamp word None
-lacks_for_same fixed world number actor word None = refl
+lacks_for_same : (fixed : Fixed) (world : World) (number : ℕ) (actor : Actor) (response : Response) (asked : Option (ℕ × Request))
+    → lacks_for fixed (cut_world world) number (cut_actor actor) response asked ≡ cut_stepped (lacks_for fixed world number actor response asked)
+lacks_for_same fixed world number actor response (Some asked) = told_same fixed world number actor actor.stamp response None
+lacks_for_same fixed world number actor response None = refl
 
-lacks_same : (fixed : Fixed) (world : World) (number : ℕ) (word : Word) (found : Option Actor) → lacks fixed (cut_world world) number word (option_map cut_actor found) ≡ cut_stepped (lacks fixed world number word found)
-lacks_same fixed world number word (Some actor) =
-    ap (lacks_for fixed (cut_world world) number (cut_actor actor) word) (next_same fixed actor.agent)
-    ∙ lacks_for_same fixed world number actor word (next_of fixed actor.agent)
-lacks_same fixed world number word None = refl
+lacks_same : (fixed : Fixed) (world : World) (number : ℕ) (response : Response) (found : Option Actor) → lacks fixed (cut_world world) number response (option_map cut_actor found) ≡ cut_stepped (lacks fixed world number response found)
+lacks_same fixed world number response (Some actor) =
+    ap (lacks_for fixed (cut_world world) number (cut_actor actor) response) (next_same fixed actor.agent)
+    ∙ lacks_for_same fixed world number actor response (next_of fixed actor.agent)
+lacks_same fixed world number response None = refl
 
 operated_same : (world : World) (st : State) (what : Option Served) → operated (cut_world world) st what ≡ cut_stepped (operated world st what)
 operated_same world st (Some what) = refl

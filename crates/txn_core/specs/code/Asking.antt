@@ -3,7 +3,7 @@ use Rattle.std.specs.Prelude.{◌≡◌, ℕ, IsTrue, option_map, Option}
 use Rattle.file_ops.specs.declared.service.Service.{Service}
 use Rattle.rep_core.specs.declared.request.Request.{Request}
 use Rattle.weak_cache.specs.Cache.{Limits}
-use Rattle.txn_core.specs.Doing.{Fixed, Phase, Course}
+use Rattle.txn_core.specs.Doing.{Fixed, Phase, TransactionRun}
 use Rattle.txn_core.specs.Transactions.{request_in}
 use Rattle.txn_core.specs.Wanting.{by_asking}
 
@@ -21,12 +21,12 @@ Asks asked service server request = (limits : Limits) → asked_as server reques
 abbrev pub Wants : (Fixed → Option (ℕ × Request)) → Service → Type 0
 Wants asked service = (limits : Limits) → IsTrue (by_asking (asked (fixed_on service limits)))
 
--- so a course asks in a phase, in whatever service
-abbrev pub asked_in : Phase → Course → Fixed → Option (ℕ × Request)
-asked_in phase course fixed = request_in fixed course.task course.suites phase
+-- so a transaction's run asks in a phase, in whatever service
+abbrev pub asked_in : Phase → TransactionRun → Fixed → Option (ℕ × Request)
+asked_in phase txn_run fixed = request_in fixed txn_run.task txn_run.suites phase
 
-abbrev pub AsksIn : Phase → Course → Option ℕ → Request → Type 0
-AsksIn phase course server request = (fixed : Fixed) → asked_as server request ≡ asked_in phase course fixed
+abbrev pub AsksIn : Phase → TransactionRun → Option ℕ → Request → Type 0
+AsksIn phase txn_run server request = (fixed : Fixed) → asked_as server request ≡ asked_in phase txn_run fixed
 
-abbrev pub WantsIn : Phase → Course → Type 0
-WantsIn phase course = (fixed : Fixed) → IsTrue (by_asking (asked_in phase course fixed))
+abbrev pub WantsIn : Phase → TransactionRun → Type 0
+WantsIn phase txn_run = (fixed : Fixed) → IsTrue (by_asking (asked_in phase txn_run fixed))

@@ -1,10 +1,10 @@
--- The fields of `First` as contracts see them.
+-- The fields of `ReadPoint` as contracts see them.
 use Rattle.std.specs.Prelude.{◌≡◌, false}
 use Rattle.rep_core.specs.Store.{is_used_up}
-use Rattle.txn_core.specs.declared.first.First.TheInside.{Inside}
-use Rattle.txn_core.specs.Suites.{First}
+use Rattle.txn_core.specs.declared.read_point.ReadPoint.TheInside.{Inside}
+use Rattle.txn_core.specs.Suites.{ReadPoint}
 
-abbrev pub first_of : Inside → First
+abbrev pub first_of : Inside → ReadPoint
 first_of fields = record { prefix = fields.prefix; dver = fields.dver; source = fields.source }
 
 -- a version more can be given

@@ -10,10 +10,10 @@ use Rattle.suite_collect.specs.declared.told.Told.{Told}
 use Rattle.suite_collect.specs.Collecting as collecting
 use Rattle.suite_collect.specs.Collecting.{Next, next, tell, told_by}
 use Rattle.weak_cache.specs.Entries.{Cache}
-use Rattle.txn_core.specs.Suites.{First, Suite, Suites, with_suite, settled}
-use Rattle.txn_core.specs.declared.settling.Settling.{Settling}
+use Rattle.txn_core.specs.Suites.{ReadPoint, Suite, Suites, with_suite, settled}
+use Rattle.txn_core.specs.declared.pending_quorum.PendingQuorum.{PendingQuorum}
 use Rattle.txn_core.specs.declared.ending.Cause.TheVariants as cause
-use Rattle.txn_core.specs.Doing.{Task, Phase, Course}
+use Rattle.txn_core.specs.Doing.{Task, Phase, TransactionRun}
 use Rattle.txn_core.specs.code.Seeing.{settled_with}
 use Rattle.txn_core.specs.Transactions.{Step, on_with, give_up, short_cause}
 
@@ -68,27 +68,27 @@ Hears coded.Asks before said after = heard before said ≡ Asks after
 Hears coded.Short before said after = FallsShort (heard before said) after
 Hears coded.Quorum before said after = IsSettled (heard before said) × (after ≡ before) × (is_held said ≡ true)
 
--- the same of a suite among those of a course
-abbrev pub HearsIn : Heard → ℕ → Suite → Course → Reply → Course → Type 0
+-- the same of a suite among those of a transaction's run
+abbrev pub HearsIn : Heard → ℕ → Suite → TransactionRun → Reply → TransactionRun → Type 0
 HearsIn coded.Lost number suite before said after = (heard suite said ≡ Lost) × (after ≡ before)
 HearsIn coded.Quorum number suite before said after = IsSettled (heard suite said) × (after ≡ before) × (is_held said ≡ true)
 HearsIn heard number suite before said after = (new : Suite) × Hears heard suite said new × (after ≡ record before { suites = with_suite number new before.suites })
 
-abbrev pub HearsAt : Option Suite → ℕ → Heard → Course → Reply → Course → Type 0
+abbrev pub HearsAt : Option Suite → ℕ → Heard → TransactionRun → Reply → TransactionRun → Type 0
 HearsAt (Some suite) number heard before said after = HearsIn heard number suite before said after
 HearsAt None number heard before said after = (heard ≡ coded.Lost) × (after ≡ before)
 
 -- what the first quorum gives, where there is one once a suite is told, and was none before
-abbrev pub IsFirstAfter : Suite → Told → Option First → Type 0
+abbrev pub IsFirstAfter : Suite → Told → Option ReadPoint → Type 0
 IsFirstAfter suite last first =
     (prefix : Prefix) (dver : ℕ) (members : List ℕ) → next (tell last suite.collector) ≡ collecting.Current prefix dver members
     → option_or suite.first first ≡ (settled prefix dver members (record suite { collector = tell last suite.collector })).first
 
 -- the quorum that a suite is to have with a reply; none, where a lock is lost
-abbrev pub Settles : Option Settling → Suite → Reply → Type 0
-Settles (Some settling) suite said = IsSettled (heard suite said) → heard suite said ≡ Settled (settled_with settling suite)
+abbrev pub Settles : Option PendingQuorum → Suite → Reply → Type 0
+Settles (Some pending) suite said = IsSettled (heard suite said) → heard suite said ≡ Settled (settled_with pending suite)
 Settles None suite said = heard suite said ≡ Lost
 
-abbrev pub SettlesAt : Option Suite → Option Settling → Reply → Type 0
-SettlesAt (Some suite) settling said = Settles settling suite said
-SettlesAt None settling said = settling ≡ None
+abbrev pub SettlesAt : Option Suite → Option PendingQuorum → Reply → Type 0
+SettlesAt (Some suite) pending said = Settles pending suite said
+SettlesAt None pending said = pending ≡ None

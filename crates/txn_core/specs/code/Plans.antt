@@ -13,15 +13,15 @@ use Rattle.file_exec.specs.declared.executor.Outcome.{Outcome as Executed}
 use Rattle.file_exec.specs.declared.executor.Outcome.TheVariants as exec
 use Rattle.txn_core.specs.declared.execution.Execution.{Execution}
 use Rattle.txn_core.specs.declared.plan.Plan.{Plan}
-use Rattle.txn_core.specs.declared.shelf.Fetched.{Fetched}
-use Rattle.txn_core.specs.declared.shelf.Shelf.{Shelf}
+use Rattle.txn_core.specs.declared.cache_after.Fetched.{Fetched}
+use Rattle.txn_core.specs.declared.cache_after.CacheAfter.{CacheAfter}
 use Rattle.txn_core.specs.Doing.{Fixed, Task}
-use Rattle.txn_core.specs.Suites.{First, Suite, Suites, suite_of, with_suite, known_row}
+use Rattle.txn_core.specs.Suites.{ReadPoint, Suite, Suites, suite_of, with_suite, known_row}
 use Rattle.txn_core.specs.Transactions.{Gathered, heard_on, free_content, after_search, opened, raised_or_new}
 
 -- the service of an execution, with the limits of a cache
 abbrev pub fixed_in : Execution → Limited → Fixed
-fixed_in execution cache = record { service = execution.ground.now; limits = cache.limits }
+fixed_in execution cache = record { service = execution.fixed_parts.now; limits = cache.limits }
 
 -- all that was gathered, with the entries of a cache
 abbrev pub all_in : Suites → Limited → Gathered
@@ -34,17 +34,17 @@ abbrev pub shelved : Limited → Option Fetched → Cache
 shelved cache (Some one) = put cache.limits (record { site = one.site; suite = one.suite; prefix = one.prefix; dver = one.dver; content = one.content }) cache.entries
 shelved cache None = cache.entries
 
-abbrev pub entries_on : Shelf → Cache
-entries_on shelf = shelved shelf.cache.now (option_copied shelf.fetched)
+abbrev pub entries_on : CacheAfter → Cache
+entries_on cache_after = shelved cache_after.cache.now (option_copied cache_after.fetched)
 
 -- what was gathered, where the cache is seen through a shelf
-abbrev pub seen_on : Shelf → Suites → Gathered
-seen_on shelf suites = record { suites = suites; cache = entries_on shelf }
+abbrev pub seen_on : CacheAfter → Suites → Gathered
+seen_on cache_after suites = record { suites = suites; cache = entries_on cache_after }
 
 -- ---- contents that are to be had without asking
 
 -- a suite that had a quorum gets its content; one of the cache is its newest from then on
-abbrev pub opened_first : Task → Gathered → ℕ → Content → Suite → Option First → Gathered
+abbrev pub opened_first : Task → Gathered → ℕ → Content → Suite → Option ReadPoint → Gathered
 opened_first task all number content suite (Some first) = record {
   suites = with_suite number (record suite { content = Some content }) all.suites;
   cache = after_search task all.cache number first;
@@ -64,7 +64,7 @@ opened_all task [] all = all
 opened_all task (one ∷ more) all = opened_all task more (opened_by task all one)
 
 -- the content of a suite, where it had a quorum and the content is to be had without asking
-abbrev pub free_first : Task → Cache → ℕ → Option First → Option Content
+abbrev pub free_first : Task → Cache → ℕ → Option ReadPoint → Option Content
 free_first task cache number (Some first) = free_content task cache number first
 free_first task cache number None = None
 
@@ -122,7 +122,7 @@ carried_out task plan all =
 -- ---- what was fetched
 
 -- a content as it is kept with what its suite's first quorum gave
-abbrev pub kept_of : Task → ℕ → Content → First → Fetched
+abbrev pub kept_of : Task → ℕ → Content → ReadPoint → Fetched
 kept_of task number content first = record { site = task.site; suite = number; prefix = first.prefix; dver = first.dver; content = content }
 
 -- whether a suite had a quorum, its content is not there, and another is of its kind

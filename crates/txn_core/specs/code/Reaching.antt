@@ -2,9 +2,9 @@
 use Rattle.std.specs.Prelude.{Option, Some, None}
 use Rattle.file_ops.specs.declared.service.Service.{Service}
 use Rattle.file_exec.specs.Reaching.{Reached, IsReached, unbegun}
-use Rattle.txn_core.specs.declared.ending.Goes.{Goes}
-use Rattle.txn_core.specs.declared.ending.Goes.TheVariants.{On, Ended}
-use Rattle.txn_core.specs.Doing.{Task, Phase, Gathering, Fetching, Widening, Preparing, Deciding, Finishing, Course}
+use Rattle.txn_core.specs.declared.ending.Flow.{Flow}
+use Rattle.txn_core.specs.declared.ending.Flow.TheVariants.{On, Ended}
+use Rattle.txn_core.specs.Doing.{Task, Phase, Gathering, Fetching, Widening, Preparing, Deciding, Finishing, TransactionRun}
 use Rattle.txn_core.specs.Suites.{Suites, known_of}
 
 abbrev pub IsReachedIn : Service → Task → Suites → Reached → Type 0
@@ -19,20 +19,20 @@ IsReachedAt (Preparing left outcome) reached = Unit {0}
 IsReachedAt (Deciding outcome) reached = Unit {0}
 IsReachedAt (Finishing left verdict ending) reached = Unit {0}
 
-abbrev pub IsReachedBy : Service → Course → Reached → Type 0
-IsReachedBy service course reached = IsReachedAt course.phase (IsReachedIn service course.task course.suites reached)
+abbrev pub IsReachedBy : Service → TransactionRun → Reached → Type 0
+IsReachedBy service txn_run reached = IsReachedAt txn_run.phase (IsReachedIn service txn_run.task txn_run.suites reached)
 
 -- so it is where a transaction is not at its end
-abbrev pub IsReachedUnless : Goes → Service → Course → Reached → Type 0
-IsReachedUnless (Ended ending) service course reached = Unit {0}
-IsReachedUnless On service course reached = IsReachedBy service course reached
+abbrev pub IsReachedUnless : Flow → Service → TransactionRun → Reached → Type 0
+IsReachedUnless (Ended ending) service txn_run reached = Unit {0}
+IsReachedUnless On service txn_run reached = IsReachedBy service txn_run reached
 
 -- what was reached is let go with a transaction that is at its end
-abbrev pub kept_after : Goes → Reached → Reached
+abbrev pub kept_after : Flow → Reached → Reached
 kept_after (Ended ending) reached = unbegun
 kept_after On reached = reached
 
 -- and where one goes on at all
-abbrev pub IsReachedIf : Option Course → Service → Reached → Type 0
-IsReachedIf (Some course) service reached = IsReachedBy service course reached
+abbrev pub IsReachedIf : Option TransactionRun → Service → Reached → Type 0
+IsReachedIf (Some txn_run) service reached = IsReachedBy service txn_run reached
 IsReachedIf None service reached = Unit {0}

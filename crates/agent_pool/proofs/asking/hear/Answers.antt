@@ -8,7 +8,7 @@ use Rattle.agent_pool.proofs.asking.hear.Goals as goal
 pub returns : goal.returns
 returns c =
     let agent = c.args.agent.now in
-    let word = c.args.told.word in
+    let response = c.args.told.response in
     let entries = c.args.entries.now.items in
     let took = c.in-Ok.ensures.new in
     let ending = c.in-Some.ending in
@@ -20,15 +20,15 @@ returns c =
     let steps : c.len-at.result - c.args.begun ≡ length entries + 1 - c.args.begun = ap (λ n. n - c.args.begun) at in
     let end = end_entry c.args.number count (c.len-at.result - c.args.begun) ending in (
       ap (λ (s : Standing). s.fixed) took,
-      ap (λ (s : Standing). s.state.index) took ∙ take_index agent.fixed agent.state word,
-      ap (λ (s : Standing). s.state.count) took ∙ take_count agent.fixed agent.state word,
+      ap (λ (s : Standing). s.state.index) took ∙ take_index agent.fixed agent.state response,
+      ap (λ (s : Standing). s.state.count) took ∙ take_count agent.fixed agent.state response,
       (
         ending,
         c.push_reserved-2.ensures.items ∙ ap (λ es. es ++ end ∷ []) c.push_reserved.ensures.items ∙ append_assoc entries (c.args.told.entry ∷ []) (end ∷ [])
             ∙ ap (λ n. entries ++ c.args.told.entry ∷ end_entry c.args.number count n ending ∷ []) steps,
         at,
         (let a = c.saturating_sub-count.ensures in let b = c.count.ensures in omega arith),
-        ap (λ (s : Standing). is_idle s.state.doing) took ∙ take_idle agent.fixed agent.state word ending (sym c.in-Ok.ensures.ok ∙ c.in-Some.is),
+        ap (λ (s : Standing). is_idle s.state.doing) took ∙ take_idle agent.fixed agent.state response ending (sym c.in-Ok.ensures.ok ∙ c.in-Some.is),
         (ap (λ (s : Standing). s.state) took, sym c.in-Ok.ensures.ok ∙ c.in-Some.is),
       ),
     )

@@ -29,8 +29,8 @@ loop-seat-preserved g c =
       tt,
       tt,
       append_assoc at.yielded (x ∷ []) _ ∙ rw (← steps) at.invariant.2,
-      subst (λ (ys : List Start). AllZip (IsStart c.args.shop.now.jobs.now) (at.yielded ++ x ∷ []) ys) (sym pushed.items)
-          (zip_push (IsStart c.args.shop.now.jobs.now) at.yielded at.starts.items x _ at.invariant.3 c.begin_thread-start.ensures),
+      subst (λ (ys : List Start). AllZip (IsStart c.args.context.now.jobs.now) (at.yielded ++ x ∷ []) ys) (sym pushed.items)
+          (zip_push (IsStart c.args.context.now.jobs.now) at.yielded at.starts.items x _ at.invariant.3 c.begin_thread-start.ensures),
       (let room = at.invariant.4 in let same = pushed.capacity in omega arith),
       (let was = at.invariant.5 in let short = ap length steps in omega arith),
       (let few = at.invariant.6 in elim c.match-start.branch [ in-Started w ↦ (let is = w.started-is in omega arith) | in_default w ↦ (let is = w.started-is in omega arith) ]),
@@ -58,6 +58,6 @@ returns g c =
     let none = c.in-None.ensures.steps in
     let empty : into_iter_items at.seat-iterator ≡ [] = nothing_left _ (sym at.invariant.5 ∙ none.0) in
     let all = sym (append-nil at.yielded) ∙ rw empty at at.invariant.2 ∙ c.into_iter-seat-iterator.ensures.into_iter_gives.0 in
-    zip_then (IsStart c.args.shop.now.jobs.now) Comes (IsWorkOf c.args.shop.now.jobs.now) (λ seat start now begun comes. comes c.args.shop.now.jobs.now seat begun)
+    zip_then (IsStart c.args.context.now.jobs.now) Comes (IsWorkOf c.args.context.now.jobs.now) (λ seat start now begun comes. comes c.args.context.now.jobs.now seat begun)
     c.args.seats.items at.starts.items c.join_all.result.items
-    (subst (λ (l : List Seat). AllZip (IsStart c.args.shop.now.jobs.now) l at.starts.items) all at.invariant.3) c.join_all.ensures
+    (subst (λ (l : List Seat). AllZip (IsStart c.args.context.now.jobs.now) l at.starts.items) all at.invariant.3) c.join_all.ensures

@@ -13,7 +13,7 @@ invariant-loop-seat g l =
     (goal.iterator-loop-seat g).can_next l.seat-iterator
     × (goal.iterator-loop-seat g).is_finite l.seat-iterator
     × (l.yielded ++ into_iter_items l.seat-iterator ≡ into_iter_items l.initial.seat-iterator)
-    × AllZip (IsStart l.shop.jobs.now) l.yielded l.starts.items
+    × AllZip (IsStart l.context.jobs.now) l.yielded l.starts.items
     × (into_iter_len l.seat-iterator + vec_len l.starts ≤ vec_capacity l.starts)
     × (into_iter_len l.seat-iterator ≡ length (into_iter_items l.seat-iterator))
     × (l.started ≤ vec_len l.starts)

@@ -7,4 +7,4 @@ use Rattle.agent_pool.proofs.work.work.Given as goal
 abbrev pub invariant-loop : goal.invariant-loop
 invariant-loop g l =
     (goal.iterator-loop g).can_next l.iterator' × (goal.iterator-loop g).is_finite l.iterator'
-    × IsSeatAt (receives_on l.shop.receiver.now) l.ticket × ((view l.ticket).puts ≡ false) × (l.was.value ≡ l.fn.seat) × IsWorkOf l.shop.jobs.now l.fn.seat l.worked
+    × IsSeatAt (receives_on l.context.receiver.now) l.ticket × ((view l.ticket).puts ≡ false) × (l.was.value ≡ l.fn.seat) × IsWorkOf l.context.jobs.now l.fn.seat l.worked

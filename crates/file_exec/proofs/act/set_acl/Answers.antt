@@ -8,7 +8,7 @@ use Rattle.file_ops.specs.Lists.{is_misplaced}
 use Rattle.file_ops.specs.Operations.{refuse_if}
 use Rattle.file_exec.proofs.Holding.{owns}
 use Rattle.file_exec.proofs.Steps.{goes, stops, ruled, overruled, unset, same_set, after_set, stopped_set}
-use Rattle.file_exec.specs.declared.log.Edit.TheVariants.{SetAcl}
+use Rattle.file_exec.specs.declared.edit_log.Edit.TheVariants.{SetAcl}
 use Rattle.file_exec.proofs.act.set_acl.Goals as goal
 
 placed : (kind : Kind) (acl : Lists) {given : Bool} {result : Result (Unit {0}) Why} → given ≡ is_some acl.default → result ≡ refuse_if (is_misplaced kind given) why.DefaultOnFile

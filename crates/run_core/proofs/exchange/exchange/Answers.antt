@@ -3,9 +3,9 @@ use Rattle.rep_core.specs.declared.reply.Reply.{Reply}
 use Rattle.rep_core.specs.declared.stamped.Stamped.{Stamped}
 use Rattle.rep_core.specs.State.{State}
 use Rattle.rep_core.specs.Serving.{answer_of, served, is_full}
-use Rattle.txn_core.specs.declared.word.Word.TheVariants.{Replied}
+use Rattle.txn_core.specs.declared.response.Response.TheVariants.{Replied}
 use Rattle.std.specs.Option.{option_or}
-use Rattle.run_core.specs.code.Seats.{after_word, ending_by}
+use Rattle.run_core.specs.code.Seats.{after_response, ending_by}
 use Rattle.run_core.proofs.Exchanging.{served_exchange, full_exchange}
 use Rattle.run_core.proofs.exchange.exchange.Goals as goal
 
@@ -20,7 +20,7 @@ returns-in_ok-take_reply-in-Ok-clause-ok c =
     (c.apply.ensures ∙ ap (λ (st : State). served st request) (c.in-Ok.ensures.same ∙ c.host.view_is))
     (ap (λ (reply : Stamped Reply). record { server = asked.server; request = request; reply = reply }) reply_is)
     (c.in_ok-take_reply-in-Ok.ensures.ended ∙ ap (λ (reply : Stamped Reply). option_or (ending_by c.args.agent c.args.seat.now (Replied reply.value)) c.args.ended.now) reply_is)
-    (c.in_ok-take_reply-in-Ok.ensures.state ∙ ap (λ (reply : Stamped Reply). after_word c.args.seat.now reply.stamp (Replied reply.value)) reply_is)
+    (c.in_ok-take_reply-in-Ok.ensures.state ∙ ap (λ (reply : Stamped Reply). after_response c.args.seat.now reply.stamp (Replied reply.value)) reply_is)
 
 pub returns-in-Err-Full-clause-ok : goal.returns-in-Err-Full-clause-ok
 returns-in-Err-Full-clause-ok c =

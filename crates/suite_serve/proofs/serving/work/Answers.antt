@@ -3,7 +3,7 @@ use Rattle.std.specs.Prelude.{IfOk}
 use Rattle.std.proofs.lemmas.List.{take-append-drop}
 use Rattle.agent_pool.specs.declared.fault.PoolFault.{PoolFault}
 use Rattle.agent_pool.specs.declared.pool.Pool.{Pool}
-use Rattle.agent_pool.specs.declared.workshop.NamedJob.{NamedJob}
+use Rattle.agent_pool.specs.declared.pool_context.NamedJob.{NamedJob}
 use Rattle.agent_pool.specs.Pools.{IsPoolOf}
 use Rattle.agent_pool.specs.Seats.{AreReady}
 use Rattle.agent_pool.specs.Transcripts.{Played, first_player, players_from}

@@ -5,5 +5,5 @@ use Rattle.txn_core.proofs.knowing.known_of.Given as goal
 
 abbrev pub invariant-loop-number : goal.invariant-loop-number
 invariant-loop-number l =
-    let suites = told_all l.seen.news.now l.seen.suites.now.pairs in
+    let suites = told_all l.after.just_learned.now l.after.suites.now.pairs in
     IsTelling suites (drop l.number-index suites) l.known.items

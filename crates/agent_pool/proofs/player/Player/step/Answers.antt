@@ -17,7 +17,7 @@ pub returns-in_default : goal.returns-in_default
 returns-in_default g c =
     let same : c.self.inside.agent ≡ c.args.self.now.agent = search rules in
     did_stick _ _ _ _ _ _ (search rules) (search rules) (search rules)
-    (inl (subst (λ (s : Standing). AsksNobody c.args.shop.now.servers.now.servers (next_of s.fixed s.state)) same (c.in-Ok.ensures.none (search rules))))
+    (inl (subst (λ (s : Standing). AsksNobody c.args.context.now.servers.now.servers (next_of s.fixed s.state)) same (c.in-Ok.ensures.none (search rules))))
 
 pub returns-in_default-told_of : goal.returns-in_default-told_of
 returns-in_default-told_of g c =

@@ -3,8 +3,8 @@ use Rattle.file_exec.specs.code.Ways.{LeadsTo}
 use Rattle.file_exec.proofs.view.View.walk.Given as goal
 
 -- the names so far led to the suite that was reached
-abbrev pub invariant-loop-way : goal.invariant-loop-way
-invariant-loop-way l = LeadsTo l.self.known.now.suites l.self.log.now l.caller l.names l.way
+abbrev pub invariant-loop-point : goal.invariant-loop-point
+invariant-loop-point l = LeadsTo l.self.known.now.suites l.self.log.now l.caller l.names l.point
 
-abbrev pub decreases-loop-way : goal.decreases-loop-way
-decreases-loop-way l = length l.names - l.way.depth
+abbrev pub decreases-loop-point : goal.decreases-loop-point
+decreases-loop-point l = length l.names - l.point.depth

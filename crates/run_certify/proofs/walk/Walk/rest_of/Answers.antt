@@ -34,16 +34,16 @@ returns-in_default-try_from c =
 
 pub loop-entry-smaller : goal.loop-entry-smaller
 loop-entry-smaller c =
-    less_of c.loop-entry.self c.next_entry.new.self c.play.new.self c.args.agent c.in-Some.entry.now c.in-Some.ensures.used (subst (λ (n : ℕ). IsShorter c.next_entry.new.self n c.play.new.self) c.in-Ok.ensures.1 c.in_ok-play.ensures.shorter)
+    less_of c.loop-entry.self c.next_entry.new.self c.replay.new.self c.args.agent c.in-Some.entry.now c.in-Some.ensures.used (subst (λ (n : ℕ). IsShorter c.next_entry.new.self n c.replay.new.self) c.in-Ok.ensures.1 c.in_ok-replay.ensures.shorter)
 
 pub loop-entry-preserved : goal.loop-entry-preserved
 loop-entry-preserved c =
-    far_on c.args.self.now c.loop-entry.self c.next_entry.new.self c.play.new.self c.args.agent c.in-Some.entry.now c.loop-entry.invariant c.requires.played c.in-Some.ensures.used
-    (subst (λ (n : ℕ). EntryGoes n c.in-Some.entry.now c.next_entry.new.self c.play.new.self) c.in-Ok.ensures.1 c.in_ok-play.ensures.ok)
-    (subst (λ (n : ℕ). IsShorter c.next_entry.new.self n c.play.new.self) c.in-Ok.ensures.1 c.in_ok-play.ensures.shorter)
+    far_on c.args.self.now c.loop-entry.self c.next_entry.new.self c.replay.new.self c.args.agent c.in-Some.entry.now c.loop-entry.invariant c.requires.played c.in-Some.ensures.used
+    (subst (λ (n : ℕ). EntryGoes n c.in-Some.entry.now c.next_entry.new.self c.replay.new.self) c.in-Ok.ensures.1 c.in_ok-replay.ensures.ok)
+    (subst (λ (n : ℕ). IsShorter c.next_entry.new.self n c.replay.new.self) c.in-Ok.ensures.1 c.in_ok-replay.ensures.shorter)
 
-pub returns-in_err-play : goal.returns-in_err-play
-returns-in_err-play c =
+pub returns-in_err-replay : goal.returns-in_err-replay
+returns-in_err-replay c =
     let far = c.loop-entry.invariant in
     let p = err_from_is_err_and c.from_residual.result c.from_residual.ensures.1 in
     rw (p.1, p.2) (record {
@@ -53,7 +53,7 @@ returns-in_err-play c =
       histories = tt;
       mismatch = λ is.
           rest_fails_at c.args.self.now c.loop-entry.self c.args.agent far.goes (still c.args.self.now c.loop-entry.self c.args.agent c.requires.played far) far.before c.next_entry.new.self c.in-Some.entry.now c.in-Some.ensures.used
-          (subst (λ (n : ℕ). EntryFails n c.in-Some.entry.now c.next_entry.new.self) c.in-Ok.ensures.1 (c.in_err-play.ensures.mismatch is (other_than_asked c.in-Some.entry.now c.in_default-entry.not-Asked)));
+          (subst (λ (n : ℕ). EntryFails n c.in-Some.entry.now c.next_entry.new.self) c.in-Ok.ensures.1 (c.in_err-replay.ensures.mismatch is (other_than_asked c.in-Some.entry.now c.in_default-entry.not-Asked)));
     })
 
 ended : (init cur now : Walked) (agent : ℕ) → IsAsFar init cur agent → now ≡ cur → IsAsFar init now agent

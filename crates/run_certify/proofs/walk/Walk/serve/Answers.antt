@@ -39,24 +39,24 @@ returns-in-Asked-clause-histories c =
 pub loop-entry-smaller : goal.loop-entry-smaller
 loop-entry-smaller c =
     let it : IsUse c.loop-entry.self c.args.agent c.in-Some.entry.now c.next_entry.new.self = subst (λ (n : ℕ). IsUse c.loop-entry.self n c.in-Some.entry.now c.next_entry.new.self) c.from.ensures c.in-Some.ensures.used in
-    less_of c.loop-entry.self c.next_entry.new.self c.play.new.self c.args.agent c.in-Some.entry.now it c.in_ok-play.ensures.shorter
+    less_of c.loop-entry.self c.next_entry.new.self c.replay.new.self c.args.agent c.in-Some.entry.now it c.in_ok-replay.ensures.shorter
 
 pub loop-entry-preserved : goal.loop-entry-preserved
 loop-entry-preserved c =
     let one = at_server c.args.server c.args.item.now in
     let it : IsUse c.loop-entry.self c.args.agent c.in-Some.entry.now c.next_entry.new.self = subst (λ (n : ℕ). IsUse c.loop-entry.self n c.in-Some.entry.now c.next_entry.new.self) c.from.ensures c.in-Some.ensures.used in (
-      serve_on c.args.self.now c.loop-entry.self c.args.agent one c.requires c.loop-entry.invariant.0 c.next_entry.new.self c.in-Some.entry.now it c.play.new.self c.in_ok-play.ensures.ok,
-      same_histories c.loop-entry.self c.next_entry.new.self c.play.new.self c.args.agent c.in-Some.entry.now it c.in_ok-play.ensures.shorter ∙ c.loop-entry.invariant.1,
+      serve_on c.args.self.now c.loop-entry.self c.args.agent one c.requires c.loop-entry.invariant.0 c.next_entry.new.self c.in-Some.entry.now it c.replay.new.self c.in_ok-replay.ensures.ok,
+      same_histories c.loop-entry.self c.next_entry.new.self c.replay.new.self c.args.agent c.in-Some.entry.now it c.in_ok-replay.ensures.shorter ∙ c.loop-entry.invariant.1,
     )
 
-pub returns-in_err-play : goal.returns-in_err-play
-returns-in_err-play c =
+pub returns-in_err-replay : goal.returns-in_err-replay
+returns-in_err-replay c =
     let one = at_server c.args.server c.args.item.now in
     let it : IsUse c.loop-entry.self c.args.agent c.in-Some.entry.now c.next_entry.new.self = subst (λ (n : ℕ). IsUse c.loop-entry.self n c.in-Some.entry.now c.next_entry.new.self) c.from.ensures c.in-Some.ensures.used in
     let p = err_from_is_err_and c.from_residual.result c.from_residual.ensures.1 in
     rw (p.1, p.2) (record {
       ok = tt;
       mismatch = λ is. serve_fails c.args.self.now c.loop-entry.self c.args.agent one c.requires c.loop-entry.invariant.0 c.next_entry.new.self c.in-Some.entry.now it
-          (c.in_err-play.ensures.mismatch is (other_than_asked c.in-Some.entry.now c.in_default-entry.not-Asked));
+          (c.in_err-replay.ensures.mismatch is (other_than_asked c.in-Some.entry.now c.in_default-entry.not-Asked));
       histories = tt;
     })

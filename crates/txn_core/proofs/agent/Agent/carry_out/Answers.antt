@@ -13,10 +13,10 @@ invariant_of-self c =
     record {
       index = kept.index;
       jobs = kept.jobs;
-      servers = subst (λ (service : Service). (0 < service.servers) × (service.servers ≤ MAX_SERVERS)) (sym keeps.ground) kept.servers;
+      servers = subst (λ (service : Service). (0 < service.servers) × (service.servers ≤ MAX_SERVERS)) (sym keeps.fixed_parts) kept.servers;
       unused = keeps.unused;
       reached =
-          reaches_idle c.begin.new.means.ground c.begin.new.means.progress c.self.inside.doing
+          reaches_idle c.begin.new.resources.fixed_parts c.begin.new.resources.progress c.self.inside.doing
           (ap (λ (s : Standing). is_idle s.state.doing) c.self.view_is ∙ c.requires);
     }
 
@@ -27,7 +27,7 @@ invariant_of-self-2 c =
     record {
       index = kept.index;
       jobs = kept.jobs;
-      servers = subst (λ (service : Service). (0 < service.servers) × (service.servers ≤ MAX_SERVERS)) (sym keeps.ground) kept.servers;
+      servers = subst (λ (service : Service). (0 < service.servers) × (service.servers ≤ MAX_SERVERS)) (sym keeps.fixed_parts) kept.servers;
       unused = keeps.unused;
-      reached = reaches_begun c.begin.new.means.ground c.begin.new.means.progress c.in_ok-course.course c.map.result c.map.ensures.cases (λ course doing post. search rules) c.in_ok-course.ensures.reached;
+      reached = reaches_begun c.begin.new.resources.fixed_parts c.begin.new.resources.progress c.in_ok-txn_run.txn_run c.map.result c.map.ensures.cases (λ txn_run doing post. search rules) c.in_ok-txn_run.ensures.reached;
     }

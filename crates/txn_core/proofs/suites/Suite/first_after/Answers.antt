@@ -6,7 +6,7 @@ use Rattle.rep_core.specs.Store.{is_used_up}
 use Rattle.suite_collect.specs.Answering.{IsQuorumOf}
 use Rattle.suite_collect.specs.Collecting.{Collector, tell}
 use Rattle.txn_core.specs.declared.suites.Gathered.{Gathered}
-use Rattle.txn_core.specs.Suites.{First, Suite}
+use Rattle.txn_core.specs.Suites.{ReadPoint, Suite}
 use Rattle.txn_core.proofs.Heard.{first_given}
 use Rattle.txn_core.proofs.Unused.{given_unused, tell_says}
 use Rattle.txn_core.proofs.suites.Suite.first_after.Goals as goal
@@ -33,7 +33,7 @@ returns c = λ prefix dver members is.
     let none : now.first ≡ None = search rules in
     let same : c.in_ok-prefix.prefix ≡ quorum.prefix.now = search rules in
     let source : c.unwrap_or.result ≡ unwrap_or quorum.source 0 = search rules in
-    let given : Prefix → First = λ prefix. record { prefix = prefix; dver = quorum.dver; source = c.unwrap_or.result } in
+    let given : Prefix → ReadPoint = λ prefix. record { prefix = prefix; dver = quorum.dver; source = c.unwrap_or.result } in
     ap (λ prefix. option_or now.first (Some (given prefix))) same
     ∙ ap (λ source. option_or now.first (Some (record { prefix = quorum.prefix.now; dver = quorum.dver; source = source }))) source
     ∙ first_given now last quorum none gives prefix dver members is

@@ -7,9 +7,9 @@ use Rattle.txn_core.proofs.suites.Suite.settle.Goals as goal
 
 pub invariant_of-self : goal.invariant_of-self
 invariant_of-self c =
-    let last = c.args.settling.last in
+    let last = c.args.pending.last in
     let was = c.self.inside.gathered.value.collect.collector in
     let before : c.deref_mut.result.now.collect.collector ≡ was = ap (λ (gathered : Gathered). gathered.collect.collector) c.deref_mut.ensures.value in
     let told : c.tell.new.self.collector ≡ tell last was = ap (λ (now : Collecting). now.collector) c.tell.ensures ∙ ap (tell last) before in
     let after : c.deref_mut-3.result.now.collect.collector ≡ c.tell.new.self.collector = search rules in
-    subst (λ (collector : Collector). SawUnused collector) (sym (after ∙ told)) (tell_says was last c.args.settling.unused c.self.invariant)
+    subst (λ (collector : Collector). SawUnused collector) (sym (after ∙ told)) (tell_says was last c.args.pending.unused c.self.invariant)

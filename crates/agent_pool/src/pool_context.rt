@@ -1,0 +1,26 @@
+//! What agents work with.
+
+use crate::line::Receiver;
+use server_lock::{Gate, Servers};
+use std::alloc::Global;
+use std::sync::atomic::AtomicU64;
+use txn_core::Job;
+
+/// A job, with its number.
+#[derive(Drop)]
+pub struct NamedJob {
+    pub number: u64,
+    pub job: Job,
+}
+
+/// What all threads of a pool work with: memory, the gate, the servers, the jobs that were handed in, the channel
+/// through which these go, and the number of the agent for which no thread could be started.
+#[derive(Drop)]
+pub(crate) struct PoolContext<'a, G: Gate> {
+    pub(crate) alloc: Global,
+    pub(crate) gate: &'a G,
+    pub(crate) servers: &'a Servers,
+    pub(crate) jobs: &'a [NamedJob],
+    pub(crate) receiver: &'a Receiver,
+    pub(crate) refused: &'a AtomicU64,
+}

@@ -1,0 +1,5 @@
+use Rattle.std.proofs.Common.{length}
+use Rattle.file_exec.proofs.edit_log.+seen_after.Given as goal
+
+abbrev pub decreases-seen_after : goal.decreases-seen_after
+decreases-seen_after l = length l.edits.now

@@ -1,5 +1,0 @@
-use Rattle.std.proofs.Common.{length}
-use Rattle.file_exec.proofs.log.+seen_after.Given as goal
-
-abbrev pub decreases-seen_after : goal.decreases-seen_after
-decreases-seen_after l = length l.edits.now

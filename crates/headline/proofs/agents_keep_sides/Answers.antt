@@ -1,5 +1,0 @@
-use Rattle.headline.proofs.Conclusions.{agents_keep_sides}
-use Rattle.headline.proofs.agents_keep_sides.Goals as goal
-
-pub returns : goal.returns
-returns c = agents_keep_sides

@@ -1,5 +1,0 @@
-use Rattle.headline.proofs.Conclusions.{answered_before}
-use Rattle.headline.proofs.answered_before_decided_before.Goals as goal
-
-pub returns : goal.returns
-returns c = answered_before

@@ -1,8 +1,0 @@
-use Rattle.std.proofs.Common.{inr, refl}
-use Rattle.txn_core.specs.Agents.{after_all, begin}
-use Rattle.headline.proofs.Firsts.{firsts_given}
-use Rattle.headline.proofs.firsts_are_given.Goals as goal
-
-pub returns : goal.returns
-returns c fixed agent job told course idle running number suite first there is =
-    firsts_given fixed (after_all fixed (begin fixed agent job) told) (inr (record { before = agent; job = job; told = told; idle = idle; is = refl })) course running number suite there first is

@@ -1,5 +1,0 @@
-use Rattle.headline.proofs.Asked.{are_as_begun}
-use Rattle.headline.proofs.promises.decided_as_begun.Goals as goal
-
-pub returns : goal.returns
-returns c given events can = are_as_begun given can.accepted events

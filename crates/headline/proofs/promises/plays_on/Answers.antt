@@ -1,5 +1,0 @@
-use Rattle.headline.proofs.Promised.{goes_on}
-use Rattle.headline.proofs.promises.plays_on.Goals as goal
-
-pub returns : goal.returns
-returns c = goes_on

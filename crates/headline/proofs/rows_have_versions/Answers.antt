@@ -1,5 +1,0 @@
-use Rattle.headline.proofs.Conclusions.{rows_have_versions}
-use Rattle.headline.proofs.rows_have_versions.Goals as goal
-
-pub returns : goal.returns
-returns c = rows_have_versions

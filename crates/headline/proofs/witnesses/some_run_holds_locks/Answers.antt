@@ -1,5 +1,0 @@
-use Rattle.headline.proofs.Worked.{some_run_holds_locks}
-use Rattle.headline.proofs.witnesses.some_run_holds_locks.Goals as goal
-
-pub returns : goal.returns
-returns c = some_run_holds_locks

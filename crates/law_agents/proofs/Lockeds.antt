@@ -1,0 +1,224 @@
+-- The servers that hold locks for a transaction are those that were heard to hold one.
+use Rattle.std.proofs.Common.{◌≡◌, ℕ, Bool, true, false, cond, List, [], ◌∷◌, ◌++◌, Some, None, refl, sym, ap, ◌∙◌}
+use Rattle.std.specs.Prelude.{◌==◌, ◌&&◌, ◌||◌, filter}
+use Rattle.std.specs.Ordering.{nat_cmp}
+use Rattle.std.specs.BTreeMap.{is_at}
+use Rattle.std.specs.Cmp.{unsigned_tied}
+use Rattle.std.specs.Map.{keys_of}
+use Rattle.std.proofs.lemmas.Bool.{false≢true}
+use Rattle.std.proofs.lemmas.Cmp.{nat_cmp_total, eq_by_cmp_equiv}
+use Rattle.std.proofs.lemmas.List.Folds.{list_any-append}
+use Rattle.std.proofs.lemmas.Map.{lookup-none}
+use Rattle.std.proofs.lemmas.Map.Entries.{none_past_head}
+use Rattle.std.proofs.lemmas.Map.Keys.{IsDistinct-from_sorted, sorted_tail}
+use Rattle.sorted_map.specs.SortedMap.{IsOrdered}
+use Rattle.suite_prefix.specs.declared.lock_mode.LockMode.{LockMode}
+use Rattle.suite_prefix.specs.declared.lock_mode.LockMode.TheVariants.{Shared, Exclusive}
+use Rattle.suite_prefix.specs.LockModes.{serves}
+use Rattle.vote_core.specs.Validity.{max_servers}
+use Rattle.rep_core.specs.declared.request.Request.{Request}
+use Rattle.rep_core.specs.declared.request.Request.TheVariants as request
+use Rattle.rep_core.specs.declared.reply.Reply.{Reply}
+use Rattle.rep_core.specs.declared.reply.Reply.TheVariants as reply
+use Rattle.suite_collect.specs.declared.told.Told.{Told}
+use Rattle.suite_collect.specs.declared.told.Said.{Said}
+use Rattle.suite_collect.specs.Telling.{holds}
+use Rattle.suite_collect.specs.Collecting.{mode_of}
+use Rattle.txn_core.specs.declared.response.Response.{Response}
+use Rattle.txn_core.specs.declared.response.Response.TheVariants.{Replied, Lacked}
+use Rattle.txn_core.specs.Suites.{Suites, suite_of, told_in, told_at, holds_lock, has_locks}
+use Rattle.txn_core.specs.Transactions.{numbers_from, is_poll, said_to, locked_at}
+use Rattle.txn_core.specs.Laws.{Exchange, locks, says_held, was_held, told_of, told_by, more_told}
+use Rattle.txn_core.proofs.Gathers.{self}
+use Rattle.txn_core.proofs.Locks.{Are}
+use Rattle.law_agents.specs.Orders.{wants_lock, was_locked, locked}
+
+-- ---- what was told of a suite is what was heard of it
+
+serves_shared : (mode : LockMode) → serves mode Shared ≡ true
+serves_shared Shared = refl
+serves_shared Exclusive = refl
+
+-- what a reply says to a collector is held where the reply says so
+said_is_held : (asked : Request) (said : Reply) (before : List Told) (server who : ℕ)
+    → holds Shared (more_told before server asked (said_to asked said)) who ≡ (((server == who) && says_held (Replied said)) || holds Shared before who)
+said_is_held asked said before server who = of said
+  where
+    out : (a b : Bool) → b ≡ ((a && false) || b)
+    out true b = refl
+    out false b = refl
+
+    of : (said : Reply) → holds Shared (more_told before server asked (said_to asked said)) who ≡ (((server == who) && says_held (Replied said)) || holds Shared before who)
+    of (reply.Held prefix dver) = ap (λ b. ((server == who) && b) || holds Shared before who) (serves_shared (mode_of asked))
+    of (reply.Busy holder prepared) = refl
+    of reply.Down = elim (is_poll asked) as (λ b. holds Shared (more_told before server asked (cond b (Some Rattle.suite_collect.specs.declared.told.Said.TheVariants.Down) None)) who ≡ (((server == who) && false) || holds Shared before who)) [
+      | true ↦ refl
+      | false ↦ out (server == who) (holds Shared before who)
+    ]
+    of reply.Lost = out (server == who) (holds Shared before who)
+    of (reply.Given dver content) = out (server == who) (holds Shared before who)
+    of reply.Prepared = out (server == who) (holds Shared before who)
+    of (reply.Verdict v) = out (server == who) (holds Shared before who)
+    of reply.Done = out (server == who) (holds Shared before who)
+    of (reply.Locked list) = out (server == who) (holds Shared before who)
+
+one_held : (number who : ℕ) (before : List Told) (one : Exchange) (lock : Bool) (heard : Response)
+    → holds Shared (cond lock (told_by before one heard) before) who ≡ (((one.server == who) && lock && says_held heard) || holds Shared before who)
+one_held number who before one true (Replied said) = said_is_held one.request said before one.server who ∙ ap (λ b. b || holds Shared before who) (on (one.server == who) (says_held (Replied said)))
+  where
+    on : (a b : Bool) → (a && b) ≡ ((a && true) && b)
+    on true b = refl
+    on false b = refl
+one_held number who before one true (Lacked lacked) = out (one.server == who) (holds Shared before who)
+  where
+    out : (a b : Bool) → b ≡ (((a && true) && false) || b)
+    out true b = refl
+    out false b = refl
+one_held number who before one false heard = out (one.server == who) (says_held heard) (holds Shared before who)
+  where
+    out : (a c b : Bool) → b ≡ (((a && false) && c) || b)
+    out true c b = refl
+    out false c b = refl
+
+pub held_from : (number who : ℕ) (before : List Told) (past : List Exchange) → holds Shared (told_of number before past) who ≡ (holds Shared before who || was_held past number who)
+held_from number who before [] = of (holds Shared before who)
+  where
+    of : (b : Bool) → b ≡ (b || false)
+    of true = refl
+    of false = refl
+held_from number who before (one ∷ past) =
+    held_from number who (cond (locks number one.request) (told_by before one one.response) before) past
+    ∙ ap (λ b. b || was_held past number who) (one_held number who before one (locks number one.request) one.response)
+    ∙ swap ((one.server == who) && locks number one.request && says_held one.response) (holds Shared before who) (was_held past number who)
+  where
+    swap : (a b c : Bool) → ((a || b) || c) ≡ (b || (a || c))
+    swap true true c = refl
+    swap true false c = refl
+    swap false b c = refl
+
+-- ---- of which suite it was heard
+
+or_true : (a : Bool) {b : Bool} → b ≡ true → (a || b) ≡ true
+or_true true is = refl
+or_true false is = is
+
+-- a lock on a suite is a lock
+locks_wants : (number : ℕ) (asked : Request) → locks number asked ≡ true → wants_lock asked ≡ true
+locks_wants number (request.Poll t suite mode) is = refl
+locks_wants number (request.Upgrade t suite) is = refl
+locks_wants number (request.Fetch t suite) is = cc
+locks_wants number (request.Prepare t parts) is = cc
+locks_wants number (request.Decide t decision) is = cc
+locks_wants number (request.Resolve t) is = cc
+locks_wants number (request.Finish t v) is = cc
+locks_wants number (request.Break t suite) is = cc
+locks_wants number request.Locks is = cc
+locks_wants number request.Crash is = cc
+locks_wants number request.Return is = cc
+
+-- and each lock is one on a suite
+wants_locks : (asked : Request) → wants_lock asked ≡ true → (number : ℕ) × (locks number asked ≡ true)
+wants_locks (request.Poll t suite mode) is = (suite, self suite)
+wants_locks (request.Upgrade t suite) is = (suite, self suite)
+wants_locks (request.Fetch t suite) is = cc
+wants_locks (request.Prepare t parts) is = cc
+wants_locks (request.Decide t decision) is = cc
+wants_locks (request.Resolve t) is = cc
+wants_locks (request.Finish t v) is = cc
+wants_locks (request.Break t suite) is = cc
+wants_locks request.Locks is = cc
+wants_locks request.Crash is = cc
+wants_locks request.Return is = cc
+
+held_locked : (number who : ℕ) (past : List Exchange) → was_held past number who ≡ true → was_locked past who ≡ true
+held_locked number who [] is = cc
+held_locked number who (one ∷ past) is = of (held_locked number who past) (one.server == who) (locks number one.request) refl (says_held one.response) is
+  where
+    of : (was_held past number who ≡ true → was_locked past who ≡ true) → (a b : Bool) → locks number one.request ≡ b → (c : Bool) → ((a && b && c) || was_held past number who) ≡ true → ((a && wants_lock one.request && c) || was_locked past who) ≡ true
+    of rest true true lock true is = ap (λ b. (b && true) || was_locked past who) (locks_wants number one.request lock)
+    of rest true true lock false is = or_true (wants_lock one.request && false) (rest is)
+    of rest true false lock c is = or_true (wants_lock one.request && c) (rest is)
+    of rest false b lock c is = rest is
+
+locked_held : (who : ℕ) (past : List Exchange) → was_locked past who ≡ true → (number : ℕ) × (was_held past number who ≡ true)
+locked_held who [] is = cc
+locked_held who (one ∷ past) is =
+    of (λ is. let rest = locked_held who past is in (rest.0, or_true ((one.server == who) && locks rest.0 one.request && says_held one.response) rest.1))
+    (one.server == who) (wants_lock one.request) (says_held one.response) refl refl refl is
+  where
+    of : (was_locked past who ≡ true → (number : ℕ) × (was_held (one ∷ past) number who ≡ true)) → (a b c : Bool) → (one.server == who) ≡ a → wants_lock one.request ≡ b → says_held one.response ≡ c → ((a && b && c) || was_locked past who) ≡ true → (number : ℕ) × (was_held (one ∷ past) number who ≡ true)
+    of later true true true at lock said is =
+        let suite = wants_locks one.request lock in
+        (suite.0, ap (λ a. (a && locks suite.0 one.request && says_held one.response) || was_held past suite.0 who) at ∙ ap (λ b. (b && says_held one.response) || was_held past suite.0 who) suite.1 ∙ ap (λ c. c || was_held past suite.0 who) said)
+    of later true true false at lock said is = later is
+    of later true false c at lock said is = later is
+    of later false b c at lock said is = later is
+
+-- ---- suites that hold locks
+
+has_one : (suites : Suites) (number server : ℕ) → holds Shared (told_at suites number) server ≡ true → has_locks suites server ≡ true
+has_one [] number server is = cc
+has_one (e ∷ es) number server is =
+    elim (is_at (nat_cmp number) e.0) as (λ b. holds Shared (told_in (cond b (Some e.1) (suite_of es number))) server ≡ true → (holds_lock e.1 server || has_locks es server) ≡ true) [
+      | true ↦ λ is. ap (λ b. b || has_locks es server) is
+      | false ↦ λ is. or_true (holds_lock e.1 server) (has_one es number server is)
+    ] is
+
+one_of : (suites : Suites) (server : ℕ) → IsOrdered nat_cmp suites → has_locks suites server ≡ true → (number : ℕ) × (holds Shared (told_at suites number) server ≡ true)
+one_of [] server ordered is = cc
+one_of (e ∷ es) server ordered is = of (one_of es server (sorted_tail nat_cmp e.0 (keys_of es) ordered)) (holds_lock e.1 server) refl is
+  where
+    here : is_at (nat_cmp e.0) e.0 ≡ true
+    here = unsigned_tied e.0 e.0 ∙ self e.0
+
+    at : (number : ℕ) (b : Bool) → is_at (nat_cmp number) e.0 ≡ b → holds Shared (told_at es number) server ≡ true → holds Shared (told_in (cond b (Some e.1) (suite_of es number))) server ≡ true
+    at number false other is = is
+    at number true same is =
+        let none : suite_of es number ≡ None = lookup-none (is_at (nat_cmp number)) es (none_past_head (eq_by_cmp_equiv nat_cmp_total) number e es (IsDistinct-from_sorted nat_cmp _ ordered) same) in
+        absurd (false≢true (sym (ap (λ found. holds Shared (told_in found) server) none) ∙ is))
+
+    of : (has_locks es server ≡ true → (number : ℕ) × (holds Shared (told_at es number) server ≡ true)) → (b : Bool) → holds_lock e.1 server ≡ b → (b || has_locks es server) ≡ true
+        → (number : ℕ) × (holds Shared (told_at (e ∷ es) number) server ≡ true)
+    of later true lock is = (e.0, ap (λ b. holds Shared (told_in (cond b (Some e.1) (suite_of es e.0))) server) here ∙ lock)
+    of later false lock is = let rest = later is in (rest.0, at rest.0 (is_at (nat_cmp rest.0) e.0) refl rest.1)
+
+-- ---- all of them
+
+-- suites in order, whose locks are those that were heard
+abbrev pub HeardOf : List Exchange → Suites → Type 0
+HeardOf past suites = IsOrdered nat_cmp suites × ((number who : ℕ) → holds Shared (told_at suites number) who ≡ was_held past number who)
+
+pub heard_of_are : (past : List Exchange) (suites : Suites) → Are (λ number. told_of number [] past) suites → HeardOf past suites
+heard_of_are past suites are = (are.0, λ number who. ap (λ told. holds Shared told who) (are.1 number) ∙ held_from number who [] past)
+
+pub lockers : (past : List Exchange) (suites : Suites) → HeardOf past suites → (server : ℕ) → has_locks suites server ≡ was_locked past server
+lockers past suites heard server = of (has_locks suites server) (was_locked past server) refl refl
+  where
+    of : (a b : Bool) → has_locks suites server ≡ a → was_locked past server ≡ b → a ≡ b
+    of true true is other = refl
+    of false false is other = refl
+    of true false is other =
+        let suite = one_of suites server heard.0 is in
+        sym (sym other ∙ held_locked suite.0 server past (sym (heard.1 suite.0 server) ∙ suite.1))
+    of false true is other =
+        let suite = locked_held server past other in
+        sym is ∙ has_one suites suite.0 server (heard.1 suite.0 server ∙ suite.1)
+
+pub locked_is : (past : List Exchange) (suites : Suites) → HeardOf past suites → locked past ≡ locked_at suites
+locked_is past suites heard = λ i. filter (λ server. sym (lockers past suites heard server) i) (numbers_from 0 max_servers)
+
+-- ---- what no lock is asked for adds none
+
+no_lock : (past : List Exchange) (one : Exchange) (server : ℕ) → wants_lock one.request ≡ false → was_locked (past ++ one ∷ []) server ≡ was_locked past server
+no_lock past one server none =
+    list_any-append (λ (one : Exchange). (one.server == server) && wants_lock one.request && says_held one.response) past (one ∷ [])
+    ∙ ap (λ b. was_locked past server || (((one.server == server) && b && says_held one.response) || false)) none
+    ∙ of (was_locked past server) (one.server == server)
+  where
+    of : (a b : Bool) → (a || ((b && false && says_held one.response) || false)) ≡ a
+    of true b = refl
+    of false true = refl
+    of false false = refl
+
+pub locked_still : (past : List Exchange) (one : Exchange) → wants_lock one.request ≡ false → locked (past ++ one ∷ []) ≡ locked past
+locked_still past one none = λ i. filter (λ server. no_lock past one server none i) (numbers_from 0 max_servers)

@@ -1,0 +1,210 @@
+-- Agents keep nothing for sites that are not there: an agent by itself, and each agent of a run.
+use Rattle.std.proofs.Common.{◌≡◌, ◌⊎◌, inl, inr, ℕ, zero, suc, ◌+◌, ◌<◌, Bool, true, false, cond, List, [], ◌∷◌, ◌++◌, append_assoc, Option, Some, None, refl, sym, ap, subst, ◌∙◌, arith}
+use Rattle.std.specs.Prelude.{◌&&◌, nat_lt, slice_get, slice_set}
+use Rattle.std.proofs.lemmas.Bool.{false≢true, and_parts}
+use Rattle.std.proofs.lemmas.Bool.Decides.{nat_tests}
+use Rattle.std.proofs.lemmas.List.{append-nil}
+use Rattle.std.proofs.lemmas.Option.{none-some, same_Some}
+use Rattle.rep_core.specs.declared.request.Request.{Request}
+use Rattle.rep_core.specs.declared.request.Request.TheVariants as request
+use Rattle.rep_core.specs.declared.stamped.Lack.TheVariants as lack
+use Rattle.rep_core.specs.State.{State}
+use Rattle.weak_cache.specs.Entries.{Entry}
+use Rattle.weak_cache.proofs.Origins.{has_from}
+use Rattle.txn_core.specs.declared.response.Response.{Response}
+use Rattle.txn_core.specs.declared.response.Response.TheVariants.{Replied, Lacked}
+use Rattle.txn_core.specs.declared.job.Job.{Job}
+use Rattle.txn_core.specs.Caching.{IsFetched}
+use Rattle.txn_core.specs.Doing.{Fixed, Doing}
+use Rattle.txn_core.specs.Agents as agents
+use Rattle.txn_core.specs.Agents.{Agent, Take, next_in, next_of, take_in, take, begin, begins, started, forget, is_idle, has_sense, max_jobs, max_sites, after_all, fixed_of}
+use Rattle.txn_core.proofs.Caching.{caches_what_was_fetched}
+use Rattle.txn_core.proofs.Upheld.{after-append}
+use Rattle.run_core.specs.declared.event.Event.{Event}
+use Rattle.run_core.specs.declared.event.Event.TheVariants.{Begin, Step, Crash, Return, Forget, Lack}
+use Rattle.run_core.specs.declared.done.Served.{Served}
+use Rattle.run_core.specs.Worlds as worlds
+use Rattle.run_core.specs.Worlds.{World, Actor, server_at, actor_at, actors_from, serve, answered, asks_at, asks, steps_once, lacks_for, lacks, operated, operates, becomes, opening, step}
+use Rattle.run_core.specs.Runs.{after}
+use Rattle.law_agents.specs.Steps.{agent_after}
+use Rattle.law_agents.specs.Sites.{KeepsToSites, AgentsStaySo, RunsKeepTo}
+use Rattle.law_agents.proofs.Told.{busy_before}
+
+-- ---- an agent by itself
+
+-- a job that keeps its agent busy had sense
+had_sense : (fixed : Fixed) (agent : Agent) (job : Job) → is_idle agent.doing ≡ true → is_idle (begin fixed agent job).doing ≡ false → has_sense fixed job ≡ true
+had_sense fixed agent job idle busy = of (begins fixed agent job) refl busy
+  where
+    of : (b : Bool) → begins fixed agent job ≡ b → is_idle (cond b (record (started fixed agent job) { count = agent.count + 1 }) agent).doing ≡ false → has_sense fixed job ≡ true
+    of true is busy = (and_parts (is_idle agent.doing) (has_sense fixed job) (and_parts (is_idle agent.doing && has_sense fixed job) (nat_lt agent.count max_jobs) is).0).1
+    of false is busy = absurd (false≢true (sym busy ∙ idle))
+
+asks_busy : (fixed : Fixed) (doing : Option Doing) (asked : ℕ × Request) → next_in fixed doing ≡ Some asked → is_idle doing ≡ false
+asks_busy fixed (Some doing) asked is = refl
+asks_busy fixed None asked is = absurd (none-some asked is)
+
+-- what was fetched is of a site that is there
+fetched_there : (fixed : Fixed) (agent : Agent) (job : Job) (events : List agents.Event) (response : Response) (entry : Entry) → is_idle agent.doing ≡ true → IsFetched fixed agent job events response entry → entry.site < max_sites
+fetched_there fixed agent job events response entry idle fetched =
+    let busy = asks_busy fixed (after_all fixed (begin fixed agent job) events).doing _ fetched.asked in
+    let sense = had_sense fixed agent job idle (busy_before fixed (begin fixed agent job) events busy) in
+    let there : nat_lt fetched.site max_sites ≡ true = ap (has_sense fixed) (sym fetched.transaction) ∙ sense in
+    subst (λ site. site < max_sites) (sym fetched.at) (less fetched.site there)
+  where
+    less : (site : ℕ) → nat_lt site max_sites ≡ true → site < max_sites
+    less site is = grind (arith, nat_tests)
+
+begun_keeps : (fixed : Fixed) (agent : Agent) (job : Job) → KeepsToSites agent → KeepsToSites (begin fixed agent job)
+begun_keeps fixed agent job keeps entry there = keeps entry (caches_what_was_fetched.begun fixed agent job entry there)
+
+forgets_keeps : (agent : Agent) (site : ℕ) → KeepsToSites agent → KeepsToSites (forget agent site)
+forgets_keeps agent site keeps entry there = keeps entry (caches_what_was_fetched.forgotten agent site entry there).0
+
+event_keeps : (fixed : Fixed) (agent : Agent) (job : Job) (events : List agents.Event) (event : agents.Event) → is_idle agent.doing ≡ true
+    → KeepsToSites (agent_after fixed agent job events) → KeepsToSites (agent_after fixed agent job (events ++ event ∷ []))
+event_keeps fixed agent job events (Take response) idle keeps = λ entry there.
+    elim (caches_what_was_fetched.told fixed agent job events response entry idle there) [
+      | inl before ↦ keeps entry before
+      | inr fetched ↦ fetched_there fixed agent job events response entry idle fetched
+    ]
+event_keeps fixed agent job events (agents.Forget site) idle keeps =
+    subst KeepsToSites (sym (after-append fixed (begin fixed agent job) events (agents.Forget site))) (forgets_keeps (agent_after fixed agent job events) site keeps)
+
+all_keep : (fixed : Fixed) (agent : Agent) (job : Job) (events more : List agents.Event) → is_idle agent.doing ≡ true → KeepsToSites (agent_after fixed agent job events) → KeepsToSites (agent_after fixed agent job (events ++ more))
+all_keep fixed agent job events [] idle keeps = subst (λ events. KeepsToSites (agent_after fixed agent job events)) (sym (append-nil events)) keeps
+all_keep fixed agent job events (event ∷ more) idle keeps =
+    subst (λ events. KeepsToSites (agent_after fixed agent job events)) (append_assoc events (event ∷ []) more)
+    (all_keep fixed agent job (events ++ event ∷ []) more idle (event_keeps fixed agent job events event idle keeps))
+
+pub agents_stay_so : AgentsStaySo
+agents_stay_so fixed agent job events idle keeps = all_keep fixed agent job [] events idle (begun_keeps fixed agent job keeps)
+
+-- ---- an agent of a run
+
+-- the job that it began, where it has one, and all that it was told since
+record Since (fixed : Fixed) (agent : Agent) : Type 0 where
+  before : Agent
+  job : Job
+  told : List agents.Event
+  idle : is_idle before.doing ≡ true
+  is : agent ≡ agent_after fixed before job told
+
+record Fits (fixed : Fixed) (agent : Agent) : Type 0 where
+  keeps : KeepsToSites agent
+  since : (is_idle agent.doing ≡ true) ⊎ Since fixed agent
+
+event_fits : (fixed : Fixed) (agent : Agent) (event : agents.Event) → KeepsToSites agent → Since fixed agent → Fits fixed (agents.after_event fixed agent event)
+event_fits fixed agent event keeps since =
+    let more = since.told ++ event ∷ [] in
+    let same : agent_after fixed since.before since.job more ≡ agents.after_event fixed agent event =
+    after-append fixed (begin fixed since.before since.job) since.told event ∙ ap (λ (agent : Agent). agents.after_event fixed agent event) (sym since.is) in
+    record {
+      keeps = subst KeepsToSites same (event_keeps fixed since.before since.job since.told event since.idle (subst KeepsToSites since.is keeps));
+      since = inr (record { before = since.before; job = since.job; told = more; idle = since.idle; is = sym same });
+    }
+
+taken_idle : (fixed : Fixed) (agent : Agent) (response : Response) (doing : Option Doing) (asked : Option (ℕ × Request)) → is_idle doing ≡ true → (take_in fixed agent response doing asked).agent ≡ agent
+taken_idle fixed agent response None asked idle = refl
+taken_idle fixed agent response (Some doing) asked idle = absurd (false≢true idle)
+
+takes : (fixed : Fixed) (agent : Agent) (response : Response) → Fits fixed agent → Fits fixed (take fixed agent response).agent
+takes fixed agent response fits = elim fits.since [
+  | inl idle ↦ subst (Fits fixed) (sym (taken_idle fixed agent response agent.doing (next_of fixed agent) idle)) fits
+  | inr since ↦ event_fits fixed agent (Take response) fits.keeps since
+]
+
+forgets : (fixed : Fixed) (agent : Agent) (site : ℕ) → Fits fixed agent → Fits fixed (forget agent site)
+forgets fixed agent site fits = elim fits.since [
+  | inl idle ↦ record { keeps = forgets_keeps agent site fits.keeps; since = inl idle }
+  | inr since ↦ event_fits fixed agent (agents.Forget site) fits.keeps since
+]
+
+begins_job : (fixed : Fixed) (agent : Agent) (job : Job) → Fits fixed agent → Fits fixed (begin fixed agent job)
+begins_job fixed agent job fits = of (is_idle agent.doing) refl
+  where
+    of : (b : Bool) → is_idle agent.doing ≡ b → Fits fixed (begin fixed agent job)
+    of true idle = record { keeps = begun_keeps fixed agent job fits.keeps; since = inr (record { before = agent; job = job; told = []; idle = idle; is = refl }) }
+    of false busy =
+        let same : begin fixed agent job ≡ agent = ap (λ b. cond (b && has_sense fixed job && nat_lt agent.count max_jobs) (record (started fixed agent job) { count = agent.count + 1 }) agent) busy in
+        subst (Fits fixed) (sym same) fits
+
+-- ---- every agent of a run, event by event
+
+-- what holds of what stands in a list, once one of it is another
+all_set : (P : Actor → Type 0) (actors : List Actor) (i : ℕ) (new : Actor) → P new → ((n : ℕ) (x : Actor) → slice_get actors n ≡ Some x → P x)
+    → (n : ℕ) (x : Actor) → slice_get (slice_set actors i new) n ≡ Some x → P x
+all_set P [] i new fits all n x is = absurd (none-some x is)
+all_set P (y ∷ ys) zero new fits all zero x is = subst P (same_Some new x is) fits
+all_set P (y ∷ ys) zero new fits all (suc n) x is = all (suc n) x is
+all_set P (y ∷ ys) (suc i) new fits all zero x is = all zero x is
+all_set P (y ∷ ys) (suc i) new fits all (suc n) x is = all_set P ys i new fits (λ n x is. all (suc n) x is) n x is
+
+abbrev AllFit : Fixed → World → Type 0
+AllFit fixed world = (n : ℕ) (actor : Actor) → actor_at world n ≡ Some actor → Fits fixed actor.agent
+
+module _ (fixed : Fixed) (world : World) (all : AllFit fixed world) where
+  set : (i : ℕ) (new : Actor) → Fits fixed new.agent → (n : ℕ) (x : Actor) → slice_get (slice_set world.agents i new) n ≡ Some x → Fits fixed x.agent
+  set i new fits = all_set (λ actor. Fits fixed actor.agent) world.agents i new fits all
+
+  told : (i : ℕ) (actor : Actor) (stamp : ℕ) (response : Response) → actor_at world i ≡ Some actor
+      → (n : ℕ) (x : Actor) → slice_get (slice_set world.agents i (worlds.moved actor stamp (take fixed actor.agent response))) n ≡ Some x → Fits fixed x.agent
+  told i actor stamp response there = set i (worlds.moved actor stamp (take fixed actor.agent response)) (takes fixed actor.agent response (all i actor there))
+
+  answered_all : (i : ℕ) (actor : Actor) (st : State) → actor_at world i ≡ Some actor → (what : Option Served) → AllFit fixed (answered fixed world i actor st what).world
+  answered_all i actor st there (Some what) = told i actor what.reply.stamp (Replied what.reply.value) there
+  answered_all i actor st there None = told i actor actor.stamp (Lacked lack.Full) there
+
+  at_all : (i : ℕ) (actor : Actor) (asked : ℕ × Request) → actor_at world i ≡ Some actor → (found : Option State) → AllFit fixed (asks_at fixed world i actor asked found).world
+  at_all i actor asked there (Some st) = answered_all i actor st there (serve asked.0 st (record { stamp = actor.stamp; value = asked.1 }))
+  at_all i actor asked there None = all
+
+  asks_all : (i : ℕ) (actor : Actor) → actor_at world i ≡ Some actor → (asked : Option (ℕ × Request)) → AllFit fixed (asks fixed world i actor asked).world
+  asks_all i actor there (Some asked) = at_all i actor asked there (server_at world asked.0)
+  asks_all i actor there None = all
+
+  step_all : (i : ℕ) (found : Option Actor) → actor_at world i ≡ found → AllFit fixed (steps_once fixed world i found).world
+  step_all i (Some actor) there = asks_all i actor there (next_of fixed actor.agent)
+  step_all i None there = all
+
+  lacks_all : (i : ℕ) (actor : Actor) (response : Response) → actor_at world i ≡ Some actor → (asked : Option (ℕ × Request)) → AllFit fixed (lacks_for fixed world i actor response asked).world
+  lacks_all i actor response there (Some asked) = told i actor actor.stamp response there
+  lacks_all i actor response there None = all
+
+  lack_all : (i : ℕ) (response : Response) (found : Option Actor) → actor_at world i ≡ found → AllFit fixed (lacks fixed world i response found).world
+  lack_all i response (Some actor) there = lacks_all i actor response there (next_of fixed actor.agent)
+  lack_all i response None there = all
+
+  operated_all : (st : State) (what : Option Served) → AllFit fixed (operated world st what).world
+  operated_all st (Some what) = all
+  operated_all st None = all
+
+  operates_all : (server : ℕ) (asked : Request) (found : Option State) → AllFit fixed (operates world server asked found).world
+  operates_all server asked (Some st) = operated_all st (serve server st (record { stamp = 0; value = asked }))
+  operates_all server asked None = all
+
+  becomes_all : (i : ℕ) (change : Agent → Agent) → ((agent : Agent) → Fits fixed agent → Fits fixed (change agent)) → (found : Option Actor) → actor_at world i ≡ found → AllFit fixed (becomes world i change found).world
+  becomes_all i change fits (Some actor) there = set i (record actor { agent = change actor.agent }) (fits actor.agent (all i actor there))
+  becomes_all i change fits None there = all
+
+  event_all : (event : Event) → AllFit fixed (step fixed world event).world
+  event_all (Begin i job) = becomes_all i (λ agent. begin fixed agent job) (λ agent fits. begins_job fixed agent job fits) (actor_at world i) refl
+  event_all (Step i) = step_all i (actor_at world i) refl
+  event_all (Crash server) = operates_all server request.Crash (server_at world server)
+  event_all (Return server) = operates_all server request.Return (server_at world server)
+  event_all (Forget i site) = becomes_all i (λ agent. forget agent site) (λ agent fits. forgets fixed agent site fits) (actor_at world i) refl
+  event_all (Lack i why) = lack_all i (Lacked why) (actor_at world i) refl
+
+events_all : (fixed : Fixed) (world : World) (events : List Event) → AllFit fixed world → AllFit fixed (after fixed world events)
+events_all fixed world [] all = all
+events_all fixed world (event ∷ events) all = events_all fixed (step fixed world event).world events (event_all fixed world all event)
+
+opens_so : (fixed : Fixed) (start count n : ℕ) (actor : Actor) → slice_get (actors_from start count) n ≡ Some actor → Fits fixed actor.agent
+opens_so fixed start zero n actor is = absurd (none-some actor is)
+opens_so fixed start (suc count) zero actor is =
+    subst (λ (actor : Actor). Fits fixed actor.agent) (same_Some _ actor is) (record { keeps = λ entry there. absurd (has_from [] entry there); since = inl refl })
+opens_so fixed start (suc count) (suc n) actor is = opens_so fixed (start + 1) count n actor is
+
+pub runs_keep_to : RunsKeepTo
+runs_keep_to given events n actor entry there =
+    (events_all (fixed_of given) (opening given) events (λ n actor there. opens_so (fixed_of given) 0 given.agents n actor there) n actor there).keeps entry

@@ -1,0 +1,165 @@
+-- With valid votes a suite that is gathered was told of, so a lock on it was asked for at its start.
+use Rattle.std.proofs.Common.{◌≡◌, inl, inr, ℕ, zero, suc, ◌<◌, Bool, true, false, List, [], ◌∷◌, ◌++◌, append_assoc, Option, Some, None, refl, sym, ap, subst, ◌∙◌, arith}
+use Rattle.std.specs.Prelude.{is_some, option_map, unwrap_or, Contains}
+use Rattle.std.proofs.lemmas.Bool.{false≢true}
+use Rattle.std.proofs.lemmas.List.Elements.{Contains-append_left}
+use Rattle.vote_core.specs.Quorums.{Representative, Configuration, total_votes}
+use Rattle.vote_core.specs.Validity.{IsValid}
+use Rattle.suite_prefix.specs.Absent.{absent_prefix}
+use Rattle.suite_prefix.specs.declared.copies.Prefix.{Prefix}
+use Rattle.suite_prefix.specs.declared.lock_mode.LockMode.{LockMode}
+use Rattle.suite_prefix.specs.declared.lock_mode.LockMode.TheVariants.{Shared, Exclusive}
+use Rattle.rep_core.proofs.Members.{Has, contains_from}
+use Rattle.file_exec.specs.Known as known
+use Rattle.file_exec.specs.KnownSuites.{KnownSuite}
+use Rattle.file_exec.proofs.Unset.{changes_are_held}
+use Rattle.suite_collect.specs.declared.told.Said.{Said}
+use Rattle.suite_collect.specs.declared.told.Told.{Told}
+use Rattle.suite_collect.specs.Telling.{has_told, newest}
+use Rattle.suite_collect.specs.Collecting.{Collector, needed_of, next, Current}
+use Rattle.weak_cache.specs.Cache.{hint}
+use Rattle.weak_cache.proofs.Origins.{hint_has, has_to}
+use Rattle.txn_core.specs.Suites.{Suite, known_of}
+use Rattle.txn_core.specs.Writing.{change_of}
+use Rattle.txn_core.specs.declared.job.Job.{Job}
+use Rattle.txn_core.specs.Doing.{Fixed}
+use Rattle.file_exec.specs.declared.changes.Change.{Change}
+use Rattle.txn_core.specs.Agents.{Agent, Event, Take, Forget, next_of, take, begin, forget, is_idle, after_all}
+use Rattle.txn_core.specs.Laws.{Exchange, exchange_of, exchanges, of_job, told_of, has_said, holding, refusing, task_of, IsStart}
+use Rattle.txn_core.specs.Undecided.{WasGathered, SetsVotes, IsShort}
+use Rattle.txn_core.proofs.Gathers.{untold_before}
+use Rattle.txn_core.proofs.Shown.{kind_of, told_said}
+use Rattle.law_agents.specs.Steps.{agent_after, VotesAreValid}
+use Rattle.law_agents.specs.Starts.{IsAsked, StartsAreAsked}
+use Rattle.law_agents.proofs.Collectors.{not_current}
+use Rattle.law_agents.proofs.Walk.{suite_known}
+use Rattle.law_agents.proofs.Ends.{caches_stay_valid}
+
+-- ---- votes of which nobody has any
+
+zero_of : (n : ℕ) → (0 < n → ⊥) → n ≡ 0
+zero_of zero none = refl
+zero_of (suc n) none = absurd (none (omega arith))
+
+no_total : (reps : List Representative) → ((rep : Representative) → Has reps rep → 0 < rep.1 → ⊥) → total_votes reps ≡ 0
+no_total [] none = refl
+no_total (rep ∷ reps) none =
+    let here = zero_of rep.1 (none rep (inl refl)) in
+    let rest = no_total reps (λ other has. none other (inr has)) in
+    omega (arith, here, rest)
+
+-- ---- nothing was told of a suite
+
+none_said : (past : List Exchange) (suite : ℕ) (kind : LockMode → Said → Bool) (server : ℕ) → told_of suite [] past ≡ [] → has_said past suite kind server ≡ false
+none_said past suite kind server none = sym (told_said kind suite server [] past) ∙ ap (λ told. has_told (kind_of kind) told server) none
+
+some_needed : (mode : LockMode) (votes : Configuration) → IsValid votes → 0 < needed_of mode votes
+some_needed Shared votes valid = valid.r_in_range.0
+some_needed Exclusive votes valid = valid.w_in_range.0
+
+-- so no quorum of valid votes was told
+untold_short : (start : Prefix) (mode : LockMode) (told : List Told) (prefix : Prefix) (dver : ℕ) (members : List ℕ) → IsValid start.votes → told ≡ []
+    → next (record { start = start; mode = mode; told = told; widening = None }) ≡ Current prefix dver members → ⊥
+untold_short start mode told prefix dver members valid none gave =
+    let nothing : Collector = record { start = start; mode = mode; told = []; widening = None } in
+    not_current nothing prefix dver members (some_needed mode start.votes valid) (λ server. refl)
+    (ap (λ (told : List Told). next (record { start = start; mode = mode; told = told; widening = None })) (sym none) ∙ gave)
+
+-- ---- the exchanges of more events begin with those of fewer
+
+exchanges_more : (fixed : Fixed) (agent : Agent) (before later : List Event) → exchanges fixed agent (before ++ later) ≡ exchanges fixed agent before ++ exchanges fixed (after_all fixed agent before) later
+exchanges_more fixed agent [] later = refl
+exchanges_more fixed agent (Forget site ∷ before) later = exchanges_more fixed (forget agent site) before later
+exchanges_more fixed agent (Take response ∷ before) later =
+    let now = (take fixed agent response).agent in
+    ap (λ past. exchange_of (next_of fixed agent) response ++ past) (exchanges_more fixed now before later)
+    ∙ sym (append_assoc (exchange_of (next_of fixed agent) response) (exchanges fixed now before) (exchanges fixed (after_all fixed now before) later))
+
+module _ (fixed : Fixed) (agent : Agent) (job : Job) (events : List Event) (idle : is_idle agent.doing ≡ true) (valid : VotesAreValid fixed agent (of_job fixed agent job events)) where
+  abbrev past : List Exchange
+  past = of_job fixed agent job events
+
+  -- the votes that were met up to some moment
+  valid_before : (before later : List Event) → events ≡ before ++ later → VotesAreValid fixed agent (of_job fixed agent job before)
+  valid_before before later parts = record {
+    servers = valid.servers;
+    opening = valid.opening;
+    cached = valid.cached;
+    replied = λ one said there is. valid.replied one said (subst (λ past. Contains past one) (sym whole) (Contains-append_left (of_job fixed agent job before) _ one there)) is;
+  }
+    where
+      whole : past ≡ of_job fixed agent job before ++ exchanges fixed (agent_after fixed agent job before) later
+      whole = ap (of_job fixed agent job) parts ∙ exchanges_more fixed (begin fixed agent job) before later
+
+  start_valid : (suite : ℕ) (start : Prefix) → IsStart fixed agent job events suite start → IsValid start.votes
+  start_valid suite start is = subst (λ (start : Prefix). IsValid start.votes) (sym is.from) (of (hint now.cache is.site suite) refl)
+    where
+      now : Agent
+      now = agent_after fixed agent job is.before
+
+      of : (found : Option Prefix) → hint now.cache is.site suite ≡ found → IsValid (unwrap_or found (absent_prefix fixed.service.c0)).votes
+      of (Some prefix) found =
+          let has = hint_has now.cache is.site suite prefix found in
+          subst (λ (prefix : Prefix). IsValid prefix.votes) has.3
+          (caches_stay_valid fixed agent job is.before has.0 idle (valid_before is.before is.later is.parts) (has_to now.cache has.0 has.1))
+      of None found = valid.opening.valid
+
+  -- ---- a suite that was gathered
+
+  gathered_told : (number : ℕ) (suite : Suite) → WasGathered fixed agent job events number suite → told_of number [] past ≡ [] → ⊥
+  gathered_told number suite was none =
+      untold_short was.start was.gave.mode (told_of number [] was.gave.before) was.first.prefix was.first.dver was.gave.members (start_valid number was.start was.gathered)
+      (untold_before number past was.gave.before was.gave.later none was.gave.parts) was.gave.gave
+
+  gathered_asked : (number : ℕ) (suite : Suite) (was : WasGathered fixed agent job events number suite) → IsAsked fixed agent job events number was.start was.gathered
+  gathered_asked number suite was = elim was.gathered.moment [
+    | inl asked ↦ asked
+    | inr none ↦ absurd (gathered_told number suite was none)
+  ]
+
+  -- ---- a suite of which too few votes were to be had
+
+  set_there : (suite : ℕ) (votes : Configuration) (sets : SetsVotes fixed agent job events suite votes) → (found : Suite) × WasGathered fixed agent job events suite found
+  set_there suite votes sets =
+      let task = task_of agent sets.caller sets.site sets.ops in
+      let held = changes_are_held fixed.service (known_of sets.suites) task.t task.caller task.ops sets.answers sets.changes suite sets.done (changed (change_of sets.changes suite) sets.are) in
+      let there = suite_known sets.suites suite (known_held (known.known_of (known_of sets.suites) suite) held) in
+      (there.0, sets.gathered suite there.0 there.1)
+    where
+      changed : (change : Option Change) → option_map (λ (change : Change). change.row.votes) change ≡ Some votes → is_some change ≡ true
+      changed (Some change) are = refl
+      changed None are = cc
+
+      known_held : (found : Option KnownSuite) → known.is_held Exclusive found ≡ true → is_some found ≡ true
+      known_held (Some held) is = refl
+      known_held None is = is
+
+  short_told : (suite got needed : ℕ) (busy : Option (ℕ × ℕ)) → IsShort fixed agent job events suite got needed busy → told_of suite [] past ≡ [] → ⊥
+  short_told suite got needed busy short none = elim short.count [
+    | inl counts ↦ too_few (subst IsValid (sym (counts.0 ∙ ap (λ (told : List Told). (newest short.start told).votes) none)) (start_valid suite short.start short.gathered))
+    | inr counts ↦ let there = set_there suite short.votes counts.1 in gathered_told suite there.0 there.1 none
+  ]
+    where
+      nobody : (rep : Representative) → Has short.votes.reps rep → 0 < rep.1 → ⊥
+      nobody rep has votes = elim (short.none_left rep (contains_from short.votes.reps rep has) votes) [
+        | inl holds ↦ false≢true (sym (none_said past suite (holding short.mode) rep.0 none) ∙ holds)
+        | inr refuses ↦ false≢true (sym (none_said past suite refusing rep.0 none) ∙ refuses)
+      ]
+
+      too_few : IsValid short.votes → ⊥
+      too_few votes =
+          let some = votes.some_votes in
+          let total = no_total short.votes.reps nobody in
+          omega (arith, some, total)
+
+  short_asked : (suite got needed : ℕ) (busy : Option (ℕ × ℕ)) (short : IsShort fixed agent job events suite got needed busy) → IsAsked fixed agent job events suite short.start short.gathered
+  short_asked suite got needed busy short = elim short.gathered.moment [
+    | inl asked ↦ asked
+    | inr none ↦ absurd (short_told suite got needed busy short none)
+  ]
+
+pub starts_are_asked : StartsAreAsked
+starts_are_asked = record {
+  short = λ fixed agent job events suite got needed busy idle valid short. short_asked fixed agent job events idle valid suite got needed busy short;
+  gathered = λ fixed agent job events number suite idle valid was. gathered_asked fixed agent job events idle valid number suite was;
+}

@@ -1,0 +1,286 @@
+-- What is decided was begun so: by whom, and with which operations.
+use Rattle.std.proofs.Common.{◌≡◌, ⊎_elim, ℕ, ◌+◌, true, false, cond, List, [], ◌∷◌, ◌++◌, append_assoc, Option, Some, None, refl, sym, ap, subst, ◌∙◌}
+use Rattle.std.specs.Prelude.{◌*◌, ◌&&◌, nat_lt, Contains, slice_get, slice_set}
+use Rattle.std.specs.List.{cons_option}
+use Rattle.std.proofs.lemmas.List.{append-nil}
+use Rattle.std.proofs.lemmas.List.Elements.{Contains-append_cases}
+use Rattle.std.proofs.lemmas.Option.{none-some, same_Some}
+use Rattle.suite_prefix.specs.SettingsRules.{Opening, IsAccepted}
+use Rattle.acl_core.specs.Identity.{Identity}
+use Rattle.file_ops.specs.declared.operation.Op.{Op}
+use Rattle.rep_core.specs.declared.request.Request.{Request}
+use Rattle.rep_core.specs.declared.request.Request.TheVariants as request
+use Rattle.rep_core.specs.declared.reply.Reply.{Reply}
+use Rattle.rep_core.specs.declared.reply.Verdict.{Verdict}
+use Rattle.rep_core.specs.declared.reply.Verdict.TheVariants as verdict
+use Rattle.rep_core.specs.declared.stamped.Lack.TheVariants as lack
+use Rattle.rep_core.specs.Fits.{is_prepared}
+use Rattle.rep_core.specs.State.{State}
+use Rattle.rep_core.proofs.Members.{has_from}
+use Rattle.weak_cache.specs.Entries.{Cache}
+use Rattle.txn_core.specs.declared.ending.Cause.{Cause}
+use Rattle.txn_core.specs.declared.ending.Cause.TheVariants.{Lost}
+use Rattle.txn_core.specs.declared.ending.Ending.{Ending}
+use Rattle.txn_core.specs.declared.ending.Ending.TheVariants.{Undecided}
+use Rattle.txn_core.specs.declared.job.Job.{Job}
+use Rattle.txn_core.specs.declared.job.Job.TheVariants.{Transaction, Sweep}
+use Rattle.txn_core.specs.declared.response.Response.{Response}
+use Rattle.txn_core.specs.declared.response.Response.TheVariants.{Replied, Lacked}
+use Rattle.txn_core.specs.Suites.{Suites}
+use Rattle.txn_core.specs.Doing.{Fixed, Task, Outcome, Phase, Gathering, Fetching, Widening, Preparing, Deciding, Finishing, TransactionRun, SweepRun, Doing, Running, RunningSweep, After, GoesOn, Ends}
+use Rattle.txn_core.specs.Transactions.{execute, tell_end, give_up, prepare, prepared, locked_at, lack_cause, after_response, verdict_in, ending_by, cause_of_abort}
+use Rattle.txn_core.specs.Sweeps as sweep
+use Rattle.txn_core.specs.Agents.{Agent, left as left_doing, fixed_of, next_of, take_in, take, begin, started, forget, is_idle, has_sense, max_jobs}
+use Rattle.txn_core.proofs.Walk.{IsEarly, goes_response, goes_execute}
+use Rattle.run_core.specs.declared.event.Event.{Event}
+use Rattle.run_core.specs.declared.event.Event.TheVariants.{Begin, Step, Crash, Return, Forget, Lack}
+use Rattle.run_core.specs.declared.done.Served.{Served}
+use Rattle.run_core.specs.Worlds as worlds
+use Rattle.run_core.specs.Worlds.{World, Actor, server_at, actor_at, serve, answered, asks_at, asks, steps_once, lacks_for, lacks, operated, operates, becomes, opening, step}
+use Rattle.run_core.specs.Runs.{run}
+use Rattle.run_core.specs.Decisions.{Decided, task_of, decided, decisions, decisions_from}
+use Rattle.run_core.proofs.Appending.{after-append, decisions_from-append}
+use Rattle.law_runs.specs.Numbers.{begins_now}
+use Rattle.law_runs.proofs.Worlds.{agent_of}
+use Rattle.law_runs.proofs.Conclusions.{holds_of}
+use Rattle.law_runs.proofs.Answering.{answers_follow_knowledge}
+use Rattle.law_run_machine.proofs.Kept.{actor_opens}
+use Rattle.law_run_machine.proofs.Turned.{set_here, set_apart, same_or}
+use Rattle.law_headline.specs.Promises.{WasBegun, AreAsBegun}
+
+-- ---- a transaction stays with its task
+
+abbrev Stays : Task → After TransactionRun → Type 0
+Stays task (GoesOn txn_run) = txn_run.task ≡ task
+Stays task (Ends ending) = Unit {0}
+
+stays_end : (task : Task) (cache : Cache) (suites : Suites) (v : Verdict) (ending : Ending) (servers : List ℕ) → Stays task (tell_end task cache suites v ending servers).after
+stays_end task cache suites v ending [] = tt
+stays_end task cache suites v ending (server ∷ servers) = refl
+
+stays_give_up : (task : Task) (cache : Cache) (suites : Suites) (cause : Cause) → Stays task (give_up task cache suites cause).after
+stays_give_up task cache suites cause = stays_end task cache suites verdict.Aborted (Undecided cause) (locked_at suites)
+
+stays_prepare : (task : Task) (cache : Cache) (suites : Suites) (outcome : Outcome) (servers : List ℕ) → Stays task (prepare task cache suites outcome servers).after
+stays_prepare task cache suites outcome [] = refl
+stays_prepare task cache suites outcome (server ∷ servers) = refl
+
+stays_prepares : (task : Task) (cache : Cache) (suites : Suites) (outcome : Outcome) → Stays task (prepare task cache suites outcome (locked_at suites)).after
+stays_prepares task cache suites outcome = stays_prepare task cache suites outcome (locked_at suites)
+
+stays_early : (task : Task) (suites : Suites) (phase : Phase) → IsEarly phase → Stays task (GoesOn (record { task = task; suites = suites; phase = phase }))
+stays_early task suites phase is = refl
+
+pub stays_begin : (fixed : Fixed) (task : Task) (cache : Cache) → Stays task (execute fixed task (record { suites = []; cache = cache })).after
+stays_begin fixed task cache = goes_execute task (Stays task) (stays_early task) (stays_give_up task) (stays_prepares task) fixed (record { suites = []; cache = cache })
+
+stays_prepared : (task : Task) (cache : Cache) (suites : Suites) (outcome : Outcome) (server : ℕ) (left : List ℕ) (said : Reply) → Stays task (prepared task cache suites outcome server left said).after
+stays_prepared task cache suites outcome server left said =
+    elim (is_prepared said) as (λ b. Stays task (cond b (prepare task cache suites outcome left) (give_up task cache suites (Lost server))).after) [
+      | true ↦ stays_prepare task cache suites outcome left
+      | false ↦ stays_give_up task cache suites (Lost server)
+    ]
+
+stays_response_early : (fixed : Fixed) (task : Task) (cache : Cache) (suites : Suites) (phase : Phase) (server : ℕ) (asked : Request) (response : Response) → IsEarly phase
+    → Stays task (after_response fixed (record { task = task; suites = suites; phase = phase }) cache server asked response).after
+stays_response_early fixed task cache suites phase server asked response is =
+    goes_response task (Stays task) (stays_early task) (stays_give_up task) (stays_prepares task) fixed cache suites phase server asked response is
+
+stays_response : (fixed : Fixed) (task : Task) (cache : Cache) (suites : Suites) (phase : Phase) (server : ℕ) (asked : Request) (response : Response)
+    → Stays task (after_response fixed (record { task = task; suites = suites; phase = phase }) cache server asked response).after
+stays_response fixed task cache suites (Gathering number) server asked response = stays_response_early fixed task cache suites (Gathering number) server asked response tt
+stays_response fixed task cache suites (Fetching number) server asked response = stays_response_early fixed task cache suites (Fetching number) server asked response tt
+stays_response fixed task cache suites (Widening left granted) server asked response = stays_response_early fixed task cache suites (Widening left granted) server asked response tt
+stays_response fixed task cache suites (Preparing [] outcome) server asked (Replied said) = stays_give_up task cache suites (Lost server)
+stays_response fixed task cache suites (Preparing (now ∷ left) outcome) server asked (Replied said) = stays_prepared task cache suites outcome server left said
+stays_response fixed task cache suites (Preparing left outcome) server asked (Lacked lacked) = stays_give_up task cache suites (lack_cause server lacked)
+stays_response fixed task cache suites (Deciding outcome) server asked (Replied said) =
+    stays_end task cache suites (verdict_in said verdict.Aborted) (ending_by (verdict_in said verdict.Aborted) (cause_of_abort said)) (locked_at suites)
+stays_response fixed task cache suites (Deciding outcome) server asked (Lacked lacked) = stays_give_up task cache suites (lack_cause server lacked)
+stays_response fixed task cache suites (Finishing [] told ending) server asked (Replied said) = stays_end task cache suites told ending []
+stays_response fixed task cache suites (Finishing (now ∷ left) told ending) server asked (Replied said) = stays_end task cache suites told ending left
+stays_response fixed task cache suites (Finishing [] told ending) server asked (Lacked lacked) = stays_end task cache suites told ending []
+stays_response fixed task cache suites (Finishing (now ∷ left) told ending) server asked (Lacked lacked) = stays_end task cache suites told ending left
+
+-- ---- what holds of the task of each agent, after an event too
+
+module _ (fixed : Fixed) (Q : Task → Type 0) where
+  abbrev pub Has : Agent → Type 0
+  Has agent = (task : Task) → task_of agent.doing ≡ Some task → Q task
+
+  abbrev pub AllHave : World → Type 0
+  AllHave world = (n : ℕ) (actor : Actor) → actor_at world n ≡ Some actor → Has actor.agent
+
+  pub on_course : (was : Task) (after : After TransactionRun) → Stays was after → Q was → (task : Task) → task_of (left_doing Running after) ≡ Some task → Q task
+  on_course was (GoesOn more) stays has task is = subst Q (sym stays ∙ same_Some more.task task is) has
+  on_course was (Ends ending) stays has task is = absurd (none-some task is)
+
+  on_round : (after : After SweepRun) (task : Task) → task_of (left_doing RunningSweep after) ≡ Some task → Q task
+  on_round (GoesOn more) task is = absurd (none-some task is)
+  on_round (Ends ending) task is = absurd (none-some task is)
+
+  takes_in : (agent : Agent) (response : Response) (doing : Option Doing) (asked : Option (ℕ × Request)) → agent.doing ≡ doing → Has agent → Has (take_in fixed agent response doing asked).agent
+  takes_in agent response (Some (Running txn_run)) (Some asked) is has =
+      on_course txn_run.task (after_response fixed txn_run agent.cache asked.0 asked.1 response).after (stays_response fixed txn_run.task agent.cache txn_run.suites txn_run.phase asked.0 asked.1 response) (has txn_run.task (ap task_of is))
+  takes_in agent response (Some (RunningSweep sweep_run)) (Some asked) is has = on_round (sweep.after_response fixed.service sweep_run asked.0 response)
+  takes_in agent response (Some (Running txn_run)) None is has = has
+  takes_in agent response (Some (RunningSweep sweep_run)) None is has = has
+  takes_in agent response None asked is has = has
+
+  takes : (agent : Agent) (response : Response) → Has agent → Has (take fixed agent response).agent
+  takes agent response has = takes_in agent response agent.doing (next_of fixed agent) refl has
+
+  module _ (world : World) (all : AllHave world) where
+    set : (n : ℕ) (was now : Actor) → actor_at world n ≡ Some was → Has now.agent → (m : ℕ) (x : Actor) → slice_get (slice_set world.agents n now) m ≡ Some x → Has x.agent
+    set n was now there here m x is =
+        same_or (Has x.agent) m n
+        (λ same.
+        let x_is : now ≡ x = same_Some now x (sym (set_here world.agents n was now there) ∙ ap (slice_get (slice_set world.agents n now)) (sym same) ∙ is) in
+        subst (λ (x : Actor). Has x.agent) x_is here)
+        (λ apart. all m x (sym (set_apart world.agents n m now apart) ∙ is))
+
+    answered_all : (number : ℕ) (actor : Actor) (st : State) → actor_at world number ≡ Some actor → (what : Option Served) → AllHave (answered fixed world number actor st what).world
+    answered_all number actor st there (Some what) =
+        set number actor (worlds.moved actor what.reply.stamp (take fixed actor.agent (Replied what.reply.value))) there (takes actor.agent (Replied what.reply.value) (all number actor there))
+    answered_all number actor st there None = set number actor (worlds.moved actor actor.stamp (take fixed actor.agent (Lacked lack.Full))) there (takes actor.agent (Lacked lack.Full) (all number actor there))
+
+    at_all : (number : ℕ) (actor : Actor) (asked : ℕ × Request) → actor_at world number ≡ Some actor → (o : Option State) → AllHave (asks_at fixed world number actor asked o).world
+    at_all number actor asked there (Some st) = answered_all number actor st there (serve asked.0 st (record { stamp = actor.stamp; value = asked.1 }))
+    at_all number actor asked there None = all
+
+    asks_all : (number : ℕ) (actor : Actor) → actor_at world number ≡ Some actor → (o : Option (ℕ × Request)) → AllHave (asks fixed world number actor o).world
+    asks_all number actor there (Some asked) = at_all number actor asked there (server_at world asked.0)
+    asks_all number actor there None = all
+
+    step_all : (number : ℕ) (o : Option Actor) → actor_at world number ≡ o → AllHave (steps_once fixed world number o).world
+    step_all number (Some actor) there = asks_all number actor there (next_of fixed actor.agent)
+    step_all number None there = all
+
+    lacks_all : (number : ℕ) (actor : Actor) (response : Response) → actor_at world number ≡ Some actor → (o : Option (ℕ × Request)) → AllHave (lacks_for fixed world number actor response o).world
+    lacks_all number actor response there (Some asked) = set number actor (worlds.moved actor actor.stamp (take fixed actor.agent response)) there (takes actor.agent response (all number actor there))
+    lacks_all number actor response there None = all
+
+    lack_all : (number : ℕ) (response : Response) (o : Option Actor) → actor_at world number ≡ o → AllHave (lacks fixed world number response o).world
+    lack_all number response (Some actor) there = lacks_all number actor response there (next_of fixed actor.agent)
+    lack_all number response None there = all
+
+    operated_all : (st : State) (what : Option Served) → AllHave (operated world st what).world
+    operated_all st (Some what) = all
+    operated_all st None = all
+
+    operates_all : (i : ℕ) (asked : Request) (o : Option State) → AllHave (operates world i asked o).world
+    operates_all i asked (Some st) = operated_all st (serve i st (record { stamp = 0; value = asked }))
+    operates_all i asked None = all
+
+    pub becomes_all : (number : ℕ) (change : Agent → Agent) → ((actor : Actor) → actor_at world number ≡ Some actor → Has (change actor.agent)) → (o : Option Actor) → actor_at world number ≡ o → AllHave (becomes world number change o).world
+    becomes_all number change keeps (Some actor) there = set number actor (record actor { agent = change actor.agent }) there (keeps actor there)
+    becomes_all number change keeps None there = all
+
+    pub event_all : (event : Event) → ((number : ℕ) (job : Job) (actor : Actor) → event ≡ Begin number job → actor_at world number ≡ Some actor → Has (begin fixed actor.agent job)) → AllHave (step fixed world event).world
+    event_all (Begin number job) begins = becomes_all number (λ agent. begin fixed agent job) (λ actor there. begins number job actor refl there) (actor_at world number) refl
+    event_all (Step number) begins = step_all number (actor_at world number) refl
+    event_all (Crash server) begins = operates_all server request.Crash (server_at world server)
+    event_all (Return server) begins = operates_all server request.Return (server_at world server)
+    event_all (Forget number site) begins = becomes_all number (λ agent. forget agent site) (λ actor there. all number actor there) (actor_at world number) refl
+    event_all (Lack number why) begins = lack_all number (Lacked why) (actor_at world number) refl
+
+-- ---- what was begun, was begun however the run goes on
+
+more : (given : Opening) (events : List Event) (event : Event) (t : ℕ) (caller : Identity) (ops : List Op) → WasBegun given events t caller ops → WasBegun given (events ++ event ∷ []) t caller ops
+more given events event t caller ops was = record {
+  agent = was.agent;
+  site = was.site;
+  before = was.before;
+  later = was.later ++ event ∷ [];
+  split = ap (λ all. all ++ event ∷ []) was.split ∙ append_assoc was.before (Begin was.agent (Transaction caller was.site ops) ∷ was.later) (event ∷ []);
+  number = was.number;
+}
+
+module _ (given : Opening) (accepted : IsAccepted given) where
+  abbrev fixed : Fixed
+  fixed = fixed_of given
+
+  abbrev Was : List Event → Task → Type 0
+  Was events task = WasBegun given events task.t task.caller task.ops
+
+  abbrev AllBegun : List Event → Type 0
+  AllBegun events = AllHave fixed (Was events) (run given events)
+
+  -- a transaction that begins now
+  begins_new : (events : List Event) (number : ℕ) (actor : Actor) (job : Job) → actor_at (run given events) number ≡ Some actor → (is_idle actor.agent.doing && has_sense fixed job && nat_lt actor.agent.count max_jobs) ≡ true
+      → Has fixed (Was (events ++ Begin number job ∷ [])) (record (started fixed actor.agent job) { count = actor.agent.count + 1 })
+  begins_new events number actor (Sweep server) there now = λ task is. absurd (none-some task is)
+  begins_new events number actor (Transaction caller site ops) there now =
+      let agent = actor.agent in
+      let task : Task = record { t = 64 * agent.count + agent.index; caller = caller; site = site; ops = ops } in
+      let job = Transaction caller site ops in
+      let index : agent.index ≡ number = (holds_of given accepted events).agents.index number agent (ap agent_of there) in
+      on_course fixed (Was (events ++ Begin number job ∷ [])) task (execute fixed task (record { suites = []; cache = agent.cache })).after (stays_begin fixed task agent.cache) (record {
+        agent = number;
+        site = site;
+        before = events;
+        later = [];
+        split = refl;
+        number =
+            ap (begins_now fixed number job) there
+            ∙ ap (λ b. cond b (Some (64 * agent.count + number)) None) now
+            ∙ ap (λ i. Some (64 * agent.count + i)) (sym index);
+      })
+
+  begins_has : (events : List Event) (number : ℕ) (job : Job) (actor : Actor) → AllBegun events → actor_at (run given events) number ≡ Some actor → Has fixed (Was (events ++ Begin number job ∷ [])) (begin fixed actor.agent job)
+  begins_has events number job actor all there =
+      let agent = actor.agent in
+      let now = is_idle agent.doing && has_sense fixed job && nat_lt agent.count max_jobs in
+      elim now as (λ b. now ≡ b → Has fixed (Was (events ++ Begin number job ∷ [])) (cond b (record (started fixed agent job) { count = agent.count + 1 }) agent)) [
+        | true ↦ λ e. begins_new events number actor job there e
+        | false ↦ λ _. λ task is. more given events (Begin number job) task.t task.caller task.ops (all number actor there task is)
+      ] refl
+
+  begun_more : (events : List Event) (event : Event) → AllBegun events → AllBegun (events ++ event ∷ [])
+  begun_more events event all =
+      subst (AllHave fixed (Was (events ++ event ∷ []))) (sym (after-append fixed (opening given) events (event ∷ [])))
+      (event_all fixed (Was (events ++ event ∷ [])) (run given events)
+      (λ n actor there task is. more given events event task.t task.caller task.ops (all n actor there task is))
+      event
+      (λ number job actor same there. subst (λ event. Has fixed (Was (events ++ event ∷ [])) (begin fixed actor.agent job)) (sym same) (begins_has events number job actor all there)))
+
+  begun_from : (later events : List Event) → AllBegun events → AllBegun (events ++ later)
+  begun_from [] events all = subst AllBegun (sym (append-nil events)) all
+  begun_from (event ∷ later) events all = subst AllBegun (append_assoc events (event ∷ []) later) (begun_from later (events ++ event ∷ []) (begun_more events event all))
+
+  none_at_first : AllBegun []
+  none_at_first n actor there task is =
+      absurd (none-some task (ap (λ (agent : Agent). task_of agent.doing) (sym (actor_opens 0 given.agents n actor there).1) ∙ is))
+
+  -- ---- what is decided
+
+  decided_begun : (events : List Event) (event : Event) (one : Decided) → decided fixed (run given events) event ≡ Some one → WasBegun given events one.t one.caller one.ops
+  decided_begun events event one is =
+      let so = answers_follow_knowledge given events event one is in
+      let task = so.txn_run.task in
+      let was = begun_from events [] none_at_first so.number so.actor so.there task (ap task_of so.running) in
+      subst (λ t. WasBegun given events t one.caller one.ops) (sym so.t)
+      (subst (λ caller. WasBegun given events task.t caller one.ops) (sym so.caller)
+      (subst (λ ops. WasBegun given events task.t task.caller ops) (sym so.ops) was))
+
+  last_begun : (events : List Event) (event : Event) (one : Decided) (o : Option Decided) → decided fixed (run given events) event ≡ o → Contains (cons_option o []) one → WasBegun given (events ++ event ∷ []) one.t one.caller one.ops
+  last_begun events event one None is there = absurd (has_from [] one there)
+  last_begun events event one (Some last) is there =
+      ⊎_elim
+      (λ same. more given events event one.t one.caller one.ops (decided_begun events event one (is ∙ ap Some same)))
+      (λ none. absurd none)
+      (has_from (last ∷ []) one there)
+
+  are_more : (events : List Event) (event : Event) → AreAsBegun given events → AreAsBegun given (events ++ event ∷ [])
+  are_more events event are one there =
+      ⊎_elim
+      (λ before. more given events event one.t one.caller one.ops (are one before))
+      (λ now. last_begun events event one (decided fixed (run given events) event) refl now)
+      (Contains-append_cases (decisions given events) (decisions_from fixed (run given events) (event ∷ [])) one (subst (λ all. Contains all one) (decisions_from-append fixed (opening given) events (event ∷ [])) there))
+
+  are_from : (later events : List Event) → AreAsBegun given events → AreAsBegun given (events ++ later)
+  are_from [] events are = subst (AreAsBegun given) (sym (append-nil events)) are
+  are_from (event ∷ later) events are = subst (AreAsBegun given) (append_assoc events (event ∷ []) later) (are_from later (events ++ event ∷ []) (are_more events event are))
+
+  pub are_as_begun : (events : List Event) → AreAsBegun given events
+  are_as_begun events = are_from events [] (λ one there. absurd (has_from [] one there))

@@ -1,0 +1,204 @@
+-- What holds beside the rest, event by event: jobs set valid votes, the register's row holds a content of its kind, and what is prepared is what was sent. It gives what is owed at a decision.
+use Rattle.std.proofs.Common.{◌≡◌, ℕ, ◌≤◌, zero, suc, Bool, true, false, cond, List, [], Option, Some, None, is_some, Ok, Err, refl, sym, ap, subst, ◌∙◌, arith}
+use Rattle.std.specs.Prelude.{◌==◌, nat_le, ◌&&◌, ◌||◌, unwrap_or}
+use Rattle.std.proofs.lemmas.Bool.{false≢true}
+use Rattle.std.proofs.lemmas.Bool.Decides.{nat_tests}
+use Rattle.vote_core.specs.Validity.{IsValid}
+use Rattle.suite_content.specs.declared.content.Content.{Content}
+use Rattle.suite_content.specs.declared.content.Kind.{Kind}
+use Rattle.suite_content.specs.declared.content.Kind.TheVariants as holds
+use Rattle.suite_content.specs.Contents.{kind_of}
+use Rattle.suite_prefix.specs.SettingsRules.{Opening}
+use Rattle.suite_prefix.specs.Absent.{absent_copy}
+use Rattle.suite_prefix.specs.declared.copies.Prefix.{Prefix}
+use Rattle.suite_prefix.specs.declared.copies.Replica.{Replica}
+use Rattle.rep_core.specs.Store.{root_copy}
+use Rattle.file_exec.specs.declared.changes.Change as executor
+use Rattle.txn_core.specs.Suites.{ReadPoint, Suite, suite_of}
+use Rattle.txn_core.specs.Writing.{change_of, prefix_kind, new_prefix}
+use Rattle.txn_core.specs.Doing.{Outcome, Deciding, Phase, Gathering, Fetching, Widening, Preparing, Finishing, TransactionRun, Doing, Running, RunningSweep}
+use Rattle.txn_core.specs.Transactions.{changes_of}
+use Rattle.txn_core.specs.Agents.{Agent, fixed_of}
+use Rattle.run_core.specs.declared.event.Event as happening
+use Rattle.run_core.specs.declared.event.Event.TheVariants.{Begin, Step, Crash, Return, Forget, Lack}
+use Rattle.run_core.specs.Worlds as worlds
+use Rattle.run_core.specs.Worlds.{Actor, actor_at}
+use Rattle.run_core.specs.Decisions.{Decided}
+use Rattle.law_suite_machine.specs.Registers.{Beginning, Known, Entry, IsKnown, IsPlain, changed, row}
+use Rattle.law_suite_machine.specs.Machine.{Told, World}
+use Rattle.law_suite_machine.specs.Events.{Event, happens}
+use Rattle.law_suite_machine.specs.Conditions.{IsReady, Knows}
+use Rattle.law_suite_machine.proofs.Invariant.{Inv}
+use Rattle.law_suite_machine.proofs.Knowing.{all_known}
+use Rattle.law_server_moves.specs.Laws.{beginning}
+use Rattle.law_run_machine.specs.Deciding.{showed, showed_to, known_by, change_to, written_from, first_of, decides_with, decides_without, decides_first, decides_on, decision_in, decision_by}
+use Rattle.law_run_machine.specs.Owed.{OwesKnown}
+use Rattle.law_run_machine.proofs.Stages.{Stage}
+use Rattle.law_run_machine.proofs.Readying.{ReadyIn, IsReadying}
+use Rattle.law_run_machine.proofs.Linked.{InCourse, IsDoing}
+use Rattle.law_one_table.proofs.Logs.{LogIs, decision_of_actor, decision_at}
+use Rattle.law_one_table.proofs.Shown.{FitsAs}
+use Rattle.law_headline.proofs.Carried.{AllValid, ValidOr, CameWell, came_well}
+use Rattle.law_headline.proofs.Fair.{Leaves, came_fair}
+use Rattle.law_headline.proofs.Together.{Together}
+
+-- a copy's content is of its prefix's kind
+abbrev pub HoldsItsKind : Replica → Type 0
+HoldsItsKind copy = FitsAs copy.prefix.kind copy.content
+
+-- ---- at the opening
+
+pub opens_kind : (given : Opening) (z : ℕ) → HoldsItsKind (row (beginning z given) [])
+opens_kind given zero = refl
+opens_kind given (suc z) = subst (λ b. HoldsItsKind (cond b (root_copy given) (absent_copy given.c0))) (sym (not_zero z)) tt
+  where
+    not_zero : (z : ℕ) → (suc z == 0) ≡ false
+    not_zero z = grind (arith, nat_tests)
+
+-- ---- a decision
+
+fits_kind : (k : Kind) (content : Content) → kind_of content ≡ k → FitsAs (prefix_kind k) content
+fits_kind holds.File content is = is
+fits_kind holds.Folder content is = is
+
+module _ (start : Beginning) (w : World) (inv : Inv start w) (kind : HoldsItsKind (row start w.log)) (first : ReadPoint) (suite : Suite) (knows : IsKnown (row start w.log) (known_by first suite)) where
+  pub known_fits : (c : Content) → suite.content ≡ Some c → FitsAs first.prefix.kind c
+  known_fits c is =
+      subst (λ (prefix : Prefix). FitsAs prefix.kind c) (sym knows.prefix) (subst (FitsAs (row start w.log).prefix.kind) (sym (knows.content c is)) kind)
+
+  pub known_valid : IsValid first.prefix.votes
+  known_valid = subst (λ (prefix : Prefix). IsValid prefix.votes) (inv.logged.own.0.1 ∙ sym knows.prefix) (inv.logged.valid (row start w.log).prefix.pver)
+
+  -- the row that a change leaves
+  written_kind : (change : executor.Change) → Leaves suite first change → (content votes : Bool) → change.content ≡ content → change.votes ≡ votes
+      → HoldsItsKind (record { prefix = new_prefix first change; dver = (change_to first change).dver; content = unwrap_or (cond (content || votes) (Some change.row.content) None) (row start w.log).content })
+  written_kind change leaves true votes c v = fits_kind (kind_of change.row.content) change.row.content refl
+  written_kind change leaves false true c v = fits_kind (kind_of change.row.content) change.row.content refl
+  written_kind change leaves false false c v =
+      subst (λ k. FitsAs k (row start w.log).content) (sym (leaves.kind c)) (subst (λ (prefix : Prefix). FitsAs prefix.kind (row start w.log).content) (sym knows.prefix) kind)
+
+-- a decision leaves such a row, where what was known was what the register held
+with_change : (start : Beginning) (w : World) (t : ℕ) (suite : Suite) (first : ReadPoint) (outcome : Outcome) (change : Option executor.Change) → HoldsItsKind (row start w.log)
+    → ((one : executor.Change) → change ≡ Some one → IsKnown (row start w.log) (known_by first suite) → HoldsItsKind (changed (change_to first one) (row start w.log)))
+    → IsPlain start (happens start w (decides_with w t (known_by first suite) outcome (written_from (Some first) change))).log
+    → HoldsItsKind (row start (happens start w (decides_with w t (known_by first suite) outcome (written_from (Some first) change))).log)
+with_change start w t suite first (Err refusal) change kind writes plain = kind
+with_change start w t suite first (Ok granted) None kind writes plain = kind
+with_change start w t suite first (Ok granted) (Some one) kind writes plain = writes one refl plain.0
+
+without : (start : Beginning) (w : World) (t : ℕ) (outcome : Outcome) → HoldsItsKind (row start w.log) → HoldsItsKind (row start (happens start w (decides_without t outcome)).log)
+without start w t (Ok granted) kind = kind
+without start w t (Err refusal) kind = kind
+
+module _ (given : Opening) (z : ℕ) (w : World) (inv : Inv (beginning z given) w) (c0 : IsValid given.c0) (kind : HoldsItsKind (row (beginning z given) w.log)) where
+  abbrev start : Beginning
+  start = beginning z given
+
+  module _ (txn_run : TransactionRun) (outcome : Outcome) (well : CameWell (fixed_of given) txn_run outcome) where
+    pub leaves : (suite : Suite) (first : ReadPoint) (change : executor.Change) → suite_of txn_run.suites z ≡ Some suite → suite.first ≡ Some first → change_of (changes_of outcome) z ≡ Some change → IsKnown (row start w.log) (known_by first suite) → Leaves suite first change
+    leaves suite first change found had set knows =
+        came_fair (fixed_of given) txn_run.task txn_run.suites outcome z suite first change found had set c0 well.valid (known_fits start w inv kind first suite knows) (known_valid start w inv kind first suite knows) well.came
+
+    on_first : (suite : Suite) → suite_of txn_run.suites z ≡ Some suite → (o : Option ReadPoint) → suite.first ≡ o
+        → IsPlain start (happens start w (decides_first w txn_run.task.t outcome (written_from o (change_of (changes_of outcome) z)) suite o)).log
+        → HoldsItsKind (row start (happens start w (decides_first w txn_run.task.t outcome (written_from o (change_of (changes_of outcome) z)) suite o)).log)
+    on_first suite found None had plain = without start w txn_run.task.t outcome kind
+    on_first suite found (Some first) had plain =
+        with_change start w txn_run.task.t suite first outcome (change_of (changes_of outcome) z) kind
+        (λ one set knows. written_kind start w inv kind first suite knows one (leaves suite first one found had set knows) one.content one.votes refl refl)
+        plain
+
+    on_suite : (o : Option Suite) → suite_of txn_run.suites z ≡ o
+        → IsPlain start (happens start w (decides_on w txn_run.task.t outcome (written_from (first_of o) (change_of (changes_of outcome) z)) o)).log
+        → HoldsItsKind (row start (happens start w (decides_on w txn_run.task.t outcome (written_from (first_of o) (change_of (changes_of outcome) z)) o)).log)
+    on_suite None found plain = without start w txn_run.task.t outcome kind
+    on_suite (Some suite) found plain = on_first suite found suite.first refl plain
+
+  -- ---- an event
+
+  abbrev Decides : Event → Type 0
+  Decides decision = IsPlain start (happens start w decision).log → HoldsItsKind (row start (happens start w decision).log)
+
+  by_phase : (agent : Agent) (txn_run : TransactionRun) (phase : Phase) → ValidOr (fixed_of given) agent → agent.doing ≡ Some (Running txn_run) → txn_run.phase ≡ phase → Decides (decision_in z w txn_run.task txn_run.suites phase)
+  by_phase agent txn_run (Deciding outcome) valid running is = on_suite txn_run outcome (came_well (fixed_of given) agent valid txn_run outcome running is) (suite_of txn_run.suites z) refl
+  by_phase agent txn_run (Gathering number) valid running is = λ plain. kind
+  by_phase agent txn_run (Fetching number) valid running is = λ plain. kind
+  by_phase agent txn_run (Widening left granted) valid running is = λ plain. kind
+  by_phase agent txn_run (Preparing left outcome) valid running is = λ plain. kind
+  by_phase agent txn_run (Finishing servers v ending) valid running is = λ plain. kind
+
+  by_doing : (agent : Agent) (doing : Option Doing) → ValidOr (fixed_of given) agent → agent.doing ≡ doing → Decides (decision_by z w doing)
+  by_doing agent (Some (Running txn_run)) valid running = by_phase agent txn_run txn_run.phase valid running refl
+  by_doing agent (Some (RunningSweep sweep_run)) valid running = λ plain. kind
+  by_doing agent None valid running = λ plain. kind
+
+  module _ (world : worlds.World) (all : AllValid (fixed_of given) world) where
+    by_actor : (number : ℕ) (found : Option Actor) → actor_at world number ≡ found → Decides (decision_of_actor z w found)
+    by_actor number (Some actor) there = by_doing actor.agent actor.agent.doing (all number actor there) refl
+    by_actor number None there = λ plain. kind
+
+    by_event : (event : happening.Event) → Decides (decision_at z w world event)
+    by_event (Step number) = by_actor number (actor_at world number) refl
+    by_event (Begin number job) = λ plain. kind
+    by_event (Crash server) = λ plain. kind
+    by_event (Return server) = λ plain. kind
+    by_event (Forget number site) = λ plain. kind
+    by_event (Lack number why) = λ plain. kind
+
+    pub kind_after : (event : happening.Event) (one : Option Decided) (log : List Entry) → LogIs start (decision_at z w world event) w one log → IsPlain start log → HoldsItsKind (row start log)
+    kind_after event None log is plain = subst (λ log. HoldsItsKind (row start log)) (sym is) kind
+    kind_after event (Some one) log is plain = subst (λ log. HoldsItsKind (row start log)) (sym is) (by_event event (subst (IsPlain start) is plain))
+
+-- ---- where a transaction is to be decided
+
+at_most : (a b : ℕ) → nat_le a b ≡ true → a ≤ b
+at_most a b e = grind (arith, nat_tests)
+
+same_told : (a b : Told) → Some a ≡ Some b → a ≡ b
+same_told a b e = cc
+
+both : (a b : Bool) → (a && b) ≡ true → (a ≡ true) × (b ≡ true)
+both true b is = (refl, is)
+both false b is = cc
+
+-- those that showed a copy were told of it
+showed_told : (known : Known) (o : Option Told) → showed known o ≡ true → (told : Told) × (o ≡ Some told) × (told.copy.prefix.pver ≤ known.prefix.pver) × (told.copy.dver ≤ known.dver)
+showed_told known None is = absurd (false≢true is)
+showed_told known (Some told) is =
+    let parts = both (nat_le told.copy.prefix.pver known.prefix.pver) (nat_le told.copy.dver known.dver) is in
+    (told, refl, at_most told.copy.prefix.pver known.prefix.pver parts.0, at_most told.copy.dver known.dver parts.1)
+
+knows_from : (origin : Beginning) (w : World) (t : ℕ) (known : Known) → OwesKnown origin w t known → Knows origin w t (showed_to w t known) known
+knows_from origin w t known owes = record {
+  told = λ i inside. let is = showed_told known (w.told i t) inside in (is.0, is.1);
+  quorum = owes.quorum;
+  was = owes.was;
+  newest = λ i told inside is. let shown = showed_told known (w.told i t) inside in subst (λ (told : Told). told.copy.prefix.pver ≤ known.prefix.pver) (same_told shown.0 told (sym shown.1 ∙ is)) shown.2;
+  greatest = λ i told inside is. let shown = showed_told known (w.told i t) inside in subst (λ (told : Told). told.copy.dver ≤ known.dver) (same_told shown.0 told (sym shown.1 ∙ is)) shown.3;
+  from = owes.from;
+  from_told = owes.from_told;
+  told_from = owes.told_from;
+  told_dver = owes.told_dver;
+  content = owes.content;
+}
+
+-- it is ready, and knows what the register holds
+module _ (given : Opening) (z : ℕ) (w : World) (world : worlds.World) (now : Together given z w world) (number : ℕ) (actor : Actor) (txn_run : TransactionRun) (outcome : Outcome)
+    (there : actor_at world number ≡ Some actor) (running : actor.agent.doing ≡ Some (Running txn_run)) (phase : txn_run.phase ≡ Deciding outcome) (undecided : w.verdict txn_run.task.t ≡ None) where
+  some_of : {X : Type 0} (o : Option X) → is_some o ≡ true → (x : X) × (o ≡ Some x)
+  some_of None is = absurd (false≢true is)
+  some_of (Some x) is = (x, refl)
+
+  pub is_ready_now : IsReady w txn_run.task.t
+  is_ready_now =
+      let in' : InCourse z w number actor.agent.count txn_run = subst (IsDoing z w number actor.agent.count) running (now.linked number actor there).1.doing in
+      let stage : Stage z w txn_run.task.t txn_run.suites (Deciding outcome) = subst (Stage z w txn_run.task.t txn_run.suites) phase in'.stage in
+      let ready : ReadyIn z w txn_run.task.t txn_run.suites (Deciding outcome) = subst (ReadyIn z w txn_run.task.t txn_run.suites) phase (subst (IsReadying z w) running (now.readied.agents number actor there)) in
+      record {
+        undecided = undecided;
+        going = stage.0.gave_up;
+        prepared = λ i told is. some_of (w.ready i txn_run.task.t) (ready i (now.readied.below i txn_run.task.t (ap is_some is)) (sym (in'.told i) ∙ ap is_some is));
+      }
+
+  pub row_known : (suite : Suite) (first : ReadPoint) → OwesKnown (beginning z given) w txn_run.task.t (known_by first suite) → IsKnown (row (beginning z given) w.log) (known_by first suite)
+  row_known suite first owes = all_known (beginning z given) w now.inv txn_run.task.t (showed_to w txn_run.task.t (known_by first suite)) (known_by first suite) is_ready_now (knows_from (beginning z given) w txn_run.task.t (known_by first suite) owes)

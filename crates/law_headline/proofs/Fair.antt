@@ -1,0 +1,176 @@
+-- What a transaction is to write leaves what its operations do not set.
+use Rattle.std.proofs.Common.{◌≡◌, ℕ, Bool, true, false, cond, List, [], ◌∷◌, Option, Some, None, Ok, Err, refl, sym, ap, subst, ◌∙◌, arith}
+use Rattle.std.specs.Prelude.{◌==◌, ◌||◌, is_some, option_map, Result}
+use Rattle.std.specs.Ordering.{nat_cmp}
+use Rattle.std.proofs.lemmas.Bool.{false≢true, eqb-true}
+use Rattle.std.proofs.lemmas.Bool.Decides.{nat_tests}
+use Rattle.std.proofs.lemmas.Option.{none-some, same_Some}
+use Rattle.sorted_map.specs.SortedMap.{get}
+use Rattle.vote_core.specs.Validity.{IsValid}
+use Rattle.suite_content.specs.declared.content.Content.{Content}
+use Rattle.suite_content.specs.declared.content.Content.TheVariants.{Bytes, Names}
+use Rattle.suite_content.specs.Contents.{kind_of}
+use Rattle.suite_prefix.specs.declared.copies.Prefix.{Prefix}
+use Rattle.suite_prefix.specs.declared.copies.PrefixKind.{PrefixKind}
+use Rattle.suite_prefix.specs.declared.copies.PrefixKind.TheVariants as kind
+use Rattle.suite_prefix.specs.declared.lock_mode.LockMode.TheVariants.{Exclusive}
+use Rattle.file_ops.specs.declared.answer.Answer.{Answer}
+use Rattle.file_ops.specs.declared.refusal.Refusal.{Refusal}
+use Rattle.file_ops.specs.Rows.{Row}
+use Rattle.file_exec.specs.declared.changes.Change as executor
+use Rattle.file_exec.specs.KnownSuites.{KnownSuite}
+use Rattle.file_exec.specs.Changes as changes
+use Rattle.file_exec.specs.Changes.{touches}
+use Rattle.file_exec.specs.Following.{Edits, Ended, seen, head, content_in}
+use Rattle.file_exec.specs.Known as known
+use Rattle.file_exec.specs.Known.{IsSo, IsSoAt, AgreesWith, is_held, is_opened, known_rows, Done, exec_of}
+use Rattle.file_exec.proofs.Leading.{changes_by_suite}
+use Rattle.file_exec.proofs.Unset.{changes_are_held}
+use Rattle.file_exec.proofs.VotesRead.{knows_whose_votes}
+use Rattle.txn_core.specs.Suites.{ReadPoint, Suite, Suites, suite_of, row_with, known_row, known_of}
+use Rattle.txn_core.specs.Writing.{change_of, prefix_kind}
+use Rattle.txn_core.specs.Doing.{Fixed, Task, Outcome}
+use Rattle.txn_core.specs.Transactions.{changes_of}
+use Rattle.txn_core.proofs.Setting.{known_at}
+use Rattle.law_runs.proofs.Executed.{set_by, Came}
+use Rattle.law_run_quorums.specs.Fairness.{IsFair}
+use Rattle.law_one_table.proofs.Shown.{FitsAs, is_so, told_as}
+use Rattle.law_headline.specs.Premises.{AllGiveValidVotes}
+use Rattle.law_headline.proofs.Editing.{edits_fit}
+use Rattle.law_headline.proofs.Setting.{fair, same_content, content_kind}
+
+self : (n : ℕ) → (n == n) ≡ true
+self n = grind (arith, nat_tests)
+
+-- ---- what was known when the executor was done
+
+module _ (suites : Suites) (z : ℕ) (suite : Suite) (first : ReadPoint) (there : suite_of suites z ≡ Some suite) (was : suite.first ≡ Some first) where
+  -- rows that are as they are known, but for one suite
+  abbrev rows_with : Option Row → ℕ → Option Row
+  rows_with row n = cond (n == z) row (known_rows (known_of suites) n)
+
+  agrees_but : (row : Option Row) → IsSo (known_row suite first) row → AgreesWith (known_of suites) (rows_with row)
+  agrees_but row so n =
+      elim (n == z) as (λ b. (n == z) ≡ b → IsSoAt (known.known_of (known_of suites) n) (cond b row (known_rows (known_of suites) n))) [
+        | true ↦ λ same. subst (λ n. IsSoAt (known.known_of (known_of suites) n) row) (sym (eqb-true n z same)) (subst (λ it. IsSoAt it row) (sym (known_at suites z suite first there was)) so)
+        | false ↦ λ _. itself (known.known_of (known_of suites) n)
+      ] refl
+    where
+      itself : (it : Option KnownSuite) → IsSoAt it (known.row_in it)
+      itself (Some it) = record { head = refl; content = λ _. refl }
+      itself None = tt
+
+  -- what was known before is so of each row of which what is known now is so
+  abbrev IsEarlier : Option KnownSuite → Type 0
+  IsEarlier before = (row : Option Row) → IsSo (known_row suite first) row → IsSoAt before row
+
+  earlier : (before : known.Known) → ((rows : ℕ → Option Row) → AgreesWith (known_of suites) rows → AgreesWith before rows) → IsEarlier (known.known_of before z)
+  earlier before agrees row so = subst (λ b. IsSoAt (known.known_of before z) (cond b row (known_rows (known_of suites) z))) (self z) (agrees (rows_with row) (agrees_but row so) z)
+
+abbrev shown : Suite → ReadPoint → Option Row
+shown suite first = row_with first.prefix.kind first.prefix suite.content
+
+head_before : (suite : Suite) (first : ReadPoint) (before : Option KnownSuite) → is_held Exclusive before ≡ true → ((row : Option Row) → IsSo (known_row suite first) row → IsSoAt before row) → head (known.row_in before) ≡ head (shown suite first)
+head_before suite first None held goes = absurd (false≢true held)
+head_before suite first (Some it) held goes = (goes (shown suite first) (record { head = refl; content = λ _. refl })).head
+
+-- two contents of a kind, so that a row shows which one it has
+abbrev one_content : PrefixKind → Content
+one_content kind.Absent = Bytes []
+one_content kind.File = Bytes []
+one_content kind.Folder = Names []
+
+abbrev other_content : PrefixKind → Content
+other_content kind.Absent = Bytes []
+other_content kind.File = Bytes (0 ∷ [])
+other_content kind.Folder = Names (([], 0) ∷ [])
+
+one_fits : (k : PrefixKind) → FitsAs k (one_content k)
+one_fits kind.Absent = tt
+one_fits kind.File = refl
+one_fits kind.Folder = refl
+
+other_fits : (k : PrefixKind) → FitsAs k (other_content k)
+other_fits kind.Absent = tt
+other_fits kind.File = refl
+other_fits kind.Folder = refl
+
+files_apart : Bytes [] ≡ Bytes (0 ∷ []) → ⊥
+files_apart is = cc
+
+folders_apart : Names [] ≡ Names (([], 0) ∷ []) → ⊥
+folders_apart is = cc
+
+apart : (k : PrefixKind) (prefix : Prefix) (row : Row) → row_with k prefix (Some (one_content k)) ≡ Some row → row_with k prefix (Some (one_content k)) ≡ row_with k prefix (Some (other_content k)) → ⊥
+apart kind.Absent prefix row there same = none-some row there
+apart kind.File prefix row there same = files_apart (ap content_in same)
+apart kind.Folder prefix row there same = folders_apart (ap content_in same)
+
+-- what would be known with a content, of the row with another
+abbrev SoWith : Suite → ReadPoint → Option Content → Content → Type 0
+SoWith suite first found c = IsSo (record { mode = suite.mode; row = row_with first.prefix.kind first.prefix found; opened = is_some found }) (row_with first.prefix.kind first.prefix (Some c))
+
+-- where the content was known, it is known now
+known_content : (suite : Suite) (first : ReadPoint) (before : Option KnownSuite) (row : Row) → ((row : Option Row) → IsSo (known_row suite first) row → IsSoAt before row) → is_opened before ≡ true → known.row_in before ≡ Some row
+    → (c : Content) × (suite.content ≡ Some c) × (known.row_in before ≡ row_with first.prefix.kind first.prefix (Some c))
+known_content suite first None row goes opened there = absurd (false≢true opened)
+known_content suite first (Some it) row goes opened there = of suite.content refl
+  where
+    of : (found : Option Content) → suite.content ≡ found → (c : Content) × (found ≡ Some c) × (it.row ≡ row_with first.prefix.kind first.prefix (Some c))
+    of (Some c) at = (c, refl, (goes (shown suite first) (record { head = refl; content = λ _. refl })).content opened ∙ ap (row_with first.prefix.kind first.prefix) at)
+    of None at =
+        let one = goes (row_with first.prefix.kind first.prefix (Some (one_content first.prefix.kind))) (subst (λ found. SoWith suite first found (one_content first.prefix.kind)) (sym at) (is_so suite.mode first.prefix.kind first.prefix None (one_content first.prefix.kind) (one_fits first.prefix.kind) (λ x is. cc))) in
+        let other = goes (row_with first.prefix.kind first.prefix (Some (other_content first.prefix.kind))) (subst (λ found. SoWith suite first found (other_content first.prefix.kind)) (sym at) (is_so suite.mode first.prefix.kind first.prefix None (other_content first.prefix.kind) (other_fits first.prefix.kind) (λ x is. cc))) in
+        let same = one.content opened in
+        absurd (apart first.prefix.kind first.prefix row (sym same ∙ there) (sym same ∙ other.content opened))
+
+-- ---- what edits told
+
+pub record FromEdits (rows : ℕ → Option Row) (z : ℕ) (edits : Edits) (change : executor.Change) : Type 0 where
+  pub row : Row
+  pub is : seen edits z (rows z) ≡ Some row
+  pub told : told_as edits z row ≡ change
+
+from_edits : (before : known.Known) (edits : Edits) (z : ℕ) (change : executor.Change) → get nat_cmp (changes.changes_of before edits) z ≡ Some change → FromEdits (known_rows before) z edits change
+from_edits before edits z change told = if_touched (touches edits z) (sym (changes_by_suite before edits z) ∙ told)
+  where
+    of : (o : Option Row) → seen edits z (known_rows before z) ≡ o → option_map (told_as edits z) o ≡ Some change → FromEdits (known_rows before) z edits change
+    of (Some row) is told = record { row = row; is = is; told = same_Some (told_as edits z row) change told }
+    of None is told = absurd (none-some change told)
+
+    if_touched : (b : Bool) → cond b (changes.change_of before edits z) None ≡ Some change → FromEdits (known_rows before) z edits change
+    if_touched true told = of (seen edits z (known_rows before z)) refl told
+    if_touched false told = absurd (none-some change told)
+
+-- of a suite that is changed: what is not set stays, and so its kind where no content is set
+pub record Leaves (suite : Suite) (first : ReadPoint) (change : executor.Change) : Type 0 where
+  pub fair : IsFair suite first change
+  pub kind : change.content ≡ false → prefix_kind (kind_of change.row.content) ≡ first.prefix.kind
+
+module _ (fixed : Fixed) (task : Task) (suites : Suites) (outcome : Outcome) (z : ℕ) (suite : Suite) (first : ReadPoint) (change : executor.Change)
+    (there : suite_of suites z ≡ Some suite) (was : suite.first ≡ Some first) (set : change_of (changes_of outcome) z ≡ Some change) (c0 : IsValid fixed.service.c0) (valid : AllGiveValidVotes task.ops)
+    (fits : (c : Content) → suite.content ≡ Some c → FitsAs first.prefix.kind c) (votes : IsValid first.prefix.votes) where
+  by_edits : (before : known.Known) → ((rows : ℕ → Option Row) → AgreesWith (known_of suites) rows → AgreesWith before rows) → (ended : Ended (List Answer)) → exec_of fixed.service before task.t task.caller task.ops ≡ Done (Ok ended)
+      → get nat_cmp (changes.changes_of before ended.edits) z ≡ Some change → Leaves suite first change
+  by_edits before agrees ended done told =
+      let from = from_edits before ended.edits z change told in
+      let goes = earlier suites z suite first there was before agrees in
+      let held = changes_are_held fixed.service before task.t task.caller task.ops ended.given (changes.changes_of before ended.edits) z (ap (changes.answered before) done) (ap is_some told) in
+      let heads = head_before suite first (known.known_of before z) held goes in
+      let fit = edits_fit fixed.service before task.t task.caller task.ops ended c0 valid done in
+      let whose = knows_whose_votes fixed.service before task.t task.caller task.ops ended done z in
+      subst (Leaves suite first) from.told (record {
+        fair = fair suite first (known_rows before) z ended.edits from.row fit from.is fits heads votes (λ none voted.
+            let opened : is_opened (known.known_of before z) ≡ true = sym (ap (λ b. b || is_opened (known.known_of before z)) none) ∙ whose voted in
+            let r = same_content suite first (known_rows before) z ended.edits from.row fit from.is fits heads none in
+            known_content suite first (known.known_of before z) r.0 goes opened r.1);
+        kind = content_kind suite first (known_rows before) z ended.edits from.row fit from.is fits heads;
+      })
+
+  by_result : (before : known.Known) → ((rows : ℕ → Option Row) → AgreesWith (known_of suites) rows → AgreesWith before rows) → (result : Result (Ended (List Answer)) Refusal) → exec_of fixed.service before task.t task.caller task.ops ≡ Done result
+      → change_of (set_by before result) z ≡ Some change → Leaves suite first change
+  by_result before agrees (Ok ended) done told = by_edits before agrees ended done told
+  by_result before agrees (Err refusal) done told = absurd (none-some change told)
+
+  pub came_fair : Came fixed task suites outcome → Leaves suite first change
+  came_fair came = by_result came.before came.still.agrees came.result came.was (ap (λ all. change_of all z) (sym came.set) ∙ set)

@@ -1,0 +1,321 @@
+-- Where a transaction is decided, the locks that it was told of have stood ever since.
+use Rattle.std.proofs.Common.{◌≡◌, inl, inr, ℕ, Bool, true, false, cond, List, [], ◌∷◌, ◌++◌, append_assoc, Option, Some, None, is_some, refl, sym, ap, subst, ◌∙◌, arith}
+use Rattle.std.specs.Prelude.{◌==◌, ◌&&◌, ◌||◌, find}
+use Rattle.std.specs.List.{list_any}
+use Rattle.std.proofs.lemmas.Bool.{false≢true}
+use Rattle.std.proofs.lemmas.Bool.Decides.{nat_tests}
+use Rattle.std.proofs.lemmas.Option.{none-some, same_Some}
+use Rattle.suite_prefix.specs.SettingsRules.{Opening}
+use Rattle.suite_prefix.specs.LockModes.{is_exclusive, serves}
+use Rattle.suite_prefix.specs.declared.lock_mode.LockMode.{LockMode}
+use Rattle.suite_prefix.specs.declared.lock_mode.LockMode.TheVariants.{Shared, Exclusive}
+use Rattle.suite_prefix.specs.declared.copies.Prefix.{Prefix}
+use Rattle.rep_core.specs.declared.lock.Lock.{Lock}
+use Rattle.rep_core.specs.declared.request.Request.{Request}
+use Rattle.rep_core.specs.declared.request.Request.TheVariants as request
+use Rattle.rep_core.specs.declared.reply.Reply.{Reply}
+use Rattle.rep_core.specs.declared.reply.Reply.TheVariants as reply
+use Rattle.rep_core.specs.declared.reply.Verdict.{Verdict}
+use Rattle.rep_core.specs.Locks.{is_own}
+use Rattle.rep_core.specs.State.{State, record_of}
+use Rattle.rep_core.specs.Serving.{is_full, answer_of}
+use Rattle.txn_core.specs.declared.response.Response.TheVariants.{Replied, Lacked}
+use Rattle.txn_core.specs.Doing.{Task, Doing}
+use Rattle.txn_core.specs.Transactions.{decision_of, request_in}
+use Rattle.txn_core.specs.Agents.{Agent, fixed_of, next_in, next_of}
+use Rattle.run_core.specs.declared.event.Event as happening
+use Rattle.run_core.specs.declared.event.Event.TheVariants.{Begin, Step, Crash, Return, Forget, Lack}
+use Rattle.run_core.specs.declared.done.Served.{Served}
+use Rattle.run_core.specs.Worlds as worlds
+use Rattle.run_core.specs.Worlds.{Actor, server_at, actor_at, serve, becomes, answered, asks_at, asks, steps_once, lacks_for, lacks, operated, operates, step}
+use Rattle.run_core.specs.Runs as runs
+use Rattle.run_core.specs.Decisions.{Decided, answer_in, decided_as, decided_at, decided_by, decided, task_of, task_at}
+use Rattle.law_runs.specs.Answers.{IsAnsweredAsKnown}
+use Rattle.law_runs.proofs.Answering.{answers_follow_knowledge}
+use Rattle.law_suite_machine.specs.Registers.{Beginning}
+use Rattle.law_suite_machine.specs.Machine.{Hold, Told, World, begun}
+use Rattle.law_suite_machine.specs.Events.{Event, Held, Upgrade, upgraded_told, happens, run}
+use Rattle.law_suite_machine.specs.Conditions.{Obeys}
+use Rattle.law_suite_machine.proofs.Sound.{Sound}
+use Rattle.law_suite_machine.proofs.Invariant.{Inv}
+use Rattle.law_suite_machine.proofs.Knowing.{still_locked}
+use Rattle.law_suite_machine.proofs.Places.{at2}
+use Rattle.law_suite_machine.proofs.Steps.{all_steps}
+use Rattle.law_server_moves.specs.Views.{Shows, hold_of, verdict_of}
+use Rattle.law_server_moves.specs.Moves.{moves}
+use Rattle.law_server_moves.specs.Laws.{beginning}
+use Rattle.law_run_machine.specs.Deciding.{decision_by}
+use Rattle.law_run_machine.specs.Machines.{servers_of, home_in, response_events, served_events, answered_events, asked_at_events, asked_events, step_events, operated_events, operator_events, events_of, moved, machine_from, machine_of}
+use Rattle.law_run_machine.specs.Sides.{KeepSides}
+use Rattle.law_run_machine.proofs.Consistent.{AllConsistent}
+use Rattle.law_run_machine.proofs.Following.{event_comes}
+use Rattle.law_run_machine.proofs.Joining.{run-append}
+use Rattle.law_run_machine.proofs.Servers.{server_there}
+use Rattle.law_headline.specs.Premises.{CanBe}
+use Rattle.law_headline.specs.Laws.{AsksForLock, TellsOfLock, LocksStand}
+use Rattle.law_headline.proofs.Unbroken.{told_stays, stood, ToldMode, HoldsMode, mode_some, mode_stays, AllAsTold, as_told, holds_mode}
+use Rattle.law_headline.proofs.Beside.{is_ready_now}
+use Rattle.law_headline.proofs.Keeping.{holds_after, all_keep}
+use Rattle.law_headline.proofs.Promised.{front}
+
+-- ---- what the event told
+
+obeys_first : (start : Beginning) (w : World) (first later : List Event) → Obeys start w (first ++ later) → Obeys start w first × Obeys start (run start w first) later
+obeys_first start w [] later obeys = (tt, obeys)
+obeys_first start w (event ∷ first) later obeys =
+    let rest = obeys_first start (happens start w event) first later obeys.1 in
+    ((obeys.0, rest.0), rest.1)
+
+-- it is told of an upgraded lock of which it was told before
+upgraded_now : (w : World) → Sound w → (wanted : Bool) (i t : ℕ) (lock : Hold) → w.lock i t ≡ Some lock → ToldMode wanted (upgraded_told (w.told i t))
+upgraded_now w sound wanted i t lock stands = of (w.told i t) refl
+  where
+    of : (o : Option Told) → w.told i t ≡ o → ToldMode wanted (upgraded_told o)
+    of (Some told) is = λ _. refl
+    of None is = absurd (none-some lock (sym (sound.asked i t is) ∙ stands))
+
+module _ (given : Opening) (z : ℕ) (w : World) (sound : Sound w) (world : worlds.World) (t : ℕ) (mode : LockMode) (prefix : Prefix) (dver : ℕ) where
+  abbrev start : Beginning
+  start = beginning z given
+
+  abbrev IsTold : World → ℕ → Type 0
+  IsTold w server = ToldMode (is_exclusive mode) (w.told server t)
+
+  self : (n : ℕ) → (n == n) ≡ true
+  self n = grind (arith, nat_tests)
+
+  -- what Held is to the machine
+  abbrev held_moves : Event → ℕ → Request → List Event
+  held_moves decision i asked = moves z (home_in given) decision i w asked (reply.Held prefix dver)
+
+  told_held : (decision : Event) (i : ℕ) (asked : Request) → AsksForLock t z mode asked → Obeys start w (held_moves decision i asked) → IsTold (run start w (held_moves decision i asked)) i
+  told_held decision i asked (inl polled) obeys =
+      subst (λ asked. IsTold (run start w (held_moves decision i asked)) i) (sym polled)
+      (subst (λ b. IsTold (run start w (cond b (Held i t (is_exclusive mode) ∷ []) [])) i) (sym (self z))
+      (at2 (ToldMode (is_exclusive mode)) w.told i t _ i t (λ _ is. is) (λ other. absurd (other (refl, refl)))))
+  told_held decision i asked (inr raised) obeys =
+      let may = subst (λ b. Obeys start w (cond b (Upgrade i t ∷ []) [])) (self z) (subst (λ asked. Obeys start w (held_moves decision i asked)) raised.0 obeys) in
+      subst (λ asked. IsTold (run start w (held_moves decision i asked)) i) (sym raised.0)
+      (subst (λ b. IsTold (run start w (cond b (Upgrade i t ∷ []) [])) i) (sym (self z))
+      (at2 (ToldMode (is_exclusive mode)) w.told i t (upgraded_told (w.told i t)) i t (λ _. upgraded_now w sound (is_exclusive mode) i t may.0.lock may.0.stands) (λ other. absurd (other (refl, refl)))))
+
+  told_once : (doing : Option Doing) (what : Served) → AsksForLock t z mode what.request.value → what.reply.value ≡ reply.Held prefix dver → Obeys start w (served_events given z w doing what) → IsTold (run start w (served_events given z w doing what)) what.server
+  told_once doing what asked said obeys =
+      let decision = decision_by z w doing in
+      subst (λ said. IsTold (run start w (moves z (home_in given) decision what.server w what.request.value said)) what.server) (sym said)
+      (told_held decision what.server what.request.value asked (subst (λ said. Obeys start w (moves z (home_in given) decision what.server w what.request.value said)) said obeys))
+
+  told_served : (doing : Option Doing) (what : Served) (later : List Event) → AsksForLock t z mode what.request.value → what.reply.value ≡ reply.Held prefix dver → Obeys start w (served_events given z w doing what ++ later)
+      → IsTold (run start w (served_events given z w doing what ++ later)) what.server
+  told_served doing what later asked said obeys =
+      let first = served_events given z w doing what in
+      let parts = obeys_first start w first later obeys in
+      subst (λ w. IsTold w what.server) (sym (run-append start w first later))
+      (mode_stays start (run start w first) later parts.1 (is_exclusive mode) what.server t (told_once doing what asked said parts.0))
+
+  abbrev TellsIt : Option Served → List Event → Type 0
+  TellsIt served events =
+      (what : Served) → served ≡ Some what → AsksForLock t z mode what.request.value → what.reply.value ≡ reply.Held prefix dver → Obeys start w events → IsTold (run start w events) what.server
+
+  at_served : (number : ℕ) (actor : Actor) (st : State) (what : Option Served) → TellsIt (answered (fixed_of given) world number actor st what).done.served (answered_events given z w actor what)
+  at_served number actor st (Some this) what is =
+      subst
+      (λ (it : Served). AsksForLock t z mode it.request.value → it.reply.value ≡ reply.Held prefix dver → Obeys start w (answered_events given z w actor (Some this)) → IsTold (run start w (answered_events given z w actor (Some this))) it.server)
+      (same_Some this what is) (told_served actor.agent.doing this (response_events given z actor (Replied this.reply.value)))
+  at_served number actor st None what is = absurd (none-some what is)
+
+  at_server : (number : ℕ) (actor : Actor) (asked : ℕ × Request) (found : Option State) → TellsIt (asks_at (fixed_of given) world number actor asked found).done.served (asked_at_events given z w actor asked found)
+  at_server number actor asked (Some st) = at_served number actor st (serve asked.0 st (record { stamp = actor.stamp; value = asked.1 }))
+  at_server number actor asked None = λ what is. absurd (none-some what is)
+
+  at_asked : (number : ℕ) (actor : Actor) (asked : Option (ℕ × Request)) → TellsIt (asks (fixed_of given) world number actor asked).done.served (asked_events given z w world actor asked)
+  at_asked number actor (Some asked) = at_server number actor asked (server_at world asked.0)
+  at_asked number actor None = λ what is. absurd (none-some what is)
+
+  at_step : (number : ℕ) (found : Option Actor) → TellsIt (steps_once (fixed_of given) world number found).done.served (step_events given z w world found)
+  at_step number (Some actor) = at_asked number actor (next_of (fixed_of given) actor.agent)
+  at_step number None = λ what is. absurd (none-some what is)
+
+  at_operated : (asked : Request) (st : State) (what : Option Served) → TellsIt (operated world st what).done.served (operated_events given z w what)
+  at_operated asked st (Some this) what is =
+      subst
+      (λ (it : Served). AsksForLock t z mode it.request.value → it.reply.value ≡ reply.Held prefix dver → Obeys start w (served_events given z w None this) → IsTold (run start w (served_events given z w None this)) it.server)
+      (same_Some this what is) (told_once None this)
+  at_operated asked st None what is = absurd (none-some what is)
+
+  at_operator : (i : ℕ) (asked : Request) (found : Option State) → TellsIt (operates world i asked found).done.served (operator_events given z w i asked found)
+  at_operator i asked (Some st) = at_operated asked st (serve i st (record { stamp = 0; value = asked }))
+  at_operator i asked None = λ what is. absurd (none-some what is)
+
+  becomes_none : (number : ℕ) (change : Agent → Agent) (found : Option Actor) → (becomes world number change found).done.served ≡ None
+  becomes_none number change (Some actor) = refl
+  becomes_none number change None = refl
+
+  lacks_none : (number : ℕ) (why : _) (found : Option Actor) → (lacks (fixed_of given) world number (Lacked why) found).done.served ≡ None
+  lacks_none number why None = refl
+  lacks_none number why (Some actor) = of (next_of (fixed_of given) actor.agent)
+    where
+      of : (asked : Option (ℕ × Request)) → (lacks_for (fixed_of given) world number actor (Lacked why) asked).done.served ≡ None
+      of (Some asked) = refl
+      of None = refl
+
+  told_in_event : (event : happening.Event) → TellsIt (step (fixed_of given) world event).done.served (events_of given z w world event)
+  told_in_event (Step number) = at_step number (actor_at world number)
+  told_in_event (Crash server) = at_operator server request.Crash (server_at world server)
+  told_in_event (Return server) = at_operator server request.Return (server_at world server)
+  told_in_event (Begin number job) = λ what is. absurd (none-some what (sym (becomes_none number _ (actor_at world number)) ∙ is))
+  told_in_event (Forget number site) = λ what is. absurd (none-some what (sym (becomes_none number _ (actor_at world number)) ∙ is))
+  told_in_event (Lack number why) = λ what is. absurd (none-some what (sym (lacks_none number why (actor_at world number)) ∙ is))
+
+-- ---- later on
+
+told_all : (given : Opening) (z : ℕ) (w : World) (world : worlds.World) (events : List happening.Event) (i t : ℕ) → is_some (w.told i t) ≡ true → is_some ((machine_from given z w world events).told i t) ≡ true
+told_all given z w world [] i t is = is
+told_all given z w world (event ∷ events) i t is =
+    told_all given z (moved given z w world event) (step (fixed_of given) world event).world events i t (told_stays (beginning z given) w (events_of given z w world event) i t is)
+
+mode_all : (given : Opening) (z : ℕ) (w : World) (world : worlds.World) (events : List happening.Event) → Inv (beginning z given) w → Shows z (home_in given) (servers_of given world) w → AllConsistent (servers_of given world) → KeepSides given z w world events
+    → (wanted : Bool) (i t : ℕ) → ToldMode wanted (w.told i t) → ToldMode wanted ((machine_from given z w world events).told i t)
+mode_all given z w world [] inv shows all keep wanted i t is = is
+mode_all given z w world (event ∷ events) inv shows all keep wanted i t is =
+    let start = beginning z given in
+    let moves = events_of given z w world event in
+    let one = event_comes given z w world inv shows all event keep.0 in
+    mode_all given z (run start w moves) (step (fixed_of given) world event).world events (all_steps start w inv moves one.obeys) one.shows one.consistent keep.1 wanted i t (mode_stays start w moves one.obeys wanted i t is)
+
+as_told_all : (given : Opening) (z : ℕ) (w : World) (world : worlds.World) (events : List happening.Event) → AllAsTold w → AllAsTold (machine_from given z w world events)
+as_told_all given z w world [] all = all
+as_told_all given z w world (event ∷ events) all =
+    as_told_all given z (moved given z w world event) (step (fixed_of given) world event).world events (as_told (beginning z given) w (events_of given z w world event) all)
+
+stood_all : (given : Opening) (z : ℕ) (w : World) (world : worlds.World) (events : List happening.Event) → Inv (beginning z given) w → Shows z (home_in given) (servers_of given world) w → AllConsistent (servers_of given world) → KeepSides given z w world events
+    → (i t : ℕ) → is_some (w.told i t) ≡ true → is_some ((machine_from given z w world events).lock i t) ≡ true → is_some (w.lock i t) ≡ true
+stood_all given z w world [] inv shows all keep i t told is = is
+stood_all given z w world (event ∷ events) inv shows all keep i t told is =
+    let start = beginning z given in
+    let moves = events_of given z w world event in
+    let one = event_comes given z w world inv shows all event keep.0 in
+    stood start w moves one.obeys i t told
+    (stood_all given z (run start w moves) (step (fixed_of given) world event).world events (all_steps start w inv moves one.obeys) one.shows one.consistent keep.1 i t (told_stays start w moves i t told) is)
+
+machine_on : (given : Opening) (z : ℕ) (w : World) (world : worlds.World) (events later : List happening.Event) → machine_from given z w world (events ++ later) ≡ machine_from given z (machine_from given z w world events) (runs.after (fixed_of given) world events) later
+machine_on given z w world [] later = refl
+machine_on given z w world (event ∷ events) later = machine_on given z (moved given z w world event) (step (fixed_of given) world event).world events later
+
+keeps_later : (given : Opening) (z : ℕ) (w : World) (world : worlds.World) (events later : List happening.Event) → KeepSides given z w world (events ++ later) → KeepSides given z (machine_from given z w world events) (runs.after (fixed_of given) world events) later
+keeps_later given z w world [] later keeps = keeps
+keeps_later given z w world (event ∷ events) later keeps = keeps_later given z (moved given z w world event) (step (fixed_of given) world event).world events later keeps.1
+
+-- ---- at the decision
+
+-- its home has no record of it
+module _ (given : Opening) (z : ℕ) (w : World) (world : worlds.World) (shows : Shows z (home_in given) (servers_of given world) w) (number : ℕ) (one : Decided) (is : decided (fixed_of given) world (Step number) ≡ Some one) (so : IsAnsweredAsKnown given world (Step number) one) where
+  same_number : so.number ≡ number
+  same_number = of so.number number (sym so.step)
+    where
+      of : (a b : ℕ) → Step a ≡ Step b → a ≡ b
+      of a b same = cc
+
+  there : actor_at world number ≡ Some so.actor
+  there = ap (actor_at world) (sym same_number) ∙ so.there
+
+  abbrev t : ℕ
+  t = so.txn_run.task.t
+
+  asked : next_of (fixed_of given) so.actor.agent ≡ Some (home_in given t, request.Decide t (decision_of so.txn_run.task so.outcome))
+  asked = ap (next_in (fixed_of given)) so.running ∙ ap (request_in (fixed_of given) so.txn_run.task so.txn_run.suites) so.deciding
+
+  no_record : (st : State) (task : Option Task) (said : Reply) → decided_at (Some st) (Some t) (decided_as task (answer_in said)) ≡ Some one → record_of st t ≡ None
+  no_record st task said = of (record_of st t)
+    where
+      of : (found : Option Verdict) → cond (is_some found) None (decided_as task (answer_in said)) ≡ Some one → found ≡ None
+      of (Some v) is = absurd (none-some one is)
+      of None is = refl
+
+  by_server : (task : Option Task) (found : Option State) → server_at world (home_in given t) ≡ found
+      → decided_by world task (asks_at (fixed_of given) world number so.actor (home_in given t, request.Decide t (decision_of so.txn_run.task so.outcome)) found).done.served ≡ Some one → w.verdict t ≡ None
+  by_server task None at is = absurd (none-some one is)
+  by_server task (Some st) at is = of (is_full st (record { stamp = so.actor.stamp; value = request.Decide t (decision_of so.txn_run.task so.outcome) })) is
+    where
+      of : (full : Bool)
+          → decided_by world task (answered (fixed_of given) world number so.actor st (cond full None (Some (record { server = home_in given t; request = record { stamp = so.actor.stamp; value = request.Decide t (decision_of so.txn_run.task so.outcome) }; reply = answer_of st (record { stamp = so.actor.stamp; value = request.Decide t (decision_of so.txn_run.task so.outcome) }) })))).done.served ≡ Some one
+          → w.verdict t ≡ None
+      of true is = absurd (none-some one is)
+      of false is =
+          shows.verdict t ∙ ap (λ st. verdict_of (record_of st t)) (server_there given world (home_in given t) st at)
+          ∙ ap verdict_of (no_record st task (answer_of st (record { stamp = so.actor.stamp; value = request.Decide t (decision_of so.txn_run.task so.outcome) })).value
+          (sym (ap (λ found. decided_at found (Some t) (decided_as task (answer_in (answer_of st (record { stamp = so.actor.stamp; value = request.Decide t (decision_of so.txn_run.task so.outcome) })).value))) at) ∙ is))
+
+  pub undecided : w.verdict t ≡ None
+  undecided =
+      by_server (task_of so.actor.agent.doing) (server_at world (home_in given t)) refl
+      (sym (ap (λ asked. decided_by world (task_of so.actor.agent.doing) (asks (fixed_of given) world number so.actor asked).done.served) asked)
+      ∙ sym (ap (λ found. decided_by world (task_at found) (steps_once (fixed_of given) world number found).done.served) there) ∙ is)
+
+-- ---- the law
+
+serves_it : (have wanted : LockMode) → (is_exclusive wanted ≡ true → is_exclusive have ≡ true) → serves have wanted ≡ true
+serves_it Exclusive wanted is = refl
+serves_it Shared Shared is = refl
+serves_it Shared Exclusive is = absurd (false≢true (is refl))
+
+found_serving : (p : Lock → Bool) (mode : LockMode) (locks : List Lock) → HoldsMode (is_exclusive mode) (hold_of (find p locks)) → list_any (λ lock. p lock && serves lock.mode mode) locks ≡ true
+found_serving p mode [] is = absurd is
+found_serving p mode (lock ∷ locks) is =
+    elim (p lock) as (λ b. HoldsMode (is_exclusive mode) (hold_of (cond b (Some lock) (find p locks))) → ((b && serves lock.mode mode) || list_any (λ lock. p lock && serves lock.mode mode) locks) ≡ true) [
+      | true ↦ λ is. ap (λ b. b || list_any (λ lock. p lock && serves lock.mode mode) locks) (serves_it lock.mode mode is)
+      | false ↦ λ is. found_serving p mode locks is
+    ] is
+
+some_of : {X : Type 0} (o : Option X) → is_some o ≡ true → (x : X) × (o ≡ Some x)
+some_of None is = absurd (false≢true is)
+some_of (Some x) is = (x, refl)
+
+-- what it was told then it was told still after some events more
+mode_after : (given : Opening) (events : List happening.Event) (event : happening.Event) (between : List happening.Event) → CanBe given (events ++ event ∷ between) → (t suite : ℕ) (mode : LockMode) (server : ℕ) → TellsOfLock given events event t suite mode server
+    → ToldMode (is_exclusive mode) ((machine_of given suite (events ++ event ∷ between)).told server t)
+mode_after given events event between can t suite mode server tells =
+    let z = suite in
+    let start = beginning z given in
+    let wanted = is_exclusive mode in
+    let world = runs.run given events in
+    let w = machine_of given z events in
+    let first = holds_after given events (front given events (event ∷ between) can) z in
+    let keep = keeps_later given z (begun start) (worlds.opening given) events (event ∷ between) ((all_keep given (events ++ event ∷ between) can).keep z) in
+    let one = event_comes given z w world first.inv first.shows first.all event keep.0 in
+    let now = told_in_event given z w first.inv.sound world t mode tells.prefix tells.dver event tells.what tells.served tells.asked tells.told one.obeys in
+    subst (λ (w : World). ToldMode wanted (w.told server t)) (sym (machine_on given z (begun start) (worlds.opening given) events (event ∷ between)))
+    (mode_all given z (moved given z w world event) (step (fixed_of given) world event).world between (all_steps start w first.inv (events_of given z w world event) one.obeys) one.shows one.consistent keep.1 wanted server t
+    (subst (λ server. ToldMode wanted ((moved given z w world event).told server t)) tells.at now))
+
+pub locks_stand : LocksStand
+locks_stand given events event later number one suite mode server can tells is between after parts =
+    let z = suite in
+    let wanted = is_exclusive mode in
+    let begin = begun (beginning z given) in
+    let early = events ++ event ∷ between in
+    let all_is : events ++ event ∷ later ≡ early ++ after = ap (λ later. events ++ event ∷ later) parts ∙ sym (append_assoc events (event ∷ between) after) in
+    let can' : CanBe given (early ++ after) = subst (CanBe given) all_is can in
+    let can_early = front given early after can' in
+    let now = holds_after given early can_early z in
+    let wb = machine_of given z early in
+    let world = runs.run given early in
+    let last = holds_after given (events ++ event ∷ later) can z in
+    let decision = runs.run given (events ++ event ∷ later) in
+    let wd = machine_of given z (events ++ event ∷ later) in
+    let so = answers_follow_knowledge given (events ++ event ∷ later) (Step number) one is in
+    let t = so.txn_run.task.t in
+    let none = undecided given z wd decision last.shows number one is so in
+    let mode_told = mode_after given events event between can_early one.t suite mode server tells in
+    let told = mode_some wanted (wb.told server one.t) mode_told in
+    let joined : wd ≡ machine_from given z wb world after = ap (machine_of given z) all_is ∙ machine_on given z begin (worlds.opening given) early after in
+    let told_last : is_some (wd.told server one.t) ≡ true = subst (λ (w : World). is_some (w.told server one.t) ≡ true) (sym joined) (told_all given z wb world after server one.t told) in
+    let a = some_of (wd.told server t) (subst (λ t. is_some (wd.told server t) ≡ true) so.t told_last) in
+    let ready = is_ready_now given z wd decision last so.number so.actor so.txn_run so.outcome so.there so.running so.deciding none in
+    let lock = still_locked wd last.inv.sound t ready server a.0 a.1 in
+    let stands : is_some (wd.lock server one.t) ≡ true = subst (λ t. is_some (wd.lock server t) ≡ true) (sym so.t) (ap is_some lock.1) in
+    let keeps = keeps_later given z begin (worlds.opening given) early after ((all_keep given (early ++ after) can').keep z) in
+    let before = stood_all given z wb world after now.inv now.shows now.all keeps server one.t told (subst (λ (w : World). is_some (w.lock server one.t) ≡ true) joined stands) in
+    let as' = as_told_all given z begin (worlds.opening given) early (λ i t. tt) in
+    let holds = holds_mode wanted (wb.told server one.t) (wb.lock server one.t) mode_told before (as' server one.t) in
+    found_serving (is_own one.t z) mode (servers_of given world server).locks (subst (HoldsMode wanted) ((now.shows.at server).lock one.t) holds)

@@ -1,0 +1,18 @@
+use Rattle.std.proofs.Common.{take, sym}
+use Rattle.std.proofs.lemmas.List.{take_all}
+use Rattle.std.proofs.lemmas.List.Elements.{All-more, All-same, recursion_from_All}
+use Rattle.law_headline.specs.Premises.{EventGivesValidVotes}
+use Rattle.law_headline.proofs.promises.all_votes_are_valid.Goals as goal
+
+pub loop-event-preserved : goal.loop-event-preserved
+loop-event-preserved c =
+    let events = c.args.events.now in
+    let i = c.loop-event.event-index in
+    let event = c.event-item.result in
+    All-more EventGivesValidVotes events i event c.loop-event-test.true c.loop-event.invariant (rw c.event-item.is at c.votes_are_valid.ensures)
+
+pub returns : goal.returns
+returns c =
+    let events = c.args.events.now in
+    let i = c.loop-event.event-index in
+    recursion_from_All EventGivesValidVotes events (All-same EventGivesValidVotes events (take i events) (sym (take_all i events c.loop-event-test.false)) c.loop-event.invariant)

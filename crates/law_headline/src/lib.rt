@@ -1,0 +1,75 @@
+//! What holds of every run that there can be: it is answered as one table answers it.
+//!
+//! There is no code here but laws. Which runs there can be stands in `specs/Premises`, what is promised of each in
+//! `specs/Promises`, and the laws in `specs/Laws`. What holds together event by event stands in `proofs/Together` and
+//! `proofs/Keeping`, what is owed at each decision in `proofs/Owing`, and that operations leave what they do not set in
+//! `proofs/Fair`. What all this promises of a world is [`promise`].
+#![tactic(auto)]
+
+mod promises;
+mod witnesses;
+
+ghost use Rattle.law_headline.specs.Laws.{AnswersAreTheTables, AuditIsTheDenials, AnsweredBefore, RevocationsAreMet, LocksStand, RowsHaveVersions, RowsAreTheRegisters, KnowledgeWas, AgentsKeepSides, FirstsAreGiven};
+
+pub use promises::{
+    all_votes_are_valid, decided_as_begun, job_is_valid, opens_a_run, plays_on, promise,
+    votes_are_valid,
+};
+pub use witnesses::{some_run_holds_locks, some_run_moves_votes, some_run_revokes};
+
+/// A law: every run is answered as one unreplicated table answers it that takes the decided transactions one at a time, in
+/// the order of their decisions. It does nothing.
+pub fn answers_are_the_tables()
+    ensures { AnswersAreTheTables }
+{}
+
+/// A law: what servers keep of denials is what that table denied, each server that of which it is the home. It does
+/// nothing.
+pub fn audit_is_the_denials()
+    ensures { AuditIsTheDenials }
+{}
+
+/// A law: of two decisions the one whose job ended before the other's began stands first. It does nothing.
+pub fn answered_before_decided_before()
+    ensures { AnsweredBefore }
+{}
+
+/// A law: so a change that was answered, as one that revokes a permission, is met by every request that begins later. It
+/// does nothing.
+pub fn revocations_are_met()
+    ensures { RevocationsAreMet }
+{}
+
+/// A law: where a transaction is decided, each lock that it was told of has stood after every event since, in that mode or a
+/// stronger one. It does nothing.
+pub fn locks_stand()
+    ensures { LocksStand }
+{}
+
+/// A law: the rows of that table have versions that rise as they change, and each row is in effect at its versions in every
+/// read and every write quorum of its votes; every quorum of votes that were replaced has a newer prefix in effect; and what
+/// is in effect, or in a cache, was the table's. It does nothing.
+pub fn rows_have_versions()
+    ensures { RowsHaveVersions }
+{}
+
+/// A law: each row of that table is what the register of its suite's machine holds. It does nothing.
+pub fn rows_are_the_registers()
+    ensures { RowsAreTheRegisters }
+{}
+
+/// A law: a cache may be old, but what is in it was once so; and so of all that a transaction knows. It does nothing.
+pub fn knowledge_was()
+    ensures { KnowledgeWas }
+{}
+
+/// A law: agents keep to their side of the machine of each suite. It does nothing.
+pub fn agents_keep_sides()
+    ensures { AgentsKeepSides }
+{}
+
+/// A law: whatever an agent is told, what it keeps as the first quorum of a suite was given by that suite's collector. It
+/// does nothing.
+pub fn firsts_are_given()
+    ensures { FirstsAreGiven }
+{}

@@ -1,0 +1,106 @@
+-- A file has no default list: so it is of each row that a transaction sets, where it is of the row that was there.
+use Rattle.std.proofs.Common.{◌≡◌, ℕ, Bool, true, false, cond, List, [], ◌∷◌, Option, Some, None, refl, sym, ap, subst, ◌∙◌}
+use Rattle.std.specs.Prelude.{◌==◌, nat_lt, not, is_some}
+use Rattle.std.proofs.lemmas.Bool.{and_parts, eqb-true}
+use Rattle.std.proofs.lemmas.Option.{none-some, same_Some}
+use Rattle.acl_core.specs.Identity.{Identity}
+use Rattle.acl_core.specs.declared.entry.Entry.{Entry}
+use Rattle.acl_core.specs.declared.lists.Lists.{Lists}
+use Rattle.vote_core.specs.Quorums.{Configuration}
+use Rattle.suite_content.specs.declared.content.Content.{Content}
+use Rattle.suite_content.specs.declared.content.Kind.{Kind}
+use Rattle.suite_content.specs.declared.content.Kind.TheVariants as holds
+use Rattle.suite_content.specs.Contents.{kind_of, empty_content}
+use Rattle.suite_prefix.specs.Tests.{keeps_rules, is_valid_prefix}
+use Rattle.suite_prefix.specs.declared.copies.Prefix.{Prefix}
+use Rattle.file_ops.specs.declared.operation.Init.{Init}
+use Rattle.file_ops.specs.declared.operation.Init.TheVariants as init
+use Rattle.file_ops.specs.Lists.{gives_default, is_misplaced, lists_of}
+use Rattle.file_ops.specs.Rows.{Row, new_row}
+use Rattle.file_exec.specs.declared.edit_log.Edit.{Edit}
+use Rattle.file_exec.specs.declared.edit_log.Edit.TheVariants.{SetAcl, SetVotes, SetContent, Make}
+use Rattle.file_exec.specs.Following.{Edits, changed, seen, emptied, head, looked}
+use Rattle.txn_core.specs.Suites.{ReadPoint, Suite, row_with}
+use Rattle.txn_core.specs.Writing.{prefix_kind}
+use Rattle.law_one_table.proofs.Shown.{FitsAs}
+use Rattle.law_headline.proofs.Editing.{FitsRow, AllFit}
+use Rattle.law_headline.proofs.Setting.{head_of}
+
+-- the lists of a row fit its kind
+abbrev pub ListsFit : Row → Type 0
+ListsFit row = is_misplaced (kind_of row.content) (is_some row.acl.default) ≡ false
+
+abbrev pub ListsFitIn : Option Row → Type 0
+ListsFitIn row = (r : Row) → row ≡ Some r → ListsFit r
+
+-- the lists that an edit sets fit the row that it meets
+abbrev pub SetsFitting : Edit → Option Row → Type 0
+SetsFitting (SetAcl acl) row = (r : Row) → row ≡ Some r → is_misplaced (kind_of r.content) (is_some acl.default) ≡ false
+SetsFitting (SetVotes votes) row = Unit {0}
+SetsFitting (SetContent content) row = Unit {0}
+SetsFitting (Make made) row = ListsFit made
+
+-- each of these edits, the newest first
+abbrev pub AllSetFitting : (ℕ → Option Row) → Edits → Type 0
+AllSetFitting rows [] = Unit {0}
+AllSetFitting rows (e ∷ edits) = SetsFitting e.1 (seen edits e.0 (rows e.0)) × AllSetFitting rows edits
+
+-- ---- what operations set
+
+kind_empty : (kind : Kind) → kind_of (empty_content kind) ≡ kind
+kind_empty holds.File = refl
+kind_empty holds.Folder = refl
+
+-- lists that fit the row that was looked at
+pub looked_fit : (rows : ℕ → Option Row) (edits : Edits) (suite : ℕ) (row : Row) (acl : Lists) → looked rows edits suite ≡ Some row → is_misplaced (kind_of row.content) (is_some acl.default) ≡ false
+    → SetsFitting (SetAcl acl) (seen edits suite (rows suite))
+looked_fit rows edits suite row acl at fit r there =
+    let same : emptied r ≡ row = same_Some (emptied r) row (sym (ap head there) ∙ at) in
+    ap (λ kind. is_misplaced kind (is_some acl.default)) (sym (kind_empty (kind_of r.content)) ∙ ap (λ (row : Row). kind_of row.content) same) ∙ fit
+
+-- what is made gets a default list only as a folder
+pub made_fit : (kind : Kind) (default : Option (List Entry)) (init : Init) (votes : Configuration) (caller : Identity) → is_misplaced kind (gives_default init) ≡ false
+    → ListsFit (new_row kind (lists_of kind default init) votes caller)
+made_fit holds.File default (init.Mode mode) votes caller fit = refl
+made_fit holds.File default (init.Lists lists) votes caller fit = fit
+made_fit holds.Folder default init votes caller fit = refl
+
+-- ---- rows after fitting edits
+
+changed_fit : (edit : Edit) (row : Option Row) → FitsRow edit row → SetsFitting edit row → ListsFitIn row → ListsFitIn (changed edit row)
+changed_fit (Make made) row kinds sets fit r is = subst ListsFit (same_Some made r is) sets
+changed_fit (SetAcl acl) None kinds sets fit r is = absurd (none-some r is)
+changed_fit (SetVotes votes) None kinds sets fit r is = absurd (none-some r is)
+changed_fit (SetContent content) None kinds sets fit r is = absurd (none-some r is)
+changed_fit (SetAcl acl) (Some row) kinds sets fit r is = subst ListsFit (same_Some (record row { acl = acl }) r is) (sets row refl)
+changed_fit (SetVotes votes) (Some row) kinds sets fit r is = subst ListsFit (same_Some (record row { votes = votes }) r is) (fit row refl)
+changed_fit (SetContent content) (Some row) kinds sets fit r is =
+    subst ListsFit (same_Some (record row { content = content }) r is) (ap (λ kind. is_misplaced kind (is_some row.acl.default)) (sym (kinds row refl)) ∙ fit row refl)
+
+pub seen_fit : (rows : ℕ → Option Row) (edits : Edits) (suite : ℕ) → AllFit rows edits → AllSetFitting rows edits → ListsFitIn (rows suite) → ListsFitIn (seen edits suite (rows suite))
+seen_fit rows [] suite kinds sets fit = fit
+seen_fit rows (e ∷ edits) suite kinds sets fit =
+    elim (e.0 == suite) as (λ b. (e.0 == suite) ≡ b → ListsFitIn (cond b (changed e.1 (seen edits suite (rows suite))) (seen edits suite (rows suite)))) [
+      | true ↦ λ same.
+          changed_fit e.1 (seen edits suite (rows suite))
+          (subst (λ suite. FitsRow e.1 (seen edits suite (rows suite))) (eqb-true e.0 suite same) kinds.0)
+          (subst (λ suite. SetsFitting e.1 (seen edits suite (rows suite))) (eqb-true e.0 suite same) sets.0)
+          (seen_fit rows edits suite kinds.1 sets.1 fit)
+      | false ↦ λ _. seen_fit rows edits suite kinds.1 sets.1 fit
+    ] refl
+
+-- ---- the row that a valid prefix shows
+
+none_given : (given : Bool) → not given ≡ true → given ≡ false
+none_given true is = cc
+none_given false is = refl
+
+valid_fits : (kind : Kind) (prefix : Prefix) → prefix_kind kind ≡ prefix.kind → is_valid_prefix prefix ≡ true → is_misplaced kind (is_some prefix.acl.default) ≡ false
+valid_fits holds.File prefix same valid = none_given (is_some prefix.acl.default) (and_parts (nat_lt 0 prefix.pver) (not (is_some prefix.acl.default)) (ap (λ kind. keeps_rules kind prefix) same ∙ valid)).1
+valid_fits holds.Folder prefix same valid = refl
+
+pub shown_fit : (suite : Suite) (first : ReadPoint) (row : Option Row) → ((c : Content) → suite.content ≡ Some c → FitsAs first.prefix.kind c) → head row ≡ head (row_with first.prefix.kind first.prefix suite.content)
+    → is_valid_prefix first.prefix ≡ true → ListsFitIn row
+shown_fit suite first row fits heads valid r at =
+    let of = head_of first.prefix.kind first.prefix suite.content r fits (sym (ap head at) ∙ heads) in
+    ap (λ (acl : Lists). is_misplaced (kind_of r.content) (is_some acl.default)) of.acl ∙ valid_fits (kind_of r.content) first.prefix of.kind valid

@@ -1,0 +1,358 @@
+-- What a transaction asks finds the lock that it stands on, where the locks that it was told of stand: so it is not answered Lost.
+use Rattle.std.proofs.Common.{◌≡◌, inl, inr, ℕ, true, false, cond, List, [], ◌∷◌, map, Option, Some, None, is_some, refl, sym, ap, subst, ◌∙◌, arith}
+use Rattle.std.specs.Prelude.{◌==◌, ◌&&◌, not, filter}
+use Rattle.std.specs.List.{list_all}
+use Rattle.std.specs.List.Sorted.{IsStrictlySortedBy}
+use Rattle.std.specs.Ordering.{nat_cmp}
+use Rattle.std.proofs.lemmas.Bool.{and_from, false≢true}
+use Rattle.std.proofs.lemmas.Bool.Decides.{nat_tests}
+use Rattle.std.proofs.lemmas.Option.{same_Some}
+use Rattle.vote_core.specs.Validity.{IsValid}
+use Rattle.suite_prefix.specs.SettingsRules.{Opening}
+use Rattle.suite_prefix.specs.LockModes.{is_exclusive, serves}
+use Rattle.suite_prefix.specs.Tests.{is_within_limits}
+use Rattle.suite_prefix.specs.declared.lock_mode.LockMode.TheVariants.{Shared, Exclusive}
+use Rattle.suite_prefix.specs.declared.copies.Replica.{Replica}
+use Rattle.file_exec.specs.declared.changes.Change as executor
+use Rattle.file_exec.specs.Known.{known_rows}
+use Rattle.rep_core.specs.declared.request.Part.{Part}
+use Rattle.rep_core.specs.declared.request.Request.{Request}
+use Rattle.rep_core.specs.declared.request.Request.TheVariants as request
+use Rattle.rep_core.specs.Fits.{is_lost}
+use Rattle.rep_core.specs.declared.lock.Lock.{Lock}
+use Rattle.rep_core.specs.Locks.{is_own, lock_at, has_lock, has_lock_for}
+use Rattle.rep_core.specs.Store.{copy_of, goes_with, is_sound_part, lists_twice}
+use Rattle.rep_core.specs.State.{State}
+use Rattle.rep_core.specs.Service.{can_prepare, reply_up, reply_down, reply_of}
+use Rattle.rep_core.proofs.Members.{Has, has_filter, has_map, has_any, any_has}
+use Rattle.rep_core.proofs.Finding.{find_some}
+use Rattle.rep_core.proofs.IntentionLookups.{get_has}
+use Rattle.suite_collect.specs.Telling.{holds}
+use Rattle.suite_collect.specs.Collecting.{Poll, Upgrade, Next, Ask, Current, Short, next}
+use Rattle.txn_core.specs.Suites.{ReadPoint, Suite, suite_of, has_locks, holds_lock, holds_exclusively, lock_mode, known_of, told_in, told_at}
+use Rattle.txn_core.specs.Writing.{change_of, take_of_changed, part_of, parts_at}
+use Rattle.txn_core.specs.Doing.{Fixed, home_of, Outcome, Phase, Gathering, Fetching, Widening, Preparing, Deciding, Finishing, TransactionRun, Running}
+use Rattle.txn_core.specs.Transactions.{asked_by, asked_for, fetched_at, fetched_for, request_in, changes_of, decision_of}
+use Rattle.txn_core.specs.Agents.{Agent, fixed_of, next_in, next_of, is_idle}
+use Rattle.txn_core.specs.Laws.{is_prepare}
+use Rattle.txn_core.specs.Undecided.{stands_on_locks}
+use Rattle.txn_core.proofs.Asks.{asks_same, asked_as, fetched_as}
+use Rattle.txn_core.proofs.Locks.{a_prepare_rises}
+use Rattle.run_core.specs.declared.event.Event.{Event}
+use Rattle.run_core.specs.Worlds as worlds
+use Rattle.run_core.specs.Worlds.{Actor, server_at, actor_at}
+use Rattle.law_runs.specs.Naming.{names}
+use Rattle.law_runs.proofs.Asking.{asks_in_its_name}
+use Rattle.law_suite_machine.specs.Registers.{IsKnown, row, WasPrefix}
+use Rattle.law_suite_machine.specs.Machine.{Told, World}
+use Rattle.law_suite_machine.specs.Conditions as conditions
+use Rattle.law_server_moves.specs.Views.{hold_of}
+use Rattle.law_server_moves.specs.Laws.{beginning}
+use Rattle.law_run_machine.specs.Deciding.{known_by}
+use Rattle.law_run_machine.specs.Owed.{OwesKnown}
+use Rattle.law_run_machine.proofs.Servers.{server_there}
+use Rattle.law_run_machine.proofs.Sending.{upgrade_told}
+use Rattle.law_run_machine.proofs.Linked.{InCourse, IsDoing}
+use Rattle.law_run_machine.proofs.Stages.{Going, Stage}
+use Rattle.law_run_machine.proofs.Jobs.{IdleOr}
+use Rattle.law_run_knowledge.proofs.Walk.{InPhase}
+use Rattle.law_run_knowledge.proofs.Lasting.{DoingFits}
+use Rattle.law_run_knowledge.proofs.Decided.{suite_was}
+use Rattle.law_run_machine.specs.Telling.{told_to}
+use Rattle.law_run_quorums.specs.Telling.{Agrees, DoingAgrees}
+use Rattle.law_headline.proofs.Carried.{CameWell, came_preparing}
+use Rattle.law_headline.proofs.Beside.{leaves}
+use Rattle.law_run_alone.proofs.Standing.{Stands}
+use Rattle.law_run_alone.proofs.Holding.{PhaseStands}
+use Rattle.law_run_alone.proofs.Known.{is_known, known_owed, row_valid}
+use Rattle.law_run_alone.proofs.Sets.{known_small}
+use Rattle.law_run_alone.proofs.Courses.{AreSmall}
+use Rattle.law_run_alone.proofs.Grown.{own_of}
+use Rattle.law_run_alone.proofs.Whole.{Carried}
+use Rattle.law_run_alone.proofs.Lefts.{LeftHold, HoldsIn, prepares_where_it_holds}
+use Rattle.law_run_alone.proofs.Fits.{changed_goes, part_fits}
+use Rattle.law_run_alone.proofs.Replied.{upgrade_not, fetch_not, prepare_not, polled_not, decide_not, finish_not, HasLock, held_lock, has_found, serves_as, all_of, rising_once, unlogged, unanswered}
+
+-- what a request of a transaction wants of a server: the lock that it stands on, or that it can be prepared
+abbrev pub Finds : State → Request → Type 0
+Finds st (request.Upgrade t suite) = has_lock t suite st.locks ≡ true
+Finds st (request.Fetch t suite) = has_lock t suite st.locks ≡ true
+Finds st (request.Prepare t parts) = can_prepare st t parts ≡ true
+Finds st (request.Poll t suite mode) = Unit {0}
+Finds st (request.Decide t decision) = Unit {0}
+Finds st (request.Resolve t) = Unit {0}
+Finds st (request.Finish t verdict) = Unit {0}
+Finds st (request.Break t suite) = Unit {0}
+Finds st request.Locks = Unit {0}
+Finds st request.Crash = Unit {0}
+Finds st request.Return = Unit {0}
+
+-- so it is not answered Lost
+never_lost : (st : State) (asked : Request) → Finds st asked → is_lost (reply_of st asked) ≡ false
+never_lost st (request.Upgrade t suite) finds = upgrade_not st t suite finds
+never_lost st (request.Fetch t suite) finds = fetch_not st t suite finds
+never_lost st (request.Prepare t parts) finds = prepare_not st t parts finds
+never_lost st (request.Poll t suite mode) finds = polled_not st t suite mode
+never_lost st (request.Decide t decision) finds = decide_not st t decision
+never_lost st (request.Finish t verdict) finds = finish_not st t verdict
+never_lost st (request.Resolve t) finds = elim (st.up) as (λ b. is_lost (cond b (reply_up st (request.Resolve t)) (reply_down (request.Resolve t))) ≡ false) [ true ↦ refl | false ↦ refl ]
+never_lost st (request.Break t suite) finds = elim (st.up) as (λ b. is_lost (cond b (reply_up st (request.Break t suite)) (reply_down (request.Break t suite))) ≡ false) [ true ↦ refl | false ↦ refl ]
+never_lost st request.Locks finds = elim (st.up) as (λ b. is_lost (cond b (reply_up st request.Locks) (reply_down request.Locks)) ≡ false) [ true ↦ refl | false ↦ refl ]
+never_lost st request.Crash finds = elim (st.up) as (λ b. is_lost (cond b (reply_up st request.Crash) (reply_down request.Crash)) ≡ false) [ true ↦ refl | false ↦ refl ]
+never_lost st request.Return finds = elim (st.up) as (λ b. is_lost (cond b (reply_up st request.Return) (reply_down request.Return)) ≡ false) [ true ↦ refl | false ↦ refl ]
+
+-- the server has some lock of the transaction
+pub record HasSome (t : ℕ) (st : State) : Type 0 where
+  pub lock : Lock
+  pub has : Has st.locks lock
+  pub of_it : lock.t ≡ t
+
+-- ---- a request
+
+module _ (given : Opening) (c0 : IsValid given.c0) (world : worlds.World) (events : List Event) (machines : ℕ → World) (now : Carried given machines world events) (number : ℕ) (actor : Actor) (txn_run : TransactionRun)
+    (there : actor_at world number ≡ Some actor) (running : actor.agent.doing ≡ Some (Running txn_run)) (stands : (z : ℕ) → PhaseStands (machines z) txn_run.task.t txn_run.phase) where
+  abbrev t : ℕ
+  t = txn_run.task.t
+
+  abbrev fixed : Fixed
+  fixed = fixed_of given
+
+  -- in a phase
+  abbrev PhasesStand : Phase → Type 0
+  PhasesStand (Gathering suite) = (z : ℕ) → Stands (machines z) t
+  PhasesStand (Fetching suite) = (z : ℕ) → Stands (machines z) t
+  PhasesStand (Widening left granted) = (z : ℕ) → Stands (machines z) t
+  PhasesStand (Preparing left outcome) = (z : ℕ) → Stands (machines z) t
+  PhasesStand (Deciding outcome) = Unit {0}
+  PhasesStand (Finishing servers v ending) = Unit {0}
+
+  all_stand : (phase : Phase) → ((z : ℕ) → PhaseStands (machines z) t phase) → PhasesStand phase
+  all_stand (Gathering suite) stands = stands
+  all_stand (Fetching suite) stands = stands
+  all_stand (Widening left granted) stands = stands
+  all_stand (Preparing left outcome) stands = stands
+  all_stand (Deciding outcome) stands = tt
+  all_stand (Finishing servers v ending) stands = tt
+
+  abbrev pub Goal : ℕ × Request → Type 0
+  Goal asked = (st : State) → server_at world asked.0 ≡ Some st → Finds st asked.1
+
+  agreed : (z : ℕ) → Agrees (told_to (machines z) t) (told_at txn_run.suites z)
+  agreed z = let here : DoingAgrees z (machines z) (Some (Running txn_run)) = subst (DoingAgrees z (machines z)) running ((now.whole z).together.agrees number actor there) in here
+
+  in_course : (z : ℕ) → InCourse z (machines z) number actor.agent.count txn_run
+  in_course z = subst (IsDoing z (machines z) number actor.agent.count) running ((now.whole z).together.linked number actor there).1.doing
+
+  -- a lock that was told of is there
+  lock_there : (z server : ℕ) (st : State) → Stands (machines z) t → server_at world server ≡ Some st → is_some ((machines z).told server t) ≡ true → HasLock st.locks t z (conditions.is_exclusive ((machines z).told server t))
+  lock_there z server st stands at told = of ((machines z).told server t) refl told
+    where
+      of : (o : Option Told) → (machines z).told server t ≡ o → is_some o ≡ true → HasLock st.locks t z (conditions.is_exclusive o)
+      of None is some = absurd (false≢true some)
+      of (Some told) is some =
+          let stood = stands server told is in
+          let shows = ((now.whole z).together.shows.at server).lock t in
+          let st_is = server_there given world server st at in
+          let held = held_lock (lock_at t z st.locks) stood.0 (ap (λ (st : State). hold_of (lock_at t z st.locks)) (sym st_is) ∙ sym shows ∙ stood.1) in
+          record { lock = held.0; is = held.1; mode = held.2 ∙ stood.2 }
+
+  -- ---- gathering and widening
+
+  collects : (phase : Phase) (suite : ℕ) (asked : ℕ × Request) → request_in fixed txn_run.task txn_run.suites phase ≡ asked_for txn_run.task suite (suite_of txn_run.suites suite) → ((z : ℕ) → Stands (machines z) t)
+      → asked_for txn_run.task suite (suite_of txn_run.suites suite) ≡ Some asked → Goal asked
+  collects phase suite asked in' stands is = of (suite_of txn_run.suites suite) is
+    where
+      by : (after : Next) → asked_by txn_run.task suite after ≡ Some asked → Goal asked
+      by (Ask who (Poll mode)) same = subst Goal (same_Some (who, request.Poll t suite mode) asked same) (λ st at. tt)
+      by (Ask who Upgrade) same =
+          let pair = same_Some (who, request.Upgrade t suite) asked same in
+          subst Goal pair (λ st at. has_found st.locks t suite _ (lock_there suite who st (stands suite) at
+          (upgrade_told suite (machines suite) fixed txn_run.task txn_run.suites who (in_course suite).told phase t suite (in' ∙ is ∙ ap Some (sym pair)) refl)))
+      by (Current prefix dver members) same = cc
+      by (Short had wanting busy) same = cc
+
+      of : (found : Option Suite) → asked_for txn_run.task suite found ≡ Some asked → Goal asked
+      of (Some found) same = by (next found.collector) same
+      of None same = cc
+
+  -- ---- fetching
+
+  fetches : (suite : ℕ) (asked : ℕ × Request) → txn_run.phase ≡ Fetching suite → ((z : ℕ) → Stands (machines z) t) → (found : Option Suite) → suite_of txn_run.suites suite ≡ found → fetched_for txn_run.task suite found ≡ Some asked → Goal asked
+  fetches suite asked phase stands None is same = cc
+  fetches suite asked phase stands (Some found) is same = of found.first refl same
+    where
+      of : (first : Option ReadPoint) → found.first ≡ first → fetched_at txn_run.task suite first ≡ Some asked → Goal asked
+      of None was same = cc
+      of (Some first) was same =
+          let fits : DoingFits suite (beginning suite given) (machines suite) (Some (Running txn_run)) = subst (DoingFits suite (beginning suite given) (machines suite)) running ((now.whole suite).together.fits number actor there).doing in
+          let some = subst (InPhase txn_run.suites) phase fits.1 found first is was in
+          let had = (suite_was suite (beginning suite given) (machines suite) actor.agent txn_run found ((now.whole suite).together.fits number actor there) running is).first first was in
+          let told = had.source some in
+          subst Goal (same_Some (first.source, request.Fetch t suite) asked same)
+          (λ st at. has_found st.locks t suite _ (lock_there suite first.source st (stands suite) at (ap is_some told.is)))
+
+  -- ---- preparing
+
+  module _ (server : ℕ) (left : List ℕ) (outcome : Outcome) (phase : txn_run.phase ≡ Preparing (server ∷ left) outcome) (stood : (z : ℕ) → Stands (machines z) t) (st : State) (at : server_at world server ≡ Some st) where
+    well : CameWell fixed txn_run outcome
+    well = came_preparing fixed actor.agent (now.valid number actor there) txn_run (server ∷ left) outcome running phase
+
+    going : (z : ℕ) → Going (machines z) t
+    going z = let stage : Stage z (machines z) t txn_run.suites (Preparing (server ∷ left) outcome) = subst (Stage z (machines z) t txn_run.suites) phase (in_course z).stage in stage.0
+
+    owed : (z : ℕ) (suite : Suite) (first : ReadPoint) → suite_of txn_run.suites z ≡ Some suite → suite.first ≡ Some first → OwesKnown (beginning z given) (machines z) t (known_by first suite)
+    owed z suite first found had = known_owed given z (machines z) world (now.whole z).together number actor txn_run there running suite first found had
+
+    knows : (z : ℕ) (suite : Suite) (first : ReadPoint) → suite_of txn_run.suites z ≡ Some suite → suite.first ≡ Some first → IsKnown (row (beginning z given) (machines z).log) (known_by first suite)
+    knows z suite first found had =
+        is_known (beginning z given) (machines z) (now.whole z).together.inv t (stood z) (unanswered (machines z) t (going z)) (known_by first suite) (owed z suite first found had)
+
+    all_small : AreSmall (known_rows (known_of txn_run.suites))
+    all_small = known_small txn_run.suites (in_course 0).ordered (λ z suite first c found had is.
+        ap is_within_limits ((knows z suite first found had).content c is) ∙ (row_valid given z (machines z) world (now.whole z).together).content)
+
+    -- what it takes of a change fits the copy there
+    change_fits : (z : ℕ) (suite : Suite) → suite_of txn_run.suites z ≡ Some suite → (first : ReadPoint) (change : executor.Change) → suite.first ≡ Some first → change_of (changes_of outcome) z ≡ Some change
+        → goes_with (take_of_changed first change server) (copy_of st.store z) ≡ true
+    change_fits z suite found first change had set =
+        let whole = now.whole z in
+        let inv = whole.together.inv in
+        let known = knows z suite first found had in
+        let copy_is : (machines z).copy server ≡ copy_of st.store z = (whole.together.shows.at server).copy ∙ ap (λ (st : State). copy_of st.store z) (server_there given world server st at) in
+        changed_goes (beginning z given) (machines z).log t z txn_run.suites suite first change known
+        (leaves given z (machines z) inv c0 whole.kind txn_run outcome well suite first change found had set known)
+        (own_of given z (machines z) inv c0 whole.kind whole.grown txn_run outcome well suite first change found had set known)
+        whole.grown (row_valid given z (machines z) world whole.together) (unlogged (beginning z given) (machines z) t inv (going z)) all_small (owed z suite first found had).content
+        (copy_of st.store z) (subst (λ (copy : Replica). WasPrefix (beginning z given) (machines z).log copy.prefix) copy_is (inv.stored server).0) server
+
+    -- each part: of a suite that the server was heard to hold
+    module _ (z : ℕ) (suite : Suite) (found : suite_of txn_run.suites z ≡ Some suite) (held : holds_lock suite server ≡ true) where
+      abbrev part : Part
+      part = part_of (changes_of outcome) server (z, suite)
+
+      lock : HasLock st.locks t z (conditions.is_exclusive ((machines z).told server t))
+      lock = lock_there z server st (stood z) at ((agreed z).held server ∙ ap (λ o. holds Shared (told_in o) server) found ∙ held)
+
+      exclusively : is_exclusive lock.lock.mode ≡ holds_exclusively suite server
+      exclusively = lock.mode ∙ (agreed z).exclusive server ∙ ap (λ o. holds Exclusive (told_in o) server) found
+
+      part_locked : has_lock_for t st.locks part ≡ true
+      part_locked =
+          let there = find_some (is_own t z) st.locks lock.lock lock.is in
+          has_any (λ other. is_own t z other && serves other.mode (lock_mode suite server)) st.locks lock.lock there.0
+          (and_from (is_own t z lock.lock) (serves lock.lock.mode (lock_mode suite server)) there.1 (serves_as lock.lock.mode (holds_exclusively suite server) exclusively))
+
+      part_sound : is_sound_part st.store part ≡ true
+      part_sound = part_fits suite server (copy_of st.store z) suite.first (change_of (changes_of outcome) z) (λ first change had set. change_fits z suite found first change had set)
+
+    abbrev parts : List Part
+    parts = parts_at txn_run.suites (changes_of outcome) server
+
+    -- of each part
+    each : (P : Part → Type 0) → ((z : ℕ) (suite : Suite) → suite_of txn_run.suites z ≡ Some suite → holds_lock suite server ≡ true → P (part_of (changes_of outcome) server (z, suite))) → (part : Part) → Has parts part → P part
+    each P holds part has =
+        let one = has_map (part_of (changes_of outcome) server) (filter (λ one. holds_lock one.1 server) txn_run.suites) part has in
+        let kept = has_filter (λ one. holds_lock one.1 server) txn_run.suites one.0 one.1 in
+        subst P one.2 (holds one.0.0 one.0.1 (get_has txn_run.suites one.0.0 one.0.1 (in_course 0).ordered kept.0) kept.1)
+
+    rises : next_in fixed actor.agent.doing ≡ Some (server, request.Prepare t parts) → IdleOr fixed actor.agent → IsStrictlySortedBy nat_cmp (map (λ part. part.suite) parts)
+    rises next (inl idle) = absurd (false≢true (ap is_idle (sym running) ∙ idle))
+    rises next (inr is) = a_prepare_rises fixed is.before is.job is.told server t parts is.idle (ap (λ (agent : Agent). next_of fixed agent) (sym is.is) ∙ next)
+
+    pub can : next_in fixed actor.agent.doing ≡ Some (server, request.Prepare t parts) → can_prepare st t parts ≡ true
+    can next =
+        and_from (list_all (has_lock_for t st.locks) parts && not (lists_twice parts)) (list_all (is_sound_part st.store) parts)
+        (and_from (list_all (has_lock_for t st.locks) parts) (not (lists_twice parts))
+        (all_of (has_lock_for t st.locks) parts (each (λ part. has_lock_for t st.locks part ≡ true) part_locked))
+        (ap not (rising_once parts (rises next ((now.whole 0).together.jobs number actor there)))))
+        (all_of (is_sound_part st.store) parts (each (λ part. is_sound_part st.store part ≡ true) part_sound))
+
+  -- ---- any request
+
+  by_phase : (phase : Phase) → txn_run.phase ≡ phase → PhasesStand phase → (asked : ℕ × Request) → request_in fixed txn_run.task txn_run.suites phase ≡ Some asked → Goal asked
+  by_phase (Gathering suite) phase stood asked is = collects (Gathering suite) suite asked refl stood is
+  by_phase (Fetching suite) phase stood asked is = fetches suite asked phase stood (suite_of txn_run.suites suite) refl is
+  by_phase (Widening [] granted) phase stood asked is = cc
+  by_phase (Widening (suite ∷ left) granted) phase stood asked is = collects (Widening (suite ∷ left) granted) suite asked refl stood is
+  by_phase (Preparing [] outcome) phase stood asked is = cc
+  by_phase (Preparing (server ∷ left) outcome) phase stood asked is =
+      let sent = parts_at txn_run.suites (changes_of outcome) server in
+      subst Goal (same_Some (server, request.Prepare t sent) asked is)
+      (λ st at. can server left outcome phase stood st at (ap (next_in fixed) running ∙ ap (request_in fixed txn_run.task txn_run.suites) phase))
+  by_phase (Deciding outcome) phase stood asked is =
+      subst Goal (same_Some (home_of fixed.service t, request.Decide t (decision_of txn_run.task outcome)) asked is) (λ st at. tt)
+  by_phase (Finishing [] v ending) phase stood asked is = cc
+  by_phase (Finishing (server ∷ left) v ending) phase stood asked is = subst Goal (same_Some (server, request.Finish t v) asked is) (λ st at. tt)
+
+  pub finds : (asked : ℕ × Request) → next_of fixed actor.agent ≡ Some asked → Goal asked
+  finds asked next = by_phase txn_run.phase refl (all_stand txn_run.phase stands) asked (ap (next_in fixed) (sym running) ∙ next)
+
+  pub not_lost : (asked : ℕ × Request) → next_of fixed actor.agent ≡ Some asked → (st : State) → server_at world asked.0 ≡ Some st → is_lost (reply_of st asked.1) ≡ false
+  not_lost asked next st at = never_lost st asked.1 (finds asked next st at)
+
+  -- ---- where it stands on a lock, the server has some of it
+
+  own_lock : (named suite : ℕ) (st : State) → named ≡ t → has_lock named suite st.locks ≡ true → HasSome t st
+  own_lock named suite st same has =
+      let is = any_has (is_own named suite) st.locks has in
+      record { lock = is.0; has = is.1; of_it = equal is.0 is.2 ∙ same }
+    where
+      equal : (lock : Lock) → is_own named suite lock ≡ true → lock.t ≡ named
+      equal lock is = grind (arith, nat_tests)
+
+  -- a Prepare is sent where it was told of a lock
+  held_at : (server : ℕ) (st : State) → ((z : ℕ) → Stands (machines z) t) → server_at world server ≡ Some st → has_locks txn_run.suites server ≡ true → HasSome t st
+  held_at server st stood at held =
+      let one = any_has (λ (one : ℕ × Suite). holds_lock one.1 server) txn_run.suites held in
+      let z = one.0.0 in
+      let found : suite_of txn_run.suites z ≡ Some one.0.1 = get_has txn_run.suites z one.0.1 (in_course 0).ordered one.1 in
+      let lock = lock_there z server st (stood z) at ((agreed z).held server ∙ ap (λ o. holds Shared (told_in o) server) found ∙ one.2) in
+      let there = find_some (is_own t z) st.locks lock.lock lock.is in
+      record { lock = lock.lock; has = there.0; of_it = equal lock.lock z there.1 }
+    where
+      equal : (lock : Lock) (z : ℕ) → is_own t z lock ≡ true → lock.t ≡ t
+      equal lock z is = grind (arith, nat_tests)
+
+  left_holds : IdleOr fixed actor.agent → LeftHold txn_run.suites txn_run.phase
+  left_holds (inl idle) = absurd (false≢true (ap is_idle (sym running) ∙ idle))
+  left_holds (inr is) = subst HoldsIn (ap (λ (agent : Agent). agent.doing) (sym is.is) ∙ running) (prepares_where_it_holds fixed is.before is.job is.told is.idle)
+
+  prepare_some : (phase : Phase) → LeftHold txn_run.suites phase → PhasesStand phase → (asked : ℕ × Request) → request_in fixed txn_run.task txn_run.suites phase ≡ Some asked → is_prepare asked.1 ≡ true → (st : State) → server_at world asked.0 ≡ Some st → HasSome t st
+  prepare_some (Gathering number) holds stood asked is prepare = absurd (false≢true (sym (asked_as is_prepare false txn_run.task number (suite_of txn_run.suites number) asked.0 asked.1 (λ mode. refl) refl is) ∙ prepare))
+  prepare_some (Fetching number) holds stood asked is prepare = absurd (false≢true (sym (fetched_as is_prepare false txn_run.task number (suite_of txn_run.suites number) asked.0 asked.1 refl is) ∙ prepare))
+  prepare_some (Widening [] granted) holds stood asked is prepare = cc
+  prepare_some (Widening (number ∷ left) granted) holds stood asked is prepare =
+      absurd (false≢true (sym (asked_as is_prepare false txn_run.task number (suite_of txn_run.suites number) asked.0 asked.1 (λ mode. refl) refl is) ∙ prepare))
+  prepare_some (Preparing [] outcome) holds stood asked is prepare = cc
+  prepare_some (Preparing (server ∷ left) outcome) holds stood asked is prepare =
+      subst (λ (asked : ℕ × Request). (st : State) → server_at world asked.0 ≡ Some st → HasSome t st) (same_Some (server, request.Prepare t (parts_at txn_run.suites (changes_of outcome) server)) asked is)
+      (λ st at. held_at server st stood at (holds server (inl refl)))
+  prepare_some (Deciding outcome) holds stood asked is prepare =
+      absurd (false≢true (ap is_prepare (asks_same (home_of fixed.service t) asked.0 (request.Decide t (decision_of txn_run.task outcome)) asked.1 is) ∙ prepare))
+  prepare_some (Finishing [] v ending) holds stood asked is prepare = cc
+  prepare_some (Finishing (server ∷ left) v ending) holds stood asked is prepare = absurd (false≢true (ap is_prepare (asks_same server asked.0 (request.Finish t v) asked.1 is) ∙ prepare))
+
+  -- whatever stands on a lock
+  by_request : (server : ℕ) (asked : Request) → next_of fixed actor.agent ≡ Some (server, asked) → names t asked ≡ true → stands_on_locks asked ≡ true → (st : State) → server_at world server ≡ Some st → Finds st asked → HasSome t st
+  by_request server (request.Upgrade named suite) next is on st at finds = own_lock named suite st (named_so named is) finds
+    where
+      named_so : (named : ℕ) → (named == t) ≡ true → named ≡ t
+      named_so named is = grind (arith, nat_tests)
+  by_request server (request.Fetch named suite) next is on st at finds = own_lock named suite st (named_so named is) finds
+    where
+      named_so : (named : ℕ) → (named == t) ≡ true → named ≡ t
+      named_so named is = grind (arith, nat_tests)
+  by_request server (request.Prepare named parts) next is on st at finds =
+      prepare_some txn_run.phase (left_holds ((now.whole 0).together.jobs number actor there)) (all_stand txn_run.phase stands) (server, request.Prepare named parts) (ap (next_in fixed) (sym running) ∙ next) refl st at
+  by_request server (request.Poll named suite mode) next is on st at finds = absurd (false≢true on)
+  by_request server (request.Decide named decision) next is on st at finds = absurd (false≢true on)
+  by_request server (request.Resolve named) next is on st at finds = absurd (false≢true on)
+  by_request server (request.Finish named verdict) next is on st at finds = absurd (false≢true on)
+  by_request server (request.Break named suite) next is on st at finds = absurd (false≢true on)
+  by_request server request.Locks next is on st at finds = absurd (false≢true on)
+  by_request server request.Crash next is on st at finds = absurd (false≢true on)
+  by_request server request.Return next is on st at finds = absurd (false≢true on)
+
+  pub stands_where : (asked : ℕ × Request) → next_of fixed actor.agent ≡ Some asked → stands_on_locks asked.1 ≡ true → (st : State) → server_at world asked.0 ≡ Some st → HasSome t st
+  stands_where asked next on st at =
+      by_request asked.0 asked.1 next (asks_in_its_name fixed txn_run.task txn_run.suites txn_run.phase asked.0 asked.1 (ap (next_in fixed) (sym running) ∙ next)) on st at (finds asked next st at)

@@ -1,0 +1,228 @@
+-- All votes that a transaction goes by are valid: those of what it was told, of the hints of its agent's cache, and those that it sets.
+use Rattle.std.proofs.Common.{◌≡◌, inl, inr, ⊎_elim, ℕ, Bool, true, false, cond, List, [], ◌∷◌, Option, Some, None, Ok, Err, refl, sym, ap, subst, ◌∙◌, Less, Equal, Greater}
+use Rattle.std.specs.Prelude.{◌==◌, ◌&&◌, ◌||◌, Contains, nat_lt, option_map, unwrap_or, filter}
+use Rattle.std.specs.Ordering.{nat_cmp}
+use Rattle.std.specs.declared.cmp.Ordering.{Ordering}
+use Rattle.std.specs.Ordering.{match_ordering, is_eq}
+use Rattle.std.specs.Cmp.{unsigned_tied}
+use Rattle.std.proofs.lemmas.Bool.{eqb-true}
+use Rattle.std.proofs.lemmas.Option.{none-some, same_Some}
+use Rattle.sorted_map.specs.Laws.{insert_step}
+use Rattle.sorted_map.specs.SortedMap.{insert}
+use Rattle.vote_core.specs.Quorums.{Configuration}
+use Rattle.vote_core.specs.Validity.{IsValid}
+use Rattle.suite_prefix.specs.SettingsRules.{Opening}
+use Rattle.suite_prefix.specs.declared.copies.Prefix.{Prefix}
+use Rattle.suite_prefix.specs.Absent.{absent_prefix}
+use Rattle.file_ops.specs.declared.answer.Answer.{Answer}
+use Rattle.file_ops.specs.declared.refusal.Refusal.{Refusal}
+use Rattle.file_ops.specs.Rows.{Row}
+use Rattle.file_exec.specs.declared.changes.Change.{Change}
+use Rattle.file_exec.specs.declared.executor.Outcome.TheVariants as exec
+use Rattle.file_exec.specs.declared.edit_log.Edit.{Edit}
+use Rattle.file_exec.specs.declared.edit_log.Edit.TheVariants.{SetAcl, SetVotes, SetContent, Make}
+use Rattle.file_exec.specs.Changes as changes
+use Rattle.file_exec.specs.Changes.{touches, some, makes, sets_acl, sets_votes, changes_at, with_change, answered}
+use Rattle.file_exec.specs.Following.{Edits, Ended, changed, seen, is_set}
+use Rattle.file_exec.specs.Known.{Known, Heard, Needs, Done, known_rows, exec_of}
+use Rattle.file_exec.proofs.Leading.{changes_by_suite}
+use Rattle.rep_core.specs.State.{State}
+use Rattle.rep_core.specs.Store.{copy_of}
+use Rattle.rep_core.proofs.Members.{Has, has_from, has_map, has_filter}
+use Rattle.suite_collect.specs.declared.told.Said.{Said}
+use Rattle.suite_collect.specs.declared.told.Said.TheVariants as told
+use Rattle.suite_collect.specs.declared.told.Told.{Told}
+use Rattle.suite_collect.specs.Telling.{newest, newer}
+use Rattle.law_suite_machine.specs.Machine.{World}
+use Rattle.weak_cache.specs.Entries.{Entry, Cache}
+use Rattle.weak_cache.specs.Cache.{hint}
+use Rattle.weak_cache.proofs.Origins.{entries_come_from_puts}
+use Rattle.txn_core.specs.Suites.{known_of}
+use Rattle.txn_core.specs.Writing.{change_of}
+use Rattle.txn_core.specs.Doing.{Fixed, Task}
+use Rattle.txn_core.specs.Transactions.{start_from, to_widen}
+use Rattle.txn_core.specs.Laws.{task_of}
+use Rattle.txn_core.specs.Undecided.{SetsVotes}
+use Rattle.txn_core.specs.declared.job.Job.{Job}
+use Rattle.txn_core.specs.Agents as agents
+use Rattle.txn_core.specs.Agents.{Agent}
+use Rattle.run_core.specs.declared.event.Event.{Event}
+use Rattle.run_core.specs.Worlds.{Actor, server_at, actor_at}
+use Rattle.run_core.specs.Runs.{run}
+use Rattle.law_server_moves.specs.Laws.{beginning}
+use Rattle.law_run_machine.specs.Machines.{machine_of}
+use Rattle.law_run_machine.proofs.Servers.{server_there}
+use Rattle.law_run_quorums.proofs.Known.{valid_was}
+use Rattle.law_headline.specs.Premises.{CanBe, JobGivesValidVotes, AllGiveValidVotes}
+use Rattle.law_headline.proofs.Conclusions.{knowledge_was}
+use Rattle.law_headline.proofs.Editing.{FitsRow, AllFit, edits_fit}
+use Rattle.law_headline.proofs.Keeping.{holds_after}
+
+-- ---- copies and caches of a run
+
+-- the votes of a copy that a server has
+pub copy_valid : (given : Opening) (events : List Event) → CanBe given events → (s : ℕ) (st : State) → server_at (run given events) s ≡ Some st → (suite : ℕ) → IsValid (copy_of st.store suite).prefix.votes
+copy_valid given events can s st at suite =
+    let together = holds_after given events can suite in
+    let w : World = machine_of given suite events in
+    let same : w.copy s ≡ copy_of st.store suite =
+    (together.shows.at s).copy ∙ ap (λ (st : State). copy_of st.store suite) (server_there given (run given events) s st at) in
+    subst (λ copy. IsValid copy.prefix.votes) same (valid_was (beginning suite given) w (w.copy s).prefix together.inv (together.inv.stored s).0)
+
+-- the votes that a cache hints
+abbrev pub HasValidVotes : Cache → Type 0
+HasValidVotes cache = (entry : Entry) → Contains cache entry → IsValid entry.prefix.votes
+
+pub cache_valid : (given : Opening) (events : List Event) → CanBe given events → (i : ℕ) (actor : Actor) → actor_at (run given events) i ≡ Some actor → HasValidVotes actor.agent.cache
+cache_valid given events can i actor is entry there =
+    let z = entry.suite in
+    valid_was (beginning z given) (machine_of given z events) entry.prefix (holds_after given events can z).inv ((knowledge_was given events can z i actor is).cache entry there refl).prefix
+
+-- so those from which a suite is gathered
+pub start_valid : (fixed : Fixed) (task : Task) (cache : Cache) (suite : ℕ) → IsValid fixed.service.c0 → HasValidVotes cache → IsValid (start_from fixed task cache suite).votes
+start_valid fixed task cache suite c0 valid = of (hint cache task.site suite) refl
+  where
+    of : (found : Option Prefix) → hint cache task.site suite ≡ found → IsValid (unwrap_or found (absent_prefix fixed.service.c0)).votes
+    of None is = c0
+    of (Some prefix) is =
+        let came = entries_come_from_puts.hint cache task.site suite prefix is in
+        subst (λ (prefix : Prefix). IsValid prefix.votes) came.3 (valid came.0 came.1)
+
+-- ---- what a collector was told
+
+abbrev pub SaysValid : Said → Type 0
+SaysValid (told.Held prefix dver) = IsValid prefix.votes
+SaysValid (told.Busy holder) = Unit {0}
+SaysValid told.Down = Unit {0}
+
+abbrev pub AllSayValid : List Told → Type 0
+AllSayValid [] = Unit {0}
+AllSayValid (one ∷ all) = SaysValid one.said × AllSayValid all
+
+newer_valid : (prefix : Prefix) (said : Said) → IsValid prefix.votes → SaysValid said → IsValid (newer prefix said).votes
+newer_valid prefix (told.Held other dver) valid says = of (nat_lt prefix.pver other.pver)
+  where
+    of : (b : Bool) → IsValid (cond b other prefix).votes
+    of true = says
+    of false = valid
+newer_valid prefix (told.Busy holder) valid says = valid
+newer_valid prefix told.Down valid says = valid
+
+pub newest_valid : (start : Prefix) (all : List Told) → IsValid start.votes → AllSayValid all → IsValid (newest start all).votes
+newest_valid start [] valid says = valid
+newest_valid start (one ∷ all) valid says = newer_valid (newest start all) one.said (newest_valid start all valid says.1) says.0
+
+-- ---- what a transaction sets
+
+-- the votes of a row, if there is one
+abbrev ValidIn : Option Row → Type 0
+ValidIn row = (r : Row) → row ≡ Some r → IsValid r.votes
+
+changed_valid : (edit : Edit) (row : Option Row) → FitsRow edit row → (sets_votes edit ≡ false → ValidIn row) → ValidIn (changed edit row)
+changed_valid (Make made) row fits valid r is = subst (λ (r : Row). IsValid r.votes) (same_Some made r is) fits
+changed_valid (SetAcl acl) None fits valid r is = absurd (none-some r is)
+changed_valid (SetVotes votes) None fits valid r is = absurd (none-some r is)
+changed_valid (SetContent content) None fits valid r is = absurd (none-some r is)
+changed_valid (SetAcl acl) (Some row) fits valid r is = subst (λ (r : Row). IsValid r.votes) (same_Some (record row { acl = acl }) r is) (valid refl row refl)
+changed_valid (SetVotes votes) (Some row) fits valid r is = subst (λ (r : Row). IsValid r.votes) (same_Some (record row { votes = votes }) r is) fits
+changed_valid (SetContent content) (Some row) fits valid r is = subst (λ (r : Row). IsValid r.votes) (same_Some (record row { content = content }) r is) (valid refl row refl)
+
+the_other : (a b : Bool) → (a || b) ≡ true → a ≡ false → b ≡ true
+the_other true b is none = cc
+the_other false b is none = is
+
+-- where an edit sets them
+set_valid : (rows : ℕ → Option Row) (edits : Edits) (suite : ℕ) → AllFit rows edits → some sets_votes edits suite ≡ true → ValidIn (seen edits suite (rows suite))
+set_valid rows [] suite fit is = cc
+set_valid rows (e ∷ edits) suite fit is =
+    elim (e.0 == suite) as (λ b. (e.0 == suite) ≡ b → ((b && sets_votes e.1) || some sets_votes edits suite) ≡ true → ValidIn (cond b (changed e.1 (seen edits suite (rows suite))) (seen edits suite (rows suite)))) [
+      | true ↦ λ same is.
+          changed_valid e.1 (seen edits suite (rows suite)) (subst (λ suite. FitsRow e.1 (seen edits suite (rows suite))) (eqb-true e.0 suite same) fit.0)
+          (λ none. set_valid rows edits suite fit.1 (the_other (sets_votes e.1) (some sets_votes edits suite) is none))
+      | false ↦ λ _ is. set_valid rows edits suite fit.1 is
+    ] refl is
+
+-- each change that is listed is the one of its suite
+abbrev IsOf : (ℕ → Option Change) → ℕ × Change → Type 0
+IsOf change one = change one.0 ≡ Some one.1
+
+tied : (a b : ℕ) → nat_cmp a b ≡ Equal → a ≡ b
+tied a b is = eqb-true a b (sym (unsigned_tied a b) ∙ ap is_eq is)
+
+inserted : (change : ℕ → Option Change) (all : List (ℕ × Change)) (suite : ℕ) (made : Change) → change suite ≡ Some made → ((one : ℕ × Change) → Has all one → IsOf change one) → (one : ℕ × Change) → Has (insert nat_cmp all suite made) one → IsOf change one
+inserted change [] suite made is each one has = ⊎_elim (λ same. subst (IsOf change) same is) (λ none. absurd none) has
+inserted change (e ∷ all) suite made is each one has =
+    of (nat_cmp suite e.0) refl (subst (λ all. Has all one) (insert_step nat_cmp e all suite made (nat_cmp suite e.0) refl) has) (λ rest. inserted change all suite made is (λ one has. each one (inr has)) one rest)
+  where
+    of : (answer : Ordering) → nat_cmp suite e.0 ≡ answer → Has (match_ordering answer ((suite, made) ∷ e ∷ all) ((e.0, made) ∷ all) (e ∷ insert nat_cmp all suite made)) one → (Has (insert nat_cmp all suite made) one → IsOf change one) → IsOf change one
+    of Less at has later = ⊎_elim (λ same. subst (IsOf change) same is) (λ rest. each one rest) has
+    of Equal at has later = ⊎_elim (λ same. subst (IsOf change) same (ap change (sym (tied suite e.0 at)) ∙ is)) (λ rest. each one (inr rest)) has
+    of Greater at has later = ⊎_elim (λ same. each one (inl same)) later has
+
+listed : (change : ℕ → Option Change) (edits : Edits) (one : ℕ × Change) → Has (changes_at change edits) one → IsOf change one
+listed change [] one has = absurd has
+listed change (e ∷ edits) one has = of (change e.0) refl has (listed change edits)
+  where
+    of : (made : Option Change) → change e.0 ≡ made → Has (with_change e.0 made (changes_at change edits)) one → ((one : ℕ × Change) → Has (changes_at change edits) one → IsOf change one) → IsOf change one
+    of None is has later = later one has
+    of (Some made) is has later = inserted change (changes_at change edits) e.0 made is later one has
+
+-- what edits told of a suite
+record FromEdits (known : Known) (edits : Edits) (suite : ℕ) (change : Change) : Type 0 where
+  row : Row
+  is : seen edits suite (known_rows known suite) ≡ Some row
+  row_is : row ≡ change.row
+  votes_are : some sets_votes edits suite ≡ change.votes
+
+abbrev made_of : Edits → ℕ → Row → Change
+made_of edits suite row = record { made = some makes edits suite; acl = some sets_acl edits suite; votes = some sets_votes edits suite; content = is_set edits suite; row = row }
+
+from_edits : (known : Known) (edits : Edits) (suite : ℕ) (change : Change) → changes.change_of known edits suite ≡ Some change → FromEdits known edits suite change
+from_edits known edits suite change told = of (seen edits suite (known_rows known suite)) refl told
+  where
+    of : (o : Option Row) → seen edits suite (known_rows known suite) ≡ o → option_map (made_of edits suite) o ≡ Some change → FromEdits known edits suite change
+    of None is told = absurd (none-some change told)
+    of (Some row) is told =
+        let same = same_Some (made_of edits suite row) change told in
+        record { row = row; is = is; row_is = ap (λ (change : Change). change.row) same; votes_are = ap (λ (change : Change). change.votes) same }
+
+touched : (b : Bool) (found : Option Change) (change : Change) → cond b found None ≡ Some change → found ≡ Some change
+touched true found change is = is
+touched false found change is = absurd (none-some change is)
+
+module _ (fixed : Fixed) (c0 : IsValid fixed.service.c0) (before : Agent) (job : Job) (valid : JobGivesValidVotes job) (told' : List agents.Event) (suite : ℕ) (votes : Configuration) (sets : SetsVotes fixed before job told' suite votes) where
+  abbrev known : Known
+  known = known_of sets.suites
+
+  abbrev task : Task
+  task = task_of before sets.caller sets.site sets.ops
+
+  ops_valid : AllGiveValidVotes sets.ops
+  ops_valid = subst JobGivesValidVotes sets.transaction valid
+
+  by_edits : (ended : Ended (List Answer)) → exec_of fixed.service known task.t task.caller task.ops ≡ Done (Ok ended) → changes.changes_of known ended.edits ≡ sets.changes → IsValid votes
+  by_edits ended done same =
+      let has : Has (to_widen (changes.changes_of known ended.edits)) suite = subst (λ all. Has (to_widen all) suite) (sym same) (has_from (to_widen sets.changes) suite sets.gets) in
+      let at = has_map (λ (one : ℕ × Change). one.0) (filter (λ (one : ℕ × Change). one.1.votes) (changes.changes_of known ended.edits)) suite has in
+      let in' = has_filter (λ (one : ℕ × Change). one.1.votes) (changes.changes_of known ended.edits) at.0 at.1 in
+      let told : changes.change_of known ended.edits suite ≡ Some at.0.1 = ap (changes.change_of known ended.edits) (sym at.2) ∙ listed (changes.change_of known ended.edits) ended.edits at.0 in'.0 in
+      of (change_of (changes.changes_of known ended.edits) suite) refl (ap (λ all. option_map (λ (change : Change). change.row.votes) (change_of all suite)) same ∙ sets.are) at.0.1 told in'.1
+    where
+      of : (found : Option Change) → change_of (changes.changes_of known ended.edits) suite ≡ found → option_map (λ (change : Change). change.row.votes) found ≡ Some votes
+          → (other : Change) → changes.change_of known ended.edits suite ≡ Some other → other.votes ≡ true → IsValid votes
+      of None is are other told voted = absurd (none-some votes are)
+      of (Some change) is are other told voted =
+          let own : changes.change_of known ended.edits suite ≡ Some change = touched (touches ended.edits suite) (changes.change_of known ended.edits suite) change (sym (changes_by_suite known ended.edits suite) ∙ is) in
+          let from = from_edits known ended.edits suite change own in
+          let same' : other ≡ change = same_Some other change (sym told ∙ own) in
+          let fit = edits_fit fixed.service known task.t task.caller task.ops ended c0 ops_valid done in
+          subst IsValid (ap (λ (row : Row). row.votes) from.row_is ∙ same_Some change.row.votes votes are)
+          (set_valid (known_rows known) ended.edits suite fit (from.votes_are ∙ ap (λ (change : Change). change.votes) (sym same') ∙ voted) from.row from.is)
+
+  pub set_votes_valid : IsValid votes
+  set_votes_valid = of (exec_of fixed.service known task.t task.caller task.ops) refl sets.done
+    where
+      of : (heard : Heard (List Answer) Refusal) → exec_of fixed.service known task.t task.caller task.ops ≡ heard → answered known heard ≡ exec.Done sets.answers sets.changes → IsValid votes
+      of (Needs need) is done = cc
+      of (Done (Err refusal)) is done = cc
+      of (Done (Ok ended)) is done = let same : changes.changes_of known ended.edits ≡ sets.changes = cc in by_edits ended is same

@@ -1,0 +1,83 @@
+-- What holds of a run and of the machine of each suite, event by event, as long as there are events to come that there can be.
+use Rattle.std.proofs.Common.{inl, ℕ, List, [], ◌∷◌, ◌++◌, refl, sym, subst}
+use Rattle.std.specs.List.{AllByRecursion}
+use Rattle.vote_core.specs.Validity.{IsValid}
+use Rattle.suite_prefix.specs.SettingsRules.{Opening}
+use Rattle.txn_core.specs.Agents.{Agent, fixed_of}
+use Rattle.run_core.specs.declared.event.Event.{Event}
+use Rattle.run_core.specs.Worlds as worlds
+use Rattle.run_core.specs.Worlds.{step}
+use Rattle.run_core.specs.Runs.{after, run}
+use Rattle.run_core.specs.Decisions.{decided}
+use Rattle.law_suite_machine.specs.Registers.{row}
+use Rattle.law_suite_machine.specs.Machine.{World, begun}
+use Rattle.law_server_moves.specs.Laws.{beginning}
+use Rattle.law_run_machine.specs.Machines.{moved, machine_from, machine_of}
+use Rattle.law_run_machine.specs.Owed.{Owed, AreOwed}
+use Rattle.law_run_machine.proofs.Kept.{actor_opens}
+use Rattle.law_one_table.proofs.Logs.{event_log}
+use Rattle.law_headline.specs.Premises.{EventGivesValidVotes, CanBe}
+use Rattle.law_headline.proofs.Carried.{AllValid, ValidOr, event_valid}
+use Rattle.law_headline.proofs.Together.{Together, opens, goes_on}
+use Rattle.law_headline.proofs.Beside.{HoldsItsKind, opens_kind, kind_after}
+use Rattle.law_headline.proofs.Keeping.{agents_owe}
+use Rattle.law_run_alone.proofs.Grown.{Grown, opens_grown, grown_after}
+
+-- of one suite
+pub record Whole (given : Opening) (z : ℕ) (w : World) (world : worlds.World) : Type 0 where
+  pub together : Together given z w world
+  pub kind : HoldsItsKind (row (beginning z given) w.log)
+  pub grown : Grown z (beginning z given) w.log
+
+whole_next : (given : Opening) → IsValid given.c0 → (z : ℕ) (w : World) (world : worlds.World) → Whole given z w world → AllValid (fixed_of given) world → (event : Event) → Owed given z w world
+    → Whole given z (moved given z w world event) (step (fixed_of given) world event).world
+whole_next given c0 z w world now all event owed =
+    let later = (goes_on given z w world now.together event owed).1 in
+    let log = event_log given z w world now.together.shows event in
+    record {
+      together = later;
+      kind = kind_after given z w now.together.inv c0 now.kind world all event (decided (fixed_of given) world event) (moved given z w world event).log log later.inv.logged.plain;
+      grown = grown_after given z w now.together.inv c0 now.kind now.grown world all event (decided (fixed_of given) world event) (moved given z w world event).log log later.inv.logged.plain later.inv.once;
+    }
+
+-- of all suites, each with its machine, where these events are to come
+pub record Carried (given : Opening) (machines : ℕ → World) (world : worlds.World) (events : List Event) : Type 0 where
+  pub whole : (z : ℕ) → Whole given z (machines z) world
+  pub valid : AllValid (fixed_of given) world
+  pub owes : (z : ℕ) → AreOwed given z (machines z) world events
+  pub votes : AllByRecursion EventGivesValidVotes events
+
+-- the machines after an event
+abbrev pub next_machines : Opening → (ℕ → World) → worlds.World → Event → ℕ → World
+next_machines given machines world event z = moved given z (machines z) world event
+
+pub carried_next : (given : Opening) → IsValid given.c0 → (machines : ℕ → World) (world : worlds.World) (event : Event) (events : List Event) → Carried given machines world (event ∷ events)
+    → Carried given (next_machines given machines world event) (step (fixed_of given) world event).world events
+carried_next given c0 machines world event events now = record {
+  whole = λ z. whole_next given c0 z (machines z) world (now.whole z) now.valid event (now.owes z).0;
+  valid = event_valid (fixed_of given) world now.valid event now.votes.0;
+  owes = λ z. (now.owes z).1;
+  votes = now.votes.1;
+}
+
+opens_carried : (given : Opening) (events : List Event) → CanBe given events → Carried given (λ z. begun (beginning z given)) (worlds.opening given) events
+opens_carried given events can = record {
+  whole = λ z. record {
+    together = opens given z can.c0 can.accepted.some_agents.1 can.accepted.some_servers.1;
+    kind = opens_kind given z;
+    grown = opens_grown given z;
+  };
+  valid = λ n actor there. subst (λ (agent : Agent). ValidOr (fixed_of given) agent) (sym (actor_opens 0 given.agents n actor there).1) (inl refl);
+  owes = agents_owe given events can;
+  votes = can.votes;
+}
+
+-- so it is after each run that goes on as it can, with the run's own machines
+carried_at : (given : Opening) → IsValid given.c0 → (machines : ℕ → World) (world : worlds.World) (events later : List Event) → Carried given machines world (events ++ later)
+    → Carried given (λ z. machine_from given z (machines z) world events) (after (fixed_of given) world events) later
+carried_at given c0 machines world [] later now = now
+carried_at given c0 machines world (event ∷ events) later now =
+    carried_at given c0 (next_machines given machines world event) (step (fixed_of given) world event).world events later (carried_next given c0 machines world event (events ++ later) now)
+
+pub carried_by : (given : Opening) (events later : List Event) → CanBe given (events ++ later) → Carried given (λ z. machine_of given z events) (run given events) later
+carried_by given events later can = carried_at given can.c0 (λ z. begun (beginning z given)) (worlds.opening given) events later (opens_carried given (events ++ later) can)

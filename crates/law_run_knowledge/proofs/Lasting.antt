@@ -1,0 +1,129 @@
+-- What was so stays so: whatever happens to a suite, what an agent keeps and holds of it was still its register's.
+use Rattle.std.proofs.Common.{◌≡◌, inl, inr, ℕ, true, List, [], ◌∷◌, Option, Some, None, refl, sym, ap, ◌∙◌}
+use Rattle.std.specs.Ordering.{nat_cmp}
+use Rattle.std.proofs.lemmas.Option.{none-some}
+use Rattle.sorted_map.specs.SortedMap.{IsOrdered}
+use Rattle.suite_content.specs.declared.content.Content.{Content}
+use Rattle.suite_prefix.specs.declared.copies.Prefix.{Prefix}
+use Rattle.suite_prefix.specs.declared.copies.Replica.{Replica}
+use Rattle.suite_collect.specs.declared.told.Said.{Said}
+use Rattle.suite_collect.specs.declared.told.Said.TheVariants as said
+use Rattle.suite_collect.specs.declared.told.Told as collect
+use Rattle.weak_cache.specs.Entries.{Cache}
+use Rattle.txn_core.specs.Suites.{Suite, Suites}
+use Rattle.txn_core.specs.Doing.{Doing, Running, RunningSweep}
+use Rattle.txn_core.specs.Agents.{Agent}
+use Rattle.txn_core.proofs.Gathers.{Each}
+use Rattle.law_suite_machine.specs.Registers.{Beginning, GoesWith}
+use Rattle.law_suite_machine.specs.Machine.{Told, World}
+use Rattle.law_suite_machine.specs.Events.{Event, Held, Upgrade, Aim, Prepare, DecideRead, DecideRefused, DecideWrite, DecideElsewhere, Overrule, GiveUp, Finish, Lose, happens, upgraded_told, run}
+use Rattle.law_suite_machine.specs.Conditions.{May, Obeys}
+use Rattle.law_suite_machine.specs.Laws.{Stays}
+use Rattle.law_suite_machine.proofs.Places.{at2}
+use Rattle.law_suite_machine.proofs.Invariant.{Inv}
+use Rattle.law_suite_machine.proofs.Lasting.{run_stays}
+use Rattle.law_run_machine.specs.Telling.{told_to, ToldOf, SaidIs, AreTold}
+use Rattle.law_run_knowledge.specs.Knowledge.{CacheWas, ToldVersion, SuiteWas}
+use Rattle.law_run_knowledge.proofs.Walk.{InPhase}
+
+-- ---- what was told
+
+-- told of the same copy
+abbrev pub StillTold : Option Told → Told → Type 0
+StillTold o told = (later : Told) × (o ≡ Some later) × (later.copy ≡ told.copy)
+
+one_told : (start : Beginning) (w : World) (event : Event) → May start w event → (i t : ℕ) (told : Told) → w.told i t ≡ Some told → StillTold ((happens start w event).told i t) told
+one_told start w (Held j u exclusive) may i t told is =
+    at2 (λ o. StillTold o told) w.told j u (Some (record { exclusive = exclusive; copy = w.copy j })) i t
+    (λ at. absurd (none-some told (sym may.untold ∙ ap (w.told j) (sym at.1) ∙ ap (λ i. w.told i t) (sym at.0) ∙ is)))
+    (λ _. (told, is, refl))
+one_told start w (Upgrade j u) may i t told is =
+    at2 (λ o. StillTold o told) w.told j u (upgraded_told (w.told j u)) i t
+    (λ at. (record { exclusive = true; copy = told.copy }, ap upgraded_told (ap (w.told j) (sym at.1) ∙ ap (λ i. w.told i t) (sym at.0) ∙ is), refl))
+    (λ _. (told, is, refl))
+one_told start w (Aim u new) may i t told is = (told, is, refl)
+one_told start w (Prepare j u left) may i t told is = (told, is, refl)
+one_told start w (DecideRead u set known) may i t told is = (told, is, refl)
+one_told start w (DecideRefused u set known) may i t told is = (told, is, refl)
+one_told start w (DecideWrite u set known new) may i t told is = (told, is, refl)
+one_told start w (DecideElsewhere u verdict) may i t told is = (told, is, refl)
+one_told start w (Overrule u) may i t told is = (told, is, refl)
+one_told start w (GiveUp u) may i t told is = (told, is, refl)
+one_told start w (Finish j u verdict) may i t told is = (told, is, refl)
+one_told start w (Lose keep) may i t told is = (told, is, refl)
+
+pub still_told : (start : Beginning) (w : World) (events : List Event) → Obeys start w events → (i t : ℕ) (told : Told) → w.told i t ≡ Some told → StillTold ((run start w events).told i t) told
+still_told start w [] may i t told is = (told, is, refl)
+still_told start w (event ∷ events) may i t told is =
+    let one = one_told start w event may.0 i t told is in
+    let rest = still_told start (happens start w event) events may.1 i t one.0 one.1 in
+    (rest.0, rest.1, rest.2 ∙ one.2)
+
+-- ---- what agents hold
+
+-- what stays from one world to a later one
+pub record Lasts (start : Beginning) (w later : World) : Type 0 where
+  pub stays : Stays start w later
+  pub told : (i t : ℕ) (told : Told) → w.told i t ≡ Some told → StillTold (later.told i t) told
+
+pub lasts : (start : Beginning) (w : World) (events : List Event) → Inv start w → Obeys start w events → Lasts start w (run start w events)
+lasts start w events inv may = record { stays = run_stays start w inv events may; told = still_told start w events may }
+
+-- the suites of a transaction are in order, and what it holds of the suite z was the register's
+abbrev pub FitIn : ℕ → Beginning → World → ℕ → Suites → Type 0
+FitIn z start w t suites = IsOrdered nat_cmp suites × Each (λ number suite. number ≡ z → SuiteWas start w t suite) suites
+
+abbrev pub DoingFits : ℕ → Beginning → World → Option Doing → Type 0
+DoingFits z start w (Some (Running txn_run)) = FitIn z start w txn_run.task.t txn_run.suites × InPhase txn_run.suites txn_run.phase
+DoingFits z start w (Some (RunningSweep sweep_run)) = Unit {0}
+DoingFits z start w None = Unit {0}
+
+pub record AgentFits (z : ℕ) (start : Beginning) (w : World) (agent : Agent) : Type 0 where
+  pub cache : CacheWas z start w.log agent.cache
+  pub doing : DoingFits z start w agent.doing
+
+module _ (z : ℕ) (start : Beginning) (w later : World) (l : Lasts start w later) where
+  pub told_later : (t i : ℕ) (prefix : Prefix) (dver : ℕ) → ToldOf (w.told i t) prefix dver → ToldOf (later.told i t) prefix dver
+  told_later t i prefix dver was =
+      let still = l.told i t was.one was.is in
+      record { one = still.0; is = still.1; prefix_is = ap (λ (copy : Replica). copy.prefix) still.2 ∙ was.prefix_is; dver_is = ap (λ (copy : Replica). copy.dver) still.2 ∙ was.dver_is }
+
+  version_later : (t i dver : ℕ) → ToldVersion w t i dver → ToldVersion later t i dver
+  version_later t i dver was =
+      let still = l.told i t was.told was.is in
+      record { told = still.0; is = still.1; dver_is = ap (λ (copy : Replica). copy.dver) still.2 ∙ was.dver_is }
+
+  pub said_later : (t i : ℕ) (said : Said) → SaidIs (w.told i t) said → SaidIs (later.told i t) said
+  said_later t i (said.Held prefix dver) was = told_later t i prefix dver was
+  said_later t i (said.Busy holder) was = tt
+  said_later t i said.Down was = tt
+
+  are_later : (t : ℕ) (told : List collect.Told) → AreTold (told_to w t) told → AreTold (told_to later t) told
+  are_later t [] are = tt
+  are_later t (one ∷ told) are = (said_later t one.server one.said are.0, are_later t told are.1)
+
+  goes_later : (prefix : Prefix) (dver : ℕ) (content : Content) → GoesWith start w.log prefix dver content → GoesWith start later.log prefix dver content
+  goes_later prefix dver content (inl was) = inl (l.stays.contents dver content was)
+  goes_later prefix dver content (inr none) = inr none
+
+  suite_later : (t : ℕ) (suite : Suite) → SuiteWas start w t suite → SuiteWas start later t suite
+  suite_later t suite was = record {
+    from = l.stays.prefixes suite.collector.start was.from;
+    told = are_later t _ was.told;
+    since = are_later t _ was.since;
+    first = λ first is. let old = was.first first is in record { prefix = l.stays.prefixes first.prefix old.prefix; source = λ some. version_later t first.source first.dver (old.source some) };
+    content = λ content is. let old = was.content content is in (old.0, old.1, goes_later old.0.prefix old.0.dver content old.2);
+  }
+
+  cache_later : (cache : Cache) → CacheWas z start w.log cache → CacheWas z start later.log cache
+  cache_later cache was entry there is =
+      let old = was entry there is in
+      record { prefix = l.stays.prefixes entry.prefix old.prefix; content = λ some. l.stays.contents entry.dver entry.content (old.content some) }
+
+  doing_later : (doing : Option Doing) → DoingFits z start w doing → DoingFits z start later doing
+  doing_later (Some (Running txn_run)) fits = ((fits.0.0, λ number suite there is. suite_later txn_run.task.t suite (fits.0.1 number suite there is)), fits.1)
+  doing_later (Some (RunningSweep sweep_run)) fits = tt
+  doing_later None fits = tt
+
+  pub agent_later : (agent : Agent) → AgentFits z start w agent → AgentFits z start later agent
+  agent_later agent fits = record { cache = cache_later agent.cache fits.cache; doing = doing_later agent.doing fits.doing }

@@ -1,0 +1,165 @@
+-- A content that may be had without asking is never fetched.
+use Rattle.std.proofs.Common.{◌≡◌, ℕ, zero, suc, ◌+◌, ◌<◌, ◌≤◌, Bool, true, false, cond, List, [], ◌∷◌, Option, Some, None, Ok, Err, refl, sym, ap, subst, ◌∙◌, arith, Equal, Greater}
+use Rattle.std.specs.Prelude.{◌==◌, length, is_some}
+use Rattle.std.specs.Ordering.{nat_cmp, is_eq}
+use Rattle.std.specs.BTreeMap.{is_at}
+use Rattle.std.specs.Map.{keys_of}
+use Rattle.std.proofs.lemmas.Bool.{eq-eqb, false≢true}
+use Rattle.std.proofs.lemmas.Cmp.{nat_cmp_total}
+use Rattle.std.proofs.lemmas.Option.{same_Some, none-some}
+use Rattle.std.proofs.lemmas.Map.Entries.{lookup_head, lookup_tail}
+use Rattle.std.proofs.lemmas.Map.Keys.{sorted_tail}
+use Rattle.sorted_map.specs.SortedMap.{IsOrdered}
+use Rattle.sorted_map.specs.Comparisons.{by_answer}
+use Rattle.sorted_map.specs.Laws.{insert_step, get_below, IsOrdered-insert}
+use Rattle.suite_content.specs.declared.content.Content.{Content}
+use Rattle.suite_content.specs.Contents.{empty_content}
+use Rattle.suite_prefix.specs.Copies.{held_by}
+use Rattle.weak_cache.specs.Cache.{content_at}
+use Rattle.file_ops.specs.declared.answer.Answer.{Answer}
+use Rattle.file_ops.specs.declared.refusal.Refusal.{Refusal}
+use Rattle.file_exec.specs.declared.executor.Outcome.{Outcome as Executed}
+use Rattle.file_exec.specs.declared.executor.Outcome.TheVariants as exec
+use Rattle.file_exec.specs.declared.need.Need.{Need}
+use Rattle.file_exec.specs.declared.need.Need.TheVariants.{Hold, Know}
+use Rattle.file_exec.specs.Known as known
+use Rattle.file_exec.specs.Known.{Known, Heard, Needs, Done}
+use Rattle.file_exec.specs.Changes.{answered}
+use Rattle.file_exec.proofs.Unmet.{needs_what_is_unmet}
+use Rattle.txn_core.specs.Suites.{ReadPoint, Suite, Suites, suite_of, with_suite, known_of}
+use Rattle.txn_core.specs.Doing.{Fixed, Task}
+use Rattle.txn_core.specs.Transactions.{Gathered, opened, or_all, open_needed, open_suite, open_first, opened_with, free_content, heard_on}
+use Rattle.txn_core.proofs.Setting.{known_at}
+
+-- ---- suites whose content is not there
+
+abbrev closed : Suites → ℕ
+closed [] = 0
+closed (one ∷ suites) = cond (is_some one.1.content) 0 1 + closed suites
+
+few_closed : (suites : Suites) → closed suites ≤ length suites
+few_closed [] = omega arith
+few_closed (one ∷ suites) =
+    let rest = few_closed suites in
+    elim (is_some one.1.content) as (λ b. cond b 0 1 + closed suites ≤ length (one ∷ suites)) [ true ↦ omega (arith, rest) | false ↦ omega (arith, rest) ]
+
+one_closed : (suite : Suite) → is_some suite.content ≡ false → ◌≡◌ {A = ℕ} (cond (is_some suite.content) 0 1) 1
+one_closed suite none = ap (λ b. cond b 0 1) none
+
+some_closed : (suites : Suites) (number : ℕ) (suite : Suite) → suite_of suites number ≡ Some suite → is_some suite.content ≡ false → 1 ≤ closed suites
+some_closed [] number suite there none = cc
+some_closed (e ∷ es) number suite there none =
+    elim (is_at (nat_cmp number) e.0) as (λ b. cond b (Some e.1) (suite_of es number) ≡ Some suite → 1 ≤ closed (e ∷ es)) [
+      | true ↦ λ same. let one = one_closed e.1 (ap (λ (suite : Suite). is_some suite.content) (same_Some e.1 suite same) ∙ none) in omega (arith, one)
+      | false ↦ λ rest. let more = some_closed es number suite rest none in omega (arith, more)
+    ] there
+
+-- one of them is opened
+opens_one : (suites : Suites) (number : ℕ) (suite : Suite) (content : Content) → IsOrdered nat_cmp suites → suite_of suites number ≡ Some suite → is_some suite.content ≡ false
+    → closed (with_suite number (record suite { content = Some content }) suites) + 1 ≡ closed suites
+opens_one [] number suite content ordered there none = cc
+opens_one (e ∷ es) number suite content ordered there none =
+    let new : Suite = record suite { content = Some content } in
+    by_answer (nat_cmp number e.0)
+    (λ less. absurd (none-some suite (sym (get_below nat_cmp_total number e es ordered less) ∙ there)))
+    (λ equal.
+    let same : e.1 ≡ suite = same_Some e.1 suite (sym (lookup_head (is_at (nat_cmp number)) e es (ap is_eq equal)) ∙ there) in
+    let one = one_closed e.1 (ap (λ (suite : Suite). is_some suite.content) same ∙ none) in
+    ap (λ suites. closed suites + 1) (insert_step nat_cmp e es number new Equal equal) ∙ (let sum : closed ((e.0, new) ∷ es) + 1 ≡ closed (e ∷ es) = omega (arith, one) in sum))
+    (λ greater.
+    let rest = opens_one es number suite content (sorted_tail nat_cmp e.0 (keys_of es) ordered) (sym (lookup_tail (is_at (nat_cmp number)) e es (ap is_eq greater)) ∙ there) none in
+    ap (λ suites. closed suites + 1) (insert_step nat_cmp e es number new Greater greater) ∙ (let sum : closed (e ∷ with_suite number new es) + 1 ≡ closed (e ∷ es) = omega (arith, rest) in sum))
+
+-- ---- what the executor needs is not there
+
+need_in : Executed → Option Need
+need_in (exec.Need need) = Some need
+need_in (exec.Done answers changes) = None
+need_in (exec.Refused refusal) = None
+
+needed_first : (known' : Known) (heard : Heard (List Answer) Refusal) (need : Need) → answered known' heard ≡ exec.Need need → heard ≡ Needs need
+unfolding need_in
+needed_first known' (Needs other) need is = ap Needs (same_Some other need (ap need_in is))
+needed_first known' (Done (Ok ended)) need is = cc
+needed_first known' (Done (Err refusal)) need is = cc
+
+away : (fixed : Fixed) (task : Task) (suites : Suites) (number : ℕ) → heard_on fixed task suites ≡ exec.Need (Know number) → (suite : Suite) (first : ReadPoint) → suite_of suites number ≡ Some suite → suite.first ≡ Some first → is_some suite.content ≡ false
+away fixed task suites number is suite first there was =
+    sym (ap known.is_opened (known_at suites number suite first there was))
+    ∙ needs_what_is_unmet fixed.service (known_of suites) task.t task.caller task.ops (Know number)
+    (needed_first (known_of suites) (known.exec_of fixed.service (known_of suites) task.t task.caller task.ops) (Know number) is)
+
+-- ---- all is opened that may be
+
+-- what is needed has to be asked for
+abbrev IsAsked : Fixed → Task → Gathered → Type 0
+IsAsked fixed task all = (number : ℕ) → heard_on fixed task all.suites ≡ exec.Need (Know number) → open_suite task all number (suite_of all.suites number) ≡ None
+
+-- one content more is there
+record OneMore (all more : Gathered) : Type 0 where
+  ordered : IsOrdered nat_cmp more.suites
+  fewer : closed more.suites + 1 ≡ closed all.suites
+
+module _ (fixed : Fixed) (task : Task) (all : Gathered) (ordered : IsOrdered nat_cmp all.suites) where
+  with_content : (number : ℕ) (suite : Suite) (first : ReadPoint) (content : Option Content) (more : Gathered) → suite_of all.suites number ≡ Some suite → is_some suite.content ≡ false → opened_with task all number suite first content ≡ Some more → OneMore all more
+  with_content number suite first (Some content) more there none is =
+      subst (λ (more : Gathered). OneMore all more) (same_Some _ more is)
+      (record { ordered = IsOrdered-insert nat_cmp_total all.suites number (record suite { content = Some content }) ordered; fewer = opens_one all.suites number suite content ordered there none })
+  with_content number suite first None more there none is = cc
+
+  at_first : (number : ℕ) (suite : Suite) (first : Option ReadPoint) (more : Gathered) → heard_on fixed task all.suites ≡ exec.Need (Know number) → suite_of all.suites number ≡ Some suite → suite.first ≡ first → open_first task all number suite first ≡ Some more → OneMore all more
+  at_first number suite (Some first) more needs there was is = with_content number suite first (free_content task all.cache number first) more there (away fixed task all.suites number needs suite first there was) is
+  at_first number suite None more needs there was is = cc
+
+  at_suite : (number : ℕ) (found : Option Suite) (more : Gathered) → heard_on fixed task all.suites ≡ exec.Need (Know number) → suite_of all.suites number ≡ found → open_suite task all number found ≡ Some more → OneMore all more
+  at_suite number (Some suite) more needs there is = at_first number suite suite.first more needs there refl is
+  at_suite number None more needs there is = cc
+
+  opens_more : (heard : Executed) (more : Gathered) → heard_on fixed task all.suites ≡ heard → open_needed task all heard ≡ Some more → OneMore all more
+  opens_more (exec.Need (Know number)) more needs is = at_suite number (suite_of all.suites number) more needs refl is
+  opens_more (exec.Need (Hold number mode)) more needs is = cc
+  opens_more (exec.Done answers changes) more needs is = cc
+  opens_more (exec.Refused refusal) more needs is = cc
+
+  -- where each suite has its content
+  none_left : closed all.suites ≤ 0 → IsAsked fixed task all
+  none_left few number needs = of (suite_of all.suites number) refl
+    where
+      first_of : (suite : Suite) (first : Option ReadPoint) → suite_of all.suites number ≡ Some suite → suite.first ≡ first → open_first task all number suite first ≡ None
+      first_of suite None there was = refl
+      first_of suite (Some first) there was = absurd (let some = some_closed all.suites number suite there (away fixed task all.suites number needs suite first there was) in omega (arith, some, few))
+
+      of : (found : Option Suite) → suite_of all.suites number ≡ found → open_suite task all number found ≡ None
+      of None there = refl
+      of (Some suite) there = first_of suite suite.first there refl
+
+all_opened : (n : ℕ) (fixed : Fixed) (task : Task) (all : Gathered) → IsOrdered nat_cmp all.suites → closed all.suites ≤ n → IsAsked fixed task (opened n fixed task all)
+all_opened zero fixed task all ordered few = none_left fixed task all ordered few
+all_opened (suc n) fixed task all ordered few = of (open_needed task all (heard_on fixed task all.suites)) refl (λ more ordered few. all_opened n fixed task more ordered few)
+  where
+    of : (found : Option Gathered) → open_needed task all (heard_on fixed task all.suites) ≡ found → ((more : Gathered) → IsOrdered nat_cmp more.suites → closed more.suites ≤ n → IsAsked fixed task (opened n fixed task more)) → IsAsked fixed task (or_all all found (λ all. opened n fixed task all))
+    of (Some more) is later = let one = opens_more fixed task all ordered (heard_on fixed task all.suites) more refl is in later more one.ordered (let fewer = one.fewer in omega (arith, fewer, few))
+    of None is later = λ number needs. sym (ap (open_needed task all) needs) ∙ is
+
+-- ---- what is fetched
+
+above_zero : (n : ℕ) → (n == 0) ≡ false → 0 < n
+above_zero zero is = absurd (false≢true (sym is ∙ eq-eqb 0 0 refl))
+above_zero (suc n) is = omega arith
+
+not_free : (task : Task) (all : Gathered) (number : ℕ) (suite : Suite) (first : ReadPoint) → open_first task all number suite (Some first) ≡ None → 0 < first.dver
+not_free task all number suite first is = above_zero first.dver (of (first.dver == 0) is)
+  where
+    of : (b : Bool) → opened_with task all number suite first (cond b (Some (empty_content (held_by first.prefix.kind))) (content_at all.cache task.site number first.dver)) ≡ None → b ≡ false
+    of true is = cc
+    of false is = refl
+
+-- a suite whose content is fetched has one of a version above 0
+pub fetched_above : (fixed : Fixed) (task : Task) (all : Gathered) → IsOrdered nat_cmp all.suites → let open' = opened (length all.suites) fixed task all in
+    (number : ℕ) → heard_on fixed task open'.suites ≡ exec.Need (Know number) → (suite : Suite) (first : ReadPoint) → suite_of open'.suites number ≡ Some suite → suite.first ≡ Some first → 0 < first.dver
+fetched_above fixed task all ordered number needs suite first there was =
+    let open' = opened (length all.suites) fixed task all in
+    not_free task open' number suite first
+    (ap (open_first task open' number suite) (sym was)
+    ∙ ap (open_suite task open' number) (sym there)
+    ∙ all_opened (length all.suites) fixed task all ordered (few_closed all.suites) number needs)

@@ -1,0 +1,14 @@
+-- Lists of machine events, one after the other.
+use Rattle.std.proofs.Common.{◌≡◌, List, [], ◌∷◌, ◌++◌, refl}
+use Rattle.law_suite_machine.specs.Registers.{Beginning}
+use Rattle.law_suite_machine.specs.Machine.{World}
+use Rattle.law_suite_machine.specs.Events.{Event, happens, run}
+use Rattle.law_suite_machine.specs.Conditions.{Obeys}
+
+pub run-append : (start : Beginning) (w : World) (first later : List Event) → run start w (first ++ later) ≡ run start (run start w first) later
+run-append start w [] later = refl
+run-append start w (event ∷ first) later = run-append start (happens start w event) first later
+
+pub obeys-append : (start : Beginning) (w : World) (first later : List Event) → Obeys start w first → Obeys start (run start w first) later → Obeys start w (first ++ later)
+obeys-append start w [] later may next = next
+obeys-append start w (event ∷ first) later may next = (may.0, obeys-append start (happens start w event) first later may.1 next)

@@ -1,0 +1,268 @@
+-- Agents keep to their side in every run: event by event.
+use Rattle.std.proofs.Common.{◌≡◌, inl, ℕ, zero, suc, ◌+◌, ◌<◌, ◌≤◌, Bool, true, false, cond, List, [], ◌∷◌, ◌++◌, length, Option, Some, None, refl, sym, ap, subst, ◌∙◌, arith}
+use Rattle.std.specs.Prelude.{◌*◌, slice_get}
+use Rattle.std.proofs.lemmas.Bool.{false≢true}
+use Rattle.std.proofs.lemmas.Option.{same_Some, none-some}
+use Rattle.vote_core.specs.Validity.{max_servers}
+use Rattle.suite_prefix.specs.SettingsRules.{Opening}
+use Rattle.rep_core.specs.declared.request.Request.{Request}
+use Rattle.rep_core.specs.declared.request.Request.TheVariants as request
+use Rattle.rep_core.specs.declared.reply.Reply.{Reply}
+use Rattle.rep_core.specs.declared.reply.Reply.TheVariants as reply
+use Rattle.rep_core.specs.declared.stamped.Lack.TheVariants as lack
+use Rattle.rep_core.specs.Locks.{has_prepared}
+use Rattle.rep_core.specs.State as state
+use Rattle.rep_core.specs.State.{State}
+use Rattle.rep_core.specs.Service.{reply_of}
+use Rattle.rep_core.specs.Serving.{answer_of, is_full}
+use Rattle.txn_core.specs.declared.response.Response.TheVariants.{Replied, Lacked}
+use Rattle.txn_core.specs.declared.job.Job.{Job}
+use Rattle.txn_core.specs.Agents.{Agent, fixed_of, next_of, take, begin, forget}
+use Rattle.txn_core.specs.Agents as agents
+use Rattle.run_core.specs.declared.event.Event as happening
+use Rattle.run_core.specs.declared.event.Event.TheVariants.{Begin, Step, Crash, Return, Forget, Lack}
+use Rattle.run_core.specs.Worlds as worlds
+use Rattle.run_core.specs.Worlds.{Actor, server_at, actor_at, answered, asks_at, asks, steps_once, lacks_for, lacks, operated, operates, becomes, step}
+use Rattle.law_suite_machine.specs.Registers.{Beginning}
+use Rattle.law_suite_machine.specs.Machine.{World, begun}
+use Rattle.law_suite_machine.specs.Events.{Event, run}
+use Rattle.law_suite_machine.specs.Conditions.{Obeys}
+use Rattle.law_suite_machine.proofs.Invariant.{Inv}
+use Rattle.law_suite_machine.proofs.Steps.{all_steps}
+use Rattle.law_suite_machine.proofs.Starting.{begins}
+use Rattle.law_suite_machine.proofs.Lasting.{run_stays}
+use Rattle.law_server_moves.specs.Views.{Shows}
+use Rattle.law_server_moves.specs.Moves.{moves}
+use Rattle.law_server_moves.specs.Laws.{beginning}
+use Rattle.law_server_moves.proofs.Opening.{opening_shows}
+use Rattle.law_run_machine.specs.Deciding.{decision_by, own_events}
+use Rattle.law_run_machine.specs.Machines.{servers_of, home_in, begin_events, answered_events, asked_at_events, asked_events, step_events, lacks_for_events, lack_events, operated_events, operator_events, events_of, moved}
+use Rattle.law_run_machine.specs.Sides.{AnsweredWell, AsksAtWell, AsksWell, StepsWell, LacksForWell, LacksWell, KeepsSide, KeepSides}
+use Rattle.law_run_machine.specs.Owed.{Owed, AreOwed}
+use Rattle.law_run_machine.specs.Laws.{SidesAreKept}
+use Rattle.law_run_machine.proofs.Servers.{server_there, servers_open}
+use Rattle.law_run_machine.proofs.Consistent.{AllConsistent, opening_consistent}
+use Rattle.law_run_machine.proofs.Following.{serves, event_comes}
+use Rattle.law_run_machine.proofs.Joining.{run-append, obeys-append}
+use Rattle.law_run_machine.proofs.Quiet.{AreOf, quiet_all}
+use Rattle.law_run_machine.proofs.Linked.{Untouched, Linked, AllLinked, linked_later}
+use Rattle.law_run_machine.proofs.Turns.{turn}
+use Rattle.law_run_machine.proofs.Decided.{may_of}
+use Rattle.law_run_machine.proofs.Waiting.{Waiting}
+use Rattle.law_run_machine.proofs.Readying.{IsReadying}
+use Rattle.law_run_machine.proofs.Readied.{Readied, ready_next}
+use Rattle.law_run_machine.proofs.Jobs.{All, event_all, opens as jobs_open, firsts}
+use Rattle.law_run_machine.proofs.Waited.{AllWaiting, waits_first, waits_next}
+use Rattle.law_run_machine.proofs.Turned.{served_at, served_concerns, lacked_concerns, asks_well, Stays, all_linked, turned, others_turned, begun_so}
+
+next_number : (u : ℕ) → u ≡ u + 1 → ⊥
+next_number u same = absurd (omega arith)
+
+-- ---- the operator's requests are nobody's
+
+crashed_of : (t z : ℕ) (home : ℕ → ℕ) (decision : Event) (i : ℕ) (w : World) (said : Reply) → AreOf t (moves z home decision i w request.Crash said)
+crashed_of t z home decision i w reply.Done = (tt, tt)
+crashed_of t z home decision i w _ = tt
+
+returned_of : (t z : ℕ) (home : ℕ → ℕ) (decision : Event) (i : ℕ) (w : World) (said : Reply) → AreOf t (moves z home decision i w request.Return said)
+returned_of t z home decision i w reply.Done = tt
+returned_of t z home decision i w _ = tt
+
+module _ (given : Opening) (z : ℕ) (w : World) (world : worlds.World) (inv : Inv (beginning z given) w) (shows : Shows z (home_in given) (servers_of given world) w) (all : AllConsistent (servers_of given world)) (linked : AllLinked z w world) (owed : Owed given z w world) (waiting : AllWaiting given world) (readied : Readied z w world) (jobs : All (fixed_of given) world) where
+  abbrev first : Beginning
+  first = beginning z given
+
+  stays_for : (events : List Event) → Obeys first w events → Stays w (run first w events)
+  stays_for events obeys t v is = (run_stays first w inv events obeys).verdicts t v is
+
+  -- an event that is nobody's
+  nobodys : (events : List Event) → Obeys first w events → ((t : ℕ) → AreOf t events) → AllLinked z (run first w events) world
+  nobodys events obeys of n actor there =
+      let was = linked n actor there in
+      (was.0, linked_later z w (run first w events) n actor.agent was.0 (stays_for events obeys) (λ u place at. quiet_all first w u (u + 1) events (next_number u) obeys (of (u + 1))) was.1)
+
+  -- ---- a request of an agent
+
+  answered_next : (number : ℕ) (actor : Actor) (asked : ℕ × Request) (st : State) → actor_at world number ≡ Some actor → next_of (fixed_of given) actor.agent ≡ Some asked → server_at world asked.0 ≡ Some st → (b : Bool) → is_full st (record { stamp = actor.stamp; value = asked.1 }) ≡ b
+      → AnsweredWell given z w actor st (cond b None (Some (record { server = asked.0; request = record { stamp = actor.stamp; value = asked.1 }; reply = answer_of st (record { stamp = actor.stamp; value = asked.1 }) })))
+      × AllLinked z (run first w (answered_events given z w actor (cond b None (Some (record { server = asked.0; request = record { stamp = actor.stamp; value = asked.1 }; reply = answer_of st (record { stamp = actor.stamp; value = asked.1 }) })))))
+      (answered (fixed_of given) world number actor st (cond b None (Some (record { server = asked.0; request = record { stamp = actor.stamp; value = asked.1 }; reply = answer_of st (record { stamp = actor.stamp; value = asked.1 }) })))).world
+  answered_next number actor asked st there next at true is =
+      let was = linked number actor there in
+      let it = turn first z w w number actor.agent.count (fixed_of given) actor.agent asked (Lacked lack.Full) next was.1.doing (lacked_concerns given z w world inv shows all number actor.agent.count actor.agent.doing asked lack.Full) in
+      let taken = take (fixed_of given) actor.agent (Lacked lack.Full) in (
+        it.does,
+        all_linked z w (run first w (own_events z actor.agent.doing taken)) world number actor (worlds.moved actor actor.stamp taken) there was.0 linked
+            (turned first z w w number (fixed_of given) actor.agent (Lacked lack.Full) was.0 was.1 it)
+            (stays_for (own_events z actor.agent.doing taken) it.does)
+            (others_turned first z w w number (fixed_of given) actor.agent (Lacked lack.Full) was.0 was.1 it),
+      )
+  answered_next number actor asked st there next at false is =
+      let was = linked number actor there in
+      let said = reply_of st asked.1 in
+      let events = served_at given z w world inv shows all number actor.agent.count actor.agent.doing asked st in
+      let side = asks_well given z w world inv shows all number actor.agent.count actor.agent.doing asked st.locks next was.1.doing
+      (λ txn_run outcome doing phase undecided. may_of first z w number actor.agent.count actor.agent.doing was.1.doing (readied.agents number actor there) readied.below (firsts (fixed_of given) actor.agent z (jobs number actor there)) txn_run outcome doing phase undecided (owed.decides number actor txn_run outcome there doing phase undecided))
+      (λ txn_run now left outcome doing phase same.
+      subst (λ (st : State). has_prepared txn_run.task.t st.locks ≡ false) (ap (servers_of given world) same ∙ server_there given world asked.0 st at) (waits_first (servers_of given world) actor.agent.doing (waiting number actor there).now txn_run doing now left outcome phase)) in
+      let follows = serves given z w world inv shows all actor.agent.doing asked.0 st (record { stamp = actor.stamp; value = asked.1 }) at is side in
+      let later = run first w events in
+      let concerns = served_concerns given z w world inv shows all number actor.agent.count actor.agent.doing asked actor.stamp st next was.1.doing at is follows.obeys follows.shows in
+      let it = turn first z w later number actor.agent.count (fixed_of given) actor.agent asked (Replied said) next was.1.doing concerns in
+      let taken = take (fixed_of given) actor.agent (Replied said) in
+      let own = own_events z actor.agent.doing taken in (
+        record { asks = side; does = it.does },
+        subst (λ w. AllLinked z w (answered (fixed_of given) world number actor st (Some (record { server = asked.0; request = record { stamp = actor.stamp; value = asked.1 }; reply = answer_of st (record { stamp = actor.stamp; value = asked.1 }) }))).world) (sym (run-append first w events own))
+            (all_linked z w (run first later own) world number actor (worlds.moved actor (answer_of st (record { stamp = actor.stamp; value = asked.1 })).stamp taken) there was.0 linked
+            (turned first z w later number (fixed_of given) actor.agent (Replied said) was.0 was.1 it)
+            (subst (Stays w) (run-append first w events own) (stays_for (events ++ own) (obeys-append first w events own follows.obeys it.does)))
+            (others_turned first z w later number (fixed_of given) actor.agent (Replied said) was.0 was.1 it)),
+      )
+
+  at_next : (number : ℕ) (actor : Actor) (asked : ℕ × Request) → actor_at world number ≡ Some actor → next_of (fixed_of given) actor.agent ≡ Some asked → (o : Option State) → server_at world asked.0 ≡ o
+      → AsksAtWell given z w actor asked o × AllLinked z (run first w (asked_at_events given z w actor asked o)) (asks_at (fixed_of given) world number actor asked o).world
+  at_next number actor asked there next (Some st) at = answered_next number actor asked st there next at (is_full st (record { stamp = actor.stamp; value = asked.1 })) refl
+  at_next number actor asked there next None at = (tt, linked)
+
+  asks_next : (number : ℕ) (actor : Actor) → actor_at world number ≡ Some actor → (o : Option (ℕ × Request)) → next_of (fixed_of given) actor.agent ≡ o
+      → AsksWell given z w world actor o × AllLinked z (run first w (asked_events given z w world actor o)) (asks (fixed_of given) world number actor o).world
+  asks_next number actor there (Some asked) next = at_next number actor asked there next (server_at world asked.0) refl
+  asks_next number actor there None next = (tt, linked)
+
+  step_next : (number : ℕ) (o : Option Actor) → actor_at world number ≡ o → StepsWell given z w world o × AllLinked z (run first w (step_events given z w world o)) (steps_once (fixed_of given) world number o).world
+  step_next number (Some actor) there = asks_next number actor there (next_of (fixed_of given) actor.agent) refl
+  step_next number None there = (tt, linked)
+
+  -- ---- one that is not served
+
+  lacks_for_next : (number : ℕ) (actor : Actor) (why : _) → actor_at world number ≡ Some actor → (o : Option (ℕ × Request)) → next_of (fixed_of given) actor.agent ≡ o
+      → LacksForWell given z w actor (Lacked why) o × AllLinked z (run first w (lacks_for_events given z actor (Lacked why) o)) (lacks_for (fixed_of given) world number actor (Lacked why) o).world
+  lacks_for_next number actor why there (Some asked) next =
+      let was = linked number actor there in
+      let it = turn first z w w number actor.agent.count (fixed_of given) actor.agent asked (Lacked why) next was.1.doing (lacked_concerns given z w world inv shows all number actor.agent.count actor.agent.doing asked why) in
+      let taken = take (fixed_of given) actor.agent (Lacked why) in (
+        it.does,
+        all_linked z w (run first w (own_events z actor.agent.doing taken)) world number actor (worlds.moved actor actor.stamp taken) there was.0 linked
+            (turned first z w w number (fixed_of given) actor.agent (Lacked why) was.0 was.1 it)
+            (stays_for (own_events z actor.agent.doing taken) it.does)
+            (others_turned first z w w number (fixed_of given) actor.agent (Lacked why) was.0 was.1 it),
+      )
+  lacks_for_next number actor why there None next = (tt, linked)
+
+  lack_next : (number : ℕ) (why : _) (o : Option Actor) → actor_at world number ≡ o → LacksWell given z w (Lacked why) o × AllLinked z (run first w (lack_events given z (Lacked why) o)) (lacks (fixed_of given) world number (Lacked why) o).world
+  lack_next number why (Some actor) there = lacks_for_next number actor why there (next_of (fixed_of given) actor.agent) refl
+  lack_next number why None there = (tt, linked)
+
+  -- ---- the operator
+
+  crash_next : (i : ℕ) (o : Option State) → Obeys first w (operator_events given z w i request.Crash o) → AllLinked z (run first w (operator_events given z w i request.Crash o)) (operates world i request.Crash o).world
+  crash_next i None obeys = linked
+  crash_next i (Some st) obeys =
+      elim (is_full st (record { stamp = 0; value = request.Crash })) as (λ b. Obeys first w (operated_events given z w (cond b None (Some (record { server = i; request = record { stamp = 0; value = request.Crash }; reply = answer_of st (record { stamp = 0; value = request.Crash }) }))))
+      → AllLinked z (run first w (operated_events given z w (cond b None (Some (record { server = i; request = record { stamp = 0; value = request.Crash }; reply = answer_of st (record { stamp = 0; value = request.Crash }) }))))) (operated world st (cond b None (Some (record { server = i; request = record { stamp = 0; value = request.Crash }; reply = answer_of st (record { stamp = 0; value = request.Crash }) })))).world) [
+        | true ↦ λ _. linked
+        | false ↦ λ obeys. nobodys (moves z (home_in given) (decision_by z w None) i w request.Crash (reply_of st request.Crash)) obeys (λ t. crashed_of t z (home_in given) (decision_by z w None) i w (reply_of st request.Crash))
+      ] obeys
+
+  return_next : (i : ℕ) (o : Option State) → Obeys first w (operator_events given z w i request.Return o) → AllLinked z (run first w (operator_events given z w i request.Return o)) (operates world i request.Return o).world
+  return_next i None obeys = linked
+  return_next i (Some st) obeys =
+      elim (is_full st (record { stamp = 0; value = request.Return })) as (λ b. Obeys first w (operated_events given z w (cond b None (Some (record { server = i; request = record { stamp = 0; value = request.Return }; reply = answer_of st (record { stamp = 0; value = request.Return }) }))))
+      → AllLinked z (run first w (operated_events given z w (cond b None (Some (record { server = i; request = record { stamp = 0; value = request.Return }; reply = answer_of st (record { stamp = 0; value = request.Return }) }))))) (operated world st (cond b None (Some (record { server = i; request = record { stamp = 0; value = request.Return }; reply = answer_of st (record { stamp = 0; value = request.Return }) })))).world) [
+        | true ↦ λ _. linked
+        | false ↦ λ obeys. nobodys (moves z (home_in given) (decision_by z w None) i w request.Return (reply_of st request.Return)) obeys (λ t. returned_of t z (home_in given) (decision_by z w None) i w (reply_of st request.Return))
+      ] obeys
+
+  -- ---- what changes agents alone
+
+  begin_next : (number : ℕ) (job : Job) (o : Option Actor) → actor_at world number ≡ o
+      → Obeys first w (begin_events given z job o) × AllLinked z (run first w (begin_events given z job o)) (becomes world number (λ agent. begin (fixed_of given) agent job) o).world
+  begin_next number job (Some actor) there =
+      let was = linked number actor there in
+      let it = begun_so first z w number (fixed_of given) actor.agent was.0 was.1 job in (
+        it.does,
+        all_linked z w (run first w (begin_events given z job (Some actor))) world number actor (record actor { agent = begin (fixed_of given) actor.agent job }) there was.0 linked it.now
+            (stays_for (begin_events given z job (Some actor)) it.does) it.others,
+      )
+  begin_next number job None there = (tt, linked)
+
+  forget_next : (number site : ℕ) (o : Option Actor) → actor_at world number ≡ o → AllLinked z w (becomes world number (λ agent. forget agent site) o).world
+  forget_next number site (Some actor) there =
+      let was = linked number actor there in
+      all_linked z w w world number actor (record actor { agent = forget actor.agent site }) there was.0 linked
+      (record { index = was.1.index; fresh = was.1.fresh; doing = was.1.doing })
+      (λ t v is. is)
+      (λ u m place at small other. quiet_all first w u (u + 1) [] (next_number u) tt tt)
+  forget_next number site None there = linked
+
+  pub next : (event : happening.Event) → KeepsSide given z w world event × AllLinked z (moved given z w world event) (step (fixed_of given) world event).world
+  next (Begin number job) = begin_next number job (actor_at world number) refl
+  next (Step number) = step_next number (actor_at world number) refl
+  next (Crash server) = (tt, crash_next server (server_at world server) (event_comes given z w world inv shows all (Crash server) tt).obeys)
+  next (Return server) = (tt, return_next server (server_at world server) (event_comes given z w world inv shows all (Return server) tt).obeys)
+  next (Forget number site) = (tt, forget_next number site (actor_at world number) refl)
+  next (Lack number why) = lack_next number why (actor_at world number) refl
+
+-- ---- all events
+
+sides_from : (given : Opening) (z : ℕ) (w : World) (world : worlds.World) (events : List happening.Event) → Inv (beginning z given) w → Shows z (home_in given) (servers_of given world) w → AllConsistent (servers_of given world) → AllLinked z w world → AllWaiting given world → Readied z w world → All (fixed_of given) world → AreOwed given z w world events → KeepSides given z w world events
+sides_from given z w world [] inv shows all linked waiting readied jobs owed = tt
+sides_from given z w world (event ∷ events) inv shows all linked waiting readied jobs owed =
+    let one = next given z w world inv shows all linked owed.0 waiting readied jobs event in
+    let comes = event_comes given z w world inv shows all event one.0 in
+    (one.0, sides_from given z (moved given z w world event) (step (fixed_of given) world event).world events (all_steps (beginning z given) w inv (events_of given z w world event) comes.obeys) comes.shows comes.consistent one.1 (waits_next given z w world linked waiting event) (ready_next given z w world readied event) (event_all (fixed_of given) world jobs event) owed.1)
+
+-- ---- at the opening
+
+pub actor_opens : (start count n : ℕ) (actor : Actor) → slice_get (worlds.actors_from start count) n ≡ Some actor → (n < count) × (actor.agent ≡ agents.opening (start + n))
+actor_opens start zero n actor is = absurd (none-some actor is)
+actor_opens start (suc count) zero actor is =
+    (omega arith, ap (λ (actor : Actor). actor.agent) (sym (same_Some _ actor is)) ∙ ap agents.opening (plus start))
+  where
+    plus : (start : ℕ) → start ≡ start + 0
+    plus start = omega arith
+actor_opens start (suc count) (suc n) actor is =
+    let rest = actor_opens (start + 1) count n actor is in
+    let few = rest.0 in
+    (omega arith, rest.1 ∙ ap agents.opening (shift start n))
+  where
+    shift : (start n : ℕ) → start + 1 + n ≡ start + suc n
+    shift start n = omega arith
+
+untouched_begun : (z : ℕ) (given : Opening) (t : ℕ) → Untouched (begun (beginning z given)) t
+untouched_begun z given t = record { told = λ i. refl; aim = refl; going = record { gave_up = refl; verdict = inl refl } }
+
+linked_opening : (z : ℕ) (given : Opening) (n : ℕ) → Linked z (begun (beginning z given)) n (agents.opening n)
+linked_opening z given n = record { index = refl; fresh = λ place past. untouched_begun z given (64 * place + n); doing = tt }
+
+pub opens_linked : (z : ℕ) (given : Opening) → given.agents ≤ 64 → AllLinked z (begun (beginning z given)) (worlds.opening given)
+opens_linked z given few n actor there =
+    let is = actor_opens 0 given.agents n actor there in
+    let within = is.0 in
+    (omega arith, subst (Linked z (begun (beginning z given)) n) (sym (is.1 ∙ ap agents.opening (plus n))) (linked_opening z given n))
+  where
+    plus : (n : ℕ) → 0 + n ≡ n
+    plus n = omega arith
+
+pub opens_waiting : (given : Opening) → AllWaiting given (worlds.opening given)
+opens_waiting given n actor there =
+    let is = actor_opens 0 given.agents n actor there in
+    subst (λ servers. Waiting servers n actor.agent) (sym (servers_open given)) (subst (Waiting (λ i. state.opening i given) n) (sym is.1) (record { fresh = λ place past j. refl; now = tt }))
+
+servers_count : (given : Opening) (start count : ℕ) → length (worlds.servers_from given start count) ≡ count
+servers_count given start zero = refl
+servers_count given start (suc count) = ap suc (servers_count given (start + 1) count)
+
+pub opens_readied : (z : ℕ) (given : Opening) → given.servers ≤ max_servers → Readied z (begun (beginning z given)) (worlds.opening given)
+opens_readied z given few = record {
+  agents = λ n actor there. let is = actor_opens 0 given.agents n actor there in subst (λ (agent : Agent). IsReadying z (begun (beginning z given)) agent.doing) (sym is.1) tt;
+  below = λ j u told. absurd (false≢true told);
+  few = subst (λ n. n ≤ max_servers) (sym (servers_count given 0 given.servers)) few;
+}
+
+pub sides_are_kept : SidesAreKept
+sides_are_kept given z events valid few few_servers owed =
+    let opens = opening_shows z (home_in given) given valid in
+    sides_from given z (begun (beginning z given)) (worlds.opening given) events (begins (beginning z given) opens.0)
+    (subst (λ servers. Shows z (home_in given) servers (begun (beginning z given))) (sym (servers_open given)) opens.1)
+    (opening_consistent given) (opens_linked z given few) (opens_waiting given) (opens_readied z given few_servers) (λ n actor. jobs_open (fixed_of given) 0 given.agents n actor) owed

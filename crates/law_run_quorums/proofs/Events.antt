@@ -1,0 +1,249 @@
+-- In every run collectors hold what machines told: each event of a world.
+use Rattle.std.proofs.Common.{◌≡◌, ℕ, ◌+◌, Bool, true, false, cond, List, [], Option, Some, None, is_some, refl, sym, ap, subst, ◌∙◌, arith}
+use Rattle.std.specs.Prelude.{◌*◌, ◌&&◌, nat_lt}
+use Rattle.suite_prefix.specs.SettingsRules.{Opening}
+use Rattle.rep_core.specs.declared.request.Request.{Request}
+use Rattle.rep_core.specs.declared.request.Request.TheVariants as request
+use Rattle.rep_core.specs.declared.reply.Reply.{Reply}
+use Rattle.rep_core.specs.declared.reply.Reply.TheVariants as reply
+use Rattle.rep_core.specs.declared.stamped.Lack.TheVariants as lack
+use Rattle.rep_core.specs.declared.stamped.Stamped.{Stamped}
+use Rattle.rep_core.specs.State.{State}
+use Rattle.rep_core.specs.Service.{reply_of}
+use Rattle.rep_core.specs.Serving as serving
+use Rattle.rep_core.specs.Serving.{answer_of, is_full, served}
+use Rattle.suite_collect.specs.declared.told.Told as collect
+use Rattle.txn_core.specs.Suites.{told_at}
+use Rattle.txn_core.specs.declared.response.Response.{Response}
+use Rattle.txn_core.specs.declared.response.Response.TheVariants.{Replied, Lacked}
+use Rattle.txn_core.specs.declared.job.Job.{Job}
+use Rattle.txn_core.specs.declared.job.Job.TheVariants.{Transaction, Sweep}
+use Rattle.txn_core.specs.Doing.{Task, TransactionRun, Doing, Running, RunningSweep, After, GoesOn, Ends}
+use Rattle.txn_core.specs.Transactions.{execute}
+use Rattle.txn_core.specs.Agents.{Agent, fixed_of, next_in, next_of, take, take_in, begin, started, forget, is_idle, has_sense, max_jobs, left}
+use Rattle.txn_core.proofs.Locks.{Leaves, are_nil, leaves_execute}
+use Rattle.run_core.specs.declared.event.Event as happening
+use Rattle.run_core.specs.declared.event.Event.TheVariants.{Begin, Step, Crash, Return, Forget, Lack}
+use Rattle.run_core.specs.Worlds as worlds
+use Rattle.run_core.specs.Worlds.{Actor, server_at, actor_at, with_server, answered, asks_at, asks, steps_once, lacks_for, lacks, operated, operates, becomes, step}
+use Rattle.law_suite_machine.specs.Registers.{Beginning}
+use Rattle.law_suite_machine.specs.Machine.{Told, World, set1}
+use Rattle.law_suite_machine.specs.Events.{run}
+use Rattle.law_suite_machine.specs.Conditions.{is_exclusive, Obeys}
+use Rattle.law_suite_machine.proofs.Invariant.{Inv}
+use Rattle.law_server_moves.specs.Views.{Shows}
+use Rattle.law_server_moves.specs.Moves.{moves}
+use Rattle.law_server_moves.specs.Laws as steps
+use Rattle.law_server_moves.specs.Laws.{beginning}
+use Rattle.law_server_moves.proofs.Replies.{replies_tell}
+use Rattle.law_runs.proofs.Asking.{asks_in_its_name}
+use Rattle.law_run_machine.specs.Deciding.{decision_by, decision_in, own_events}
+use Rattle.law_run_machine.specs.Machines.{servers_of, home_in, begin_events, answered_events, asked_at_events, asked_events, step_events, lacks_for_events, lack_events, operated_events, operator_events, moved}
+use Rattle.law_run_machine.specs.Sides.{AnsweredWell, AsksAtWell, AsksWell, StepsWell, KeepsSide}
+use Rattle.law_run_machine.proofs.Servers.{server_there, servers_set}
+use Rattle.law_run_machine.proofs.Consistent.{AllConsistent, served_is}
+use Rattle.law_run_machine.proofs.Following.{serves}
+use Rattle.law_run_machine.proofs.Joining.{run-append}
+use Rattle.law_run_machine.proofs.Own.{own_told, begun_told}
+use Rattle.law_run_machine.proofs.Quiet.{quiet_same}
+use Rattle.law_run_machine.proofs.Sending.{decision_told}
+use Rattle.law_run_machine.proofs.Linked.{AllLinked, IsDoing}
+use Rattle.law_run_machine.proofs.Turns.{turn}
+use Rattle.law_run_machine.proofs.Turned.{served_at, served_concerns, lacked_concerns, others_turned, begun_so}
+use Rattle.law_run_machine.specs.Telling.{told_to}
+use Rattle.law_run_quorums.specs.Telling.{Agrees, DoingAgrees, AllAgree}
+use Rattle.law_run_quorums.proofs.Served.{heard_by, served_agrees, lacked_agrees}
+use Rattle.law_run_quorums.proofs.Agreed.{all_agree, take_agrees}
+
+same_told : (w later : World) (t : ℕ) (list : List collect.Told) → later.told ≡ w.told → Agrees (told_to w t) list → Agrees (told_to later t) list
+same_told w later t list same agrees = subst (λ told. Agrees (λ i. told i t) list) (sym same) agrees
+
+doing_same : (z : ℕ) (w later : World) (doing : Option Doing) → later.told ≡ w.told → DoingAgrees z w doing → DoingAgrees z later doing
+doing_same z w later (Some (Running txn_run)) same agrees = same_told w later txn_run.task.t (told_at txn_run.suites z) same agrees
+doing_same z w later (Some (RunningSweep sweep_run)) same agrees = tt
+doing_same z w later None same agrees = tt
+
+-- nothing told yet
+agrees_nil : (f : ℕ → Option Told) → ((i : ℕ) → f i ≡ None) → Agrees f []
+agrees_nil f none = record { copies = tt; held = λ i. ap is_some (none i); exclusive = λ i. ap is_exclusive (none i) }
+
+numbered_so : (t n count : ℕ) → t + 64 ≡ 64 * (count + 1) + n → t ≡ 64 * count + n
+numbered_so t n count is = omega arith
+
+same_only : (before other : TransactionRun) → ◌≡◌ {A = Option Doing} (Some (Running before)) (Some (Running other)) → before ≡ other
+same_only before other same = cc
+
+module _ (given : Opening) (z : ℕ) (w : World) (world : worlds.World) (inv : Inv (beginning z given) w) (shows : Shows z (home_in given) (servers_of given world) w) (all : AllConsistent (servers_of given world)) (linked : AllLinked z w world) (agree : AllAgree z w world) where
+  abbrev first : Beginning
+  first = beginning z given
+
+  tells : (i : ℕ) (st : State) (sent : Stamped Request) (later : World) → server_at world i ≡ Some st → is_full st sent ≡ false → Shows z (home_in given) (servers_of given (with_server i (served st sent) world)) later
+      → steps.Tells z (home_in given) i w later sent.value (reply_of st sent.value)
+  tells i st sent later there none shows_later =
+      subst (λ st. is_full st sent ≡ false → Shows z (home_in given) (set1 (servers_of given world) i (serving.step st sent)) later → steps.Tells z (home_in given) i w later sent.value (reply_of st sent.value)) (server_there given world i st there)
+      (λ none shows_later. replies_tell z (home_in given) (servers_of given world) i w later sent shows none shows_later)
+      none
+      (subst (λ new. Shows z (home_in given) (set1 (servers_of given world) i new) later) (sym (served_is st sent none))
+      (subst (λ servers. Shows z (home_in given) servers later) (sym (servers_set given world i st (served st sent) there)) shows_later))
+
+  -- what a request that was served told the agent
+  heard : (doing : Option Doing) (asked : ℕ × Request) (stamp : ℕ) (st : State) (n count : ℕ) → next_in (fixed_of given) doing ≡ Some asked → DoingAgrees z w doing → server_at world asked.0 ≡ Some st → is_full st (record { stamp = stamp; value = asked.1 }) ≡ false
+      → Obeys first w (served_at given z w world inv shows all n count doing asked st)
+      → Shows z (home_in given) (servers_of given (with_server asked.0 (served st (record { stamp = stamp; value = asked.1 })) world)) (run first w (served_at given z w world inv shows all n count doing asked st))
+      → (before : TransactionRun) → doing ≡ Some (Running before) → Agrees (told_to (run first w (served_at given z w world inv shows all n count doing asked st)) before.task.t) (heard_by z (told_at before.suites z) asked.0 asked.1 (Replied (reply_of st asked.1)))
+  heard (Some (Running before)) asked stamp st n count is agrees there none obeys shows_later other same =
+      subst (λ (other : TransactionRun). Agrees (told_to (run first w (served_at given z w world inv shows all n count (Some (Running before)) asked st)) other.task.t) (heard_by z (told_at other.suites z) asked.0 asked.1 (Replied (reply_of st asked.1)))) (same_only before other same)
+      (served_agrees first z (home_in given) (decision_in z w before.task before.suites before.phase) asked.0 w inv.sound (decision_told first z w before.task before.suites before.phase) before.task.t asked.1 (reply_of st asked.1) (told_at before.suites z)
+      (asks_in_its_name (fixed_of given) before.task before.suites before.phase asked.0 asked.1 is) obeys
+      (tells asked.0 st (record { stamp = stamp; value = asked.1 }) (run first w (served_at given z w world inv shows all n count (Some (Running before)) asked st)) there none shows_later) agrees)
+  heard (Some (RunningSweep sweep_run)) asked stamp st n count is agrees there none obeys shows_later other same = absurd cc
+  heard None asked stamp st n count is agrees there none obeys shows_later other same = absurd cc
+
+  lacked : (doing : Option Doing) (asked : ℕ × Request) (why : _) → DoingAgrees z w doing → (before : TransactionRun) → doing ≡ Some (Running before) → Agrees (told_to w before.task.t) (heard_by z (told_at before.suites z) asked.0 asked.1 (Lacked why))
+  lacked (Some (Running before)) asked why agrees other same =
+      subst (λ (other : TransactionRun). Agrees (told_to w other.task.t) (heard_by z (told_at other.suites z) asked.0 asked.1 (Lacked why))) (same_only before other same)
+      (lacked_agrees z asked.0 (told_to w before.task.t) asked.1 why (told_at before.suites z) agrees)
+  lacked (Some (RunningSweep sweep_run)) asked why agrees other same = absurd cc
+  lacked None asked why agrees other same = absurd cc
+
+  -- ---- a request of an agent
+
+  -- the agent takes a response, and does its own
+  takes : (later : World) (number : ℕ) (actor : Actor) (asked : ℕ × Request) (response : Response) → next_of (fixed_of given) actor.agent ≡ Some asked → IsDoing z w number actor.agent.count actor.agent.doing
+      → ((before : TransactionRun) → actor.agent.doing ≡ Some (Running before) → Agrees (told_to later before.task.t) (heard_by z (told_at before.suites z) asked.0 asked.1 response))
+      → IsDoing z (run first later (own_events z actor.agent.doing (take (fixed_of given) actor.agent response))) number actor.agent.count (take (fixed_of given) actor.agent response).agent.doing
+      → DoingAgrees z (run first later (own_events z actor.agent.doing (take (fixed_of given) actor.agent response))) (take (fixed_of given) actor.agent response).agent.doing
+  takes later number actor asked response next doing agrees after =
+      let fixed = fixed_of given in
+      let taken = take fixed actor.agent response in
+      let own = own_events z actor.agent.doing taken in
+      subst (λ o. DoingAgrees z (run first later own) (take_in fixed actor.agent response actor.agent.doing o).agent.doing) (sym next)
+      (take_agrees z w (run first later own) number actor.agent.count fixed actor.agent response actor.agent.doing asked next doing
+      (λ before same. same_told later (run first later own) before.task.t _ (own_told first z actor.agent.doing taken later) (agrees before same))
+      (subst (λ o. IsDoing z (run first later own) number actor.agent.count (take_in fixed actor.agent response actor.agent.doing o).agent.doing) next after))
+
+  lacked_turn : (number : ℕ) (actor : Actor) (asked : ℕ × Request) (why : _) → actor_at world number ≡ Some actor → next_of (fixed_of given) actor.agent ≡ Some asked
+      → AllAgree z (run first w (own_events z actor.agent.doing (take (fixed_of given) actor.agent (Lacked why)))) (worlds.with_actor number (worlds.moved actor actor.stamp (take (fixed_of given) actor.agent (Lacked why))) world)
+  lacked_turn number actor asked why there next =
+      let was = linked number actor there in
+      let it = turn first z w w number actor.agent.count (fixed_of given) actor.agent asked (Lacked why) next was.1.doing (lacked_concerns given z w world inv shows all number actor.agent.count actor.agent.doing asked why) in
+      let taken = take (fixed_of given) actor.agent (Lacked why) in
+      all_agree z w (run first w (own_events z actor.agent.doing taken)) world number actor (worlds.moved actor actor.stamp taken) there linked agree
+      (takes w number actor asked (Lacked why) next was.1.doing (lacked actor.agent.doing asked why (agree number actor there)) it.goes_on)
+      (others_turned first z w w number (fixed_of given) actor.agent (Lacked why) was.0 was.1 it)
+
+  answered_next : (number : ℕ) (actor : Actor) (asked : ℕ × Request) (st : State) → actor_at world number ≡ Some actor → next_of (fixed_of given) actor.agent ≡ Some asked → server_at world asked.0 ≡ Some st → (b : Bool) → is_full st (record { stamp = actor.stamp; value = asked.1 }) ≡ b
+      → AnsweredWell given z w actor st (cond b None (Some (record { server = asked.0; request = record { stamp = actor.stamp; value = asked.1 }; reply = answer_of st (record { stamp = actor.stamp; value = asked.1 }) })))
+      → AllAgree z (run first w (answered_events given z w actor (cond b None (Some (record { server = asked.0; request = record { stamp = actor.stamp; value = asked.1 }; reply = answer_of st (record { stamp = actor.stamp; value = asked.1 }) })))))
+      (answered (fixed_of given) world number actor st (cond b None (Some (record { server = asked.0; request = record { stamp = actor.stamp; value = asked.1 }; reply = answer_of st (record { stamp = actor.stamp; value = asked.1 }) })))).world
+  answered_next number actor asked st there next at true is well = lacked_turn number actor asked lack.Full there next
+  answered_next number actor asked st there next at false is well =
+      let was = linked number actor there in
+      let said = reply_of st asked.1 in
+      let events = served_at given z w world inv shows all number actor.agent.count actor.agent.doing asked st in
+      let follows = serves given z w world inv shows all actor.agent.doing asked.0 st (record { stamp = actor.stamp; value = asked.1 }) at is well.asks in
+      let later = run first w events in
+      let it = turn first z w later number actor.agent.count (fixed_of given) actor.agent asked (Replied said) next was.1.doing
+      (served_concerns given z w world inv shows all number actor.agent.count actor.agent.doing asked actor.stamp st next was.1.doing at is follows.obeys follows.shows) in
+      let taken = take (fixed_of given) actor.agent (Replied said) in
+      let own = own_events z actor.agent.doing taken in
+      subst (λ w. AllAgree z w (answered (fixed_of given) world number actor st (Some (record { server = asked.0; request = record { stamp = actor.stamp; value = asked.1 }; reply = answer_of st (record { stamp = actor.stamp; value = asked.1 }) }))).world) (sym (run-append first w events own))
+      (all_agree z w (run first later own) world number actor (worlds.moved actor (answer_of st (record { stamp = actor.stamp; value = asked.1 })).stamp taken) there linked agree
+      (takes later number actor asked (Replied said) next was.1.doing (heard actor.agent.doing asked actor.stamp st number actor.agent.count next (agree number actor there) at is follows.obeys follows.shows) it.goes_on)
+      (others_turned first z w later number (fixed_of given) actor.agent (Replied said) was.0 was.1 it))
+
+  at_next : (number : ℕ) (actor : Actor) (asked : ℕ × Request) → actor_at world number ≡ Some actor → next_of (fixed_of given) actor.agent ≡ Some asked → (o : Option State) → server_at world asked.0 ≡ o → AsksAtWell given z w actor asked o
+      → AllAgree z (run first w (asked_at_events given z w actor asked o)) (asks_at (fixed_of given) world number actor asked o).world
+  at_next number actor asked there next (Some st) at well = answered_next number actor asked st there next at (is_full st (record { stamp = actor.stamp; value = asked.1 })) refl well
+  at_next number actor asked there next None at well = agree
+
+  asks_next : (number : ℕ) (actor : Actor) → actor_at world number ≡ Some actor → (o : Option (ℕ × Request)) → next_of (fixed_of given) actor.agent ≡ o → AsksWell given z w world actor o
+      → AllAgree z (run first w (asked_events given z w world actor o)) (asks (fixed_of given) world number actor o).world
+  asks_next number actor there (Some asked) next well = at_next number actor asked there next (server_at world asked.0) refl well
+  asks_next number actor there None next well = agree
+
+  step_next : (number : ℕ) (o : Option Actor) → actor_at world number ≡ o → StepsWell given z w world o → AllAgree z (run first w (step_events given z w world o)) (steps_once (fixed_of given) world number o).world
+  step_next number (Some actor) there well = asks_next number actor there (next_of (fixed_of given) actor.agent) refl well
+  step_next number None there well = agree
+
+  lacks_next : (number : ℕ) (actor : Actor) (why : _) → actor_at world number ≡ Some actor → (o : Option (ℕ × Request)) → next_of (fixed_of given) actor.agent ≡ o
+      → AllAgree z (run first w (lacks_for_events given z actor (Lacked why) o)) (lacks_for (fixed_of given) world number actor (Lacked why) o).world
+  lacks_next number actor why there (Some asked) next = lacked_turn number actor asked why there next
+  lacks_next number actor why there None next = agree
+
+  lack_next : (number : ℕ) (why : _) (o : Option Actor) → actor_at world number ≡ o → AllAgree z (run first w (lack_events given z (Lacked why) o)) (lacks (fixed_of given) world number (Lacked why) o).world
+  lack_next number why (Some actor) there = lacks_next number actor why there (next_of (fixed_of given) actor.agent) refl
+  lack_next number why None there = agree
+
+  -- ---- the operator tells nobody of a copy
+
+  crashed : (i : ℕ) (said : Reply) → (run first w (moves z (home_in given) (decision_by z w None) i w request.Crash said)).told ≡ w.told
+  crashed i reply.Done = refl
+  crashed i _ = refl
+
+  returned : (i : ℕ) (said : Reply) → (run first w (moves z (home_in given) (decision_by z w None) i w request.Return said)).told ≡ w.told
+  returned i reply.Done = refl
+  returned i _ = refl
+
+  all_same : (later : World) → later.told ≡ w.told → AllAgree z later world
+  all_same later same number actor there = doing_same z w later actor.agent.doing same (agree number actor there)
+
+  operated_next : (i : ℕ) (asked : Request) (st : State) (b : Bool) → ((said : Reply) → (run first w (moves z (home_in given) (decision_by z w None) i w asked said)).told ≡ w.told)
+      → AllAgree z (run first w (operated_events given z w (cond b None (Some (record { server = i; request = record { stamp = 0; value = asked }; reply = answer_of st (record { stamp = 0; value = asked }) })))))
+      (operated world st (cond b None (Some (record { server = i; request = record { stamp = 0; value = asked }; reply = answer_of st (record { stamp = 0; value = asked }) })))).world
+  operated_next i asked st true same = agree
+  operated_next i asked st false same = all_same (run first w (moves z (home_in given) (decision_by z w None) i w asked (reply_of st asked))) (same (reply_of st asked))
+
+  operator_next : (i : ℕ) (asked : Request) (o : Option State) → ((said : Reply) → (run first w (moves z (home_in given) (decision_by z w None) i w asked said)).told ≡ w.told) → AllAgree z (run first w (operator_events given z w i asked o)) (operates world i asked o).world
+  operator_next i asked (Some st) same = operated_next i asked st (is_full st (record { stamp = 0; value = asked })) same
+  operator_next i asked None same = agree
+
+  -- ---- what changes agents alone
+
+  -- a job that begins was told of nothing
+  begun_left : (later : World) (n count : ℕ) (after : After TransactionRun) → ((i : ℕ) → w.told i (64 * count + n) ≡ None) → Leaves (λ number. []) after → IsDoing z later n (count + 1) (left Running after) → DoingAgrees z w (left Running after)
+  begun_left later n count (GoesOn txn_run) untold leaves doing =
+      let at : txn_run.task.t ≡ 64 * count + n = numbered_so txn_run.task.t n count doing.numbered in
+      subst (λ list. Agrees (told_to w txn_run.task.t) list) (sym (leaves.1 z)) (agrees_nil (told_to w txn_run.task.t) (λ i. ap (w.told i) at ∙ untold i))
+  begun_left later n count (Ends ending) untold leaves doing = tt
+
+  began : (later : World) (number : ℕ) (agent : Agent) (job : Job) → ((i : ℕ) → w.told i (64 * agent.count + number) ≡ None) → DoingAgrees z w agent.doing → IsDoing z later number (begin (fixed_of given) agent job).count (begin (fixed_of given) agent job).doing
+      → DoingAgrees z w (begin (fixed_of given) agent job).doing
+  began later number agent job untold agrees =
+      elim (is_idle agent.doing && has_sense (fixed_of given) job && nat_lt agent.count max_jobs) as (λ b. IsDoing z later number (cond b (record (started (fixed_of given) agent job) { count = agent.count + 1 }) agent).count (cond b (record (started (fixed_of given) agent job) { count = agent.count + 1 }) agent).doing
+      → DoingAgrees z w (cond b (record (started (fixed_of given) agent job) { count = agent.count + 1 }) agent).doing) [
+        | true ↦ of job
+        | false ↦ λ _. agrees
+      ]
+    where
+      of : (job : Job) → IsDoing z later number (agent.count + 1) (started (fixed_of given) agent job).doing → DoingAgrees z w (started (fixed_of given) agent job).doing
+      of (Transaction caller site ops) doing =
+          let task : Task = record { t = 64 * agent.count + agent.index; caller = caller; site = site; ops = ops } in
+          begun_left later number agent.count (execute (fixed_of given) task (record { suites = []; cache = agent.cache })).after untold
+          (leaves_execute (λ number. []) (fixed_of given) task (record { suites = []; cache = agent.cache }) are_nil) doing
+      of (Sweep server) doing = tt
+
+  begin_next : (number : ℕ) (job : Job) (o : Option Actor) → actor_at world number ≡ o → AllAgree z (run first w (begin_events given z job o)) (becomes world number (λ agent. begin (fixed_of given) agent job) o).world
+  begin_next number job (Some actor) there =
+      let was = linked number actor there in
+      let it = begun_so first z w number (fixed_of given) actor.agent was.0 was.1 job in
+      let later = run first w (begin_events given z job (Some actor)) in
+      all_agree z w later world number actor (record actor { agent = begin (fixed_of given) actor.agent job }) there linked agree
+      (doing_same z w later (begin (fixed_of given) actor.agent job).doing (begun_told first z actor.agent.doing (begin (fixed_of given) actor.agent job).doing w)
+      (began later number actor.agent job (was.1.fresh actor.agent.count (omega arith)).told (agree number actor there) it.now.doing))
+      it.others
+  begin_next number job None there = agree
+
+  forget_next : (number site : ℕ) (o : Option Actor) → actor_at world number ≡ o → AllAgree z w (becomes world number (λ agent. forget agent site) o).world
+  forget_next number site (Some actor) there =
+      all_agree z w w world number actor (record actor { agent = forget actor.agent site }) there linked agree (agree number actor there) (λ u m place is small other. quiet_same w u)
+  forget_next number site None there = agree
+
+  -- each event keeps it, where agents keep to their side
+  pub event_agrees : (event : happening.Event) → KeepsSide given z w world event → AllAgree z (moved given z w world event) (step (fixed_of given) world event).world
+  event_agrees (Begin number job) well = begin_next number job (actor_at world number) refl
+  event_agrees (Step number) well = step_next number (actor_at world number) refl well
+  event_agrees (Crash server) well = operator_next server request.Crash (server_at world server) (crashed server)
+  event_agrees (Return server) well = operator_next server request.Return (server_at world server) (returned server)
+  event_agrees (Forget number site) well = forget_next number site (actor_at world number) refl
+  event_agrees (Lack number why) well = lack_next number why (actor_at world number) refl

@@ -1,0 +1,216 @@
+-- What a transaction knows of a suite, it knows from a quorum.
+use Rattle.std.proofs.Common.{◌≡◌, ℕ, ◌<◌, ◌≤◌, Bool, true, false, cond, ◌⊎◌, inl, inr, List, [], ◌∷◌, ◌++◌, Option, Some, refl, sym, ap, subst, ◌∙◌, arith}
+use Rattle.std.specs.Prelude.{◌==◌, ◌&&◌, ◌||◌, nat_lt, nat_le, max}
+use Rattle.std.proofs.lemmas.Bool.{false≢true, eqb-true}
+use Rattle.std.proofs.lemmas.Bool.Decides.{nat_tests}
+use Rattle.vote_core.specs.Quorums.{Representative, Configuration, votes_in}
+use Rattle.vote_core.specs.Validity.{IsValid}
+use Rattle.suite_prefix.specs.declared.copies.Prefix.{Prefix}
+use Rattle.suite_prefix.specs.declared.lock_mode.LockMode.{LockMode}
+use Rattle.suite_prefix.specs.declared.lock_mode.LockMode.TheVariants.{Shared, Exclusive}
+use Rattle.suite_prefix.specs.LockModes.{serves}
+use Rattle.suite_collect.specs.declared.told.Said.{Said}
+use Rattle.suite_collect.specs.declared.told.Said.TheVariants.{Held, Busy, Down}
+use Rattle.suite_collect.specs.declared.told.Told as collect
+use Rattle.suite_collect.specs.Telling.{is_held, newer, newest, holds, version_in, shown, greatest}
+use Rattle.suite_collect.specs.Collecting.{Collector, all_told, needed_of}
+use Rattle.suite_collect.specs.Laws.{among, IsCurrent}
+use Rattle.suite_collect.proofs.Collected.{gives_of, current_is_a_quorum}
+use Rattle.txn_core.specs.Suites.{ReadPoint, Suite}
+use Rattle.law_suite_machine.specs.Registers.{Beginning, Known, WasPrefix}
+use Rattle.law_suite_machine.specs.Machine.{Told, World, IsQuorum}
+use Rattle.law_suite_machine.proofs.Invariant.{Inv}
+use Rattle.law_run_machine.specs.Deciding.{showed, known_by}
+use Rattle.law_run_machine.specs.Telling.{told_to, ToldOf, SaidIs, AreTold}
+use Rattle.law_run_quorums.specs.Firsts.{FirstFrom, early_collector}
+use Rattle.law_run_quorums.specs.Laws.{KnowsFromAQuorum}
+
+-- ---- what a server showed
+
+newer_above : (prefix : Prefix) (said : Said) → prefix.pver ≤ (newer prefix said).pver
+newer_above prefix (Held other dver) =
+    elim (nat_lt prefix.pver other.pver) as (λ b. nat_lt prefix.pver other.pver ≡ b → prefix.pver ≤ (cond b other prefix).pver) [ true ↦ λ e. grind (arith, nat_tests) | false ↦ λ _. omega arith ] refl
+newer_above prefix (Busy holder) = omega arith
+newer_above prefix Down = omega arith
+
+newer_least : (prefix other : Prefix) (dver : ℕ) → other.pver ≤ (newer prefix (Held other dver)).pver
+newer_least prefix other dver =
+    elim (nat_lt prefix.pver other.pver) as (λ b. nat_lt prefix.pver other.pver ≡ b → other.pver ≤ (cond b other prefix).pver) [ true ↦ λ _. omega arith | false ↦ λ e. grind (arith, nat_tests) ] refl
+
+-- a server that holds a lock was told of, with the version that it showed and no newer prefix
+record Showed (f : ℕ → Option Told) (start : Prefix) (list : List collect.Told) (i : ℕ) : Type 0 where
+  one : Told
+  is : f i ≡ Some one
+  prefix : one.copy.prefix.pver ≤ (newest start list).pver
+  dver : one.copy.dver ≡ shown list i
+
+not_held : (said : Said) (b : Bool) → (is_held said && b) ≡ true → is_held said ≡ true
+not_held said b is = elim (is_held said) as (λ h. (h && b) ≡ true → h ≡ true) [ true ↦ λ _. refl | false ↦ λ no. no ] is
+
+showed_on : (f : ℕ → Option Told) (start : Prefix) (mode : LockMode) (list : List collect.Told) (i : ℕ) → AreTold f list → holds mode list i ≡ true → Showed f start list i
+showed_on f start mode [] i are held = absurd (false≢true held)
+showed_on f start mode (last ∷ list) i are held =
+    elim (last.server == i) as (λ b. (last.server == i) ≡ b → ((b && (is_held last.said && serves last.mode mode)) || holds mode list i) ≡ true → Showed f start (last ∷ list) i) [
+      | true ↦ λ e held. here e last.said refl are.0 held (λ held. showed_on f start mode list i are.1 held)
+      | false ↦ λ e held. let rest = showed_on f start mode list i are.1 held in later e last.said refl rest
+    ] refl held
+  where
+    later : (last.server == i) ≡ false → (said : Said) → last.said ≡ said → Showed f start list i → Showed f start (last ∷ list) i
+    later e said _ rest = record {
+      one = rest.one;
+      is = rest.is;
+      prefix = let a = rest.prefix in let b = newer_above (newest start list) last.said in omega arith;
+      dver = rest.dver ∙ sym (ap (λ b. cond b (version_in last.said (shown list i)) (shown list i)) e);
+    }
+
+    quiet : (last.server == i) ≡ true → (said : Said) → last.said ≡ said → version_in last.said (shown list i) ≡ shown list i → Showed f start list i → Showed f start (last ∷ list) i
+    quiet e said _ same rest = record {
+      one = rest.one;
+      is = rest.is;
+      prefix = let a = rest.prefix in let b = newer_above (newest start list) last.said in omega arith;
+      dver = rest.dver ∙ sym (ap (λ b. cond b (version_in last.said (shown list i)) (shown list i)) e ∙ same);
+    }
+
+    here : (last.server == i) ≡ true → (said : Said) → last.said ≡ said → SaidIs (f last.server) last.said → ((is_held last.said && serves last.mode mode) || holds mode list i) ≡ true → (holds mode list i ≡ true → Showed f start list i) → Showed f start (last ∷ list) i
+    here e (Held prefix dver) same told held rest =
+        let of : ToldOf (f last.server) prefix dver = subst (SaidIs (f last.server)) same told in
+        let at : last.server ≡ i = eqb-true last.server i e in
+        record {
+          one = of.one;
+          is = ap f (sym at) ∙ of.is;
+          prefix = subst (λ said. of.one.copy.prefix.pver ≤ (newer (newest start list) said).pver) (sym same) (subst (λ (p : Prefix). p.pver ≤ (newer (newest start list) (Held prefix dver)).pver) (sym of.prefix_is) (newer_least (newest start list) prefix dver));
+          dver = of.dver_is ∙ sym (ap (λ b. cond b (version_in last.said (shown list i)) (shown list i)) e ∙ ap (λ said. version_in said (shown list i)) same);
+        }
+    here e (Busy holder) same told held rest =
+        quiet e (Busy holder) same (ap (λ said. version_in said (shown list i)) same)
+        (rest (sym (ap (λ said. (is_held said && serves last.mode mode) || holds mode list i) same) ∙ held))
+    here e Down same told held rest =
+        quiet e Down same (ap (λ said. version_in said (shown list i)) same)
+        (rest (sym (ap (λ said. (is_held said && serves last.mode mode) || holds mode list i) same) ∙ held))
+
+-- ---- the greatest version
+
+max_left : (a b : ℕ) → a ≤ max a b
+max_left a b = grind (arith, nat_tests)
+
+max_right : (a b : ℕ) → b ≤ max a b
+max_right a b = grind (arith, nat_tests)
+
+max_is : (a b : ℕ) → (max a b ≡ a) ⊎ (max a b ≡ b)
+max_is a b = elim (nat_le a b) as (λ c. nat_le a b ≡ c → (max a b ≡ a) ⊎ (max a b ≡ b)) [ true ↦ λ e. inr (grind (arith, nat_tests)) | false ↦ λ e. inl (grind (arith, nat_tests)) ] refl
+
+greatest_above : (list : List collect.Told) (members : List ℕ) (i : ℕ) → among members i ≡ true → shown list i ≤ greatest list members
+greatest_above list [] i is = absurd (false≢true is)
+greatest_above list (first ∷ members) i is =
+    elim (first == i) as (λ b. (first == i) ≡ b → (b || among members i) ≡ true → shown list i ≤ greatest list (first ∷ members)) [
+      | true ↦ λ e _. subst (λ i. shown list i ≤ greatest list (first ∷ members)) (eqb-true first i e) (max_left (shown list first) (greatest list members))
+      | false ↦ λ _ is. let rest = greatest_above list members i is in let more = max_right (shown list first) (greatest list members) in omega arith
+    ] refl is
+
+self : (i : ℕ) → (i == i) ≡ true
+self i = grind (arith, nat_tests)
+
+or_true : (a b : Bool) → b ≡ true → (a || b) ≡ true
+or_true true b is = refl
+or_true false b is = is
+
+-- one of them showed it
+greatest_of : (list : List collect.Told) (first : ℕ) (members : List ℕ) → (i : ℕ) × (among (first ∷ members) i ≡ true) × (shown list i ≡ greatest list (first ∷ members))
+greatest_of list first [] =
+    (first, ap (λ b. b || false) (self first), elim (max_is (shown list first) 0) [ inl is ↦ sym is | inr is ↦ let low = max_left (shown list first) 0 in (let e : shown list first ≡ max (shown list first) 0 = omega (arith, is, low) in e) ])
+greatest_of list first (second ∷ members) =
+    let rest = greatest_of list second members in
+    elim (max_is (shown list first) (greatest list (second ∷ members))) [
+      | inl is ↦ (first, ap (λ b. b || among (second ∷ members) first) (self first), sym is)
+      | inr is ↦ (rest.0, or_true (first == rest.0) (among (second ∷ members) rest.0) rest.1, rest.2 ∙ sym is)
+    ]
+
+-- ---- quorums
+
+votes_more : (reps : List Representative) (f g : ℕ → Bool) → ((server : ℕ) → f server ≡ true → g server ≡ true) → votes_in reps f ≤ votes_in reps g
+votes_more [] f g h = omega arith
+votes_more (rep ∷ reps) f g h = let one = term (f rep.0) (g rep.0) rep.1 (h rep.0) in let rest = votes_more reps f g h in omega (arith, one, rest)
+  where
+    term : (a b : Bool) (v : ℕ) → (a ≡ true → b ≡ true) → cond a v 0 ≤ cond b v 0
+    term false b v h = omega arith
+    term true true v h = omega arith
+    term true false v h = absurd (false≢true (h refl))
+
+no_votes : (reps : List Representative) → votes_in reps (among []) ≡ 0
+no_votes [] = refl
+no_votes (rep ∷ reps) = let rest = no_votes reps in omega arith
+
+least : (a b : ℕ) → a ≤ b → nat_le a b ≡ true
+least a b is = grind (arith, nat_tests)
+
+is_quorum : (mode : LockMode) (votes : Configuration) (set : ℕ → Bool) → needed_of mode votes ≤ votes_in votes.reps set → IsQuorum votes set
+is_quorum Shared votes set enough = inl (least votes.r (votes_in votes.reps set) enough)
+is_quorum Exclusive votes set enough = inr (least votes.w (votes_in votes.reps set) enough)
+
+some_needed : (mode : LockMode) (votes : Configuration) → IsValid votes → 0 < needed_of mode votes
+some_needed Shared votes valid = valid.r_in_range.0
+some_needed Exclusive votes valid = valid.w_in_range.0
+
+showed_is : (known : Known) (o : Option Told) (one : Told) → o ≡ Some one → one.copy.prefix.pver ≤ known.prefix.pver → one.copy.dver ≤ known.dver → showed known o ≡ true
+showed_is known o one is prefix dver =
+    ap (showed known) is ∙ ap (λ b. b && nat_le one.copy.dver known.dver) (least one.copy.prefix.pver known.prefix.pver prefix) ∙ least one.copy.dver known.dver dver
+
+-- ---- the lists of a collector
+
+are_later : (f : ℕ → Option Told) (later early : List collect.Told) → AreTold f (later ++ early) → AreTold f early
+are_later f [] early are = are
+are_later f (one ∷ later) early are = are_later f later early are.1
+
+module _ (f : ℕ → Option Told) (suite : Suite) (first : ReadPoint) (from : FirstFrom suite first) (told : AreTold f (all_told suite.collector)) where
+  abbrev early : Collector
+  early = early_collector suite.collector.start from.mode from.earlier
+
+  told_early : AreTold f from.earlier
+  told_early = are_later f from.later from.earlier (subst (AreTold f) from.parts told)
+
+  is_current : IsCurrent early first.prefix first.dver from.members
+  is_current = current_is_a_quorum early first.prefix first.dver from.members refl from.gave
+
+  newest_is : newest suite.collector.start from.earlier ≡ first.prefix
+  newest_is = (gives_of early first.prefix first.dver from.members from.gave).prefix_is
+
+  member : (i : ℕ) → among from.members i ≡ true → Showed f suite.collector.start from.earlier i
+  member i is = showed_on f suite.collector.start from.mode from.earlier i told_early (is_current.held i is)
+
+  showed_member : (i : ℕ) → among from.members i ≡ true → showed (known_by first suite) (f i) ≡ true
+  showed_member i is =
+      let it = member i is in
+      showed_is (known_by first suite) (f i) it.one it.is
+      (subst (λ (p : Prefix). it.one.copy.prefix.pver ≤ p.pver) newest_is it.prefix)
+      (let above = greatest_above from.earlier from.members i is in let a = it.dver in let b = is_current.latest in omega arith)
+
+  pub quorum : IsQuorum first.prefix.votes (λ i. showed (known_by first suite) (f i))
+  quorum =
+      let more = votes_more first.prefix.votes.reps (among from.members) (λ i. showed (known_by first suite) (f i)) showed_member in
+      let enough = is_current.quorum in
+      is_quorum from.mode first.prefix.votes (λ i. showed (known_by first suite) (f i)) (omega arith)
+
+  pub source : IsValid first.prefix.votes → (i : ℕ) × (one : Told) × (f i ≡ Some one) × (one.copy.dver ≡ first.dver)
+  source valid = of from.members refl
+    where
+      of : (members : List ℕ) → from.members ≡ members → (i : ℕ) × (one : Told) × (f i ≡ Some one) × (one.copy.dver ≡ first.dver)
+      of [] same =
+          let enough : needed_of from.mode first.prefix.votes ≤ votes_in first.prefix.votes.reps (among []) = subst (λ members. needed_of from.mode first.prefix.votes ≤ votes_in first.prefix.votes.reps (among members)) same is_current.quorum in
+          let none = no_votes first.prefix.votes.reps in
+          let some = some_needed from.mode first.prefix.votes valid in
+          absurd (omega arith)
+      of (one ∷ members) same =
+          let found = greatest_of from.earlier one members in
+          let it = member found.0 (ap (λ members. among members found.0) same ∙ found.1) in
+          (found.0, it.one, it.is, it.dver ∙ found.2 ∙ ap (greatest from.earlier) (sym same) ∙ sym is_current.latest)
+
+-- ---- what is owed of a suite that it knows
+
+pub valid_was : (start : Beginning) (w : World) (prefix : Prefix) → Inv start w → WasPrefix start w.log prefix → IsValid prefix.votes
+valid_was start w prefix inv was = subst (λ (p : Prefix). IsValid p.votes) was.1 (inv.logged.valid prefix.pver)
+
+pub knows_from_a_quorum : KnowsFromAQuorum
+knows_from_a_quorum start w t suite first valid from agrees was content =
+    let told = agrees.copies in
+    let found = source (told_to w t) suite first from told valid in
+    record { quorum = quorum (told_to w t) suite first from told; was = was; from = found.0; from_told = found.1; told_from = found.2; told_dver = found.3; content = content }

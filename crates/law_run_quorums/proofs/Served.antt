@@ -1,0 +1,242 @@
+-- What a request that is served makes of the machine's telling, and of the collector's list.
+use Rattle.std.proofs.Common.{◌≡◌, ℕ, Bool, true, false, cond, List, [], ◌∷◌, Option, Some, None, is_some, refl, sym, ap, subst, ◌∙◌, arith}
+use Rattle.std.specs.Prelude.{◌==◌, ◌&&◌, ◌||◌}
+use Rattle.std.proofs.lemmas.Bool.{false≢true, eqb-true}
+use Rattle.std.proofs.lemmas.Bool.Decides.{nat_tests}
+use Rattle.suite_prefix.specs.declared.copies.Prefix.{Prefix}
+use Rattle.suite_prefix.specs.declared.copies.Replica.{Replica}
+use Rattle.suite_prefix.specs.declared.lock_mode.LockMode.{LockMode}
+use Rattle.suite_prefix.specs.declared.lock_mode.LockMode.TheVariants.{Shared, Exclusive}
+use Rattle.suite_prefix.specs.LockModes as modes
+use Rattle.suite_prefix.specs.LockModes.{serves}
+use Rattle.rep_core.specs.declared.request.Part.{Part}
+use Rattle.rep_core.specs.declared.request.Request.{Request}
+use Rattle.rep_core.specs.declared.request.Request.TheVariants as request
+use Rattle.rep_core.specs.declared.reply.Reply.{Reply}
+use Rattle.rep_core.specs.declared.stamped.Lack.{Lack}
+use Rattle.rep_core.specs.declared.reply.Reply.TheVariants as reply
+use Rattle.suite_collect.specs.declared.told.Said.{Said}
+use Rattle.suite_collect.specs.declared.told.Said.TheVariants.{Held, Busy, Down}
+use Rattle.suite_collect.specs.declared.told.Told as collect
+use Rattle.suite_collect.specs.Telling.{is_held, holds}
+use Rattle.suite_collect.specs.Collecting.{mode_of}
+use Rattle.txn_core.specs.declared.response.Response.{Response}
+use Rattle.txn_core.specs.declared.response.Response.TheVariants.{Replied, Lacked}
+use Rattle.txn_core.specs.Laws.{more_told, told_by, locks}
+use Rattle.txn_core.specs.Transactions.{is_poll, said_to}
+use Rattle.law_suite_machine.specs.Registers.{Beginning}
+use Rattle.law_suite_machine.specs.Machine.{Told, Hold, Verdict, World, set2}
+use Rattle.law_suite_machine.specs.Events as machine
+use Rattle.law_suite_machine.specs.Events.{Event, Overrule, happens, run, upgraded_told}
+use Rattle.law_suite_machine.specs.Conditions.{is_exclusive, Obeys}
+use Rattle.law_suite_machine.proofs.Places.{at2, one_is, itself}
+use Rattle.law_suite_machine.proofs.Sound.{Sound}
+use Rattle.law_server_moves.specs.Moves.{prepare_of, first_verdict, moves}
+use Rattle.law_server_moves.specs.Laws.{TellsCopy, Tells}
+use Rattle.law_runs.specs.Naming.{names}
+use Rattle.law_run_machine.specs.Telling.{told_to, ToldOf, SaidIs, AreTold}
+use Rattle.law_run_quorums.specs.Telling.{Agrees}
+
+-- what a response adds to a list
+abbrev pub heard_by : ℕ → List collect.Told → ℕ → Request → Response → List collect.Told
+heard_by z list i asked response = cond (locks z asked) (told_by list (record { server = i; request = asked; response = response }) response) list
+
+-- ---- a list of what was told
+
+-- the copies stay
+abbrev Grows : (ℕ → Option Told) → (ℕ → Option Told) → Type 0
+Grows f g = (i : ℕ) (one : Told) → f i ≡ Some one → (more : Told) × (g i ≡ Some more) × (more.copy ≡ one.copy)
+
+grows_of : (f g : ℕ → Option Told) (i : ℕ) (prefix : Prefix) (dver : ℕ) → Grows f g → ToldOf (f i) prefix dver → ToldOf (g i) prefix dver
+grows_of f g i prefix dver grows is =
+    let more = grows i is.one is.is in
+    record { one = more.0; is = more.1; prefix_is = ap (λ (copy : Replica). copy.prefix) more.2 ∙ is.prefix_is; dver_is = ap (λ (copy : Replica). copy.dver) more.2 ∙ is.dver_is }
+
+are_grown : (f g : ℕ → Option Told) (list : List collect.Told) → Grows f g → AreTold f list → AreTold g list
+are_grown f g [] grows are = tt
+are_grown f g (one ∷ list) grows are = (of one.said are.0, are_grown f g list grows are.1)
+  where
+    of : (said : Said) → SaidIs (f one.server) said → SaidIs (g one.server) said
+    of (Held prefix dver) is = grows_of f g one.server prefix dver grows is
+    of (Busy holder) is = tt
+    of Down is = tt
+
+-- a response that tells of no lock
+refused_agrees : (f : ℕ → Option Told) (list : List collect.Told) (i : ℕ) (mode : LockMode) (said : Said) → is_held said ≡ false → Agrees f list → Agrees f (record { server = i; mode = mode; said = said } ∷ list)
+refused_agrees f list i mode said none agrees = record {
+  copies = (of said none, agrees.copies);
+  held = λ who. agrees.held who ∙ sym (same who (serves mode Shared) (holds Shared list who));
+  exclusive = λ who. agrees.exclusive who ∙ sym (same who (serves mode Exclusive) (holds Exclusive list who));
+}
+  where
+    of : (said : Said) → is_held said ≡ false → SaidIs (f i) said
+    of (Held prefix dver) none = absurd (false≢true (sym none))
+    of (Busy holder) none = tt
+    of Down none = tt
+
+    off : (a b c : Bool) → ((a && (false && b)) || c) ≡ c
+    off true b c = refl
+    off false b c = refl
+
+    same : (who : ℕ) (b c : Bool) → (((i == who) && (is_held said && b)) || c) ≡ c
+    same who b c = ap (λ d. ((i == who) && (d && b)) || c) none ∙ off (i == who) b c
+
+-- a request that is not served tells of none
+pub lacked_agrees : (z i : ℕ) (f : ℕ → Option Told) (asked : Request) (why : Lack) (list : List collect.Told) → Agrees f list → Agrees f (heard_by z list i asked (Lacked why))
+lacked_agrees z i f asked why list agrees = elim (locks z asked) as (λ b. Agrees f (cond b list list)) [ true ↦ agrees | false ↦ agrees ]
+
+serves_shared : (mode : LockMode) → serves mode Shared ≡ true
+serves_shared Shared = refl
+serves_shared Exclusive = refl
+
+serves_exclusive : (mode : LockMode) → serves mode Exclusive ≡ modes.is_exclusive mode
+serves_exclusive Shared = refl
+serves_exclusive Exclusive = refl
+
+same_test : (a b : ℕ) → (a == b) ≡ true → (b == a) ≡ true
+same_test a b e = grind (arith, nat_tests)
+
+other_test : (a b : ℕ) → (a == b) ≡ false → (b == a) ≡ false
+other_test a b e = grind (arith, nat_tests)
+
+-- one more is told of: the rest stays, and here is this copy under a lock that is exclusive now, or was before
+pub held_agrees : (f g : ℕ → Option Told) (list : List collect.Told) (i : ℕ) (mode : LockMode) (prefix : Prefix) (dver : ℕ) → Agrees f list → Grows f g → ((who : ℕ) → (who ≡ i → ⊥) → g who ≡ f who) → ToldOf (g i) prefix dver
+    → is_exclusive (g i) ≡ (modes.is_exclusive mode || is_exclusive (f i)) → Agrees g (record { server = i; mode = mode; said = Held prefix dver } ∷ list)
+held_agrees f g list i mode prefix dver agrees grows others here exclusive = record {
+  copies = (here, are_grown f g list grows agrees.copies);
+  held = λ who.
+      elim (i == who) as (λ b. (i == who) ≡ b → is_some (g who) ≡ ((b && (true && serves mode Shared)) || holds Shared list who)) [
+        | true ↦ λ e. ap (λ i. is_some (g i)) (sym (eqb-true i who e)) ∙ ap is_some here.is ∙ sym (ap (λ b. b || holds Shared list who) (serves_shared mode))
+        | false ↦ λ e. ap is_some (others who (apart who e)) ∙ agrees.held who
+      ] refl;
+  exclusive = λ who.
+      elim (i == who) as (λ b. (i == who) ≡ b → is_exclusive (g who) ≡ ((b && (true && serves mode Exclusive)) || holds Exclusive list who)) [
+        | true ↦ λ e.
+            let same : i ≡ who = eqb-true i who e in
+            ap (λ i. is_exclusive (g i)) (sym same) ∙ exclusive ∙ ap (λ b. modes.is_exclusive mode || b) (agrees.exclusive i) ∙ ap (λ i. modes.is_exclusive mode || holds Exclusive list i) same
+            ∙ sym (ap (λ b. b || holds Exclusive list who) (serves_exclusive mode))
+        | false ↦ λ e. ap is_exclusive (others who (apart who e)) ∙ agrees.exclusive who
+      ] refl;
+}
+  where
+    apart : (who : ℕ) → (i == who) ≡ false → who ≡ i → ⊥
+    apart who e same = false≢true (sym e ∙ itself who i (sym same))
+
+some_same : (a b : Told) → Some a ≡ Some b → a ≡ b
+some_same a b e = cc
+
+-- ---- the machine
+
+module _ (start : Beginning) (z : ℕ) (home : ℕ → ℕ) (decision : Event) (i : ℕ) (w : World) (sound : Sound w) (keeps : (happens start w decision).told ≡ w.told) where
+  abbrev Later : Request → Reply → World
+  Later asked said = run start w (moves z home decision i w asked said)
+
+  -- what is no lock tells of none
+  told_if : (b : Bool) (event : Event) → (happens start w event).told ≡ w.told → (run start w (cond b (event ∷ []) [])).told ≡ w.told
+  told_if true event is = is
+  told_if false event is = refl
+
+  told_prepare : (t : ℕ) (o : Option Part) → (run start w (prepare_of i t w o)).told ≡ w.told
+  told_prepare t (Some part) = refl
+  told_prepare t None = refl
+
+  told_ruling : (b : Bool) (o : Option Verdict) (event : Event) → (happens start w event).told ≡ w.told → (run start w (cond b (first_verdict o event) [])).told ≡ w.told
+  told_ruling true None event is = is
+  told_ruling true (Some old) event is = refl
+  told_ruling false o event is = refl
+
+  same_list : (t : ℕ) (later : World) (list : List collect.Told) → later.told ≡ w.told → Agrees (told_to w t) list → Agrees (told_to later t) list
+  same_list t later list same agrees = subst (λ told. Agrees (λ i. told i t) list) (sym same) agrees
+
+  -- a lock that is new
+  module _ (t : ℕ) (list : List collect.Told) (agrees : Agrees (told_to w t) list) (prefix : Prefix) (dver : ℕ) (copy : TellsCopy w i prefix dver) where
+    new_lock : (u : ℕ) (mode : LockMode) → u ≡ t → w.told i u ≡ None → Agrees (told_to (machine.held w i u (modes.is_exclusive mode)) t) (record { server = i; mode = mode; said = Held prefix dver } ∷ list)
+    new_lock u mode same none =
+        let new : Told = record { exclusive = modes.is_exclusive mode; copy = w.copy i } in
+        let untold : w.told i t ≡ None = ap (w.told i) (sym same) ∙ none in
+        let here : set2 w.told i u (Some new) i t ≡ Some new = at2 (λ o. o ≡ Some new) w.told i u (Some new) i t (λ _. refl) (λ no. absurd (no (refl, sym same))) in
+        held_agrees (told_to w t) (λ who. set2 w.told i u (Some new) who t) list i mode prefix dver agrees
+        (λ who one is. at2 (λ o. (more : Told) × (o ≡ Some more) × (more.copy ≡ one.copy)) w.told i u (Some new) who t
+        (λ at. absurd (let e : w.told i t ≡ Some one = ap (λ i. w.told i t) (sym at.0) ∙ is in let e' = sym untold ∙ e in cc)) (λ _. (one, is, refl)))
+        (λ who apart. at2 (λ o. o ≡ w.told who t) w.told i u (Some new) who t (λ at. absurd (apart at.0)) (λ _. refl))
+        (record { one = new; is = here; prefix_is = copy.prefix_is; dver_is = copy.dver_is })
+        (ap is_exclusive here ∙ or_none (modes.is_exclusive mode) (is_exclusive (w.told i t)) (ap is_exclusive untold))
+      where
+        or_none : (a b : Bool) → b ≡ false → a ≡ (a || b)
+        or_none true b is = refl
+        or_none false b is = sym is
+
+    -- one that becomes exclusive: it stood unbroken, so the copy is the one that was told of
+    upgraded_lock : (u : ℕ) (hold : Hold) → u ≡ t → w.lock i u ≡ Some hold → Agrees (told_to (machine.upgraded w i u) t) (record { server = i; mode = Exclusive; said = Held prefix dver } ∷ list)
+    upgraded_lock u hold same stands = of (w.told i u) refl
+      where
+        of : (o : Option Told) → w.told i u ≡ o → Agrees (λ who. set2 w.told i u (upgraded_told (w.told i u)) who t) (record { server = i; mode = Exclusive; said = Held prefix dver } ∷ list)
+        of None is = absurd (let none = sound.asked i u is in let e = sym none ∙ stands in cc)
+        of (Some old) is =
+            let new : Told = record { exclusive = true; copy = old.copy } in
+            let old_is : w.told i t ≡ Some old = ap (w.told i) (sym same) ∙ is in
+            let shown : w.copy i ≡ old.copy = sound.shown i u old hold is stands in
+            let here : set2 w.told i u (upgraded_told (w.told i u)) i t ≡ Some new = at2 (λ o. o ≡ Some new) w.told i u (upgraded_told (w.told i u)) i t (λ _. ap upgraded_told is) (λ no. absurd (no (refl, sym same))) in
+            held_agrees (told_to w t) (λ who. set2 w.told i u (upgraded_told (w.told i u)) who t) list i Exclusive prefix dver agrees
+            (λ who one told. at2 (λ o. (more : Told) × (o ≡ Some more) × (more.copy ≡ one.copy)) w.told i u (upgraded_told (w.told i u)) who t
+            (λ at. (new, ap upgraded_told is, let e : old ≡ one = some_same old one (sym old_is ∙ ap (λ i. w.told i t) (sym at.0) ∙ told) in ap (λ (one : Told). one.copy) e)) (λ _. (one, told, refl)))
+            (λ who apart. at2 (λ o. o ≡ w.told who t) w.told i u (upgraded_told (w.told i u)) who t (λ at. absurd (apart at.0)) (λ _. refl))
+            (record { one = new; is = here; prefix_is = ap (λ (copy : Replica). copy.prefix) (sym shown) ∙ copy.prefix_is; dver_is = ap (λ (copy : Replica). copy.dver) (sym shown) ∙ copy.dver_is })
+            (ap is_exclusive here)
+
+  -- a reply that refuses a lock
+  refused : (t : ℕ) (asked : Request) (said : Reply) (list : List collect.Told) → ((prefix : Prefix) (dver : ℕ) → said ≡ reply.Held prefix dver → ⊥) → Agrees (told_to w t) list → Agrees (told_to w t) (heard_by z list i asked (Replied said))
+  refused t asked said list none agrees = of (locks z asked)
+    where
+      by : (heard : Option Said) → ((s : Said) → heard ≡ Some s → is_held s ≡ false) → Agrees (told_to w t) (more_told list i asked heard)
+      by None refuses = agrees
+      by (Some heard) refuses = refused_agrees (told_to w t) list i (mode_of asked) heard (refuses heard refl) agrees
+
+      down : (b : Bool) (s : Said) → cond b (Some Down) None ≡ Some s → is_held s ≡ false
+      down true s e = let e' : Down ≡ s = cc in ap is_held (sym e')
+      down false s e = absurd cc
+
+      says : (said : Reply) → ((prefix : Prefix) (dver : ℕ) → said ≡ reply.Held prefix dver → ⊥) → (s : Said) → said_to asked said ≡ Some s → is_held s ≡ false
+      says (reply.Held prefix dver) none s e = absurd (none prefix dver refl)
+      says (reply.Busy holder prepared) none s e = let e' : Busy holder ≡ s = cc in ap is_held (sym e')
+      says reply.Down none s e = down (is_poll asked) s e
+      says reply.Lost none s e = absurd cc
+      says (reply.Given dver content) none s e = absurd cc
+      says reply.Prepared none s e = absurd cc
+      says (reply.Verdict v) none s e = absurd cc
+      says reply.Done none s e = absurd cc
+      says (reply.Locked listed) none s e = absurd cc
+
+      of : (b : Bool) → Agrees (told_to w t) (cond b (told_by list (record { server = i; request = asked; response = Replied said }) (Replied said)) list)
+      of true = by (said_to asked said) (says said none)
+      of false = agrees
+
+  -- whatever is asked in the transaction's name and replied
+  pub served_agrees : (t : ℕ) (asked : Request) (said : Reply) (list : List collect.Told) → names t asked ≡ true → Obeys start w (moves z home decision i w asked said) → Tells z home i w (Later asked said) asked said → Agrees (told_to w t) list
+      → Agrees (told_to (Later asked said) t) (heard_by z list i asked (Replied said))
+  served_agrees t (request.Poll u s m) (reply.Held prefix dver) list is obeys tells agrees =
+      elim (z == s) as (λ b. (z == s) ≡ b → Obeys start w (cond b (machine.Held i u (modes.is_exclusive m) ∷ []) []) → Agrees (told_to (run start w (cond b (machine.Held i u (modes.is_exclusive m) ∷ []) [])) t) (heard_by z list i (request.Poll u s m) (Replied (reply.Held prefix dver)))) [
+        | true ↦ λ e obeys. subst (λ b. Agrees (told_to (machine.held w i u (modes.is_exclusive m)) t) (cond b (record { server = i; mode = m; said = Held prefix dver } ∷ list) list)) (sym (same_test z s e)) (new_lock t list agrees prefix dver (tells (one_is s z e)) u m (one_is t u is) obeys.0.untold)
+        | false ↦ λ e _. subst (λ b. Agrees (told_to w t) (cond b (record { server = i; mode = m; said = Held prefix dver } ∷ list) list)) (sym (other_test z s e)) agrees
+      ] refl obeys
+  served_agrees t (request.Upgrade u s) (reply.Held prefix dver) list is obeys tells agrees =
+      elim (z == s) as (λ b. (z == s) ≡ b → Obeys start w (cond b (machine.Upgrade i u ∷ []) []) → Agrees (told_to (run start w (cond b (machine.Upgrade i u ∷ []) [])) t) (heard_by z list i (request.Upgrade u s) (Replied (reply.Held prefix dver)))) [
+        | true ↦ λ e obeys. subst (λ b. Agrees (told_to (machine.upgraded w i u) t) (cond b (record { server = i; mode = Exclusive; said = Held prefix dver } ∷ list) list)) (sym (same_test z s e)) (upgraded_lock t list agrees prefix dver (tells (one_is s z e)) u obeys.0.lock (one_is t u is) obeys.0.stands)
+        | false ↦ λ e _. subst (λ b. Agrees (told_to w t) (cond b (record { server = i; mode = Exclusive; said = Held prefix dver } ∷ list) list)) (sym (other_test z s e)) agrees
+      ] refl obeys
+  served_agrees t (request.Prepare u parts) reply.Prepared list is obeys tells agrees = same_list t (Later (request.Prepare u parts) reply.Prepared) list (told_prepare u _) agrees
+  served_agrees t (request.Decide u decided) (reply.Verdict v) list is obeys tells agrees = same_list t (Later (request.Decide u decided) (reply.Verdict v)) list (told_ruling (home u == i) (w.verdict u) decision keeps) agrees
+  served_agrees t (request.Resolve u) (reply.Verdict v) list is obeys tells agrees = same_list t (Later (request.Resolve u) (reply.Verdict v)) list (told_ruling (home u == i) (w.verdict u) (Overrule u) refl) agrees
+  served_agrees t (request.Finish u v) reply.Done list is obeys tells agrees = agrees
+  served_agrees t (request.Break u s) reply.Done list is obeys tells agrees = same_list t (Later (request.Break u s) reply.Done) list (told_if (z == s) _ refl) agrees
+  served_agrees t (request.Poll u s m) said list is obeys tells agrees = refused t (request.Poll u s m) said list (λ prefix dver is. absurd cc) agrees
+  served_agrees t (request.Upgrade u s) said list is obeys tells agrees = refused t (request.Upgrade u s) said list (λ prefix dver is. absurd cc) agrees
+  served_agrees t (request.Fetch u s) said list is obeys tells agrees = agrees
+  served_agrees t (request.Prepare u parts) said list is obeys tells agrees = agrees
+  served_agrees t (request.Decide u decided) said list is obeys tells agrees = agrees
+  served_agrees t (request.Resolve u) said list is obeys tells agrees = agrees
+  served_agrees t (request.Finish u v) said list is obeys tells agrees = agrees
+  served_agrees t (request.Break u s) said list is obeys tells agrees = agrees
+  served_agrees t request.Locks said list is obeys tells agrees = absurd (false≢true is)
+  served_agrees t request.Crash said list is obeys tells agrees = absurd (false≢true is)
+  served_agrees t request.Return said list is obeys tells agrees = absurd (false≢true is)

@@ -1,0 +1,123 @@
+-- What an event that does not hinder an agent is to it: nothing at all, or its own step, which was served.
+use Rattle.std.proofs.Common.{◌≡◌, ◌≢◌, ◌⊎◌, inl, inr, ⊎_elim, ℕ, ◌+◌, Bool, true, false, cond, Option, Some, None, is_some, refl, sym, ap, subst, ◌∙◌}
+use Rattle.std.specs.Prelude.{◌*◌, ◌==◌, ◌&&◌, not, nat_lt, slice_get, slice_set}
+use Rattle.std.proofs.lemmas.Bool.{false≢true, and_parts, eqb-true, eq-eqb, not-false}
+use Rattle.std.proofs.lemmas.Option.{none-some, same_Some}
+use Rattle.suite_prefix.specs.SettingsRules.{Opening}
+use Rattle.rep_core.specs.declared.request.Request.{Request}
+use Rattle.rep_core.specs.declared.stamped.Lack.{Lack as Why}
+use Rattle.txn_core.specs.declared.ending.Ending.{Ending}
+use Rattle.txn_core.specs.declared.job.Job.{Job}
+use Rattle.txn_core.specs.declared.response.Response.TheVariants.{Lacked}
+use Rattle.txn_core.specs.Doing.{Doing, Fixed}
+use Rattle.txn_core.specs.Agents.{Agent, fixed_of, is_idle, has_sense, max_jobs, next_in, next_of, take, begin, started, forget}
+use Rattle.run_core.specs.declared.event.Event.{Event}
+use Rattle.run_core.specs.declared.event.Event.TheVariants.{Begin, Step, Crash, Return, Forget, Lack}
+use Rattle.run_core.specs.declared.done.EndedJob.{EndedJob}
+use Rattle.run_core.specs.Worlds.{Actor, World, Stepped, actor_at, has_no_job, with_actor, moved, outcome_of, becomes, asks, steps_once, lacks_for, lacks, step}
+use Rattle.law_runs.specs.Numbers.{begins_now}
+use Rattle.law_runs.proofs.Places.{same_or}
+use Rattle.law_runs.proofs.Worlds.{puts_in}
+use Rattle.law_run_alone.proofs.Turns.{none_of, with_job}
+use Rattle.law_run_recovers.specs.Alone.{hinders}
+
+-- servers and the agent are as they were, and no job of the agent ended
+pub record Aside (agent : ℕ) (world : World) (stepped : Stepped) : Type 0 where
+  pub servers : stepped.world.servers ≡ world.servers
+  pub actor : actor_at stepped.world agent ≡ actor_at world agent
+  pub other : (job : EndedJob) → stepped.done.outcome ≡ Some job → job.agent ≢ agent
+
+both_false : (a b : Bool) → (a && b) ≡ false → a ≡ true → b ≡ false
+both_false true b none is = none
+both_false false b none is = absurd (false≢true is)
+
+module _ (given : Opening) (agent : ℕ) (world : World) where
+  abbrev fixed : Fixed
+  fixed = fixed_of given
+
+  nothing : (stepped : Stepped) → stepped.world ≡ world → stepped.done.outcome ≡ None → Aside agent world stepped
+  nothing stepped is none = record { servers = ap (λ (w : World). w.servers) is; actor = ap (λ w. actor_at w agent) is; other = λ job some. absurd (none-some job (sym none ∙ some)) }
+
+  -- another agent is put
+  apart_put : (other : ℕ) (actor new : Actor) → actor_at world other ≡ Some actor → agent ≢ other → actor_at (with_actor other new world) agent ≡ actor_at world agent
+  apart_put other actor new is apart = (puts_in world.agents other actor new is).apart agent apart
+
+  -- an agent is put in its own place
+  same_put : (other : ℕ) (actor : Actor) → actor_at world other ≡ Some actor → actor_at (with_actor other actor world) agent ≡ actor_at world agent
+  same_put other actor is =
+      let puts = puts_in world.agents other actor actor is in
+      ⊎_elim (λ (at : agent ≡ other). ap (slice_get (slice_set world.agents other actor)) at ∙ puts.here ∙ sym is ∙ ap (actor_at world) (sym at)) (λ apart. puts.apart agent apart) (same_or agent other)
+
+  begin_aside : (other : ℕ) (job : Job) (found : Option Actor) → actor_at world other ≡ found → ((other == agent) && is_some (with_job job (begins_now fixed other job found))) ≡ false
+      → Aside agent world (becomes world other (λ a. begin fixed a job) found)
+  begin_aside other job None is calm = nothing (becomes world other (λ a. begin fixed a job) None) refl refl
+  begin_aside other job (Some actor) is calm =
+      let begun : Agent = record (started fixed actor.agent job) { count = actor.agent.count + 1 } in
+      elim (is_idle actor.agent.doing && has_sense fixed job && nat_lt actor.agent.count max_jobs) as
+      (λ b. ((other == agent) && is_some (with_job job (cond b (Some (64 * actor.agent.count + other)) None))) ≡ false
+      → Aside agent world (record { world = with_actor other (record actor { agent = cond b begun actor.agent }) world; done = record { served = None; outcome = None } })) [
+        | true ↦ λ calm. record {
+          servers = refl;
+          actor = apart_put other actor (record actor { agent = begun }) is (λ at. absurd (false≢true (sym (both_false (other == agent) true calm (eq-eqb other agent (sym at))))));
+          other = λ job some. absurd (none-some job some);
+        }
+        | false ↦ λ _. record { servers = refl; actor = same_put other actor is; other = λ job some. absurd (none-some job some) }
+      ] calm
+
+  forget_aside : (other site : ℕ) (found : Option Actor) → actor_at world other ≡ found → (other == agent) ≡ false → Aside agent world (becomes world other (λ a. forget a site) found)
+  forget_aside other site None is calm = nothing (becomes world other (λ a. forget a site) None) refl refl
+  forget_aside other site (Some actor) is calm = record {
+    servers = refl;
+    actor = apart_put other actor (record actor { agent = forget actor.agent site }) is (λ at. false≢true (sym calm ∙ eq-eqb other agent (sym at)));
+    other = λ job some. absurd (none-some job some);
+  }
+
+  lack_aside : (other : ℕ) (why : Why) (found : Option Actor) → actor_at world other ≡ found → ((other == agent) && not (has_no_job (actor_at world agent))) ≡ false → Aside agent world (lacks fixed world other (Lacked why) found)
+  lack_aside other why None is calm = nothing (lacks fixed world other (Lacked why) None) refl refl
+  lack_aside other why (Some actor) is calm = of (next_of fixed actor.agent) refl
+    where
+      -- the agent itself asks nothing
+      not_own : (asked : ℕ × Request) → next_of fixed actor.agent ≡ Some asked → other ≢ agent
+      not_own asked next at =
+          let none = both_false (other == agent) (not (has_no_job (actor_at world agent))) calm (eq-eqb other agent at) in
+          let found : actor_at world agent ≡ Some actor = ap (actor_at world) (sym at) ∙ is in
+          none-some asked (sym (ap (next_in fixed) (none_of actor.agent.doing (not-false (is_idle actor.agent.doing) (ap (λ found. not (has_no_job found)) (sym found) ∙ none)))) ∙ next)
+
+      ended : (ending : Option Ending) (job : EndedJob) → outcome_of other actor ending ≡ Some job → job.agent ≡ other
+      ended None job some = absurd (none-some job some)
+      ended (Some ending) job some = ap (λ (job : EndedJob). job.agent) (sym (same_Some _ job some))
+
+      of : (asked : Option (ℕ × Request)) → next_of fixed actor.agent ≡ asked → Aside agent world (lacks_for fixed world other actor (Lacked why) asked)
+      of None next = nothing (lacks_for fixed world other actor (Lacked why) None) refl refl
+      of (Some asked) next = record {
+        servers = refl;
+        actor = apart_put other actor (moved actor actor.stamp (take fixed actor.agent (Lacked why))) is (λ at. not_own asked next (sym at));
+        other = λ job some at. not_own asked next (sym (ended (take fixed actor.agent (Lacked why)).ending job some) ∙ at);
+      }
+
+  abbrev IsOwnStep : Event → Type 0
+  IsOwnStep event = (event ≡ Step agent) × (is_some (step fixed world event).done.served ≡ true)
+
+  step_aside : (other : ℕ) (found : Option Actor) → actor_at world other ≡ found → (not (has_no_job found) && not ((other == agent) && is_some (steps_once fixed world other found).done.served)) ≡ false
+      → Aside agent world (steps_once fixed world other found) ⊎ ((other ≡ agent) × (is_some (steps_once fixed world other found).done.served ≡ true))
+  step_aside other None is calm = inl (nothing (steps_once fixed world other None) refl refl)
+  step_aside other (Some actor) is calm = of actor.agent.doing refl
+    where
+      now : Option (ℕ × Request) → Stepped
+      now asked = asks fixed world other actor asked
+
+      of : (doing : Option Doing) → actor.agent.doing ≡ doing → Aside agent world (now (next_of fixed actor.agent)) ⊎ ((other ≡ agent) × (is_some (now (next_of fixed actor.agent)).done.served ≡ true))
+      of None idle = subst (λ asked. Aside agent world (now asked) ⊎ ((other ≡ agent) × (is_some (now asked).done.served ≡ true))) (sym (ap (next_in fixed) idle)) (inl (nothing (now None) refl refl))
+      of (Some doing) busy =
+          let some : not (is_idle actor.agent.doing) ≡ true = ap (λ doing. not (is_idle doing)) busy in
+          let both = not-false ((other == agent) && is_some (now (next_of fixed actor.agent)).done.served) (both_false (not (is_idle actor.agent.doing)) _ calm some) in
+          let parts = and_parts (other == agent) (is_some (now (next_of fixed actor.agent)).done.served) both in
+          inr (eqb-true other agent parts.0, parts.1)
+
+  pub event_aside : (event : Event) → hinders given agent world event ≡ false → Aside agent world (step fixed world event) ⊎ IsOwnStep event
+  event_aside (Begin other job) calm = inl (begin_aside other job (actor_at world other) refl calm)
+  event_aside (Step other) calm = ⊎_elim inl (λ own. inr (ap Step own.0, own.1)) (step_aside other (actor_at world other) refl calm)
+  event_aside (Crash server) calm = absurd (false≢true (sym calm))
+  event_aside (Return server) calm = absurd (false≢true (sym calm))
+  event_aside (Forget other site) calm = inl (forget_aside other site (actor_at world other) refl calm)
+  event_aside (Lack other why) calm = inl (lack_aside other why (actor_at world other) refl calm)

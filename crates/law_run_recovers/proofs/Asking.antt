@@ -1,0 +1,183 @@
+-- What a transaction asks for in its order: what it has asked for so far, and what is asked next.
+use Rattle.std.proofs.Common.{◌≡◌, inl, inr, ℕ, Bool, true, false, cond, List, [], ◌∷◌, ◌++◌, Option, Some, None, refl, sym, ap, ◌∙◌, arith}
+use Rattle.std.specs.Prelude.{◌==◌, ◌&&◌, ◌||◌, not, find, map}
+use Rattle.std.specs.Ordering.{nat_cmp}
+use Rattle.std.proofs.lemmas.Bool.{false≢true}
+use Rattle.std.proofs.lemmas.Bool.Decides.{nat_tests}
+use Rattle.std.proofs.lemmas.Option.{none-some, same_Some}
+use Rattle.sorted_map.specs.SortedMap.{IsOrdered}
+use Rattle.suite_prefix.specs.declared.lock_mode.LockMode.{LockMode}
+use Rattle.suite_prefix.specs.declared.lock_mode.LockMode.TheVariants.{Shared, Exclusive}
+use Rattle.suite_prefix.specs.LockModes.{serves}
+use Rattle.rep_core.proofs.Members.{Has}
+use Rattle.file_exec.specs.declared.need.Need.{Need}
+use Rattle.file_exec.specs.declared.need.Need.TheVariants.{Hold, Know}
+use Rattle.file_exec.specs.KnownSuites.{KnownSuite}
+use Rattle.file_exec.specs.Known as known
+use Rattle.file_exec.specs.Known.{Known, is_held, is_opened, first_unmet}
+use Rattle.txn_core.specs.Suites.{ReadPoint, Suite, Suites, suite_of, known_row, known_of}
+use Rattle.txn_core.proofs.Growing.{known_from}
+use Rattle.txn_core.proofs.Setting.{known_at}
+use Rattle.law_run_recovers.specs.Demands.{has_asked, not_asked}
+
+-- ---- lists
+
+-- what came so far, the newest first, put back in front of what is left
+abbrev pub onto : {X : Type 0} → List X → List X → List X
+onto [] left = left
+onto (x ∷ so_far) left = onto so_far (x ∷ left)
+
+-- where none that came so far passes a test, the first that does is among what is left
+pub find_past : {X Y : Type 0} (g : X → Y) (f : Y → Bool) (so_far left : List X) (later : List Y) → ((x : X) → Has so_far x → f (g x) ≡ false) → find f (map g (onto so_far left) ++ later) ≡ find f (map g left ++ later)
+find_past g f [] left later none = refl
+find_past g f (x ∷ so_far) left later none =
+    find_past g f so_far (x ∷ left) later (λ y has. none y (inr has))
+    ∙ ap (λ b. cond b (Some (g x)) (find f (map g left ++ later))) (none x (inl refl))
+
+-- ---- what is asked next
+
+or_true : (b : Bool) → (b || true) ≡ true
+or_true true = refl
+or_true false = refl
+
+asks_itself : (asked : List (ℕ × LockMode)) (suite : ℕ) (mode : LockMode) → has_asked ((suite, mode) ∷ asked) suite mode ≡ true
+asks_itself asked suite mode = ap (λ b. (b && serves mode mode) || has_asked asked suite mode) (same suite) ∙ of mode
+  where
+    same : (n : ℕ) → (n == n) ≡ true
+    same n = grind (arith, nat_tests)
+
+    of : (mode : LockMode) → (serves mode mode || has_asked asked suite mode) ≡ true
+    of Shared = refl
+    of Exclusive = refl
+
+asks_more : (asked : List (ℕ × LockMode)) (one : ℕ × LockMode) (suite : ℕ) (mode : LockMode) → has_asked asked suite mode ≡ true → has_asked (one ∷ asked) suite mode ≡ true
+asks_more asked one suite mode is = ap (λ b. ((one.0 == suite) && serves one.1 mode) || b) is ∙ or_true ((one.0 == suite) && serves one.1 mode)
+
+abbrev suite_in : Need → ℕ
+suite_in (Hold suite mode) = suite
+suite_in (Know suite) = suite
+
+abbrev mode_in : Need → LockMode
+mode_in (Hold suite mode) = mode
+mode_in (Know suite) = Shared
+
+abbrev is_hold : Need → Bool
+is_hold (Hold suite mode) = true
+is_hold (Know suite) = false
+
+-- where it is known to hold what it has asked for, and nothing else
+module _ (all : Known) (asked : List (ℕ × LockMode)) (modes : (suite : ℕ) (mode : LockMode) → is_held mode (known.known_of all suite) ≡ has_asked asked suite mode) where
+  -- the first lock that it needs and has not is what it asks for next
+  pub first_hold : (needed : List Need) (suite : ℕ) (mode : LockMode) → first_unmet all needed ≡ Some (Hold suite mode) → not_asked asked needed ≡ (suite, mode) ∷ not_asked ((suite, mode) ∷ asked) needed
+  first_hold [] suite mode is = absurd (none-some _ is)
+  first_hold (Hold s m ∷ needed) suite mode is = of (has_asked asked s m) refl (first_hold needed suite mode)
+    where
+      had : (b : Bool) → has_asked asked s m ≡ b → cond (not b) (Some (Hold s m)) (first_unmet all needed) ≡ Some (Hold suite mode)
+      had b has = sym (ap (λ b. cond (not b) (Some (Hold s m)) (first_unmet all needed)) (modes s m ∙ has)) ∙ is
+
+      of : (b : Bool) → has_asked asked s m ≡ b → (first_unmet all needed ≡ Some (Hold suite mode) → not_asked asked needed ≡ (suite, mode) ∷ not_asked ((suite, mode) ∷ asked) needed)
+          → not_asked asked (Hold s m ∷ needed) ≡ (suite, mode) ∷ not_asked ((suite, mode) ∷ asked) (Hold s m ∷ needed)
+      of true has go =
+          ap (λ b. cond b (not_asked asked needed) ((s, m) ∷ not_asked ((s, m) ∷ asked) needed)) has
+          ∙ go (had true has)
+          ∙ sym (ap (λ b. (suite, mode) ∷ cond b (not_asked ((suite, mode) ∷ asked) needed) ((s, m) ∷ not_asked ((s, m) ∷ (suite, mode) ∷ asked) needed)) (asks_more asked (suite, mode) s m has))
+      of false has go =
+          let same = same_Some (Hold s m) (Hold suite mode) (had false has) in
+          let suites : s ≡ suite = ap suite_in same in
+          let modes' : m ≡ mode = ap mode_in same in
+          ap (λ b. cond b (not_asked asked needed) ((s, m) ∷ not_asked ((s, m) ∷ asked) needed)) has
+          ∙ ap (λ s. (s, m) ∷ not_asked ((s, m) ∷ asked) needed) suites
+          ∙ ap (λ m. (suite, m) ∷ not_asked ((suite, m) ∷ asked) needed) modes'
+          ∙ sym (ap (λ b. (suite, mode) ∷ cond b (not_asked ((suite, mode) ∷ asked) needed) ((s, m) ∷ not_asked ((s, m) ∷ (suite, mode) ∷ asked) needed))
+          (ap (λ s. has_asked ((suite, mode) ∷ asked) s m) suites ∙ ap (has_asked ((suite, mode) ∷ asked) suite) modes' ∙ asks_itself asked suite mode))
+  first_hold (Know s ∷ needed) suite mode is = of (is_opened (known.known_of all s)) is (first_hold needed suite mode)
+    where
+      of : (b : Bool) → cond (not b) (Some (Know s)) (first_unmet all needed) ≡ Some (Hold suite mode)
+          → (first_unmet all needed ≡ Some (Hold suite mode) → not_asked asked needed ≡ (suite, mode) ∷ not_asked ((suite, mode) ∷ asked) needed)
+          → not_asked asked needed ≡ (suite, mode) ∷ not_asked ((suite, mode) ∷ asked) needed
+      of true is go = go is
+      of false is go = absurd (false≢true (ap is_hold (same_Some (Know s) (Hold suite mode) is)))
+
+  -- and it was not asked for
+  pub first_new : (needed : List Need) (suite : ℕ) (mode : LockMode) → first_unmet all needed ≡ Some (Hold suite mode) → has_asked asked suite mode ≡ false
+  first_new [] suite mode is = absurd (none-some _ is)
+  first_new (Hold s m ∷ needed) suite mode is = of (has_asked asked s m) refl (first_new needed suite mode)
+    where
+      had : (b : Bool) → has_asked asked s m ≡ b → cond (not b) (Some (Hold s m)) (first_unmet all needed) ≡ Some (Hold suite mode)
+      had b has = sym (ap (λ b. cond (not b) (Some (Hold s m)) (first_unmet all needed)) (modes s m ∙ has)) ∙ is
+
+      of : (b : Bool) → has_asked asked s m ≡ b → (first_unmet all needed ≡ Some (Hold suite mode) → has_asked asked suite mode ≡ false) → has_asked asked suite mode ≡ false
+      of true has go = go (had true has)
+      of false has go =
+          let same = same_Some (Hold s m) (Hold suite mode) (had false has) in
+          sym (ap (λ s. has_asked asked s m) (ap suite_in same) ∙ ap (has_asked asked suite) (ap mode_in same)) ∙ has
+  first_new (Know s ∷ needed) suite mode is = of (is_opened (known.known_of all s)) is (first_new needed suite mode)
+    where
+      of : (b : Bool) → cond (not b) (Some (Know s)) (first_unmet all needed) ≡ Some (Hold suite mode) → (first_unmet all needed ≡ Some (Hold suite mode) → has_asked asked suite mode ≡ false) → has_asked asked suite mode ≡ false
+      of true is go = go is
+      of false is go = absurd (false≢true (ap is_hold (same_Some (Know s) (Hold suite mode) is)))
+
+  -- where all that it needs is known, nothing is left to be asked for
+  pub none_left : (needed : List Need) → first_unmet all needed ≡ None → not_asked asked needed ≡ []
+  none_left [] is = refl
+  none_left (Hold s m ∷ needed) is = of (has_asked asked s m) refl (none_left needed)
+    where
+      of : (b : Bool) → has_asked asked s m ≡ b → (first_unmet all needed ≡ None → not_asked asked needed ≡ []) → not_asked asked (Hold s m ∷ needed) ≡ []
+      of true has go =
+          ap (λ b. cond b (not_asked asked needed) ((s, m) ∷ not_asked ((s, m) ∷ asked) needed)) has
+          ∙ go (sym (ap (λ b. cond (not b) (Some (Hold s m)) (first_unmet all needed)) (modes s m ∙ has)) ∙ is)
+      of false has go = absurd (none-some (Hold s m) (sym is ∙ ap (λ b. cond (not b) (Some (Hold s m)) (first_unmet all needed)) (modes s m ∙ has)))
+  none_left (Know s ∷ needed) is = of (is_opened (known.known_of all s)) is (none_left needed)
+    where
+      of : (b : Bool) → cond (not b) (Some (Know s)) (first_unmet all needed) ≡ None → (first_unmet all needed ≡ None → not_asked asked needed ≡ []) → not_asked asked needed ≡ []
+      of true is go = go is
+      of false is go = absurd (none-some (Know s) (sym is))
+
+-- ---- in which modes suites are known
+
+-- what is known of a suite, where it had a Current
+abbrev pub known_if_first : Suite → Option ReadPoint → Option KnownSuite
+known_if_first suite (Some first) = Some (known_row suite first)
+known_if_first suite None = None
+
+abbrev pub known_in : Option Suite → Option KnownSuite
+known_in (Some suite) = known_if_first suite suite.first
+known_in None = None
+
+pub known_is : (suites : Suites) → IsOrdered nat_cmp suites → (number : ℕ) → known.known_of (known_of suites) number ≡ known_in (suite_of suites number)
+known_is suites ordered number = of (suite_of suites number) refl
+  where
+    none_but : (found : Option Suite) → suite_of suites number ≡ found → ((suite : Suite) (first : ReadPoint) → found ≡ Some suite → suite.first ≡ Some first → ⊥) → (it : Option KnownSuite) → known.known_of (known_of suites) number ≡ it → it ≡ None
+    none_but found is none None was = refl
+    none_but found is none (Some it) was =
+        let from = known_from suites number it ordered was in
+        absurd (none from.suite from.first (sym is ∙ from.there) from.was)
+
+    first_of : (suite : Suite) → suite_of suites number ≡ Some suite → (first : Option ReadPoint) → suite.first ≡ first → known.known_of (known_of suites) number ≡ known_if_first suite first
+    first_of suite is (Some first) was = known_at suites number suite first is was
+    first_of suite is None was =
+        none_but (Some suite) is (λ other first same had. none-some first (sym was ∙ ap (λ (suite : Suite). suite.first) (same_Some suite other same) ∙ had)) (known.known_of (known_of suites) number) refl
+
+    of : (found : Option Suite) → suite_of suites number ≡ found → known.known_of (known_of suites) number ≡ known_in found
+    of None is = none_but None is (λ suite first none had. none-some suite none) (known.known_of (known_of suites) number) refl
+    of (Some suite) is = first_of suite is suite.first refl
+
+abbrev pub held_if : Suite → LockMode → Option ReadPoint → Bool
+held_if suite mode (Some first) = serves suite.mode mode
+held_if suite mode None = false
+
+-- whether a suite is held in a mode, as far as it is known
+abbrev pub held_in : LockMode → Option Suite → Bool
+held_in mode (Some suite) = held_if suite mode suite.first
+held_in mode None = false
+
+pub held_is : (suites : Suites) → IsOrdered nat_cmp suites → (number : ℕ) (mode : LockMode) → is_held mode (known.known_of (known_of suites) number) ≡ held_in mode (suite_of suites number)
+held_is suites ordered number mode = ap (is_held mode) (known_is suites ordered number) ∙ of (suite_of suites number)
+  where
+    by : (suite : Suite) (first : Option ReadPoint) → is_held mode (known_if_first suite first) ≡ held_if suite mode first
+    by suite (Some first) = refl
+    by suite None = refl
+
+    of : (found : Option Suite) → is_held mode (known_in found) ≡ held_in mode found
+    of (Some suite) = by suite suite.first
+    of None = refl

@@ -1,0 +1,101 @@
+-- At a decision: its server is up, and the newest prefix that was seen of a suite is that of its row.
+use Rattle.std.proofs.Common.{◌≡◌, ℕ, true, false, cond, List, Option, Some, None, is_some, refl, sym, ap, ◌∙◌}
+use Rattle.std.proofs.lemmas.Option.{none-some}
+use Rattle.suite_prefix.specs.SettingsRules.{Opening}
+use Rattle.suite_prefix.specs.declared.copies.Prefix.{Prefix}
+use Rattle.rep_core.specs.declared.request.Request.{Request}
+use Rattle.rep_core.specs.declared.stamped.Stamped.{Stamped}
+use Rattle.rep_core.specs.State.{State, record_of}
+use Rattle.rep_core.specs.Service.{reply_of, reply_up, reply_down}
+use Rattle.rep_core.specs.Serving.{is_full, answer_of}
+use Rattle.txn_core.specs.Suites.{Suite, suite_of}
+use Rattle.txn_core.specs.Doing.{Fixed, Task}
+use Rattle.txn_core.specs.Transactions.{changes_of}
+use Rattle.txn_core.specs.Agents.{fixed_of}
+use Rattle.txn_core.specs.Laws.{newest_of, IsReady}
+use Rattle.run_core.specs.declared.event.Event.{Event}
+use Rattle.run_core.specs.declared.event.Event.TheVariants.{Step}
+use Rattle.run_core.specs.declared.done.Served.{Served}
+use Rattle.run_core.specs.Worlds.{Actor, World, server_at, answered, asks_at}
+use Rattle.run_core.specs.Runs.{run}
+use Rattle.run_core.specs.Decisions.{Decided, decided, decided_at, decided_as, decided_by, to_decide, answer_in}
+use Rattle.law_runs.specs.Answers.{IsAnsweredAsKnown}
+use Rattle.law_suite_machine.specs.Registers.{Beginning, row, prefix_at}
+use Rattle.law_suite_machine.specs.Machine as machine
+use Rattle.law_server_moves.specs.Laws.{beginning}
+use Rattle.law_run_machine.specs.Machines.{machine_of}
+use Rattle.law_run_knowledge.proofs.Decided.{suite_was, newest_prefix}
+use Rattle.law_one_table.specs.Versions.{row_at}
+use Rattle.law_headline.specs.Premises.{CanBe}
+use Rattle.law_headline.proofs.Together.{Together}
+use Rattle.law_headline.proofs.Keeping.{holds_after}
+use Rattle.law_headline.proofs.Owing.{owes_known}
+use Rattle.law_headline.proofs.Beside.{row_known}
+use Rattle.law_headline.proofs.Stood.{undecided}
+use Rattle.law_run_recovers.specs.Demands.{votes_of_row}
+use Rattle.law_run_recovers.specs.Standing.{up_in, is_up}
+use Rattle.law_run_recovers.proofs.Found.{same_top}
+use Rattle.law_run_recovers.proofs.Rows.{row_votes}
+use Rattle.law_run_recovers.proofs.Downs.{down_decides_none}
+
+-- a decision is recorded at a server that is up
+pub decided_none : (found : Option State) (asked : Option ℕ) (task : Option Task) → decided_at found asked (decided_as task None) ≡ None
+decided_none found None task = refl
+decided_none None (Some t) task = refl
+decided_none (Some st) (Some t) None = elim (is_some (record_of st t)) as (λ b. ◌≡◌ {A = Option Decided} (cond b None None) None) [ true ↦ refl | false ↦ refl ]
+decided_none (Some st) (Some t) (Some task) = elim (is_some (record_of st t)) as (λ b. ◌≡◌ {A = Option Decided} (cond b None None) None) [ true ↦ refl | false ↦ refl ]
+
+module _ (fixed : Fixed) (w : World) (i : ℕ) (actor : Actor) (task : Option Task) (one : Decided) where
+  up_at : (found : Option State) (place : Option ℕ) (st : State) (asked : Request) → decided_at found place (decided_as task (answer_in (reply_of st asked))) ≡ Some one → st.up ≡ true
+  up_at found place st asked =
+      elim (st.up) as (λ b. decided_at found place (decided_as task (answer_in (cond b (reply_up st asked) (reply_down asked)))) ≡ Some one → b ≡ true) [
+        | true ↦ λ _. refl
+        | false ↦ λ is. absurd (none-some one (sym (ap (λ answer. decided_at found place (decided_as task answer)) (down_decides_none asked) ∙ decided_none found place task) ∙ is))
+      ]
+
+  pub decides_up : (asked : ℕ × Request) (found : Option State) → server_at w asked.0 ≡ found → decided_by w task (asks_at fixed w i actor asked found).done.served ≡ Some one → is_up w asked.0 ≡ true
+  decides_up asked None at is = absurd (none-some one is)
+  decides_up asked (Some st) at is' =
+      elim (is_full st stamped) as (λ b. decided_by w task (answered fixed w i actor st (cond b None (Some what))).done.served ≡ Some one → is_up w asked.0 ≡ true) [
+        | true ↦ λ is. absurd (none-some one is)
+        | false ↦ λ is. ap up_in at ∙ up_at (server_at w asked.0) (to_decide asked.1) st asked.1 is
+      ] is'
+    where
+      stamped : Stamped Request
+      stamped = record { stamp = actor.stamp; value = asked.1 }
+
+      what : Served
+      what = record { server = asked.0; request = stamped; reply = answer_of st stamped }
+
+-- the newest prefix that it saw is the row's
+module _ (given : Opening) (all : List Event) (can : CanBe given all) (agent : ℕ) (one : Decided) (is : decided (fixed_of given) (run given all) (Step agent) ≡ Some one) (so : IsAnsweredAsKnown given (run given all) (Step agent) one)
+    (z : ℕ) (suite : Suite) (found : suite_of so.txn_run.suites z ≡ Some suite) (ready : IsReady suite z (changes_of so.outcome)) where
+  abbrev start : Beginning
+  start = beginning z given
+
+  abbrev w : machine.World
+  w = machine_of given z all
+
+  abbrev now : Together given z w (run given all)
+  now = holds_after given all can z
+
+  none_yet : w.verdict so.txn_run.task.t ≡ None
+  none_yet = undecided given z w (run given all) now.shows agent one is so
+
+  newest_row : newest_of suite ≡ (row start w.log).prefix
+  newest_row =
+      let t = so.txn_run.task.t in
+      let owes = owes_known given z w (run given all) now so.number so.actor so.txn_run so.outcome so.there so.running so.deciding suite found ready.first ready.was in
+      let known = (row_known given z w (run given all) now so.number so.actor so.txn_run so.outcome so.there so.running so.deciding none_yet suite ready.first owes).prefix in
+      let was = newest_prefix z start w t suite (suite_was z start w so.actor.agent so.txn_run suite (now.fits so.number so.actor so.there) so.running found) now.inv in
+      let same = same_top ready.first.prefix.pver (newest_of suite).pver (row start w.log).prefix.pver (ap (λ (prefix : Prefix). prefix.pver) known) ready.not_older was.0 in
+      sym was.1 ∙ ap (prefix_at start w.log) same ∙ now.inv.logged.own.0.1
+
+  pub same_version : (newest_of suite).pver ≡ ready.first.prefix.pver
+  same_version =
+      let owes = owes_known given z w (run given all) now so.number so.actor so.txn_run so.outcome so.there so.running so.deciding suite found ready.first ready.was in
+      let known = (row_known given z w (run given all) now so.number so.actor so.txn_run so.outcome so.there so.running so.deciding none_yet suite ready.first owes).prefix in
+      ap (λ (prefix : Prefix). prefix.pver) newest_row ∙ sym (ap (λ (prefix : Prefix). prefix.pver) known)
+
+  pub newest_votes : (newest_of suite).votes ≡ votes_of_row (fixed_of given) (row_at given all z)
+  newest_votes = ap (λ (prefix : Prefix). prefix.votes) newest_row ∙ row_votes given all can z (row_at given all z) refl

@@ -1,0 +1,165 @@
+-- Sweeps decide nothing, and change nothing that is in effect.
+use Rattle.std.proofs.Common.{◌≡◌, inl, inr, ℕ, ◌+◌, Bool, true, false, cond, List, [], ◌∷◌, ◌++◌, append-nil, Option, Some, None, is_some, refl, sym, ap, subst, ◌∙◌}
+use Rattle.std.specs.Prelude.{◌*◌, ◌==◌, ◌&&◌, not, nat_lt, slice_set}
+use Rattle.std.specs.List.{cons_option}
+use Rattle.std.proofs.lemmas.Bool.{false≢true, and_parts, eqb-true, not-true}
+use Rattle.std.proofs.lemmas.Option.{none-some}
+use Rattle.suite_prefix.specs.SettingsRules.{Opening}
+use Rattle.txn_core.specs.declared.job.Job.TheVariants.{Sweep}
+use Rattle.txn_core.specs.declared.response.Response.TheVariants.{Lacked}
+use Rattle.txn_core.specs.Doing.{Fixed, SweepRun, Doing, Running, RunningSweep, After, GoesOn, Ends}
+use Rattle.txn_core.specs.Agents.{Agent, fixed_of, is_idle, has_sense, max_jobs, next_in, left, begin, started}
+use Rattle.run_core.specs.declared.event.Event.{Event}
+use Rattle.run_core.specs.declared.event.Event.TheVariants.{Begin, Step, Crash, Return, Forget, Lack}
+use Rattle.run_core.specs.Worlds.{Actor, World, Stepped, actor_at, has_no_job, becomes, asks, steps_once, step}
+use Rattle.run_core.specs.Runs.{after, run}
+use Rattle.run_core.specs.Decisions.{decided, decided_by, decisions_from, task_of, task_at, task_in}
+use Rattle.law_runs.specs.Numbers.{begins_now}
+use Rattle.law_runs.proofs.Worlds.{puts_in}
+use Rattle.law_run_alone.specs.Alone.{begins_job}
+use Rattle.law_run_alone.proofs.Turns.{with_job}
+use Rattle.law_suite_machine.specs.Machine as machine
+use Rattle.law_run_machine.specs.Machines.{step_events, asked_events, events_of, moved, history_from}
+use Rattle.law_one_table.proofs.Logs.{no_task}
+use Rattle.law_run_recovers.specs.Alone.{hinders, unhindered_from}
+use Rattle.law_run_recovers.specs.Sweeping.{SweepsKeepEffects, sweeps, goes_round}
+use Rattle.law_run_recovers.proofs.Aside.{Aside, event_aside}
+use Rattle.law_run_recovers.proofs.OwnStep.{own_step, then_does}
+use Rattle.law_run_recovers.proofs.Quiet.{AllQuiet, all_both, quiet_begin, quiet_lack, quiet_round, Calm, effects_stay, decisions_stay}
+
+-- ---- who has no transaction decides nothing
+
+no_task_left : (then : After SweepRun) → task_of (left RunningSweep then) ≡ None
+no_task_left (GoesOn sweep_run) = refl
+no_task_left (Ends ending) = refl
+
+module _ (given : Opening) (agent : ℕ) where
+  abbrev fixed : Fixed
+  fixed = fixed_of given
+
+  abbrev pub HasNoTask : World → Type 0
+  HasNoTask w = task_at (actor_at w agent) ≡ None
+
+  -- ---- one event
+
+  -- it makes a step, or one that is idle does
+  stepper : (w : World) (other : ℕ) (served : Bool) (found : Option Actor) → actor_at w other ≡ found → (not (has_no_job found) && not ((other == agent) && served)) ≡ false → HasNoTask w → task_at found ≡ None
+  stepper w other served None is calm none = refl
+  stepper w other served (Some actor) is calm none = of actor.agent.doing refl (other == agent) refl calm
+    where
+      of : (doing : Option Doing) → actor.agent.doing ≡ doing → (b : Bool) → (other == agent) ≡ b → (not (is_idle doing) && not (b && served)) ≡ false → task_of actor.agent.doing ≡ None
+      of None idle b same calm = ap task_of idle
+      of (Some doing) busy true same calm = ap task_at (sym is ∙ ap (actor_at w) (eqb-true other agent same)) ∙ none
+      of (Some doing) busy false same calm = absurd (false≢true (sym calm))
+
+  quiet_step : (z : ℕ) (m : machine.World) (w : World) (found : Option Actor) → task_at found ≡ None → AllQuiet (step_events given z m w found)
+  quiet_step z m w None none = refl
+  quiet_step z m w (Some actor) none = of actor.agent.doing refl
+    where
+      of : (doing : Option Doing) → actor.agent.doing ≡ doing → AllQuiet (step_events given z m w (Some actor))
+      of None idle = subst (λ asked. AllQuiet (asked_events given z m w actor asked)) (sym (ap (next_in fixed) idle)) refl
+      of (Some (Running txn_run)) busy = absurd (none-some txn_run.task (sym none ∙ ap task_of busy))
+      of (Some (RunningSweep sweep_run)) busy = quiet_round given z m w actor sweep_run busy
+
+  quiet_event : (w : World) (event : Event) → hinders given agent w event ≡ false → HasNoTask w → (z : ℕ) (m : machine.World) → AllQuiet (events_of given z m w event)
+  quiet_event w (Begin other job) calm none z m = quiet_begin given z m job (actor_at w other)
+  quiet_event w (Step other) calm none z m = quiet_step z m w (actor_at w other) (stepper w other (is_some (step fixed w (Step other)).done.served) (actor_at w other) refl calm none)
+  quiet_event w (Crash server) calm none z m = absurd (false≢true (sym calm))
+  quiet_event w (Return server) calm none z m = absurd (false≢true (sym calm))
+  quiet_event w (Forget other site) calm none z m = refl
+  quiet_event w (Lack other why) calm none z m = quiet_lack given z m (Lacked why) (actor_at w other)
+
+  none_in : (w : World) (event : Event) → hinders given agent w event ≡ false → HasNoTask w → task_in w event ≡ None
+  none_in w (Begin other job) calm none = refl
+  none_in w (Step other) calm none = stepper w other (is_some (step fixed w (Step other)).done.served) (actor_at w other) refl calm none
+  none_in w (Crash server) calm none = refl
+  none_in w (Return server) calm none = refl
+  none_in w (Forget other site) calm none = refl
+  none_in w (Lack other why) calm none = refl
+
+  decides_none : (w : World) (event : Event) → task_in w event ≡ None → decided fixed w event ≡ None
+  decides_none w event none = ap (λ task. decided_by w task (step fixed w event).done.served) none ∙ no_task w (step fixed w event).done.served
+
+  -- its own step leaves it without one
+  own_none : (w : World) (found : Option Actor) → actor_at w agent ≡ found → task_at found ≡ None → is_some (step fixed w (Step agent)).done.served ≡ true → HasNoTask (step fixed w (Step agent)).world
+  own_none w None is none serves = absurd (false≢true (sym (ap (λ found. is_some (steps_once fixed w agent found).done.served) is) ∙ serves))
+  own_none w (Some actor) is none serves = of actor.agent.doing refl
+    where
+      of : (doing : Option Doing) → actor.agent.doing ≡ doing → HasNoTask (step fixed w (Step agent)).world
+      of None idle = absurd (false≢true (sym (ap (λ found. is_some (steps_once fixed w agent found).done.served) is ∙ ap (λ doing. is_some (asks fixed w agent actor (next_in fixed doing)).done.served) idle) ∙ serves))
+      of (Some (Running txn_run)) busy = absurd (none-some txn_run.task (sym none ∙ ap task_of busy))
+      of (Some (RunningSweep sweep_run)) busy =
+          let went = own_step fixed w agent actor sweep_run is busy serves in
+          ap task_at went.here ∙ ap task_of went.doing ∙ no_task_left (then_does fixed w agent actor sweep_run went.st)
+
+  aside_none : (w : World) (stepped : Stepped) → Aside agent w stepped → HasNoTask w → HasNoTask stepped.world
+  aside_none w stepped aside none = ap task_at aside.actor ∙ none
+
+  own_event : (w : World) (event : Event) → HasNoTask w → event ≡ Step agent → is_some (step fixed w event).done.served ≡ true → HasNoTask (step fixed w event).world
+  own_event w event none own = subst (λ event. is_some (step fixed w event).done.served ≡ true → HasNoTask (step fixed w event).world) (sym own) (own_none w (actor_at w agent) refl none)
+
+  still_none : (w : World) (event : Event) → hinders given agent w event ≡ false → HasNoTask w → HasNoTask (step fixed w event).world
+  still_none w event calm none = elim (event_aside given agent w event calm) [
+    | inl aside ↦ aside_none w (step fixed w event) aside none
+    | inr own ↦ own_event w event none own.0 own.1
+  ]
+
+  -- ---- events
+
+  pub calm_more : (w : World) (event : Event) (later : List Event) → ((z : ℕ) (m : machine.World) → AllQuiet (events_of given z m w event)) → task_in w event ≡ None → Calm given (step fixed w event).world later → Calm given w (event ∷ later)
+  calm_more w event later quiet none calm = record {
+    quiet = λ z m. all_both (events_of given z m w event) (history_from given z (moved given z m w event) (step fixed w event).world later) (quiet z m) (calm.quiet z (moved given z m w event));
+    none = ap (λ one. cons_option one (decisions_from fixed (step fixed w event).world later)) (decides_none w event none) ∙ calm.none;
+  }
+
+  pub calm_all : (events later : List Event) (w : World) → HasNoTask w → unhindered_from given agent w events ≡ true → Calm given (after fixed w events) later → Calm given w (events ++ later)
+  calm_all [] later w none calm rest = rest
+  calm_all (event ∷ events) later w none calm rest =
+      let parts = and_parts (not (hinders given agent w event)) (unhindered_from given agent (step fixed w event).world events) calm in
+      let quiet = not-true (hinders given agent w event) parts.0 in
+      calm_more w event (events ++ later) (quiet_event w event quiet none) (none_in w event quiet none) (calm_all events later (step fixed w event).world (still_none w event quiet none) parts.1 rest)
+
+  -- ---- a sweep begins
+
+  pub begun_none : (w : World) (server : ℕ) → is_some (begins_job given w (Begin agent (Sweep server))) ≡ true → HasNoTask (step fixed w (Begin agent (Sweep server))).world
+  begun_none w server begins = of (actor_at w agent) refl begins
+    where
+      of : (found : Option Actor) → actor_at w agent ≡ found → is_some (with_job (Sweep server) (begins_now fixed agent (Sweep server) found)) ≡ true
+          → HasNoTask (becomes w agent (λ agent. begin fixed agent (Sweep server)) found).world
+      of None is begins = absurd (false≢true begins)
+      of (Some actor) is begins =
+          let new : Agent = record (started fixed actor.agent (Sweep server)) { count = actor.agent.count + 1 } in
+          elim (is_idle actor.agent.doing && has_sense fixed (Sweep server) && nat_lt actor.agent.count max_jobs) as
+          (λ b. is_some (with_job (Sweep server) (cond b (Some (64 * actor.agent.count + agent)) None)) ≡ true
+          → HasNoTask (record w { agents = slice_set w.agents agent (record actor { agent = cond b new actor.agent }) })) [
+            | true ↦ λ _. ap task_at (puts_in w.agents agent actor (record actor { agent = new }) is).here
+            | false ↦ λ none. absurd (false≢true none)
+          ] begins
+
+  pub calm_sweep : (w : World) (server : ℕ) (events later : List Event) → is_some (begins_job given w (Begin agent (Sweep server))) ≡ true
+      → unhindered_from given agent (step fixed w (Begin agent (Sweep server))).world events ≡ true
+      → Calm given (after fixed (step fixed w (Begin agent (Sweep server))).world events) later → Calm given w (Begin agent (Sweep server) ∷ events ++ later)
+  calm_sweep w server events later begins calm rest =
+      calm_more w (Begin agent (Sweep server)) (events ++ later) (λ z m. quiet_begin given z m (Sweep server) (actor_at w agent)) refl
+      (calm_all events later (step fixed w (Begin agent (Sweep server))).world (begun_none w server begins) calm rest)
+
+  pub calm_end : (w : World) → Calm given w []
+  calm_end w = record { quiet = λ z m. refl; none = refl }
+
+  pub calm_round : (w : World) (sweep_run : List (ℕ × List Event)) → goes_round given agent w sweep_run ≡ true → Calm given w (sweeps agent sweep_run)
+  calm_round w [] goes = calm_end w
+  calm_round w (one ∷ more) goes =
+      let begun = (step fixed w (Begin agent (Sweep one.0))).world in
+      let parts = and_parts (is_some (begins_job given w (Begin agent (Sweep one.0))) && unhindered_from given agent begun one.1) (goes_round given agent (after fixed begun one.1) more) goes in
+      let begins = and_parts (is_some (begins_job given w (Begin agent (Sweep one.0)))) (unhindered_from given agent begun one.1) parts.0 in
+      calm_sweep w one.0 one.1 (sweeps agent more) begins.0 begins.1 (calm_round (after fixed begun one.1) more parts.1)
+
+pub sweeps_keep_effects : SweepsKeepEffects
+sweeps_keep_effects given events later agent t server alone =
+    let world = run given events in
+    let calm = calm_sweep given agent world server later [] (ap is_some alone.begins) alone.alone (calm_end given agent (after (fixed_of given) (step (fixed_of given) world (Begin agent (Sweep server))).world later)) in
+    let calm' = subst (λ later. Calm given world (Begin agent (Sweep server) ∷ later)) (append-nil later) calm in
+    record {
+      effects = effects_stay given events (Begin agent (Sweep server) ∷ later) alone.can calm';
+      decided = decisions_stay given events (Begin agent (Sweep server) ∷ later) alone.can calm';
+    }

@@ -1,0 +1,92 @@
+-- Lists of locks that are filtered, and how many transactions have some.
+use Rattle.std.proofs.Common.{◌≡◌, inl, inr, ℕ, ◌+◌, Bool, true, false, cond, List, [], ◌∷◌, ◌++◌, refl, sym, ap, ◌∙◌, arith}
+use Rattle.std.specs.Prelude.{◌==◌, ◌&&◌, ◌||◌, not, filter}
+use Rattle.std.specs.List.{list_all, list_any}
+use Rattle.std.proofs.lemmas.Bool.{and_parts, eqb-true}
+use Rattle.std.proofs.lemmas.Bool.Decides.{nat_tests}
+use Rattle.rep_core.specs.declared.lock.Lock.{Lock}
+use Rattle.rep_core.specs.Locks.{before, rise, with_lock}
+use Rattle.rep_core.proofs.Members.{Has, all_at}
+use Rattle.txn_core.specs.Sweeps.{rising, others}
+use Rattle.law_run_recovers.specs.Standing.{one_if, holders}
+
+module _ {X : Type 0} where
+  -- a filter of a filter
+  pub filter_twice : (p q : X → Bool) (xs : List X) → filter q (filter p xs) ≡ filter (λ x. p x && q x) xs
+  filter_twice p q [] = refl
+  filter_twice p q (x ∷ xs) =
+      let rest = filter_twice p q xs in
+      elim (p x) as (λ b. filter q (cond b (x ∷ filter p xs) (filter p xs)) ≡ cond (b && q x) (x ∷ filter (λ x. p x && q x) xs) (filter (λ x. p x && q x) xs)) [
+        | true ↦ elim (q x) as (λ b. cond b (x ∷ filter q (filter p xs)) (filter q (filter p xs)) ≡ cond b (x ∷ filter (λ x. p x && q x) xs) (filter (λ x. p x && q x) xs)) [ true ↦ ap (λ xs. x ∷ xs) rest | false ↦ rest ]
+        | false ↦ rest
+      ]
+
+  -- two tests that agree on all members
+  pub filter_alike : (p q : X → Bool) (xs : List X) → ((x : X) → Has xs x → p x ≡ q x) → filter p xs ≡ filter q xs
+  filter_alike p q [] same = refl
+  filter_alike p q (x ∷ xs) same =
+      ap (λ b. cond b (x ∷ filter p xs) (filter p xs)) (same x (inl refl))
+      ∙ ap (λ rest. cond (q x) (x ∷ rest) rest) (filter_alike p q xs (λ y has. same y (inr has)))
+
+  pub filter_all : (p : X → Bool) (xs : List X) → ((x : X) → Has xs x → p x ≡ true) → filter p xs ≡ xs
+  filter_all p [] all = refl
+  filter_all p (x ∷ xs) all = ap (λ b. cond b (x ∷ filter p xs) (filter p xs)) (all x (inl refl)) ∙ ap (λ xs. x ∷ xs) (filter_all p xs (λ y has. all y (inr has)))
+
+  pub filter_none : (p : X → Bool) (xs : List X) → ((x : X) → Has xs x → p x ≡ false) → filter p xs ≡ []
+  filter_none p [] none = refl
+  filter_none p (x ∷ xs) none = ap (λ b. cond b (x ∷ filter p xs) (filter p xs)) (none x (inl refl)) ∙ filter_none p xs (λ y has. none y (inr has))
+
+-- ---- locks in order
+
+apart_before : (a b : Lock) → before a b ≡ true → before b a ≡ false
+apart_before a b is = grind (arith, nat_tests)
+
+-- locks that rise are in the order of a sweep
+pub rising_same : (locks : List Lock) → rise locks ≡ true → rising locks ≡ locks
+rising_same [] rises = refl
+rising_same (lock ∷ locks) rises =
+    let parts = and_parts (list_all (before lock) locks) (rise locks) rises in
+    let after = λ (other : Lock) (has : Has locks other). apart_before lock other (all_at (before lock) locks other parts.0 has) in
+    ap (with_lock lock) (rising_same locks parts.1)
+    ∙ ap (λ first. first ++ lock ∷ filter (λ other. not (before other lock)) locks) (filter_none (λ other. before other lock) locks after)
+    ∙ ap (λ later. lock ∷ later) (filter_all (λ other. not (before other lock)) locks (λ other has. ap not (after other has)))
+
+-- ---- how many transactions
+
+abbrev pub has_of : ℕ → List Lock → Bool
+has_of t locks = list_any (λ (other : Lock). other.t == t) locks
+
+-- those of others tell whether another has some
+has_of_others : (t u : ℕ) (locks : List Lock) → (u == t) ≡ false → has_of u (others t locks) ≡ has_of u locks
+has_of_others t u [] apart = refl
+has_of_others t u (lock ∷ locks) apart =
+    let rest = has_of_others t u locks apart in
+    elim (lock.t == t) as (λ b. (lock.t == t) ≡ b → has_of u (cond (not b) (lock ∷ others t locks) (others t locks)) ≡ ((lock.t == u) || has_of u locks)) [
+      | true ↦ λ is. rest ∙ ap (λ b. b || has_of u locks) (sym (other lock.t t u is apart))
+      | false ↦ λ _. ap (λ b. (lock.t == u) || b) rest
+    ] refl
+  where
+    other : (a t u : ℕ) → (a == t) ≡ true → (u == t) ≡ false → (a == u) ≡ false
+    other a t u is apart = grind (arith, nat_tests)
+
+-- one of them and the others
+pub holders_of : (t : ℕ) (locks : List Lock) → holders locks ≡ one_if (has_of t locks) + holders (others t locks)
+holders_of t [] = refl
+holders_of t (lock ∷ locks) =
+    let rest = holders_of t locks in
+    elim (lock.t == t) as (λ b. (lock.t == t) ≡ b → one_if (not (has_of lock.t locks)) + holders locks ≡ one_if (b || has_of t locks) + holders (cond (not b) (lock ∷ others t locks) (others t locks))) [
+      | true ↦ λ is.
+          let same = ap (λ t. has_of t locks) (eqb-true lock.t t is) in
+          ap (λ b. one_if (not b) + holders locks) same ∙ ap (λ n. one_if (not (has_of t locks)) + n) rest ∙ both (has_of t locks) (holders (others t locks))
+      | false ↦ λ apart.
+          ap (λ n. one_if (not (has_of lock.t locks)) + n) rest
+          ∙ turned (one_if (not (has_of lock.t locks))) (one_if (has_of t locks)) (holders (others t locks))
+          ∙ ap (λ b. one_if (has_of t locks) + (one_if (not b) + holders (others t locks))) (sym (has_of_others t lock.t locks apart))
+    ] refl
+  where
+    both : (b : Bool) (n : ℕ) → one_if (not b) + (one_if b + n) ≡ 1 + n
+    both true n = omega arith
+    both false n = omega arith
+
+    turned : (a b c : ℕ) → a + (b + c) ≡ b + (a + c)
+    turned a b c = omega arith

@@ -1,0 +1,185 @@
+-- What a transaction that goes alone leaves in its agent's cache: of a suite the site is hinted what it was before, or where the suite was found.
+use Rattle.std.proofs.Common.{◌≡◌, ◌⊎◌, inr, ℕ, zero, suc, Bool, true, false, cond, List, [], ◌∷◌, length, Option, Some, None, Ok, Err, refl, sym, ap, subst, ◌∙◌}
+use Rattle.std.specs.Prelude.{◌==◌}
+use Rattle.std.proofs.lemmas.Bool.{eqb-true}
+use Rattle.std.proofs.lemmas.Option.{none-some, same_Some}
+use Rattle.suite_content.specs.declared.content.Content.{Content}
+use Rattle.suite_prefix.specs.declared.copies.Prefix.{Prefix}
+use Rattle.rep_core.specs.Fits.{is_prepared}
+use Rattle.rep_core.specs.declared.request.Request.{Request}
+use Rattle.rep_core.specs.declared.reply.Reply.{Reply}
+use Rattle.rep_core.specs.declared.reply.Verdict.{Verdict}
+use Rattle.rep_core.specs.declared.reply.Verdict.TheVariants as verdict
+use Rattle.file_ops.specs.Rows.{PlainTable}
+use Rattle.file_exec.specs.declared.need.Need.TheVariants.{Hold, Know}
+use Rattle.file_exec.specs.declared.executor.Outcome.{Outcome as Executed}
+use Rattle.file_exec.specs.declared.executor.Outcome.TheVariants as exec
+use Rattle.suite_collect.specs.declared.told.Said.{Said}
+use Rattle.suite_collect.specs.declared.told.Told.{Told}
+use Rattle.suite_collect.specs.Collecting.{mode_of, tell, Next, Current, Ask, Short, next}
+use Rattle.weak_cache.specs.Entries.{Entry, Cache}
+use Rattle.weak_cache.specs.Cache.{hint, put}
+use Rattle.txn_core.specs.declared.ending.Ending.{Ending}
+use Rattle.txn_core.specs.declared.ending.Ending.TheVariants.{Undecided}
+use Rattle.txn_core.specs.declared.ending.Cause.{Cause}
+use Rattle.txn_core.specs.declared.ending.Cause.TheVariants.{Lost}
+use Rattle.txn_core.specs.Suites.{ReadPoint, Suite, Suites, suite_of, with_suite, settled}
+use Rattle.txn_core.specs.Doing as doing
+use Rattle.txn_core.specs.Doing.{Fixed, Task, Granted, Phase, Gathering, Fetching, Preparing, Deciding, Finishing}
+use Rattle.txn_core.specs.Transactions as txn_run
+use Rattle.txn_core.specs.Transactions.{Step, Gathered, tell_end, give_up, prepare, gather_by, gather, raised_or_new, widened, widen_by, widen_one, widen_all, to_widen, proceed, heard_on, after_search, free_content, opened_with, open_first, open_suite, open_needed, or_all, opened, execute, hear, collected, heard_of, given_in, keep_content, fetched, prepared, verdict_in, cause_of_abort, decided, locked_at, after_reply}
+use Rattle.run_core.specs.Worlds.{World}
+use Rattle.law_run_recovers.proofs.Hinting.{hint_put, hint_put_here}
+use Rattle.law_run_recovers.proofs.SameDemands.{LeadsFrom, HintsLed}
+use Rattle.law_run_recovers.proofs.Stands.{Ground, IsReady, PhaseStands}
+use Rattle.law_run_recovers.proofs.Executes.{hint_after}
+
+-- ---- what keeps the cache
+
+tell_cache : (task : Task) (now : Cache) (suites : Suites) (v : Verdict) (ended : Ending) (servers : List ℕ) → (tell_end task now suites v ended servers).cache ≡ now
+tell_cache task now suites v ended [] = refl
+tell_cache task now suites v ended (server ∷ servers) = refl
+
+up_cache : (task : Task) (now : Cache) (suites : Suites) (cause : Cause) → (give_up task now suites cause).cache ≡ now
+up_cache task now suites cause = tell_cache task now suites verdict.Aborted (Undecided cause) (locked_at suites)
+
+prepare_cache : (task : Task) (now : Cache) (suites : Suites) (outcome : doing.Outcome) (servers : List ℕ) → (prepare task now suites outcome servers).cache ≡ now
+prepare_cache task now suites outcome [] = refl
+prepare_cache task now suites outcome (server ∷ servers) = refl
+
+gather_cache : (task : Task) (now : Cache) (suites : Suites) (number : ℕ) (after : Next) → (gather_by task now suites number after).cache ≡ now
+gather_cache task now suites number (Short had wanting busy) = up_cache task now suites (txn_run.short_cause number had wanting busy)
+gather_cache task now suites number (Ask server asked) = refl
+gather_cache task now suites number (Current prefix dver members) = refl
+
+widen_cache : (task : Task) (now : Cache) (granted : Granted) (left : List ℕ) (suites : Suites) → (widen_all task now suites granted left).cache ≡ now
+widen_cache task now granted [] suites = prepare_cache task now suites (Ok granted) (locked_at suites)
+widen_cache task now granted (number ∷ left) suites = of (suite_of suites number) (widen_cache task now granted left)
+  where
+    go_on : Suites → Step
+    go_on suites = widen_all task now suites granted left
+
+    by : (more : Suites) (after : Next) → ((suites : Suites) → (widen_all task now suites granted left).cache ≡ now) → (widen_by task now more (doing.Widening (number ∷ left) granted) number after go_on).cache ≡ now
+    by more (Current prefix dver members) go = go more
+    by more (Ask server asked) go = refl
+    by more (Short had wanting busy) go = up_cache task now more (txn_run.short_cause number had wanting busy)
+
+    of : (found : Option Suite) → ((suites : Suites) → (widen_all task now suites granted left).cache ≡ now) → (widen_one task now suites (doing.Widening (number ∷ left) granted) granted.changes number found go_on).cache ≡ now
+    of None go = go suites
+    of (Some suite) go = by (with_suite number (widened granted.changes number suite) suites) (next (widened granted.changes number suite).collector) go
+
+proceed_cache : (fixed : Fixed) (task : Task) (now : Cache) (suites : Suites) (what : Executed) → (proceed fixed task now suites what).cache ≡ now
+proceed_cache fixed task now suites (exec.Need (Hold number mode)) =
+    let new = raised_or_new fixed task now number mode (suite_of suites number) in gather_cache task now (with_suite number new suites) number (next new.collector)
+proceed_cache fixed task now suites (exec.Need (Know number)) = refl
+proceed_cache fixed task now suites (exec.Done answers changes) = widen_cache task now (record { answers = answers; changes = changes }) (to_widen changes) suites
+proceed_cache fixed task now suites (exec.Refused refusal) = prepare_cache task now suites (Err refusal) (locked_at suites)
+
+module _ (fixed : Fixed) (world : World) (table : PlainTable) (task : Task) (cache : Cache) (Was : ℕ → Prefix → Type 0) (ground : Ground fixed world cache task.site Was) where
+  abbrev Led : Cache → Type 0
+  Led now = HintsLed fixed world cache task.site now
+
+  -- ---- contents that are to be had without asking
+
+  module _ (all : Gathered) (z : ℕ) where
+    abbrev SameHint : Gathered → Type 0
+    SameHint more = hint more.cache task.site z ≡ hint all.cache task.site z
+
+    with_hint : (number : ℕ) (suite : Suite) (first : ReadPoint) (found : Option Content) (more : Gathered) → opened_with task all number suite first found ≡ Some more → SameHint more
+    with_hint number suite first None more is = absurd (none-some more is)
+    with_hint number suite first (Some content) more is = subst SameHint (same_Some _ more is) (hint_after fixed world table task cache Was ground all.cache number first z)
+
+    first_hint : (number : ℕ) (suite : Suite) (first : Option ReadPoint) (more : Gathered) → open_first task all number suite first ≡ Some more → SameHint more
+    first_hint number suite None more is = absurd (none-some more is)
+    first_hint number suite (Some first) more is = with_hint number suite first (free_content task all.cache number first) more is
+
+    suite_hint : (number : ℕ) (found : Option Suite) (more : Gathered) → open_suite task all number found ≡ Some more → SameHint more
+    suite_hint number None more is = absurd (none-some more is)
+    suite_hint number (Some suite) more is = first_hint number suite suite.first more is
+
+    needed_hint : (what : Executed) (more : Gathered) → open_needed task all what ≡ Some more → SameHint more
+    needed_hint (exec.Need (Know number)) more is = suite_hint number (suite_of all.suites number) more is
+    needed_hint (exec.Need (Hold number mode)) more is = absurd (none-some more is)
+    needed_hint (exec.Done answers changes) more is = absurd (none-some more is)
+    needed_hint (exec.Refused refusal) more is = absurd (none-some more is)
+
+  opened_hint : (n : ℕ) (all : Gathered) (z : ℕ) → hint (opened n fixed task all).cache task.site z ≡ hint all.cache task.site z
+  opened_hint zero all z = refl
+  opened_hint (suc n) all z = of (open_needed task all (heard_on fixed task all.suites)) refl (λ more. opened_hint n more z)
+    where
+      of : (found : Option Gathered) → open_needed task all (heard_on fixed task all.suites) ≡ found → ((more : Gathered) → hint (opened n fixed task more).cache task.site z ≡ hint more.cache task.site z)
+          → hint (or_all all found (λ all. opened n fixed task all)).cache task.site z ≡ hint all.cache task.site z
+      of None is go = refl
+      of (Some more) is go = go more ∙ needed_hint all z (heard_on fixed task all.suites) more is
+
+  pub execute_hints : (all : Gathered) → Led all.cache → Led (execute fixed task all).cache
+  execute_hints all led z prefix hinted =
+      let more = opened (length all.suites) fixed task all in
+      led z prefix (sym (opened_hint (length all.suites) all z) ∙ ap (λ cache. hint cache task.site z) (sym (proceed_cache fixed task more.cache more.suites (heard_on fixed task more.suites))) ∙ hinted)
+
+  -- ---- replies
+
+  module _ (now : Cache) (led : Led now) (server : ℕ) (asked : Request) (said : Reply) where
+    as_now : (step : Step) → step.cache ≡ now → Led step.cache
+    as_now step same = subst Led (sym same) led
+
+    heard_hints : (suites : Suites) (phase : Phase) (number : ℕ) (found : Option Suite) (go_on : Suites → Step) → ((suites : Suites) → Led (go_on suites).cache) → Led (heard_of task now suites phase number found server asked said go_on).cache
+    heard_hints suites phase number None go_on go = as_now (give_up task now suites (Lost server)) (up_cache task now suites (Lost server))
+    heard_hints suites phase number (Some suite) go_on go = of (txn_run.said_to asked said)
+      where
+        on : Suite → Step
+        on suite = go_on (with_suite number suite suites)
+
+        by : (new : Suite) (after : Next) → Led (collected task now suites phase number new after on).cache
+        by new (Ask who question) = led
+        by new (Short had wanting busy) = as_now (give_up task now (with_suite number new suites) (txn_run.short_cause number had wanting busy)) (up_cache task now (with_suite number new suites) (txn_run.short_cause number had wanting busy))
+        by new (Current prefix dver members) = go (with_suite number (settled prefix dver members new) suites)
+
+        of : (found : Option Said) → Led (hear task now suites phase number suite server asked found on).cache
+        of None = as_now (give_up task now suites (Lost server)) (up_cache task now suites (Lost server))
+        of (Some heard) =
+            let one : Told = record { server = server; mode = mode_of asked; said = heard } in
+            by (record suite { collector = tell one suite.collector }) (next (tell one suite.collector))
+
+    fetched_hints : (suites : Suites) (number : ℕ) → IsReady fixed world table task cache Was ground suites → (given : Option Content) → Led (fetched fixed task now suites number (suite_of suites number) server given).cache
+    fetched_hints suites number ready given = of (suite_of suites number) refl given
+      where
+        by : (suite : Suite) → suite_of suites number ≡ Some suite → (content : Content) (first : Option ReadPoint) → suite.first ≡ first → Led (keep_content fixed task now suites number suite content first server).cache
+        by suite there content None had = as_now (give_up task now suites (Lost server)) (up_cache task now suites (Lost server))
+        by suite there content (Some first) had = execute_hints (record { suites = with_suite number (record suite { content = Some content }) suites; cache = put fixed.limits entry now }) (λ z prefix hinted. at z prefix hinted (number == z) refl)
+          where
+            entry : Entry
+            entry = record { site = task.site; suite = number; prefix = first.prefix; dver = first.dver; content = content }
+
+            at : (z : ℕ) (prefix : Prefix) → hint (put fixed.limits entry now) task.site z ≡ Some prefix → (b : Bool) → (number == z) ≡ b → (hint cache task.site z ≡ Some prefix) ⊎ LeadsFrom fixed world cache task.site z prefix
+            at z prefix hinted true same =
+                let is = eqb-true number z same in
+                let found = (ready.whole number suite there).found in
+                subst (λ z. (hint cache task.site z ≡ Some prefix) ⊎ LeadsFrom fixed world cache task.site z prefix) is
+                (inr (record { start = found.start; may = found.may; is = hint_put_here fixed.limits entry now prefix (ap (hint (put fixed.limits entry now) task.site) is ∙ hinted) ∙ found.led first had }))
+            at z prefix hinted false apart = led z prefix (hint_put task.site z number apart fixed.limits entry refl refl now prefix hinted)
+
+        of : (found : Option Suite) → suite_of suites number ≡ found → (given : Option Content) → Led (fetched fixed task now suites number found server given).cache
+        of None there None = as_now (give_up task now suites (Lost server)) (up_cache task now suites (Lost server))
+        of None there (Some content) = as_now (give_up task now suites (Lost server)) (up_cache task now suites (Lost server))
+        of (Some suite) there None = as_now (give_up task now suites (Lost server)) (up_cache task now suites (Lost server))
+        of (Some suite) there (Some content) = by suite there content suite.first refl
+
+    prepared_hints : (suites : Suites) (outcome : doing.Outcome) (left : List ℕ) (b : Bool) → Led (cond b (prepare task now suites outcome left) (give_up task now suites (Lost server))).cache
+    prepared_hints suites outcome left true = as_now (prepare task now suites outcome left) (prepare_cache task now suites outcome left)
+    prepared_hints suites outcome left false = as_now (give_up task now suites (Lost server)) (up_cache task now suites (Lost server))
+
+    pub reply_hints : (suites : Suites) (phase : Phase) → PhaseStands fixed world table task cache Was ground suites now phase → Led (after_reply fixed task now suites phase server asked said).cache
+    reply_hints suites (Gathering number) at =
+        heard_hints suites (Gathering number) number (suite_of suites number) (λ suites. execute fixed task (record { suites = suites; cache = now })) (λ suites. execute_hints (record { suites = suites; cache = now }) led)
+    reply_hints suites (Fetching number) at = fetched_hints suites number at.0 (given_in said)
+    reply_hints suites (doing.Widening [] granted) at = absurd at
+    reply_hints suites (doing.Widening (number ∷ left) granted) at =
+        heard_hints suites (doing.Widening (number ∷ left) granted) number (suite_of suites number) (λ suites. widen_all task now suites granted left) (λ suites. as_now (widen_all task now suites granted left) (widen_cache task now granted left suites))
+    reply_hints suites (Preparing [] outcome) at = as_now (give_up task now suites (Lost server)) (up_cache task now suites (Lost server))
+    reply_hints suites (Preparing (first ∷ left) outcome) at = prepared_hints suites outcome left (is_prepared said)
+    reply_hints suites (Deciding outcome) at =
+        let v = verdict_in said verdict.Aborted in
+        let ended = txn_run.ending_by v (cause_of_abort said) in as_now (tell_end task now suites v ended (locked_at suites)) (tell_cache task now suites v ended (locked_at suites))
+    reply_hints suites (Finishing [] v ended) at = as_now (tell_end task now suites v ended []) (tell_cache task now suites v ended [])
+    reply_hints suites (Finishing (first ∷ left) v ended) at = as_now (tell_end task now suites v ended left) (tell_cache task now suites v ended left)

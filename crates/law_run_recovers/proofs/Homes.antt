@@ -1,0 +1,59 @@
+-- Homes go round: of as many jobs in a row as there are servers one has each server as its home.
+use Rattle.std.proofs.Common.{◌≡◌, ⊎_elim, ℕ, ◌+◌, ◌*◌, ◌-◌, ◌<◌, ◌≤◌, ◌⊎◌, ap, ◌∙◌, arith}
+use Rattle.std.specs.Prelude.{◌%◌, ◌/◌}
+use Rattle.std.proofs.Math.Nat.{mod-lt, add-mod_right}
+use Rattle.std.proofs.lemmas.Nat.{div-add-mod', mod-mul-add}
+use Rattle.suite_prefix.specs.SettingsRules.{Opening}
+use Rattle.txn_core.specs.Doing.{home_of}
+use Rattle.txn_core.specs.Agents.{fixed_of}
+use Rattle.law_runs.proofs.Conclusions.{rest_of}
+use Rattle.law_run_recovers.specs.Laws.{HomesGoRound}
+
+place_of : (place index : ℕ) → index < 64 → (64 * place + index) / 64 ≡ place
+place_of place index small = omega arith
+
+-- so many jobs later the home is this many servers on
+pub home_later : (given : Opening) (agent count more : ℕ) → agent < 64 → home_of (fixed_of given).service (64 * (count + more) + agent) ≡ (agent + count + more) % given.servers
+home_later given agent count more small =
+    ap (λ sum. sum % given.servers) (ap (λ rest. rest + (64 * (count + more) + agent) / 64) (rest_of (count + more) agent small)
+    ∙ ap (λ place. agent + place) (place_of (count + more) agent small) ∙ sums agent count more)
+  where
+    sums : (a c m : ℕ) → a + (c + m) ≡ a + c + m
+    sums a c m = omega arith
+
+-- from a rest to a greater one, and to a smaller one, past the end
+record Reaches (a n server : ℕ) : Type 0 where
+  more : ℕ
+  few : more < n
+  is : (a + more) % n ≡ server
+
+on : (a n server p r : ℕ) → p + r ≡ a → r ≤ server → server < n → (p + server) % n ≡ server → Reaches a n server
+on a n server p r is le small rest = record { more = server - r; few = omega (arith, le, small); is = ap (λ sum. sum % n) (to a p r is le) ∙ rest }
+  where
+    to : (a p r : ℕ) → p + r ≡ a → r ≤ server → a + (server - r) ≡ p + server
+    to a p r is le = omega (arith, is, le)
+
+sweep_run : (a n server p r : ℕ) → p + r ≡ a → server < r → r < n → (p + server) % n ≡ server → Reaches a n server
+sweep_run a n server p r is less small rest =
+    record { more = server + n - r; few = omega (arith, less, small); is = ap (λ sum. sum % n) (to a p r is less small) ∙ add-mod_right (p + server) n ∙ rest }
+  where
+    to : (a p r : ℕ) → p + r ≡ a → server < r → r < n → a + (server + n - r) ≡ p + server + n
+    to a p r is less small = omega (arith, is, less, small)
+
+le_or : (a b : ℕ) → (a ≤ b) ⊎ (b < a)
+le_or a b = grind arith
+
+reaches : (a n server : ℕ) → server < n → Reaches a n server
+reaches a n server small =
+    let some : 0 < n = omega (arith, small) in
+    let parts = div-add-mod' a n in
+    let rest = mod-mul-add (a / n) n server small in
+    ⊎_elim
+    (λ le. on a n server (a / n * n) (a % n) parts le small rest)
+    (λ less. sweep_run a n server (a / n * n) (a % n) parts less (mod-lt a some) rest)
+    (le_or (a % n) server)
+
+pub homes_go_round : HomesGoRound
+homes_go_round given agent count server few small =
+    let way = reaches (agent + count) given.servers server small in
+    record { more = way.more; few = way.few; home = home_later given agent count way.more few ∙ way.is }

@@ -1,0 +1,177 @@
+-- Where a suite is led to: to a prefix that it had, of whose voting members that are up none shows a newer one.
+use Rattle.std.proofs.Common.{◌≡◌, inl, inr, ℕ, zero, suc, ◌<◌, ◌≤◌, Bool, true, false, cond, List, [], ◌∷◌, length, Option, Some, None, refl, sym, ap, subst, ◌∙◌, arith}
+use Rattle.std.specs.Prelude.{◌&&◌, nat_lt, filter, find, option_map}
+use Rattle.std.proofs.lemmas.Bool.{false≢true, and_parts, and_from}
+use Rattle.std.proofs.lemmas.Bool.Decides.{nat_tests}
+use Rattle.std.proofs.lemmas.Option.{none-some, same_Some}
+use Rattle.vote_core.specs.Quorums.{Representative}
+use Rattle.suite_prefix.specs.SettingsRules.{Opening}
+use Rattle.suite_prefix.specs.declared.copies.Prefix.{Prefix}
+use Rattle.rep_core.specs.Consistency.{IsConsistent}
+use Rattle.rep_core.specs.Store.{copy_of}
+use Rattle.rep_core.specs.State.{State}
+use Rattle.rep_core.proofs.Finding.{find_some}
+use Rattle.rep_core.proofs.Members.{Has}
+use Rattle.txn_core.specs.Agents.{fixed_of}
+use Rattle.txn_core.specs.Doing.{Fixed}
+use Rattle.run_core.specs.Worlds as worlds
+use Rattle.run_core.specs.Worlds.{server_at}
+use Rattle.law_suite_machine.specs.Registers.{WasPrefix}
+use Rattle.law_suite_machine.specs.Machine.{World}
+use Rattle.law_suite_machine.proofs.Invariant.{Inv}
+use Rattle.law_server_moves.specs.Views.{Shows}
+use Rattle.law_server_moves.specs.Laws.{beginning}
+use Rattle.law_run_machine.specs.Machines.{servers_of, home_in}
+use Rattle.law_run_alone.proofs.Clear.{at_has}
+use Rattle.law_run_recovers.specs.Standing.{is_up, up_free, shown_at, shown_in}
+use Rattle.law_run_recovers.specs.Demands.{shows_newer, newer_from, led_on, led_so_far, led_to}
+use Rattle.law_run_recovers.proofs.Found.{up_so, stored_so}
+
+pub not_itself : (a : ℕ) → nat_lt a a ≡ false
+not_itself a = grind (arith, nat_tests)
+
+-- ---- step by step
+
+module _ (fixed : Fixed) (world : worlds.World) (suite : ℕ) where
+  -- one step more
+  pub one_step : (n : ℕ) (from p x : Prefix) → led_so_far n fixed world suite from ≡ p → newer_from fixed world suite p ≡ Some x → led_so_far (suc n) fixed world suite from ≡ x
+  one_step zero from p x at newer =
+      ap (λ from. led_on from (newer_from fixed world suite from) (λ y. y)) at ∙ ap (λ found. led_on p found (λ y. y)) newer
+  one_step (suc n) from p x at newer = of (newer_from fixed world suite from) refl (λ y at. one_step n y p x at newer) at
+    where
+      of : (found : Option Prefix) → newer_from fixed world suite from ≡ found
+          → ((y : Prefix) → led_so_far n fixed world suite y ≡ p → led_so_far (suc n) fixed world suite y ≡ x)
+          → led_on from found (λ y. led_so_far n fixed world suite y) ≡ p → led_on from found (λ y. led_so_far (suc n) fixed world suite y) ≡ x
+      of None is go at = absurd (none-some x (sym is ∙ ap (newer_from fixed world suite) at ∙ newer))
+      of (Some y) is go at = go y at
+
+  pub stays : (n : ℕ) (from : Prefix) → newer_from fixed world suite from ≡ None → led_so_far n fixed world suite from ≡ from
+  stays zero from none = refl
+  stays (suc n) from none = ap (λ found. led_on from found (λ y. led_so_far n fixed world suite y)) none
+
+  -- wherever none is newer is one end
+  pub one_end : (n m : ℕ) (from : Prefix) → newer_from fixed world suite (led_so_far n fixed world suite from) ≡ None → newer_from fixed world suite (led_so_far m fixed world suite from) ≡ None
+      → led_so_far n fixed world suite from ≡ led_so_far m fixed world suite from
+  one_end zero m from one other = sym (stays m from one)
+  one_end (suc n) zero from one other = stays (suc n) from other
+  one_end (suc n) (suc m) from one other = of (newer_from fixed world suite from) (λ y one other. one_end n m y one other) one other
+    where
+      of : (found : Option Prefix)
+          → ((y : Prefix) → newer_from fixed world suite (led_so_far n fixed world suite y) ≡ None → newer_from fixed world suite (led_so_far m fixed world suite y) ≡ None
+          → led_so_far n fixed world suite y ≡ led_so_far m fixed world suite y)
+          → newer_from fixed world suite (led_on from found (λ y. led_so_far n fixed world suite y)) ≡ None
+          → newer_from fixed world suite (led_on from found (λ y. led_so_far m fixed world suite y)) ≡ None
+          → led_on from found (λ y. led_so_far n fixed world suite y) ≡ led_on from found (λ y. led_so_far m fixed world suite y)
+      of None go one other = refl
+      of (Some y) go one other = go y one other
+
+-- ---- how many pass a test
+
+module _ {X : Type 0} (f g : X → Bool) where
+  within : (xs : List X) → length (filter f xs) ≤ length xs
+  within [] = omega arith
+  within (x ∷ xs) = let rest = within xs in elim (f x) as (λ b. length (cond b (x ∷ filter f xs) (filter f xs)) ≤ suc (length xs)) [ true ↦ omega (arith, rest) | false ↦ omega (arith, rest) ]
+
+  counted : (xs : List X) (x : X) → Has xs x → f x ≡ true → 1 ≤ length (filter f xs)
+  counted [] x has is = absurd has
+  counted (y ∷ ys) x has is =
+      elim (f y) as (λ b. f y ≡ b → 1 ≤ length (cond b (y ∷ filter f ys) (filter f ys))) [
+        | true ↦ λ _. omega arith
+        | false ↦ λ no_test. elim has [ inl same ↦ absurd (false≢true (sym no_test ∙ ap f same ∙ is)) | inr later ↦ counted ys x later is ]
+      ] refl
+
+  not_more : ((x : X) → g x ≡ true → f x ≡ true) → (xs : List X) → length (filter g xs) ≤ length (filter f xs)
+  not_more so [] = omega arith
+  not_more so (x ∷ xs) =
+      let rest = not_more so xs in
+      elim (g x) as (λ b. g x ≡ b → length (cond b (x ∷ filter g xs) (filter g xs)) ≤ length (cond (f x) (x ∷ filter f xs) (filter f xs))) [
+        | true ↦ λ is. subst (λ b. suc (length (filter g xs)) ≤ length (cond b (x ∷ filter f xs) (filter f xs))) (sym (so x is)) (omega (arith, rest))
+        | false ↦ λ _. elim (f x) as (λ b. length (filter g xs) ≤ length (cond b (x ∷ filter f xs) (filter f xs))) [ true ↦ omega (arith, rest) | false ↦ omega (arith, rest) ]
+      ] refl
+
+  fewer : ((x : X) → g x ≡ true → f x ≡ true) → (xs : List X) (x : X) → Has xs x → f x ≡ true → g x ≡ false → length (filter g xs) < length (filter f xs)
+  fewer so [] x has is isnt = absurd has
+  fewer so (y ∷ ys) x has is isnt =
+      elim has [
+        | inl same ↦
+            let rest = not_more so ys in
+            subst (λ y. length (cond (g y) (y ∷ filter g ys) (filter g ys)) < length (cond (f y) (y ∷ filter f ys) (filter f ys))) (sym same)
+            (subst (λ b. length (cond b (x ∷ filter g ys) (filter g ys)) < length (cond (f x) (x ∷ filter f ys) (filter f ys))) (sym isnt)
+            (subst (λ b. length (filter g ys) < length (cond b (x ∷ filter f ys) (filter f ys))) (sym is) (omega (arith, rest))))
+        | inr later ↦
+            let rest = fewer so ys x later is isnt in
+            elim (g y) as (λ b. g y ≡ b → length (cond b (y ∷ filter g ys) (filter g ys)) < length (cond (f y) (y ∷ filter f ys) (filter f ys))) [
+              | true ↦ λ so_y. subst (λ b. suc (length (filter g ys)) < length (cond b (y ∷ filter f ys) (filter f ys))) (sym (so y so_y)) (omega (arith, rest))
+              | false ↦ λ _. elim (f y) as (λ b. length (filter g ys) < length (cond b (y ∷ filter f ys) (filter f ys))) [ true ↦ omega (arith, rest) | false ↦ omega (arith, rest) ]
+            ] refl
+      ]
+
+-- ---- from one prefix to the next
+
+module _ (given : Opening) (z : ℕ) (w : World) (world : worlds.World) (inv : Inv (beginning z given) w) (shows : Shows z (home_in given) (servers_of given world) w)
+    (all : (i : ℕ) (st : State) → server_at world i ≡ Some st → IsConsistent st) (free : up_free world ≡ true) where
+  -- the servers that are up and show a newer one
+  abbrev above : Prefix → State → Bool
+  above prefix st = st.up && nat_lt prefix.pver (copy_of st.store z).prefix.pver
+
+  record Newer (prefix next : Prefix) : Type 0 where
+    was : WasPrefix (beginning z given) w.log next
+    st : State
+    has : Has world.servers st
+    up : st.up ≡ true
+    shown : (copy_of st.store z).prefix ≡ next
+    greater : nat_lt prefix.pver next.pver ≡ true
+
+  newer : (prefix next : Prefix) → newer_from (fixed_of given) world z prefix ≡ Some next → Newer prefix next
+  newer prefix next is = of (find (shows_newer (fixed_of given) world z prefix) prefix.votes.reps) refl is
+    where
+      of : (found : Option Representative) → find (shows_newer (fixed_of given) world z prefix) prefix.votes.reps ≡ found → option_map (λ (rep : Representative). shown_at (fixed_of given) world z rep.0) found ≡ Some next → Newer prefix next
+      of None found is = absurd (none-some next is)
+      of (Some rep) found is =
+          let test = (find_some (shows_newer (fixed_of given) world z prefix) prefix.votes.reps rep found).1 in
+          let parts = and_parts (nat_lt 0 rep.1 && is_up world rep.0) (nat_lt prefix.pver (shown_at (fixed_of given) world z rep.0).pver) test in
+          let up = (and_parts (nat_lt 0 rep.1) (is_up world rep.0) parts.0).1 in
+          let up' = up_so given z w world inv shows all free rep.0 up in
+          let shown : shown_at (fixed_of given) world z rep.0 ≡ next = same_Some (shown_at (fixed_of given) world z rep.0) next is in
+          record {
+            was = subst (WasPrefix (beginning z given) w.log) (stored_so given z w world inv shows all free rep.0 up ∙ shown) (inv.current.were rep.0).0;
+            st = up'.st;
+            has = at_has world.servers rep.0 up'.st up'.at;
+            up = up'.up;
+            shown = sym (ap (λ found. shown_in (fixed_of given) found z) up'.at) ∙ shown;
+            greater = subst (λ (shown : Prefix). nat_lt prefix.pver shown.pver ≡ true) shown parts.1;
+          }
+
+  less_left : (prefix next : Prefix) → Newer prefix next → length (filter (above next) world.servers) < length (filter (above prefix) world.servers)
+  less_left prefix next is =
+      fewer (above prefix) (above next) (λ st above'. let parts = and_parts st.up (nat_lt next.pver (copy_of st.store z).prefix.pver) above' in and_from st.up _ parts.0 (after prefix.pver next.pver (copy_of st.store z).prefix.pver is.greater parts.1)) world.servers is.st is.has
+      (and_from is.st.up _ is.up (subst (λ (shown : Prefix). nat_lt prefix.pver shown.pver ≡ true) (sym is.shown) is.greater))
+      (ap (λ b. b && nat_lt next.pver (copy_of is.st.store z).prefix.pver) is.up ∙ subst (λ (shown : Prefix). nat_lt next.pver shown.pver ≡ false) (sym is.shown) (not_itself next.pver))
+    where
+      after : (a b c : ℕ) → nat_lt a b ≡ true → nat_lt b c ≡ true → nat_lt a c ≡ true
+      after a b c is also = grind (arith, nat_tests)
+
+  some_left : (prefix next : Prefix) → Newer prefix next → 1 ≤ length (filter (above prefix) world.servers)
+  some_left prefix next is =
+      counted (above prefix) (above next) world.servers is.st is.has (and_from is.st.up _ is.up (subst (λ (shown : Prefix). nat_lt prefix.pver shown.pver ≡ true) (sym is.shown) is.greater))
+
+  pub record Led (prefix : Prefix) : Type 0 where
+    pub was : WasPrefix (beginning z given) w.log prefix
+    pub last : newer_from (fixed_of given) world z prefix ≡ None
+
+  leads : (more : ℕ) (prefix : Prefix) → WasPrefix (beginning z given) w.log prefix → length (filter (above prefix) world.servers) ≤ more → Led (led_so_far more (fixed_of given) world z prefix)
+  leads zero prefix was few = record { was = was; last = of (newer_from (fixed_of given) world z prefix) refl }
+    where
+      of : (found : Option Prefix) → newer_from (fixed_of given) world z prefix ≡ found → newer_from (fixed_of given) world z prefix ≡ None
+      of None is = is
+      of (Some next) is = let some = some_left prefix next (newer prefix next is) in absurd (omega (arith, few, some))
+  leads (suc more) prefix was few = of (newer_from (fixed_of given) world z prefix) refl (λ next was few. leads more next was few)
+    where
+      of : (found : Option Prefix) → newer_from (fixed_of given) world z prefix ≡ found
+          → ((next : Prefix) → WasPrefix (beginning z given) w.log next → length (filter (above next) world.servers) ≤ more → Led (led_so_far more (fixed_of given) world z next))
+          → Led (led_on prefix found (λ newer. led_so_far more (fixed_of given) world z newer))
+      of None is go = record { was = was; last = is }
+      of (Some next) is go = let new = newer prefix next is in let less = less_left prefix next new in go next new.was (omega (arith, few, less))
+
+  pub led : (start : Prefix) → WasPrefix (beginning z given) w.log start → Led (led_to (fixed_of given) world z start)
+  led start was = leads (length world.servers) start was (within (above start) (above start) world.servers)

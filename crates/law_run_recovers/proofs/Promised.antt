@@ -1,0 +1,55 @@
+-- What a world lends, from the laws of its run.
+use Rattle.std.proofs.Common.{List}
+use Rattle.suite_prefix.specs.SettingsRules.{Opening}
+use Rattle.run_core.specs.declared.event.Event.{Event}
+use Rattle.run_core.specs.Opened.{Opened}
+use Rattle.law_agents.specs.Sites.{RunsKeepToSites}
+use Rattle.law_agents.proofs.Ends.{jobs_end}
+use Rattle.law_headline.specs.Premises.{CanBe}
+use Rattle.law_headline.proofs.Promised.{front}
+use Rattle.law_run_alone.proofs.Alike.{undisturbed_endings_are_one}
+use Rattle.law_run_alone.proofs.Clear.{nothing_is_in_the_way}
+use Rattle.law_run_alone.proofs.Decided.{undisturbed_are_decided}
+use Rattle.law_run_alone.proofs.Endings.{endings_are_the_tables}
+use Rattle.law_run_alone.proofs.Same.{endings_are_one}
+use Rattle.law_run_recovers.specs.Promises.{IsAvailable, Lends}
+use Rattle.law_run_recovers.proofs.Again.{one_of_them_is_decided}
+use Rattle.law_run_recovers.proofs.Counts.{they_end_in_time}
+use Rattle.law_run_recovers.proofs.Calm.{sweeps_keep_effects}
+use Rattle.law_run_recovers.proofs.Ends.{ends_are_by_votes}
+use Rattle.law_run_recovers.proofs.Free.{no_lock_is_left}
+use Rattle.law_run_recovers.proofs.HadVotes.{decided_had_votes_up}
+use Rattle.law_run_recovers.proofs.Homes.{homes_go_round}
+use Rattle.law_run_recovers.proofs.Rounds.{only_doubts_are_left}
+use Rattle.law_run_recovers.proofs.Rows.{met_demands_are_rows}
+use Rattle.law_run_recovers.proofs.Stored.{all_is_stored}
+use Rattle.law_run_recovers.proofs.Swept.{sweeps_leave_doubts}
+use Rattle.law_run_recovers.proofs.Taken.{taken_away_are_never_decided}
+use Rattle.law_run_recovers.proofs.Unmoved.{decided_where_votes_are}
+
+pub available : RunsKeepToSites → (given : Opening) (events : List Event) → CanBe given events → IsAvailable given events
+available sites given events can = record {
+  had_votes = decided_had_votes_up given events;
+  ends = ends_are_by_votes given events;
+  in_time = they_end_in_time given events;
+  where_votes = decided_where_votes_are ends_are_by_votes given events;
+  rows = met_demands_are_rows given events can;
+  homes = homes_go_round given;
+  again = one_of_them_is_decided given events;
+  sweep = sweeps_leave_doubts given events;
+  effects = sweeps_keep_effects given events;
+  doubts = only_doubts_are_left given events;
+  free = no_lock_is_left given events;
+  stored = all_is_stored given events;
+  never = taken_away_are_never_decided given events;
+  in_the_way = nothing_is_in_the_way given can.accepted events;
+  undisturbed = undisturbed_are_decided given events;
+  endings = endings_are_the_tables given events can;
+  same = endings_are_one;
+  caches = undisturbed_endings_are_one;
+  jobs = jobs_end;
+  sites = sites;
+}
+
+pub lends : RunsKeepToSites → (opened : Opened) → Lends opened
+lends sites opened before later is = available sites opened.given before (front opened.given before later is.can_be)

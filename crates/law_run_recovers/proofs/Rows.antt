@@ -1,0 +1,107 @@
+-- Where a transaction's demands are met, those by the votes of the table's own rows are.
+use Rattle.std.proofs.Common.{◌≡◌, inl, inr, ℕ, Bool, true, List, [], ◌∷◌, Option, Some, None, refl, sym, ap, subst, ◌∙◌, arith}
+use Rattle.std.specs.Prelude.{◌&&◌, map, option_map}
+use Rattle.std.specs.List.{list_all}
+use Rattle.std.proofs.lemmas.Bool.{and_parts}
+use Rattle.std.proofs.lemmas.Bool.Decides.{nat_tests}
+use Rattle.std.proofs.lemmas.List.Folds.{list_all-append}
+use Rattle.std.proofs.lemmas.Option.{none-some, same_Some}
+use Rattle.vote_core.specs.Quorums.{Configuration, votes_in}
+use Rattle.suite_prefix.specs.SettingsRules.{Opening}
+use Rattle.suite_prefix.specs.declared.copies.Prefix.{Prefix}
+use Rattle.suite_prefix.specs.declared.lock_mode.LockMode.{LockMode}
+use Rattle.suite_prefix.specs.declared.lock_mode.LockMode.TheVariants.{Shared, Exclusive}
+use Rattle.file_ops.specs.Rows.{Row, row_of}
+use Rattle.rep_core.proofs.Finding.{find_some}
+use Rattle.rep_core.proofs.Members.{contains_from}
+use Rattle.weak_cache.specs.Entries.{Entry, is_of, entry_of}
+use Rattle.txn_core.specs.Agents.{fixed_of}
+use Rattle.run_core.specs.declared.event.Event.{Event}
+use Rattle.run_core.specs.Worlds as worlds
+use Rattle.run_core.specs.Worlds.{Actor, actor_at}
+use Rattle.run_core.specs.Runs.{run}
+use Rattle.run_core.specs.TableOfRun.{table_of}
+use Rattle.law_suite_machine.specs.Registers.{prefix_at, WasPrefix}
+use Rattle.law_suite_machine.specs.Machine.{IsQuorum}
+use Rattle.law_suite_machine.proofs.Invariant.{Inv}
+use Rattle.law_server_moves.specs.Laws.{beginning}
+use Rattle.law_run_machine.specs.Machines.{machine_of}
+use Rattle.law_run_knowledge.proofs.Events.{knowledge_was}
+use Rattle.law_one_table.specs.Tables.{AllKeepSides, register}
+use Rattle.law_one_table.specs.Versions.{row_at}
+use Rattle.law_one_table.proofs.Effects as effects
+use Rattle.law_one_table.proofs.Versions as versions
+use Rattle.law_headline.specs.Premises.{CanBe}
+use Rattle.law_headline.proofs.Keeping.{all_keep}
+use Rattle.law_run_alone.proofs.Unhindered.{all_consistent}
+use Rattle.law_run_recovers.specs.Standing.{is_up, up_free}
+use Rattle.law_run_recovers.specs.Demands.{Demand, demand, is_met, led_to, votes_of_row, locks_asked, votes_set, MayStart}
+use Rattle.law_run_recovers.specs.Laws.{MetDemandsAreRows}
+use Rattle.law_run_recovers.proofs.Found.{found_is_row}
+use Rattle.law_run_recovers.proofs.Leading.{led}
+
+-- tests that hold of one image hold of another
+module _ {X Y : Type 0} where
+  all_alike : (p : Y → Bool) (f g : X → Y) → ((x : X) → p (f x) ≡ true → p (g x) ≡ true) → (xs : List X) → list_all p (map f xs) ≡ true → list_all p (map g xs) ≡ true
+  all_alike p f g so [] is = refl
+  all_alike p f g so (x ∷ xs) is =
+      let parts = and_parts (p (f x)) (list_all p (map f xs)) is in
+      ap (λ b. b && list_all p (map g xs)) (so x parts.0) ∙ all_alike p f g so xs parts.1
+
+-- the votes of the row, or the first ones
+pub row_votes : (given : Opening) (events : List Event) (can : CanBe given events) (z : ℕ) (found : Option Row) → row_at given events z ≡ found → (register given z events).prefix.votes ≡ votes_of_row (fixed_of given) found
+row_votes given events can z (Some row') is = (versions.of given events (all_keep given events can) z row' is).votes
+row_votes given events can z None is =
+    let kept = all_keep given events can in
+    let inv = effects.inv given events kept z in
+    let none = (versions.none given events kept z is).0 in
+    ap (λ (prefix : Prefix). prefix.votes) (sym inv.logged.own.0.1 ∙ ap (prefix_at (beginning z given) (machine_of given z events).log) none ∙ inv.logged.never.1)
+
+module _ (given : Opening) (events : List Event) (can : CanBe given events) (free : up_free (run given events) ≡ true) (z : ℕ) where
+  abbrev world : worlds.World
+  world = run given events
+
+  abbrev kept : AllKeepSides given events
+  kept = all_keep given events can
+
+  abbrev inv : Inv (beginning z given) (machine_of given z events)
+  inv = effects.inv given events kept z
+
+  -- what a suite may be looked for from was its prefix
+  pub start_was : (agent site : ℕ) (actor : Actor) (start : Prefix) → actor_at (run given events) agent ≡ Some actor → MayStart (fixed_of given) actor.agent.cache site z start → WasPrefix (beginning z given) (machine_of given z events).log start
+  start_was agent site actor start there (inl absent) = subst (WasPrefix (beginning z given) (machine_of given z events).log) (sym absent) inv.logged.never
+  start_was agent site actor start there (inr hinted) = of (entry_of actor.agent.cache site z) refl hinted
+    where
+      of : (found : Option Entry) → entry_of actor.agent.cache site z ≡ found → option_map (λ (entry : Entry). entry.prefix) found ≡ Some start → WasPrefix (beginning z given) (machine_of given z events).log start
+      of None is hinted = absurd (none-some start hinted)
+      of (Some entry) is hinted =
+          let found = find_some (is_of site z) actor.agent.cache entry is in
+          let was = (knowledge_was given z events kept.valid (kept.keep z) agent actor there).cache entry (contains_from actor.agent.cache entry found.0) (of_suite entry found.1) in
+          subst (WasPrefix (beginning z given) (machine_of given z events).log) (same_Some entry.prefix start hinted) was.prefix
+        where
+          of_suite : (entry : Entry) → is_of site z entry ≡ true → entry.suite ≡ z
+          of_suite entry is = grind (arith, nat_tests)
+
+  met_row : (agent site : ℕ) (actor : Actor) (start : Prefix) → actor_at (run given events) agent ≡ Some actor → MayStart (fixed_of given) actor.agent.cache site z start → (mode : LockMode)
+      → is_met (demand (run given events) z mode (led_to (fixed_of given) (run given events) z start).votes) ≡ true
+      → is_met (demand (run given events) z mode (votes_of_row (fixed_of given) (row_of (table_of given events).rows z))) ≡ true
+  met_row agent site actor start there may mode met =
+      let shows = (effects.follows given events kept z).shows in
+      let end = led given z (machine_of given z events) (run given events) inv shows (all_consistent given events) free start (start_was agent site actor start there may) in
+      let is = found_is_row given z (machine_of given z events) (run given events) inv shows (all_consistent given events) free (led_to (fixed_of given) (run given events) z start) end.was end.last (quorum mode met) in
+      subst (λ votes. is_met (demand (run given events) z mode votes) ≡ true) (ap (λ (prefix : Prefix). prefix.votes) is ∙ row_votes given events can z (row_at given events z) refl) met
+    where
+      quorum : (mode : LockMode) → is_met (demand (run given events) z mode (led_to (fixed_of given) (run given events) z start).votes) ≡ true → IsQuorum (led_to (fixed_of given) (run given events) z start).votes (is_up (run given events))
+      quorum Shared met = inl met
+      quorum Exclusive met = inr met
+
+pub met_demands_are_rows : MetDemandsAreRows
+met_demands_are_rows given events can t caller site ops agent actor start free there may met =
+    let asked : List (ℕ × LockMode) = locks_asked (table_of given events) t caller ops in
+    let set : List Demand = map (λ (one : ℕ × Configuration). record { suite = one.0; got = votes_in one.1.reps (is_up (run given events)); needed = one.1.w }) (votes_set (table_of given events) t caller ops) in
+    let found : ℕ × LockMode → Demand = λ one. demand (run given events) one.0 one.1 (led_to (fixed_of given) (run given events) one.0 (start one.0)).votes in
+    let of_row : ℕ × LockMode → Demand = λ one. demand (run given events) one.0 one.1 (votes_of_row (fixed_of given) (row_of (table_of given events).rows one.0)) in
+    let parts = and_parts (list_all is_met (map found asked)) (list_all is_met set) (sym (list_all-append is_met (map found asked) set) ∙ met) in
+    list_all-append is_met (map of_row asked) set
+    ∙ ap (λ b. b && list_all is_met set) (all_alike {X = ℕ × LockMode} is_met found of_row (λ one met. met_row given events can free one.0 agent site actor (start one.0) there (may one.0) one.1 met) asked parts.0)
+    ∙ parts.1

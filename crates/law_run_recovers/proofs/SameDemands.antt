@@ -1,0 +1,129 @@
+-- Where servers are up as before, and show what they showed, a transaction demands what it did before.
+use Rattle.std.proofs.Common.{◌≡◌, ◌⊎◌, inl, inr, ⊎_elim, ℕ, zero, suc, Bool, true, false, cond, List, [], ◌∷◌, ◌++◌, length, Option, Some, None, refl, ap, ◌∙◌}
+use Rattle.std.specs.Prelude.{◌&&◌, nat_lt, find, map, option_map}
+use Rattle.std.proofs.lemmas.Bool.{and_parts}
+use Rattle.acl_core.specs.Identity.{Identity}
+use Rattle.vote_core.specs.Quorums.{Representative, Configuration, votes_in}
+use Rattle.suite_prefix.specs.Absent.{absent_prefix}
+use Rattle.suite_prefix.specs.declared.copies.Prefix.{Prefix}
+use Rattle.suite_prefix.specs.declared.lock_mode.LockMode.{LockMode}
+use Rattle.rep_core.proofs.Finding.{find_some}
+use Rattle.file_ops.specs.declared.operation.Op.{Op}
+use Rattle.file_ops.specs.Rows.{PlainTable}
+use Rattle.weak_cache.specs.Entries.{Cache}
+use Rattle.weak_cache.specs.Cache.{hint}
+use Rattle.txn_core.specs.Doing.{Fixed}
+use Rattle.run_core.specs.Worlds.{World}
+use Rattle.law_run_recovers.specs.Standing.{is_up, shown_at}
+use Rattle.law_run_recovers.specs.Demands.{Demand, demand, demands, all_met, shows_newer, newer_from, led_on, led_so_far, led_to, locks_asked, votes_set, MayStart, VotesAreUp}
+use Rattle.law_run_recovers.proofs.Leading.{stays}
+use Rattle.law_run_recovers.proofs.Picks.{votes_alike}
+use Rattle.law_run_recovers.proofs.Unmoved.{map_alike}
+
+find_alike : {X : Type 0} (f g : X → Bool) → ((x : X) → f x ≡ g x) → (xs : List X) → find f xs ≡ find g xs
+find_alike f g same [] = refl
+find_alike f g same (x ∷ xs) = ap (λ b. cond b (Some x) (find f xs)) (same x) ∙ ap (λ rest. cond (g x) (Some x) rest) (find_alike f g same xs)
+
+-- what a site's cache hints later: what it did before, or where such a hint or what was never made leads to
+pub record LeadsFrom (fixed : Fixed) (world : World) (cache : Cache) (site z : ℕ) (prefix : Prefix) : Type 0 where
+  pub start : Prefix
+  pub may : MayStart fixed cache site z start
+  pub is : prefix ≡ led_to fixed world z start
+
+abbrev pub HintsLed : Fixed → World → Cache → ℕ → Cache → Type 0
+HintsLed fixed world cache site now = (z : ℕ) (prefix : Prefix) → hint now site z ≡ Some prefix → (hint cache site z ≡ Some prefix) ⊎ LeadsFrom fixed world cache site z prefix
+
+module _ (fixed : Fixed) (before after : World) (many : length after.servers ≡ length before.servers) (up : (i : ℕ) → is_up after i ≡ is_up before i) (shown : (z i : ℕ) → is_up before i ≡ true → shown_at fixed after z i ≡ shown_at fixed before z i) where
+  same_test : (z : ℕ) (prefix : Prefix) (rep : Representative) → shows_newer fixed after z prefix rep ≡ shows_newer fixed before z prefix rep
+  same_test z prefix rep =
+      ap (λ b. nat_lt 0 rep.1 && b && nat_lt prefix.pver (shown_at fixed after z rep.0).pver) (up rep.0) ∙ of (nat_lt 0 rep.1) (is_up before rep.0) refl
+    where
+      of : (a b : Bool) → is_up before rep.0 ≡ b → (a && b && nat_lt prefix.pver (shown_at fixed after z rep.0).pver) ≡ (a && b && nat_lt prefix.pver (shown_at fixed before z rep.0).pver)
+      of true true is = ap (λ (p : Prefix). nat_lt prefix.pver p.pver) (shown z rep.0 is)
+      of true false is = refl
+      of false b is = refl
+
+  same_newer : (z : ℕ) (prefix : Prefix) → newer_from fixed after z prefix ≡ newer_from fixed before z prefix
+  same_newer z prefix =
+      ap (option_map (λ (rep : Representative). shown_at fixed after z rep.0)) (find_alike (shows_newer fixed after z prefix) (shows_newer fixed before z prefix) (same_test z prefix) prefix.votes.reps)
+      ∙ of (find (shows_newer fixed before z prefix) prefix.votes.reps) refl
+    where
+      of : (found : Option Representative) → find (shows_newer fixed before z prefix) prefix.votes.reps ≡ found
+          → option_map (λ (rep : Representative). shown_at fixed after z rep.0) found ≡ option_map (λ (rep : Representative). shown_at fixed before z rep.0) found
+      of None is = refl
+      of (Some rep) is =
+          let test = (find_some (shows_newer fixed before z prefix) prefix.votes.reps rep is).1 in
+          let parts = and_parts (nat_lt 0 rep.1 && is_up before rep.0) (nat_lt prefix.pver (shown_at fixed before z rep.0).pver) test in
+          ap (λ (p : Prefix). Some p) (shown z rep.0 (and_parts (nat_lt 0 rep.1) (is_up before rep.0) parts.0).1)
+
+  same_so_far : (n z : ℕ) (prefix : Prefix) → led_so_far n fixed after z prefix ≡ led_so_far n fixed before z prefix
+  same_so_far zero z prefix = refl
+  same_so_far (suc n) z prefix = ap (λ found. led_on prefix found (λ newer. led_so_far n fixed after z newer)) (same_newer z prefix) ∙ of (newer_from fixed before z prefix) (same_so_far n z)
+    where
+      of : (found : Option Prefix) → ((prefix : Prefix) → led_so_far n fixed after z prefix ≡ led_so_far n fixed before z prefix)
+          → led_on prefix found (λ newer. led_so_far n fixed after z newer) ≡ led_on prefix found (λ newer. led_so_far n fixed before z newer)
+      of None go = refl
+      of (Some newer) go = go newer
+
+  pub same_led : (z : ℕ) (prefix : Prefix) → led_to fixed after z prefix ≡ led_to fixed before z prefix
+  same_led z prefix = ap (λ n. led_so_far n fixed after z prefix) many ∙ same_so_far (length before.servers) z prefix
+
+  same_votes_up : (votes : Configuration) → votes_in votes.reps (is_up after) ≡ votes_in votes.reps (is_up before)
+  same_votes_up votes = votes_alike votes.reps (is_up after) (is_up before) (λ rep has some. up rep.0)
+
+  -- from prefixes that lead to the same
+  pub same_demands : (table : PlainTable) (t : ℕ) (caller : Identity) (ops : List Op) (start start' : ℕ → Prefix) → ((z : ℕ) → led_to fixed before z (start' z) ≡ led_to fixed before z (start z))
+      → demands fixed after table t caller ops start' ≡ demands fixed before table t caller ops start
+  same_demands table t caller ops start start' same =
+      ap (λ first. first ++ map set_after (votes_set table t caller ops)) (map_alike lock_after lock_before lock_same (locks_asked table t caller ops))
+      ∙ ap (λ rest. map lock_before (locks_asked table t caller ops) ++ rest) (map_alike set_after set_before (λ one. ap (λ n. the one n) (same_votes_up one.1)) (votes_set table t caller ops))
+    where
+      lock_after : ℕ × LockMode → Demand
+      lock_after one = demand after one.0 one.1 (led_to fixed after one.0 (start' one.0)).votes
+
+      lock_before : ℕ × LockMode → Demand
+      lock_before one = demand before one.0 one.1 (led_to fixed before one.0 (start one.0)).votes
+
+      set_after : ℕ × Configuration → Demand
+      set_after one = record { suite = one.0; got = votes_in one.1.reps (is_up after); needed = one.1.w }
+
+      set_before : ℕ × Configuration → Demand
+      set_before one = record { suite = one.0; got = votes_in one.1.reps (is_up before); needed = one.1.w }
+
+      the : ℕ × Configuration → ℕ → Demand
+      the one n = record { suite = one.0; got = n; needed = one.1.w }
+
+      by_votes : (suite : ℕ) (mode : LockMode) (votes : Configuration) → demand after suite mode votes ≡ demand before suite mode votes
+      by_votes suite mode votes = ap (λ n. with_got n) (same_votes_up votes)
+        where
+          with_got : ℕ → Demand
+          with_got n = record (demand before suite mode votes) { got = n }
+
+      lock_same : (one : ℕ × LockMode) → lock_after one ≡ lock_before one
+      lock_same one =
+          by_votes one.0 one.1 (led_to fixed after one.0 (start' one.0)).votes
+          ∙ ap (λ (p : Prefix). demand before one.0 one.1 p.votes) (same_led one.0 (start' one.0) ∙ same one.0)
+
+  record Same (cache : Cache) (site z : ℕ) (later : Prefix) : Type 0 where
+    start : Prefix
+    may : MayStart fixed cache site z start
+    same : led_to fixed before z later ≡ led_to fixed before z start
+
+  -- so where votes are up from wherever a suite may be looked for, they are still, by what its cache then hints
+  pub still_up : (table : PlainTable) (cache now : Cache) (t site : ℕ) (caller : Identity) (ops : List Op) → ((z : ℕ) (start : Prefix) → MayStart fixed cache site z start → newer_from fixed before z (led_to fixed before z start) ≡ None)
+      → HintsLed fixed before cache site now → VotesAreUp fixed before table cache t site caller ops → VotesAreUp fixed after table now t site caller ops
+  still_up table cache now t site caller ops last hints all start' may =
+      ap all_met (same_demands table t caller ops (λ z. (from z).start) start' (λ z. (from z).same)) ∙ all (λ z. (from z).start) (λ z. (from z).may)
+    where
+      from : (z : ℕ) → Same cache site z (start' z)
+      from z = ⊎_elim
+          (λ absent. record { start = absent_prefix fixed.service.c0; may = inl refl; same = ap (led_to fixed before z) absent })
+          (λ hinted. ⊎_elim
+          (λ old. record { start = start' z; may = inr old; same = refl })
+          (λ (new : LeadsFrom fixed before cache site z (start' z)). record {
+            start = new.start;
+            may = new.may;
+            same = ap (led_to fixed before z) new.is ∙ stays fixed before z (length before.servers) (led_to fixed before z new.start) (last z new.start new.may);
+          })
+          (hints z (start' z) hinted))
+          (may z)

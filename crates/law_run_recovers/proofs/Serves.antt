@@ -1,0 +1,235 @@
+-- What an event serves, if anything; and that whoever has a lock at a server was told so there.
+use Rattle.std.proofs.Common.{◌≡◌, ◌⊎◌, inl, inr, ⊎_elim, ℕ, Bool, true, false, cond, List, Option, Some, None, refl, sym, ap, subst, ◌∙◌}
+use Rattle.std.specs.Prelude.{◌==◌, ◌&&◌, not, filter, map, slice_get, slice_set}
+use Rattle.suite_prefix.specs.declared.lock_mode.LockMode.{LockMode}
+use Rattle.suite_prefix.specs.declared.lock_mode.LockMode.TheVariants.{Exclusive}
+use Rattle.suite_prefix.specs.declared.copies.Replica.{Replica}
+use Rattle.rep_core.specs.declared.lock.Lock.{Lock}
+use Rattle.rep_core.specs.declared.request.Request.{Request}
+use Rattle.rep_core.specs.declared.request.Request.TheVariants as request
+use Rattle.rep_core.specs.declared.reply.Reply.{Reply}
+use Rattle.rep_core.specs.declared.reply.Verdict.{Verdict}
+use Rattle.rep_core.specs.declared.stamped.Stamped.{Stamped}
+use Rattle.rep_core.specs.declared.stamped.Lack.{Lack as Why}
+use Rattle.file_ops.specs.declared.audit.AuditItem.{AuditItem}
+use Rattle.rep_core.specs.Locks.{in_the_way, has_lock, raised, raised_lock, with_lock, before, prepared_lock, is_own}
+use Rattle.rep_core.specs.Store.{copy_of, intended}
+use Rattle.rep_core.specs.State.{State, record_of}
+use Rattle.rep_core.specs.Service.{reply_of, reply_up, reply_down, after, after_up, after_down, after_locking, locking_reply, held, after_record, prepares}
+use Rattle.rep_core.specs.Serving.{is_full, served, answer_of}
+use Rattle.rep_core.proofs.Members.{Has, has_filter, has_between, has_map}
+use Rattle.txn_core.specs.declared.response.Response.TheVariants.{Lacked}
+use Rattle.txn_core.specs.Doing.{Fixed}
+use Rattle.txn_core.specs.Agents.{Agent, next_of, begin, forget}
+use Rattle.run_core.specs.declared.event.Event.{Event}
+use Rattle.run_core.specs.declared.event.Event.TheVariants.{Begin, Step, Crash, Return, Forget, Lack}
+use Rattle.run_core.specs.declared.done.Served.{Served}
+use Rattle.run_core.specs.Worlds.{Actor, World, Stepped, server_at, actor_at, serve, answered, becomes, asks_at, asks, steps_once, lacks_for, lacks, operated, operates, step}
+use Rattle.law_runs.proofs.Places.{same_or}
+use Rattle.law_runs.proofs.Worlds.{puts_in}
+use Rattle.law_run_recovers.specs.Standing.{locks_in, locks_at}
+
+-- ---- one server
+
+-- a lock of the same transaction was there
+pub record Was (locks : List Lock) (t : ℕ) : Type 0 where
+  pub lock : Lock
+  pub has : Has locks lock
+  pub of_it : lock.t ≡ t
+
+pub record IsTold (t : ℕ) (asked : Request) (said : Reply) : Type 0 where
+  pub suite : ℕ
+  pub mode : LockMode
+  pub copy : Replica
+  pub poll : asked ≡ request.Poll t suite mode
+  pub reply : said ≡ held copy
+
+abbrev Grows : State → Request → List Lock → Type 0
+Grows st asked new = (lock : Lock) → Has new lock → Was st.locks lock.t ⊎ IsTold lock.t asked (reply_of st asked)
+
+was_here : (locks : List Lock) (lock : Lock) → Has locks lock → Was locks lock.t
+was_here locks lock has = record { lock = lock; has = has; of_it = refl }
+
+same_grows : (st : State) (asked : Request) (new : List Lock) → new ≡ st.locks → Grows st asked new
+same_grows st asked new same lock has = inl (was_here st.locks lock (subst (λ locks. Has locks lock) same has))
+
+filter_grows : (st : State) (asked : Request) (p : Lock → Bool) → Grows st asked (filter p st.locks)
+filter_grows st asked p lock has = inl (was_here st.locks lock (has_filter p st.locks lock has).0)
+
+map_grows : (st : State) (asked : Request) (f : Lock → Lock) → ((lock : Lock) → (f lock).t ≡ lock.t) → Grows st asked (map f st.locks)
+map_grows st asked f same lock has = let was = has_map f st.locks lock has in inl (record { lock = was.0; has = was.1; of_it = sym (same was.0) ∙ ap (λ (lock : Lock). lock.t) was.2 })
+
+record_same : (old : Option Verdict) (t : ℕ) (v : Verdict) (item : Option AuditItem) (st : State) → (after_record old t v item st).locks ≡ st.locks
+record_same None t v item st = refl
+record_same (Some old) t v item st = refl
+
+poll_grows : (st : State) (t suite : ℕ) (mode : LockMode) → st.up ≡ true → (other : Option Lock) → in_the_way t suite mode st.locks ≡ other → Grows st (request.Poll t suite mode) (after_locking other t suite mode st).locks
+poll_grows st t suite mode up (Some other) is = same_grows st (request.Poll t suite mode) st.locks refl
+poll_grows st t suite mode up None is =
+    elim (has_lock t suite st.locks) as (λ b. Grows st (request.Poll t suite mode) (cond b (raised t suite mode st.locks) (with_lock (record { t = t; suite = suite; mode = mode; prepared = false }) st.locks))) [
+      | true ↦ map_grows st (request.Poll t suite mode) (raised_lock t suite mode) (λ lock. refl)
+      | false ↦ λ lock has. ⊎_elim
+          (λ old. inl (was_here st.locks lock old))
+          (λ new. inr (record {
+            suite = suite;
+            mode = mode;
+            copy = copy_of st.store suite;
+            poll = ap (λ t. request.Poll t suite mode) (ap (λ (lock : Lock). lock.t) new);
+            reply = ap (λ b. cond b (reply_up st (request.Poll t suite mode)) (reply_down (request.Poll t suite mode))) up ∙ ap (λ other. locking_reply other (copy_of st.store suite)) is;
+          }))
+          (has_between (λ other. before other (record { t = t; suite = suite; mode = mode; prepared = false })) st.locks (record { t = t; suite = suite; mode = mode; prepared = false }) lock has)
+    ]
+
+upgrade_grows : (st : State) (t suite : ℕ) → has_lock t suite st.locks ≡ true → (other : Option Lock) → Grows st (request.Upgrade t suite) (after_locking other t suite Exclusive st).locks
+upgrade_grows st t suite has (Some other) = same_grows st (request.Upgrade t suite) st.locks refl
+upgrade_grows st t suite has None =
+    subst (λ b. Grows st (request.Upgrade t suite) (cond b (raised t suite Exclusive st.locks) (with_lock (record { t = t; suite = suite; mode = Exclusive; prepared = false }) st.locks))) (sym has)
+    (map_grows st (request.Upgrade t suite) (raised_lock t suite Exclusive) (λ lock. refl))
+
+up_grows : (st : State) (asked : Request) → st.up ≡ true → Grows st asked (after_up st asked).locks
+up_grows st (request.Poll t suite mode) up = poll_grows st t suite mode up (in_the_way t suite mode st.locks) refl
+up_grows st (request.Upgrade t suite) up =
+    elim (has_lock t suite st.locks) as (λ b. has_lock t suite st.locks ≡ b → Grows st (request.Upgrade t suite) (cond b (after_locking (in_the_way t suite Exclusive st.locks) t suite Exclusive st) st).locks) [
+      | true ↦ λ has. upgrade_grows st t suite has (in_the_way t suite Exclusive st.locks)
+      | false ↦ λ _. same_grows st (request.Upgrade t suite) st.locks refl
+    ] refl
+up_grows st (request.Fetch t suite) up = same_grows st (request.Fetch t suite) st.locks refl
+up_grows st (request.Prepare t parts) up =
+    elim (prepares st t parts) as (λ b. Grows st (request.Prepare t parts) (cond b (record st { store = intended t parts st.store; locks = map (prepared_lock t parts) st.locks }) st).locks) [
+      | true ↦ map_grows st (request.Prepare t parts) (prepared_lock t parts) (λ lock. refl)
+      | false ↦ same_grows st (request.Prepare t parts) st.locks refl
+    ]
+up_grows st (request.Decide t decision) up = same_grows st (request.Decide t decision) _ (record_same (record_of st t) t _ _ st)
+up_grows st (request.Resolve t) up = same_grows st (request.Resolve t) _ (record_same (record_of st t) t _ _ st)
+up_grows st (request.Finish t verdict) up = filter_grows st (request.Finish t verdict) (λ lock. not (lock.t == t))
+up_grows st (request.Break t suite) up = filter_grows st (request.Break t suite) (λ lock. not (is_own t suite lock && not lock.prepared))
+up_grows st request.Locks up = same_grows st request.Locks st.locks refl
+up_grows st request.Crash up = filter_grows st request.Crash (λ lock. lock.prepared)
+up_grows st request.Return up = same_grows st request.Return st.locks refl
+
+down_same : (st : State) (asked : Request) → (after_down st asked).locks ≡ st.locks
+down_same st (request.Poll t suite mode) = refl
+down_same st (request.Upgrade t suite) = refl
+down_same st (request.Fetch t suite) = refl
+down_same st (request.Prepare t parts) = refl
+down_same st (request.Decide t decision) = refl
+down_same st (request.Resolve t) = refl
+down_same st (request.Finish t verdict) = refl
+down_same st (request.Break t suite) = refl
+down_same st request.Locks = refl
+down_same st request.Crash = refl
+down_same st request.Return = refl
+
+after_grows : (st : State) (asked : Request) → Grows st asked (after st asked).locks
+after_grows st asked =
+    elim (st.up) as (λ b. st.up ≡ b → Grows st asked (cond b (after_up st asked) (after_down st asked)).locks) [
+      | true ↦ λ up. up_grows st asked up
+      | false ↦ λ _. same_grows st asked (after_down st asked).locks (down_same st asked)
+    ] refl
+
+-- ---- one event
+
+-- a server served a request
+pub record Serves (w : World) (stepped : Stepped) : Type 0 where
+  pub target : ℕ
+  pub st : State
+  pub asked : Stamped Request
+  pub at : server_at w target ≡ Some st
+  pub servers : stepped.world.servers ≡ slice_set w.servers target (served st asked)
+  pub done : stepped.done.served ≡ Some (record { server = target; request = asked; reply = answer_of st asked })
+
+abbrev pub Serving : World → Stepped → Type 0
+Serving w stepped = (stepped.world.servers ≡ w.servers) ⊎ Serves w stepped
+
+module _ (fixed : Fixed) (w : World) where
+  answered_serves : (i : ℕ) (actor : Actor) (target : ℕ) (st : State) (asked : Stamped Request) → server_at w target ≡ Some st → Serving w (answered fixed w i actor st (serve target st asked))
+  answered_serves i actor target st asked at =
+      elim (is_full st asked) as (λ b. Serving w (answered fixed w i actor st (cond b None (Some (record { server = target; request = asked; reply = answer_of st asked }))))) [
+        | true ↦ inl refl
+        | false ↦ inr (record { target = target; st = st; asked = asked; at = at; servers = refl; done = refl })
+      ]
+
+  operated_serves : (target : ℕ) (st : State) (asked : Stamped Request) → server_at w target ≡ Some st → Serving w (operated w st (serve target st asked))
+  operated_serves target st asked at =
+      elim (is_full st asked) as (λ b. Serving w (operated w st (cond b None (Some (record { server = target; request = asked; reply = answer_of st asked }))))) [
+        | true ↦ inl refl
+        | false ↦ inr (record { target = target; st = st; asked = asked; at = at; servers = refl; done = refl })
+      ]
+
+  becomes_serves : (i : ℕ) (change : Agent → Agent) (found : Option Actor) → Serving w (becomes w i change found)
+  becomes_serves i change None = inl refl
+  becomes_serves i change (Some actor) = inl refl
+
+  at_serves : (i : ℕ) (actor : Actor) (asked : ℕ × Request) (found : Option State) → server_at w asked.0 ≡ found → Serving w (asks_at fixed w i actor asked found)
+  at_serves i actor asked None at = inl refl
+  at_serves i actor asked (Some st) at = answered_serves i actor asked.0 st (record { stamp = actor.stamp; value = asked.1 }) at
+
+  asks_serves : (i : ℕ) (actor : Actor) (asked : Option (ℕ × Request)) → Serving w (asks fixed w i actor asked)
+  asks_serves i actor None = inl refl
+  asks_serves i actor (Some asked) = at_serves i actor asked (server_at w asked.0) refl
+
+  step_serves : (i : ℕ) (found : Option Actor) → Serving w (steps_once fixed w i found)
+  step_serves i None = inl refl
+  step_serves i (Some actor) = asks_serves i actor (next_of fixed actor.agent)
+
+  lack_serves : (i : ℕ) (why : Why) (actor : Actor) (asked : Option (ℕ × Request)) → Serving w (lacks_for fixed w i actor (Lacked why) asked)
+  lack_serves i why actor None = inl refl
+  lack_serves i why actor (Some asked) = inl refl
+
+  lacks_serve : (i : ℕ) (why : Why) (found : Option Actor) → Serving w (lacks fixed w i (Lacked why) found)
+  lacks_serve i why None = inl refl
+  lacks_serve i why (Some actor) = lack_serves i why actor (next_of fixed actor.agent)
+
+  operates_serve : (server : ℕ) (asked : Request) (found : Option State) → server_at w server ≡ found → Serving w (operates w server asked found)
+  operates_serve server asked None at = inl refl
+  operates_serve server asked (Some st) at = operated_serves server st (record { stamp = 0; value = asked }) at
+
+  pub event_serves : (event : Event) → Serving w (step fixed w event)
+  event_serves (Begin i job) = becomes_serves i (λ agent. begin fixed agent job) (actor_at w i)
+  event_serves (Step i) = step_serves i (actor_at w i)
+  event_serves (Crash server) = operates_serve server request.Crash (server_at w server) refl
+  event_serves (Return server) = operates_serve server request.Return (server_at w server) refl
+  event_serves (Forget i site) = becomes_serves i (λ agent. forget agent site) (actor_at w i)
+  event_serves (Lack i why) = lacks_serve i why (actor_at w i)
+
+  -- who has a lock after it had one before, or was told so in it
+  pub record Told (event : Event) (t server : ℕ) : Type 0 where
+    pub what : Served
+    pub served : (step fixed w event).done.served ≡ Some what
+    pub at : what.server ≡ server
+    pub told : IsTold t what.request.value what.reply.value
+
+  served_locks : (stepped : Stepped) (serves : Serves w stepped) (server : ℕ) → server ≡ serves.target → locks_at stepped.world server ≡ (after serves.st serves.asked.value).locks
+  served_locks stepped serves server here =
+      ap (λ servers. locks_in (slice_get servers server)) serves.servers
+      ∙ ap (λ i. locks_in (slice_get (slice_set w.servers serves.target (served serves.st serves.asked)) i)) here
+      ∙ ap locks_in (puts_in w.servers serves.target serves.st (served serves.st serves.asked) serves.at).here
+
+  other_locks : (stepped : Stepped) (serves : Serves w stepped) (server : ℕ) → (server ≡ serves.target → ⊥) → locks_at stepped.world server ≡ locks_at w server
+  other_locks stepped serves server apart =
+      ap (λ servers. locks_in (slice_get servers server)) serves.servers
+      ∙ ap locks_in ((puts_in w.servers serves.target serves.st (served serves.st serves.asked) serves.at).apart server apart)
+
+  told_here : (event : Event) (server t : ℕ) (serves : Serves w (step fixed w event)) → server ≡ serves.target → (was : Was (locks_at (step fixed w event).world server) t)
+      → Was serves.st.locks was.lock.t ⊎ IsTold was.lock.t serves.asked.value (reply_of serves.st serves.asked.value) → Was (locks_at w server) t ⊎ Told event t server
+  told_here event server t serves here was (inl old) =
+      inl (record { lock = old.lock; has = subst (λ locks. Has locks old.lock) (sym (ap (locks_at w) here ∙ ap locks_in serves.at)) old.has; of_it = old.of_it ∙ was.of_it })
+  told_here event server t serves here was (inr told) =
+      inr (record {
+        what = record { server = serves.target; request = serves.asked; reply = answer_of serves.st serves.asked };
+        served = serves.done;
+        at = sym here;
+        told = subst (λ t. IsTold t serves.asked.value (reply_of serves.st serves.asked.value)) was.of_it told;
+      })
+
+  served_told : (event : Event) (server t : ℕ) (serves : Serves w (step fixed w event)) → Was (locks_at (step fixed w event).world server) t → Was (locks_at w server) t ⊎ Told event t server
+  served_told event server t serves was = ⊎_elim
+      (λ here. told_here event server t serves here was (after_grows serves.st serves.asked.value was.lock (subst (λ locks. Has locks was.lock) (served_locks (step fixed w event) serves server here) was.has)))
+      (λ apart. inl (subst (λ locks. Was locks t) (other_locks (step fixed w event) serves server apart) was))
+      (same_or server serves.target)
+
+  pub lock_told : (event : Event) (server t : ℕ) → Was (locks_at (step fixed w event).world server) t → Was (locks_at w server) t ⊎ Told event t server
+  lock_told event server t was = ⊎_elim
+      (λ same. inl (subst (λ servers. Was (locks_in (slice_get servers server)) t) same was))
+      (λ serves. served_told event server t serves was)
+      (event_serves event)

@@ -1,0 +1,314 @@
+-- How a transaction stands that goes alone: what it has asked for so far and how that was found, and how it ends.
+use Rattle.std.proofs.Common.{◌≡◌, inl, ℕ, Bool, true, false, cond, List, [], ◌∷◌, ◌++◌, append-nil, Option, Some, None, is_some, Result, Ok, Err, refl, sym, ap, subst, ◌∙◌}
+use Rattle.std.specs.Prelude.{◌==◌, not, nat_lt, find, map}
+use Rattle.std.specs.List.{list_any}
+use Rattle.std.specs.Ordering.{nat_cmp}
+use Rattle.std.proofs.lemmas.Bool.{eqb-true}
+use Rattle.std.proofs.lemmas.Cmp.{nat_cmp_total}
+use Rattle.sorted_map.specs.SortedMap.{IsOrdered}
+use Rattle.sorted_map.specs.Laws.{IsOrdered-insert}
+use Rattle.vote_core.specs.Quorums.{Configuration, votes_in}
+use Rattle.vote_core.specs.Validity.{IsValid, max_servers}
+use Rattle.suite_prefix.specs.Absent.{absent_prefix}
+use Rattle.suite_prefix.specs.declared.copies.Prefix.{Prefix}
+use Rattle.suite_prefix.specs.declared.lock_mode.LockMode.{LockMode}
+use Rattle.suite_prefix.specs.declared.lock_mode.LockMode.TheVariants.{Shared}
+use Rattle.suite_prefix.specs.LockModes.{serves}
+use Rattle.rep_core.proofs.Members.{Has}
+use Rattle.rep_core.specs.declared.reply.Verdict.{Verdict}
+use Rattle.file_ops.specs.declared.answer.Answer.{Answer}
+use Rattle.file_ops.specs.declared.refusal.Refusal.{Refusal}
+use Rattle.file_ops.specs.Rows.{PlainTable, row_of}
+use Rattle.file_exec.specs.declared.need.Need.{Need}
+use Rattle.file_exec.specs.Following.{Ended, needs, ending}
+use Rattle.file_exec.specs.Operations.{transaction}
+use Rattle.suite_collect.specs.Telling.{holds}
+use Rattle.suite_collect.specs.Collecting.{Collector, Widening, all_told}
+use Rattle.weak_cache.specs.Entries.{Cache}
+use Rattle.weak_cache.specs.Cache.{hint}
+use Rattle.txn_core.specs.declared.ending.Ending.{Ending}
+use Rattle.txn_core.specs.declared.ending.Ending.TheVariants.{Undecided}
+use Rattle.txn_core.specs.declared.ending.Cause.TheVariants.{Unavailable}
+use Rattle.txn_core.specs.Suites.{ReadPoint, Suite, Suites, suite_of, with_suite}
+use Rattle.txn_core.specs.Doing as doing
+use Rattle.txn_core.specs.Doing.{Fixed, Task, Granted, Phase, Gathering, Fetching, Preparing, Deciding, Finishing, TransactionRun, After, GoesOn, Ends, home_of}
+use Rattle.txn_core.specs.Transactions.{Step, tell_end, prepare}
+use Rattle.txn_core.proofs.Gathers.{Each, EachBut, with_at, each_but, each_with}
+use Rattle.run_core.specs.Worlds.{World}
+use Rattle.law_run_recovers.specs.Standing.{is_up}
+use Rattle.law_run_recovers.specs.Demands.{Demand, demand, demands, is_met, first_short, led_to, has_asked, not_asked, locks_asked, votes_set, MayStart, MayStartAll}
+use Rattle.law_run_recovers.specs.Laws.{ending_by, answer_on}
+use Rattle.law_run_recovers.proofs.Asking.{onto, find_past, held_in}
+use Rattle.law_run_recovers.proofs.Led.{Rules, Reached}
+use Rattle.law_run_recovers.proofs.Polled.{AllRight}
+use Rattle.law_run_recovers.proofs.VotesSet.{IsSet}
+
+-- ---- what it stands on
+
+-- of each suite, what a prefix from which it is looked for leads to; Was says what a prefix is said to be, as that the suite had it
+pub record Ground (fixed : Fixed) (world : World) (cache : Cache) (site : ℕ) (Was : ℕ → Prefix → Type 0) : Type 0 where
+  pub rules : (z : ℕ) (start : Prefix) → MayStart fixed cache site z start → Rules fixed world z (Was z) start
+  pub valid : (z : ℕ) (prefix : Prefix) → Was z prefix → IsValid prefix.votes
+
+-- what a transaction needs on a table, and what its operations come to there
+abbrev pub needed_on : PlainTable → Task → List Need
+needed_on table task = needs (row_of table.rows) [] (transaction table.service task.t task.caller task.ops)
+
+abbrev pub result_on : PlainTable → Task → Result (Ended (List Answer)) Refusal
+result_on table task = ending (row_of table.rows) [] (transaction table.service task.t task.caller task.ops)
+
+abbrev pub locks_on : PlainTable → Task → List (ℕ × LockMode)
+locks_on table task = locks_asked table task.t task.caller task.ops
+
+abbrev pub sets_on : PlainTable → Task → List (ℕ × Configuration)
+sets_on table task = votes_set table task.t task.caller task.ops
+
+abbrev pub answer_to : PlainTable → Task → Result (List Answer) Refusal
+answer_to table task = answer_on table task.t task.caller task.ops
+
+-- what is demanded of one
+abbrev pub of_lock : Fixed → World → (ℕ → Prefix) → ℕ × LockMode → Demand
+of_lock fixed world start one = demand world one.0 one.1 (led_to fixed world one.0 (start one.0)).votes
+
+abbrev pub of_votes : World → ℕ × Configuration → Demand
+of_votes world one = record { suite = one.0; got = votes_in one.1.reps (is_up world); needed = one.1.w }
+
+abbrev unmet : Demand → Bool
+unmet one = not (is_met one)
+
+-- ---- how it ends
+
+module _ (fixed : Fixed) (world : World) (table : PlainTable) (task : Task) (cache : Cache) where
+  pub record EndsRight (ended : Ending) : Type 0 where
+    pub start : ℕ → Prefix
+    pub from : MayStartAll fixed cache task.site start
+    pub ends : ended ≡ ending_by (first_short (demands fixed world table task.t task.caller task.ops start)) (is_up world (home_of fixed.service task.t)) (answer_to table task)
+
+  pub ends_short : (start : ℕ → Prefix) → MayStartAll fixed cache task.site start → (short : Demand) → first_short (demands fixed world table task.t task.caller task.ops start) ≡ Some short
+      → (number got wanting : ℕ) → number ≡ short.suite → got ≡ short.got → wanting ≡ short.needed → EndsRight (Undecided (Unavailable number got wanting))
+  ends_short start from short is number got wanting a b c = record {
+    start = start;
+    from = from;
+    ends = ap (λ n. Undecided (Unavailable n got wanting)) a ∙ ap (λ n. Undecided (Unavailable short.suite n wanting)) b ∙ ap (λ n. Undecided (Unavailable short.suite short.got n)) c
+        ∙ sym (ap (λ found. ending_by found (is_up world (home_of fixed.service task.t)) (answer_to table task)) is);
+  }
+
+  -- a lock that it asks for is not to be had, and all before were
+  pub short_lock : (start : ℕ → Prefix) (so_far left : List (ℕ × LockMode)) (one : ℕ × LockMode) → locks_on table task ≡ onto so_far (one ∷ left)
+      → ((other : ℕ × LockMode) → Has so_far other → unmet (of_lock fixed world start other) ≡ false) → unmet (of_lock fixed world start one) ≡ true
+      → first_short (demands fixed world table task.t task.caller task.ops start) ≡ Some (of_lock fixed world start one)
+  short_lock start so_far left one are met short =
+      ap (λ locks. find unmet (map (of_lock fixed world start) locks ++ map (of_votes world) (sets_on table task))) are
+      ∙ find_past (of_lock fixed world start) unmet so_far (one ∷ left) (map (of_votes world) (sets_on table task)) met
+      ∙ ap (λ b. cond b (Some (of_lock fixed world start one)) (find unmet (map (of_lock fixed world start) left ++ map (of_votes world) (sets_on table task)))) short
+
+  -- all locks are had
+  past_locks : (start : ℕ → Prefix) (so_far : List (ℕ × LockMode)) → locks_on table task ≡ onto so_far [] → ((other : ℕ × LockMode) → Has so_far other → unmet (of_lock fixed world start other) ≡ false)
+      → first_short (demands fixed world table task.t task.caller task.ops start) ≡ find unmet (map (of_votes world) (sets_on table task))
+  past_locks start so_far are met =
+      ap (λ locks. find unmet (map (of_lock fixed world start) locks ++ map (of_votes world) (sets_on table task))) are
+      ∙ find_past (of_lock fixed world start) unmet so_far [] (map (of_votes world) (sets_on table task)) met
+
+  past_sets : (done left : List (ℕ × Configuration)) → sets_on table task ≡ onto done left → ((other : ℕ × Configuration) → Has done other → unmet (of_votes world other) ≡ false)
+      → find unmet (map (of_votes world) (sets_on table task)) ≡ find unmet (map (of_votes world) left)
+  past_sets done left are met =
+      ap (λ sets. find unmet (map (of_votes world) sets)) are
+      ∙ ap (find unmet) (sym (append-nil (map (of_votes world) (onto done left))))
+      ∙ find_past (of_votes world) unmet done left [] met
+      ∙ ap (find unmet) (append-nil (map (of_votes world) left))
+
+  pub short_votes : (start : ℕ → Prefix) (so_far : List (ℕ × LockMode)) (done left : List (ℕ × Configuration)) (one : ℕ × Configuration) → locks_on table task ≡ onto so_far []
+      → ((other : ℕ × LockMode) → Has so_far other → unmet (of_lock fixed world start other) ≡ false) → sets_on table task ≡ onto done (one ∷ left)
+      → ((other : ℕ × Configuration) → Has done other → unmet (of_votes world other) ≡ false) → unmet (of_votes world one) ≡ true
+      → first_short (demands fixed world table task.t task.caller task.ops start) ≡ Some (of_votes world one)
+  short_votes start so_far done left one are met sets sets_met short =
+      past_locks start so_far are met ∙ past_sets done (one ∷ left) sets sets_met ∙ ap (λ b. cond b (Some (of_votes world one)) (find unmet (map (of_votes world) left))) short
+
+  pub none_short : (start : ℕ → Prefix) (so_far : List (ℕ × LockMode)) (done : List (ℕ × Configuration)) → locks_on table task ≡ onto so_far []
+      → ((other : ℕ × LockMode) → Has so_far other → unmet (of_lock fixed world start other) ≡ false) → sets_on table task ≡ onto done []
+      → ((other : ℕ × Configuration) → Has done other → unmet (of_votes world other) ≡ false) → first_short (demands fixed world table task.t task.caller task.ops start) ≡ None
+  none_short start so_far done are met sets sets_met = past_locks start so_far are met ∙ past_sets done [] sets sets_met
+
+  -- ---- the suites that it gathered
+
+  -- a suite is looked for from where it may be, and what was told of it is right
+  pub record IsRight (z : ℕ) (suite : Suite) : Type 0 where
+    pub may : MayStart fixed cache task.site z suite.collector.start
+    pub right : AllRight fixed world z (all_told suite.collector)
+
+  -- a lock that was had
+  pub record IsHad (suites : Suites) (one : ℕ × LockMode) : Type 0 where
+    pub suite : Suite
+    pub there : suite_of suites one.0 ≡ Some suite
+    pub met : is_met (demand world one.0 one.1 (led_to fixed world one.0 suite.collector.start).votes) ≡ true
+
+  abbrev pub start_of : Option Suite → Prefix
+  start_of (Some suite) = suite.collector.start
+  start_of None = absent_prefix fixed.service.c0
+
+  abbrev pub starts : Suites → ℕ → Prefix
+  starts suites z = start_of (suite_of suites z)
+
+  pub may_start : (suites : Suites) → Each IsRight suites → MayStartAll fixed cache task.site (starts suites)
+  may_start suites right z = of (suite_of suites z) refl
+    where
+      of : (found : Option Suite) → suite_of suites z ≡ found → MayStart fixed cache task.site z (start_of found)
+      of None is = inl refl
+      of (Some suite) is = (right z suite is).may
+
+  pub had_met : (suites : Suites) (one : ℕ × LockMode) → IsHad suites one → unmet (of_lock fixed world (starts suites) one) ≡ false
+  had_met suites one had = ap (λ found. unmet (demand world one.0 one.1 (led_to fixed world one.0 (start_of found)).votes)) had.there ∙ ap not had.met
+
+  -- another suite in its place that is looked for from the same prefix
+  abbrev pub SameStart : Suites → ℕ → Suite → Type 0
+  SameStart suites number new = (old : Suite) → suite_of suites number ≡ Some old → new.collector.start ≡ old.collector.start
+
+  pub had_with : (suites : Suites) (number : ℕ) (new : Suite) (one : ℕ × LockMode) → SameStart suites number new → IsHad suites one → IsHad (with_suite number new suites) one
+  had_with suites number new one same had = of (number == one.0) refl
+    where
+      of : (b : Bool) → (number == one.0) ≡ b → IsHad (with_suite number new suites) one
+      of true is = record {
+        suite = new;
+        there = with_at number new suites one.0 ∙ ap (λ b. cond b (Some new) (suite_of suites one.0)) is;
+        met = subst (λ prefix. is_met (demand world one.0 one.1 (led_to fixed world one.0 prefix).votes) ≡ true) (sym (same had.suite (ap (suite_of suites) (eqb-true number one.0 is) ∙ had.there))) had.met;
+      }
+      of false is = record { suite = had.suite; there = with_at number new suites one.0 ∙ ap (λ b. cond b (Some new) (suite_of suites one.0)) is ∙ had.there; met = had.met }
+
+  -- what it asked for so far, the newest first: all of it is had, and nothing else
+  pub record Asked (suites : Suites) (asked : List (ℕ × LockMode)) : Type 0 where
+    pub ordered : IsOrdered nat_cmp suites
+    pub right : Each IsRight suites
+    pub had : (one : ℕ × LockMode) → Has asked one → IsHad suites one
+    pub modes : (z : ℕ) (mode : LockMode) → held_in mode (suite_of suites z) ≡ has_asked asked z mode
+    pub order : locks_on table task ≡ onto asked (not_asked asked (needed_on table task))
+
+  pub asked_with : (suites : Suites) (asked : List (ℕ × LockMode)) (number : ℕ) (new : Suite) → Asked suites asked → IsRight number new → SameStart suites number new
+      → ((mode : LockMode) → held_in mode (Some new) ≡ held_in mode (suite_of suites number)) → Asked (with_suite number new suites) asked
+  asked_with suites asked number new asks right same held = record {
+    ordered = IsOrdered-insert nat_cmp_total suites number new asks.ordered;
+    right = each_with IsRight number suites new (each_but IsRight number suites asks.right) right;
+    had = λ one has. had_with suites number new one same (asks.had one has);
+    modes = λ z mode. ap (held_in mode) (with_at number new suites z) ∙ of z mode (number == z) refl ∙ asks.modes z mode;
+    order = asks.order;
+  }
+    where
+      of : (z : ℕ) (mode : LockMode) (b : Bool) → (number == z) ≡ b → held_in mode (cond b (Some new) (suite_of suites z)) ≡ held_in mode (suite_of suites z)
+      of z mode true is = held mode ∙ ap (λ z. held_in mode (suite_of suites z)) (eqb-true number z is)
+      of z mode false is = refl
+
+  -- the site's cache hints of suites that are not gathered what it hinted as it began, if anything
+  abbrev pub Hints : Suites → Cache → Type 0
+  Hints suites now = (z : ℕ) → suite_of suites z ≡ None → (prefix : Prefix) → hint now task.site z ≡ Some prefix → hint cache task.site z ≡ Some prefix
+
+  -- ---- once all that it needs is known
+
+  -- all that it demands is met; this is the answer
+  pub record HasAll (answer : Result (List Answer) Refusal) : Type 0 where
+    pub start : ℕ → Prefix
+    pub from : MayStartAll fixed cache task.site start
+    pub none : first_short (demands fixed world table task.t task.caller task.ops start) ≡ None
+    pub answer_is : answer ≡ answer_to table task
+
+  abbrev pub answer_in : doing.Outcome → Result (List Answer) Refusal
+  answer_in (Ok granted) = Ok granted.answers
+  answer_in (Err refusal) = Err refusal
+
+  -- all locks are had; of the votes that it sets these are met, and these are still to be
+  pub record Sets (suites : Suites) (done left : List (ℕ × Configuration)) (granted : Granted) : Type 0 where
+    pub right : Each IsRight suites
+    pub so_far : List (ℕ × LockMode)
+    pub had : (one : ℕ × LockMode) → Has so_far one → IsHad suites one
+    pub all : locks_on table task ≡ onto so_far []
+    pub answer_is : Ok granted.answers ≡ answer_to table task
+    pub sets : sets_on table task ≡ onto done left
+    pub met : (one : ℕ × Configuration) → Has done one → is_met (of_votes world one) ≡ true
+    pub are_set : (one : ℕ × Configuration) → Has left one → IsSet granted.changes one
+    pub there : (one : ℕ × Configuration) → Has left one → is_some (suite_of suites one.0) ≡ true
+    pub locked : (one : ℕ × Configuration) → Has left one → list_any (λ (lock : ℕ × LockMode). lock.0 == one.0) so_far ≡ true
+
+  -- the first of them now
+  pub record IsWidening (suites : Suites) (number : ℕ) (left : List ℕ) (granted : Granted) : Type 0 where
+    pub votes : Configuration
+    pub done : List (ℕ × Configuration)
+    pub later : List (ℕ × Configuration)
+    pub left_is : map (λ (one : ℕ × Configuration). one.0) later ≡ left
+    pub sets : Sets suites done ((number, votes) ∷ later) granted
+    pub suite : Suite
+    pub there : suite_of suites number ≡ Some suite
+    pub widening : Widening
+    pub widening_is : suite.collector.widening ≡ Some widening
+    pub votes_are : widening.votes ≡ votes
+
+  -- ---- the phases before
+
+  module _ (Was : ℕ → Prefix → Type 0) (ground : Ground fixed world cache task.site Was) where
+    -- a suite whose collector goes alone
+    pub record IsFound (z : ℕ) (suite : Suite) : Type 0 where
+      pub start : Prefix
+      pub may : MayStart fixed cache task.site z start
+      pub reached : Reached fixed world z (Was z) start (ground.rules z start may) suite.collector
+      pub led : (first : ReadPoint) → suite.first ≡ Some first → first.prefix ≡ led_to fixed world z start
+
+    pub found_start : (z : ℕ) (suite : Suite) (found : IsFound z suite) → suite.collector.start ≡ found.start
+    found_start z suite found = ap (λ (c : Collector). c.start) found.reached.is
+
+    pub found_right : (z : ℕ) (suite : Suite) → IsFound z suite → IsRight z suite
+    found_right z suite found = record {
+      may = subst (MayStart fixed cache task.site z) (sym (found_start z suite found)) found.may;
+      right = subst (AllRight fixed world z) (sym (ap all_told found.reached.is)) found.reached.going.right;
+    }
+
+    -- and that had a Current: some server holds a lock on it
+    pub record HasLock (suite : Suite) : Type 0 where
+      pub server : ℕ
+      pub is_one : nat_lt server max_servers ≡ true
+      pub holds : holds Shared (all_told suite.collector) server ≡ true
+
+    pub record IsWhole (z : ℕ) (suite : Suite) : Type 0 where
+      pub found : IsFound z suite
+      pub had : is_some suite.first ≡ true
+      pub mode_is : suite.mode ≡ suite.collector.mode
+      pub lock : HasLock suite
+
+    -- each suite had a Current
+    pub record IsReady (suites : Suites) : Type 0 where
+      pub asked : List (ℕ × LockMode)
+      pub asks : Asked suites asked
+      pub whole : Each IsWhole suites
+
+    -- each but this, which is asked for
+    pub record IsGathering (suites : Suites) (number : ℕ) : Type 0 where
+      pub asked : List (ℕ × LockMode)
+      pub asks : Asked suites asked
+      pub whole : EachBut IsWhole number suites
+      pub suite : Suite
+      pub there : suite_of suites number ≡ Some suite
+      pub found : IsFound number suite
+      pub mode : LockMode
+      pub mode_is : suite.collector.mode ≡ mode
+      pub next_is : not_asked asked (needed_on table task) ≡ (number, mode) ∷ not_asked ((number, mode) ∷ asked) (needed_on table task)
+      pub weaker : (other : LockMode) → has_asked asked number other ≡ true → serves mode other ≡ true
+
+    abbrev pub PhaseStands : Suites → Cache → Phase → Type 0
+    PhaseStands suites now (Gathering number) = IsGathering suites number × Hints suites now
+    PhaseStands suites now (Fetching number) = IsReady suites × Hints suites now
+    PhaseStands suites now (doing.Widening [] granted) = ⊥
+    PhaseStands suites now (doing.Widening (number ∷ left) granted) = IsWidening suites number left granted
+    PhaseStands suites now (Preparing left outcome) = HasAll (answer_in outcome)
+    PhaseStands suites now (Deciding outcome) = HasAll (answer_in outcome)
+    PhaseStands suites now (Finishing left v ended) = EndsRight ended
+
+    abbrev pub AfterStands : Cache → After TransactionRun → Type 0
+    AfterStands now (GoesOn txn_run) = (txn_run.task ≡ task) × PhaseStands txn_run.suites now txn_run.phase
+    AfterStands now (Ends ended) = EndsRight ended
+
+    abbrev pub StepStands : Step → Type 0
+    StepStands step = AfterStands step.cache step.after
+
+    pub told_stands : (now : Cache) (suites : Suites) (v : Verdict) (ended : Ending) (servers : List ℕ) → EndsRight ended → StepStands (tell_end task now suites v ended servers)
+    told_stands now suites v ended [] right = right
+    told_stands now suites v ended (server ∷ servers) right = (refl, right)
+
+    pub prepare_stands : (now : Cache) (suites : Suites) (outcome : doing.Outcome) (servers : List ℕ) → HasAll (answer_in outcome) → StepStands (prepare task now suites outcome servers)
+    prepare_stands now suites outcome [] all = (refl, all)
+    prepare_stands now suites outcome (server ∷ servers) all = (refl, all)

@@ -1,0 +1,165 @@
+-- Until a transaction tells how it ended nothing that it asks changes a stored copy; and until it is decided nothing records how it ended.
+use Rattle.std.proofs.Common.{◌≡◌, ℕ, false, List, [], ◌∷◌, Option, Some, None, refl, sym, ap, ◌∙◌}
+use Rattle.std.proofs.lemmas.Bool.{false≢true}
+use Rattle.rep_core.specs.declared.request.Request.{Request}
+use Rattle.rep_core.specs.declared.request.Request.TheVariants as request
+use Rattle.rep_core.specs.declared.reply.Verdict.{Verdict}
+use Rattle.rep_core.specs.declared.reply.Verdict.TheVariants as verdict
+use Rattle.rep_core.specs.declared.stamped.Stamped.{Stamped}
+use Rattle.rep_core.specs.Store.{copy_of}
+use Rattle.rep_core.specs.State.{State, record_of}
+use Rattle.rep_core.specs.Serving.{step}
+use Rattle.rep_core.proofs.Ways.{Ways, by_step}
+use Rattle.weak_cache.specs.Entries.{Cache}
+use Rattle.txn_core.specs.declared.ending.Ending.{Ending}
+use Rattle.txn_core.specs.declared.response.Response.{Response}
+use Rattle.txn_core.specs.declared.response.Response.TheVariants.{Replied, Lacked}
+use Rattle.txn_core.specs.Suites.{Suites, suite_of}
+use Rattle.txn_core.specs.Writing.{parts_at}
+use Rattle.txn_core.specs.Doing.{Fixed, Task, Phase, Gathering, Fetching, Widening, Preparing, Deciding, Finishing, TransactionRun, SweepRun, Doing, Running, RunningSweep, After, GoesOn, Ends, home_of}
+use Rattle.txn_core.specs.Sweeps as sweep
+use Rattle.txn_core.specs.Transactions.{tell_end, locked_at, lack_cause, after_response, request_in, changes_of, decision_of, verdict_in, ending_by, cause_of_abort}
+use Rattle.txn_core.specs.declared.ending.Ending.TheVariants.{Undecided}
+use Rattle.txn_core.specs.Laws.{is_decide}
+use Rattle.law_run_alone.proofs.Unswept.{is_resolve}
+use Rattle.txn_core.specs.Undecided.{is_finish}
+use Rattle.txn_core.specs.Agents.{Agent, next_in, left, take_in}
+use Rattle.txn_core.proofs.Asks.{asks_same, asked_as, fetched_as}
+
+-- ---- a server
+
+abbrev Stays : State → ℕ → Request → State → Type 0
+Stays st z asked new = is_finish asked ≡ false → copy_of new.store z ≡ copy_of st.store z
+
+ways : (st : State) (z : ℕ) → Ways st (Stays st z)
+ways st z = record {
+  same = λ asked other. refl;
+  poll = λ named suite mode free other. refl;
+  upgrade = λ named suite has free other. refl;
+  prepare = λ named parts may room other. refl;
+  decide = λ named decision free other. refl;
+  resolve = λ named free other. refl;
+  finish = λ named verdict up other. absurd (false≢true (sym other));
+  break = λ named suite other. refl;
+  crash = λ other. refl;
+  return = λ other. refl;
+}
+
+pub copy_stays : (st : State) (asked : Stamped Request) (z : ℕ) → is_finish asked.value ≡ false → copy_of (step st asked).store z ≡ copy_of st.store z
+copy_stays st asked z other = by_step st (Stays st z) (ways st z) (λ asked new stamp stays. stays) asked other
+
+-- nor a record, but a Decide and a Resolve
+abbrev StaysRecorded : State → ℕ → Request → State → Type 0
+StaysRecorded st t asked new = is_decide asked ≡ false → is_resolve asked ≡ false → record_of new t ≡ record_of st t
+
+record_ways : (st : State) (t : ℕ) → Ways st (StaysRecorded st t)
+record_ways st t = record {
+  same = λ asked other third. refl;
+  poll = λ named suite mode free other third. refl;
+  upgrade = λ named suite has free other third. refl;
+  prepare = λ named parts may room other third. refl;
+  decide = λ named decision free other third. absurd (false≢true (sym other));
+  resolve = λ named free other third. absurd (false≢true (sym third));
+  finish = λ named verdict up other third. refl;
+  break = λ named suite other third. refl;
+  crash = λ other third. refl;
+  return = λ other third. refl;
+}
+
+pub record_stays : (st : State) (asked : Stamped Request) (t : ℕ) → is_decide asked.value ≡ false → is_resolve asked.value ≡ false → record_of (step st asked) t ≡ record_of st t
+record_stays st asked t other third = by_step st (StaysRecorded st t) (record_ways st t) (λ asked new stamp stays. stays) asked other third
+
+-- ---- an agent
+
+-- a transaction that has not yet told how it ended
+abbrev pub IsOpenPhase : Phase → Type 0
+IsOpenPhase (Gathering number) = Unit {0}
+IsOpenPhase (Fetching number) = Unit {0}
+IsOpenPhase (Widening numbers granted) = Unit {0}
+IsOpenPhase (Preparing servers outcome) = Unit {0}
+IsOpenPhase (Deciding outcome) = Unit {0}
+IsOpenPhase (Finishing servers v ending) = ⊥
+
+abbrev pub IsOpen : Option Doing → Type 0
+IsOpen (Some (Running txn_run)) = IsOpenPhase txn_run.phase
+IsOpen (Some (RunningSweep sweep_run)) = ⊥
+IsOpen None = ⊥
+
+-- what it asks then finishes nothing
+open_asks : (fixed : Fixed) (task : Task) (suites : Suites) (phase : Phase) (server : ℕ) (asked : Request) → request_in fixed task suites phase ≡ Some (server, asked) → IsOpenPhase phase → is_finish asked ≡ false
+open_asks fixed task suites (Gathering number) server asked is open' = asked_as is_finish false task number (suite_of suites number) server asked (λ mode. refl) refl is
+open_asks fixed task suites (Fetching number) server asked is open' = fetched_as is_finish false task number (suite_of suites number) server asked refl is
+open_asks fixed task suites (Widening [] granted) server asked is open' = cc
+open_asks fixed task suites (Widening (number ∷ left) granted) server asked is open' = asked_as is_finish false task number (suite_of suites number) server asked (λ mode. refl) refl is
+open_asks fixed task suites (Preparing [] outcome) server asked is open' = cc
+open_asks fixed task suites (Preparing (now ∷ left) outcome) server asked is open' = ap is_finish (sym (asks_same now server (request.Prepare task.t (parts_at suites (changes_of outcome) now)) asked is))
+open_asks fixed task suites (Deciding outcome) server asked is open' = ap is_finish (sym (asks_same (home_of fixed.service task.t) server (request.Decide task.t (decision_of task outcome)) asked is))
+open_asks fixed task suites (Finishing servers v ending) server asked is open' = absurd open'
+
+pub open_next : (fixed : Fixed) (doing : Option Doing) (asked : ℕ × Request) → next_in fixed doing ≡ Some asked → IsOpen doing → is_finish asked.1 ≡ false
+open_next fixed (Some (Running txn_run)) asked is open' = open_asks fixed txn_run.task txn_run.suites txn_run.phase asked.0 asked.1 is open'
+open_next fixed (Some (RunningSweep sweep_run)) asked is open' = absurd open'
+open_next fixed None asked is open' = absurd open'
+
+-- and who asks anything else than to finish is open
+closed_asks : (fixed : Fixed) (task : Task) (suites : Suites) (phase : Phase) (server : ℕ) (asked : Request) → request_in fixed task suites phase ≡ Some (server, asked) → is_finish asked ≡ false → IsOpenPhase phase
+closed_asks fixed task suites (Gathering number) server asked is other = tt
+closed_asks fixed task suites (Fetching number) server asked is other = tt
+closed_asks fixed task suites (Widening numbers granted) server asked is other = tt
+closed_asks fixed task suites (Preparing servers outcome) server asked is other = tt
+closed_asks fixed task suites (Deciding outcome) server asked is other = tt
+closed_asks fixed task suites (Finishing [] v ending) server asked is other = cc
+closed_asks fixed task suites (Finishing (now ∷ left) v ending) server asked is other = absurd (false≢true (sym other ∙ ap is_finish (sym (asks_same now server (request.Finish task.t v) asked is))))
+
+pub open_where : (fixed : Fixed) (txn_run : TransactionRun) (asked : ℕ × Request) → next_in fixed (Some (Running txn_run)) ≡ Some asked → is_finish asked.1 ≡ false → IsOpen (Some (Running txn_run))
+open_where fixed txn_run asked is other = closed_asks fixed txn_run.task txn_run.suites txn_run.phase asked.0 asked.1 is other
+
+-- who is open after a response was open before it
+not_open : (task : Task) (cache : Cache) (suites : Suites) (v : Verdict) (ending : Ending) (servers : List ℕ) → IsOpen (left Running (tell_end task cache suites v ending servers).after) → ⊥
+not_open task cache suites v ending [] open' = open'
+not_open task cache suites v ending (server ∷ servers) open' = open'
+
+was_open : (fixed : Fixed) (task : Task) (cache : Cache) (suites : Suites) (phase : Phase) (server : ℕ) (asked : Request) (response : Response)
+    → IsOpen (left Running (after_response fixed (record { task = task; suites = suites; phase = phase }) cache server asked response).after) → IsOpenPhase phase
+was_open fixed task cache suites (Gathering number) server asked response open' = tt
+was_open fixed task cache suites (Fetching number) server asked response open' = tt
+was_open fixed task cache suites (Widening numbers granted) server asked response open' = tt
+was_open fixed task cache suites (Preparing servers outcome) server asked response open' = tt
+was_open fixed task cache suites (Deciding outcome) server asked response open' = tt
+was_open fixed task cache suites (Finishing [] v ending) server asked (Replied said) open' = open'
+was_open fixed task cache suites (Finishing [] v ending) server asked (Lacked lacked) open' = open'
+was_open fixed task cache suites (Finishing (now ∷ servers) v ending) server asked (Replied said) open' = not_open task cache suites v ending servers open'
+was_open fixed task cache suites (Finishing (now ∷ servers) v ending) server asked (Lacked lacked) open' = not_open task cache suites v ending servers open'
+
+pub open_before : (fixed : Fixed) (agent : Agent) (response : Response) (doing : Option Doing) (asked : ℕ × Request) → next_in fixed doing ≡ Some asked → IsOpen (take_in fixed agent response doing (Some asked)).agent.doing → IsOpen doing
+open_before fixed agent response (Some (Running txn_run)) asked is open' = was_open fixed txn_run.task agent.cache txn_run.suites txn_run.phase asked.0 asked.1 response open'
+open_before fixed agent response (Some (RunningSweep sweep_run)) asked is open' = of (sweep.after_response fixed.service sweep_run asked.0 response) open'
+  where
+    of : (after : After SweepRun) → IsOpen (left RunningSweep after) → ⊥
+    of (GoesOn sweep_run) open' = open'
+    of (Ends ending) open' = open'
+open_before fixed agent response None asked is open' = cc
+
+-- and it did not ask to be decided
+no_decide : (fixed : Fixed) (task : Task) (cache : Cache) (suites : Suites) (phase : Phase) (server : ℕ) (asked : Request) (response : Response) → request_in fixed task suites phase ≡ Some (server, asked)
+    → IsOpen (left Running (after_response fixed (record { task = task; suites = suites; phase = phase }) cache server asked response).after) → is_decide asked ≡ false
+no_decide fixed task cache suites (Gathering number) server asked response is open' = asked_as is_decide false task number (suite_of suites number) server asked (λ mode. refl) refl is
+no_decide fixed task cache suites (Fetching number) server asked response is open' = fetched_as is_decide false task number (suite_of suites number) server asked refl is
+no_decide fixed task cache suites (Widening [] granted) server asked response is open' = cc
+no_decide fixed task cache suites (Widening (number ∷ left) granted) server asked response is open' = asked_as is_decide false task number (suite_of suites number) server asked (λ mode. refl) refl is
+no_decide fixed task cache suites (Preparing [] outcome) server asked response is open' = cc
+no_decide fixed task cache suites (Preparing (now ∷ left) outcome) server asked response is open' = ap is_decide (sym (asks_same now server (request.Prepare task.t (parts_at suites (changes_of outcome) now)) asked is))
+no_decide fixed task cache suites (Deciding outcome) server asked (Replied said) is open' =
+    absurd (not_open task cache suites (verdict_in said verdict.Aborted) (ending_by (verdict_in said verdict.Aborted) (cause_of_abort said)) (locked_at suites) open')
+no_decide fixed task cache suites (Deciding outcome) server asked (Lacked lacked) is open' = absurd (not_open task cache suites verdict.Aborted (Undecided (lack_cause server lacked)) (locked_at suites) open')
+no_decide fixed task cache suites (Finishing [] v ending) server asked response is open' = cc
+no_decide fixed task cache suites (Finishing (now ∷ left) v ending) server asked response is open' = ap is_decide (sym (asks_same now server (request.Finish task.t v) asked is))
+
+pub open_undecided : (fixed : Fixed) (agent : Agent) (response : Response) (doing : Option Doing) (asked : ℕ × Request) → next_in fixed doing ≡ Some asked → IsOpen (take_in fixed agent response doing (Some asked)).agent.doing → is_decide asked.1 ≡ false
+open_undecided fixed agent response (Some (Running txn_run)) asked is open' = no_decide fixed txn_run.task agent.cache txn_run.suites txn_run.phase asked.0 asked.1 response is open'
+open_undecided fixed agent response (Some (RunningSweep sweep_run)) asked is open' = absurd (of (sweep.after_response fixed.service sweep_run asked.0 response) open')
+  where
+    of : (after : After SweepRun) → IsOpen (left RunningSweep after) → ⊥
+    of (GoesOn sweep_run) open' = open'
+    of (Ends ending) open' = open'
+open_undecided fixed agent response None asked is open' = cc

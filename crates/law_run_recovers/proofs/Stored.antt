@@ -1,0 +1,57 @@
+-- Once all servers were swept, what is stored is in effect, and was before.
+use Rattle.std.proofs.Common.{◌≡◌, ℕ, true, List, [], ◌++◌, length, Option, Some, None, refl, sym, ap, subst, ◌∙◌}
+use Rattle.std.specs.Prelude.{◌==◌, unwrap_or}
+use Rattle.std.specs.Ordering.{nat_cmp}
+use Rattle.sorted_map.specs.SortedMap.{get}
+use Rattle.suite_prefix.specs.SettingsRules.{Opening}
+use Rattle.rep_core.specs.Intentions.{Intention}
+use Rattle.rep_core.specs.Consistency.{IsConsistent}
+use Rattle.rep_core.specs.Store as store
+use Rattle.rep_core.specs.Store.{copy_of}
+use Rattle.rep_core.specs.State as state
+use Rattle.rep_core.specs.State.{State}
+use Rattle.rep_core.proofs.Members.{Has, has_from, all_at}
+use Rattle.run_core.specs.Worlds.{World, server_at}
+use Rattle.run_core.specs.Runs.{run}
+use Rattle.law_run_machine.specs.Machines.{servers_of}
+use Rattle.law_run_machine.proofs.Consistent.{servers_are_consistent}
+use Rattle.run_core.specs.declared.event.Event.{Event}
+use Rattle.law_one_table.specs.Effects.{answered_in, copy_at}
+use Rattle.law_run_alone.proofs.Clear.{at_has}
+use Rattle.law_run_recovers.specs.Standing.{all_free}
+use Rattle.law_run_recovers.specs.Sweeping.{sweeps, AllIsStored}
+use Rattle.law_run_recovers.proofs.Found.{no_locks}
+use Rattle.law_run_recovers.proofs.Free.{no_lock_is_left}
+use Rattle.law_run_recovers.proofs.Quiet.{Calm, effects_stay, decisions_stay}
+use Rattle.law_run_recovers.proofs.Calm.{calm_round}
+
+-- no server has a lock, those that are not there too
+free_at : (given : Opening) (world : World) (i : ℕ) → all_free world ≡ true → (servers_of given world i).locks ≡ []
+free_at given world i free = of (server_at world i) refl
+  where
+    of : (found : Option State) → server_at world i ≡ found → (unwrap_or found (state.opening i given)).locks ≡ []
+    of None is = refl
+    of (Some st) is = no_locks st.locks (all_at (λ (st : State). length st.locks == 0) world.servers st free (at_has world.servers i st is))
+
+-- so none has an intention
+no_intention : (st : State) → IsConsistent st → st.locks ≡ [] → (z : ℕ) (found : Option Intention) → get nat_cmp st.store.intentions z ≡ found → get nat_cmp st.store.intentions z ≡ None
+no_intention st consistent free z None is = is
+no_intention st consistent free z (Some intention) is =
+    let has = consistent.locked z intention is in
+    absurd (subst (λ locks. Has locks has.lock) free (has_from st.locks has.lock has.there))
+
+-- and what is stored is in effect
+pub stored_is : (given : Opening) (events : List Event) → all_free (run given events) ≡ true → (z i : ℕ) → copy_of (servers_of given (run given events) i).store z ≡ copy_at given events z i
+stored_is given events free z i =
+    let st = servers_of given (run given events) i in
+    let none = no_intention st (servers_are_consistent given events i) (free_at given (run given events) i free) z (get nat_cmp st.store.intentions z) refl in
+    ap (λ found. store.in_effect found (answered_in given events) (copy_of st.store z)) (sym none)
+
+pub all_is_stored : AllIsStored
+all_is_stored given events agent sweep_run can up goes all =
+    let calm : Calm given (run given events) (sweeps agent sweep_run) = calm_round given agent (run given events) sweep_run goes in
+    let free = no_lock_is_left given events agent sweep_run can up goes all in
+    record {
+      stored = λ z i. stored_is given (events ++ sweeps agent sweep_run) free z i ∙ effects_stay given events (sweeps agent sweep_run) can calm z i;
+      decided = decisions_stay given events (sweeps agent sweep_run) can calm;
+    }

@@ -1,0 +1,349 @@
+-- A sweep alone: how the locks at its server and what it has left go together.
+use Rattle.std.proofs.Common.{◌≡◌, ◌≢◌, ◌⊎◌, inl, inr, ⊎_elim, ℕ, ◌+◌, Bool, true, false, cond, List, [], ◌∷◌, Option, Some, None, refl, sym, ap, subst, ◌∙◌, arith}
+use Rattle.std.specs.Prelude.{◌==◌, ◌&&◌, not, filter, slice_get, slice_set}
+use Rattle.std.proofs.lemmas.Bool.{false≢true, and_parts, cases_Bool, eqb-true, eq-eqb, and_from}
+use Rattle.rep_core.specs.declared.lock.Lock.{Lock}
+use Rattle.rep_core.specs.declared.request.Request.{Request}
+use Rattle.rep_core.specs.declared.request.Request.TheVariants as request
+use Rattle.rep_core.specs.declared.reply.Verdict.{Verdict}
+use Rattle.rep_core.specs.declared.reply.Verdict.TheVariants as verdict
+use Rattle.rep_core.specs.Locks.{has_prepared, is_own, rise}
+use Rattle.rep_core.specs.State.{State, record_of}
+use Rattle.rep_core.specs.Service.{reply_of, reply_up, reply_down, after, after_up, after_down, after_record}
+use Rattle.rep_core.specs.Serving.{served}
+use Rattle.rep_core.proofs.Members.{Has, has_filter, filter_has, any_has, has_any}
+use Rattle.txn_core.specs.declared.ending.Ending.{Ending}
+use Rattle.txn_core.specs.declared.ending.Ending.TheVariants.{Swept}
+use Rattle.txn_core.specs.Doing.{home_of, Fixed, Sweeping, Listing, Resolving, Telling, Breaking, SweepRun, After, GoesOn, Ends}
+use Rattle.txn_core.specs.Sweeps.{rising, others, sweep_on, lost, after_answer, asked_now}
+use Rattle.run_core.specs.Worlds.{World, server_at}
+use Rattle.law_runs.proofs.Places.{same_or}
+use Rattle.law_runs.proofs.Worlds.{puts_in}
+use Rattle.law_run_recovers.specs.Standing.{up_in, is_up, locks_in, locks_at, is_in_doubt, one_if, holders}
+use Rattle.law_run_recovers.proofs.Doubts.{filter_twice, filter_alike, filter_all, rising_same, holders_of}
+
+-- ---- tests
+
+turned : (a b : Bool) → (a && b) ≡ (b && a)
+turned true true = refl
+turned true false = refl
+turned false true = refl
+turned false false = refl
+
+-- ---- a server served one request
+
+module _ (w new : World) (target : ℕ) (st : State) (asked : Request) (stamp : ℕ) (at : server_at w target ≡ Some st) (servers : new.servers ≡ slice_set w.servers target (served st (record { stamp = stamp; value = asked }))) where
+  abbrev new_st : State
+  new_st = served st (record { stamp = stamp; value = asked })
+
+  served_here : server_at new target ≡ Some new_st
+  served_here = ap (λ servers. slice_get servers target) servers ∙ (puts_in w.servers target st new_st at).here
+
+  served_apart : (x : ℕ) → x ≢ target → server_at new x ≡ server_at w x
+  served_apart x apart = ap (λ servers. slice_get servers x) servers ∙ (puts_in w.servers target st new_st at).apart x apart
+
+  pub same_ups : (after st asked).up ≡ st.up → (x : ℕ) → is_up new x ≡ is_up w x
+  same_ups same x =
+      ⊎_elim
+      (λ here. ap (is_up new) here ∙ ap up_in served_here ∙ same ∙ sym (ap up_in at) ∙ sym (ap (is_up w) here))
+      (λ apart. ap up_in (served_apart x apart))
+      (same_or x target)
+
+  pub locks_here : locks_at new target ≡ (after st asked).locks
+  locks_here = ap locks_in served_here
+
+  pub locks_apart : (x : ℕ) → x ≢ target → locks_at new x ≡ locks_at w x
+  locks_apart x apart = ap locks_in (served_apart x apart)
+
+  pub same_locks : (after st asked).locks ≡ st.locks → (x : ℕ) → locks_at new x ≡ locks_at w x
+  same_locks same x =
+      ⊎_elim
+      (λ here. ap (locks_at new) here ∙ locks_here ∙ same ∙ sym (ap locks_in at) ∙ sym (ap (locks_at w) here))
+      (λ apart. locks_apart x apart)
+      (same_or x target)
+
+record_up : (old : Option Verdict) (t : ℕ) (v : Verdict) (st : State) → (after_record old t v None st).up ≡ st.up
+record_up None t v st = refl
+record_up (Some old) t v st = refl
+
+record_locks : (old : Option Verdict) (t : ℕ) (v : Verdict) (st : State) → (after_record old t v None st).locks ≡ st.locks
+record_locks None t v st = refl
+record_locks (Some old) t v st = refl
+
+-- ---- what is left
+
+module _ (fixed : Fixed) (first : World) (s : ℕ) (up : is_up first s ≡ true) (rises : rise (locks_at first s) ≡ true) where
+  abbrev pub then_there : List Lock
+  then_there = locks_at first s
+
+  abbrev pub doubt : Lock → Bool
+  doubt lock = is_in_doubt fixed first then_there lock
+
+  -- what servers are up, and other servers' locks, are as they were
+  pub record Others (w : World) : Type 0 where
+    pub ups : (x : ℕ) → is_up w x ≡ is_up first x
+    pub locks : (x : ℕ) → x ≢ s → locks_at w x ≡ locks_at first x
+
+  -- The locks that pass a test are there now; of these each is in doubt or is still to be seen to, all that are in doubt are there, and so many
+  -- transactions were left.
+  pub record Left (p : Lock → Bool) (rest : List Lock) (count : ℕ) : Type 0 where
+    pub here : (lock : Lock) → Has then_there lock → p lock ≡ true → (doubt lock ≡ true) ⊎ Has rest lock
+    pub kept : (lock : Lock) → Has then_there lock → doubt lock ≡ true → p lock ≡ true
+    pub there : (lock : Lock) → Has rest lock → Has then_there lock
+    pub all : (lock other : Lock) → Has then_there lock → lock.prepared ≡ true → Has rest other → lock.t ≡ other.t → Has rest lock
+    pub counted : count + holders (filter doubt rest) ≡ holders (filter doubt then_there)
+
+  abbrev pub NowIs : Sweeping → (Lock → Bool) → List Lock → Type 0
+  NowIs Listing p rest = (rest ≡ then_there) × ((lock : Lock) → Has then_there lock → p lock ≡ true)
+  NowIs (Resolving t left) p rest = (left ≡ others t rest) × (has_prepared t rest ≡ true)
+  NowIs (Telling t v left) p rest = (left ≡ others t rest) × (is_up first (home_of fixed.service t) ≡ true)
+  NowIs (Breaking lock left) p rest = (rest ≡ lock ∷ left) × (has_prepared lock.t rest ≡ false)
+
+  pub record Sweeps (w : World) (sweep_run : SweepRun) : Type 0 where
+    pub server : sweep_run.server ≡ s
+    pub others_are : Others w
+    pub p : Lock → Bool
+    pub locks : locks_at w s ≡ filter p then_there
+    pub rest : List Lock
+    pub left : Left p rest sweep_run.left
+    pub now : NowIs sweep_run.now p rest
+
+  pub record Finished (w : World) (ending : Ending) : Type 0 where
+    pub others_are : Others w
+    pub locks : locks_at w s ≡ filter doubt then_there
+    pub broken : ℕ
+    pub finished : ℕ
+    pub is : ending ≡ Swept broken finished (holders (filter doubt then_there))
+
+  abbrev pub Then : World → After SweepRun → Type 0
+  Then w (GoesOn sweep_run) = Sweeps w sweep_run
+  Then w (Ends ending) = Finished w ending
+
+  -- ---- it goes on with what is left
+
+  same_test : (p : Lock → Bool) (count : ℕ) → Left p [] count → (lock : Lock) → Has then_there lock → p lock ≡ doubt lock
+  same_test p count left lock has = ⊎_elim
+      (λ is. left.kept lock has is ∙ sym is)
+      (λ not_so. ⊎_elim (λ is. ⊎_elim (λ so. absurd (false≢true (sym not_so ∙ so))) (λ none. absurd none) (left.here lock has is)) (λ is. is ∙ sym not_so) (cases_Bool (p lock)))
+      (cases_Bool (doubt lock))
+
+  pub goes_on : (w : World) (sweep_run : SweepRun) → sweep_run.server ≡ s → Others w → (p : Lock → Bool) → locks_at w s ≡ filter p then_there → (rest : List Lock) → Left p rest sweep_run.left → Then w (sweep_on sweep_run rest)
+  goes_on w sweep_run server others_are p locks [] left =
+      let count = left.counted in
+      record {
+        others_are = others_are;
+        locks = locks ∙ filter_alike p doubt then_there (same_test p sweep_run.left left);
+        broken = sweep_run.broken;
+        finished = sweep_run.finished;
+        is = ap (Swept sweep_run.broken sweep_run.finished) (to sweep_run.left _ count);
+      }
+    where
+      to : (n m : ℕ) → n + 0 ≡ m → n ≡ m
+      to n m is = omega (arith, is)
+  goes_on w sweep_run server others_are p locks (lock ∷ more) left =
+      elim (has_prepared lock.t (lock ∷ more)) as (λ b. has_prepared lock.t (lock ∷ more) ≡ b → Sweeps w (record sweep_run { now = cond b (Resolving lock.t (others lock.t more)) (Breaking lock more) })) [
+        | true ↦ λ is. record { server = server; others_are = others_are; p = p; locks = locks; rest = lock ∷ more; left = left; now = (sym (own_first lock more), is) }
+        | false ↦ λ is. record { server = server; others_are = others_are; p = p; locks = locks; rest = lock ∷ more; left = left; now = (refl, is) }
+      ] refl
+    where
+      own_first : (lock : Lock) (more : List Lock) → others lock.t (lock ∷ more) ≡ others lock.t more
+      own_first lock more = ap (λ b. cond (not b) (lock ∷ others lock.t more) (others lock.t more)) (eq-eqb lock.t lock.t refl)
+
+  -- ---- one transaction less
+
+  doubt_of : (lock : Lock) (t : ℕ) → lock.t ≡ t → doubt lock ≡ (has_prepared t then_there && not (is_up first (home_of fixed.service t)))
+  doubt_of lock t is = ap (λ t. has_prepared t then_there && not (is_up first (home_of fixed.service t))) is
+
+  -- those of others that are in doubt
+  others_doubt : (t : ℕ) (rest : List Lock) → others t (filter doubt rest) ≡ filter doubt (others t rest)
+  others_doubt t rest =
+      filter_twice doubt (λ lock. not (lock.t == t)) rest
+      ∙ filter_alike (λ lock. doubt lock && not (lock.t == t)) (λ lock. not (lock.t == t) && doubt lock) rest (λ lock has. turned (doubt lock) (not (lock.t == t)))
+      ∙ sym (filter_twice (λ lock. not (lock.t == t)) doubt rest)
+
+  -- others of what is left stay apart
+  all_others : (p : Lock → Bool) (rest : List Lock) (count t : ℕ) → Left p rest count → (lock other : Lock) → Has then_there lock → lock.prepared ≡ true → Has (others t rest) other → lock.t ≡ other.t → Has (others t rest) lock
+  all_others p rest count t left lock other has prepared in' same =
+      let was = has_filter (λ (lock : Lock). not (lock.t == t)) rest other in' in
+      filter_has (λ (lock : Lock). not (lock.t == t)) rest lock (left.all lock other has prepared was.0 same) (ap (λ u. not (u == t)) same ∙ was.1)
+
+  -- its home is down: it stays in doubt
+  pub left_in_doubt : (p : Lock → Bool) (rest : List Lock) (count t : ℕ) → Left p rest count → has_prepared t rest ≡ true → is_up first (home_of fixed.service t) ≡ false → Left p (others t rest) (count + 1)
+  left_in_doubt p rest count t left prepared down =
+      let some = any_has (λ (lock : Lock). (lock.t == t) && lock.prepared) rest prepared in
+      let parts = and_parts (some.0.t == t) some.0.prepared some.2 in
+      let before = has_any (λ (lock : Lock). (lock.t == t) && lock.prepared) then_there some.0 (left.there some.0 some.1) some.2 in
+      let doubtful : (lock : Lock) → lock.t ≡ t → doubt lock ≡ true = λ lock is. doubt_of lock t is ∙ and_from (has_prepared t then_there) (not (is_up first (home_of fixed.service t))) before (ap not down) in
+      let one = has_any (λ (lock : Lock). lock.t == t) (filter doubt rest) some.0 (filter_has doubt rest some.0 some.1 (doubtful some.0 (eqb-true some.0.t t parts.0))) parts.0 in
+      record {
+        here = λ lock has is. ⊎_elim inl (λ in'. ⊎_elim (λ own. inl (doubtful lock (eqb-true lock.t t own))) (λ apart. inr (filter_has (λ (lock : Lock). not (lock.t == t)) rest lock in' (ap not apart))) (cases_Bool (lock.t == t))) (left.here lock has is);
+        kept = left.kept;
+        there = λ lock in'. left.there lock (has_filter (λ (lock : Lock). not (lock.t == t)) rest lock in').0;
+        all = all_others p rest count t left;
+        counted =
+            let was = left.counted in
+            let parts = holders_of t (filter doubt rest) ∙ ap (λ b. one_if b + holders (others t (filter doubt rest))) one ∙ ap (λ locks. 1 + holders locks) (others_doubt t rest) in
+            sums count (holders (filter doubt rest)) (holders (filter doubt (others t rest))) (holders (filter doubt then_there)) was parts;
+      }
+    where
+      sums : (c a b d : ℕ) → c + a ≡ d → a ≡ 1 + b → c + 1 + b ≡ d
+      sums c a b d is parts = omega (arith, is, parts)
+
+  -- its home is up, and it is told: it is gone
+  pub left_told : (p : Lock → Bool) (rest : List Lock) (count t : ℕ) → Left p rest count → is_up first (home_of fixed.service t) ≡ true → Left (λ lock. p lock && not (lock.t == t)) (others t rest) count
+  left_told p rest count t left home =
+      let certain : (lock : Lock) → (lock.t == t) ≡ true → doubt lock ≡ false = λ lock own. doubt_of lock t (eqb-true lock.t t own) ∙ ap (λ b. has_prepared t then_there && not b) home ∙ turned (has_prepared t then_there) false in
+      record {
+        here = λ lock has is. let parts = and_parts (p lock) (not (lock.t == t)) is in ⊎_elim inl (λ in'. inr (filter_has (λ (lock : Lock). not (lock.t == t)) rest lock in' parts.1)) (left.here lock has parts.0);
+        kept = λ lock has is. and_from (p lock) (not (lock.t == t)) (left.kept lock has is) (⊎_elim (λ own. absurd (false≢true (sym (certain lock own) ∙ is))) (λ apart. ap not apart) (cases_Bool (lock.t == t)));
+        there = λ lock in'. left.there lock (has_filter (λ (lock : Lock). not (lock.t == t)) rest lock in').0;
+        all = all_others p rest count t left;
+        counted =
+            ap (λ locks. count + holders locks) (filter_twice (λ (lock : Lock). not (lock.t == t)) doubt rest ∙ filter_alike (λ lock. not (lock.t == t) && doubt lock) doubt rest (λ lock has. same lock (certain lock)))
+            ∙ left.counted;
+      }
+    where
+      same : (lock : Lock) → ((lock.t == t) ≡ true → doubt lock ≡ false) → (not (lock.t == t) && doubt lock) ≡ doubt lock
+      same lock certain = ⊎_elim (λ own. ap (λ b. not b && doubt lock) own ∙ sym (certain own)) (λ apart. ap (λ b. not b && doubt lock) apart) (cases_Bool (lock.t == t))
+
+  -- no lock of it is prepared, and one is broken
+  pub left_broken : (p : Lock → Bool) (lock : Lock) (more : List Lock) (count : ℕ) → Left p (lock ∷ more) count → has_prepared lock.t (lock ∷ more) ≡ false
+      → Left (λ other. p other && not (is_own lock.t lock.suite other && not other.prepared)) more count
+  left_broken p lock more count left none =
+      record {
+        here = λ other has is.
+            let parts = and_parts (p other) (not (is_own lock.t lock.suite other && not other.prepared)) is in
+            ⊎_elim inl (λ in'. ⊎_elim (λ same. absurd (false≢true (sym (ap not (gone other same)) ∙ parts.1))) inr in') (left.here other has parts.0);
+        kept = λ other has is. and_from (p other) (not (is_own lock.t lock.suite other && not other.prepared)) (left.kept other has is)
+            (⊎_elim (λ own. absurd (false≢true (sym (certain other (of_it other own)) ∙ is))) (λ apart. ap not apart) (cases_Bool (is_own lock.t lock.suite other && not other.prepared)));
+        there = λ other in'. left.there other (inr in');
+        all = λ other third has prepared in' same. ⊎_elim (λ is. absurd (false≢true (sym unprepared ∙ ap (λ (lock : Lock). lock.prepared) is ∙ prepared))) (λ later. later) (left.all other third has prepared (inr in') same);
+        counted = ap (λ b. count + holders (cond b (lock ∷ filter doubt more) (filter doubt more))) (sym (certain lock refl)) ∙ left.counted;
+      }
+    where
+      unprepared : lock.prepared ≡ false
+      unprepared = ⊎_elim (λ is. absurd (false≢true (sym none ∙ has_any (λ (other : Lock). (other.t == lock.t) && other.prepared) (lock ∷ more) lock (inl refl) (and_from (lock.t == lock.t) lock.prepared (eq-eqb lock.t lock.t refl) is)))) (λ is. is) (cases_Bool lock.prepared)
+
+      never : has_prepared lock.t then_there ≡ false
+      never = ⊎_elim
+          (λ is.
+          let some = any_has (λ (other : Lock). (other.t == lock.t) && other.prepared) then_there is in
+          let parts = and_parts (some.0.t == lock.t) some.0.prepared some.2 in
+          absurd (false≢true (sym none ∙ has_any (λ (other : Lock). (other.t == lock.t) && other.prepared) (lock ∷ more) some.0 (left.all some.0 lock some.1 parts.1 (inl refl) (eqb-true some.0.t lock.t parts.0)) some.2)))
+          (λ is. is) (cases_Bool (has_prepared lock.t then_there))
+
+      certain : (other : Lock) → other.t ≡ lock.t → doubt other ≡ false
+      certain other is = doubt_of other lock.t is ∙ ap (λ b. b && not (is_up first (home_of fixed.service lock.t))) never
+
+      of_it : (other : Lock) → (is_own lock.t lock.suite other && not other.prepared) ≡ true → other.t ≡ lock.t
+      of_it other is =
+          let parts = and_parts (is_own lock.t lock.suite other) (not other.prepared) is in
+          eqb-true other.t lock.t (and_parts (other.t == lock.t) (other.suite == lock.suite) parts.0).0
+
+      gone : (other : Lock) → lock ≡ other → (is_own lock.t lock.suite other && not other.prepared) ≡ true
+      gone other same = subst (λ (other : Lock). (is_own lock.t lock.suite other && not other.prepared) ≡ true) same
+          (and_from (is_own lock.t lock.suite lock) (not lock.prepared) (and_from (lock.t == lock.t) (lock.suite == lock.suite) (eq-eqb lock.t lock.t refl) (eq-eqb lock.suite lock.suite refl)) (ap not unprepared))
+
+  -- ---- one step
+
+  pub others_served : (w new : World) → Others w → ((x : ℕ) → is_up new x ≡ is_up w x) → ((x : ℕ) → x ≢ s → locks_at new x ≡ locks_at w x) → Others new
+  others_served w new others_are ups locks = record { ups = λ x. ups x ∙ others_are.ups x; locks = λ x apart. locks x apart ∙ others_are.locks x apart }
+
+  module _ (w new : World) (sweep_run : SweepRun) (sweeps : Sweeps w sweep_run) (st : State) (stamp : ℕ) where
+    abbrev Serves : ℕ → Request → Type 0
+    Serves target asked = new.servers ≡ slice_set w.servers target (served st (record { stamp = stamp; value = asked }))
+
+    -- its server is up
+    up_here : server_at w s ≡ Some st → st.up ≡ true
+    up_here at = sym (ap up_in at) ∙ sweeps.others_are.ups s ∙ up
+
+    locks_then : server_at w s ≡ Some st → st.locks ≡ filter sweeps.p then_there
+    locks_then at = sym (ap locks_in at) ∙ sweeps.locks
+
+    listing : NowIs Listing sweeps.p sweeps.rest → server_at w s ≡ Some st → Serves s request.Locks → Then new (after_answer fixed.service sweep_run Listing (reply_of st request.Locks))
+    listing now at servers =
+        let is_up_now = up_here at in
+        let after_is : after st request.Locks ≡ st = ap (λ b. cond b (after_up st request.Locks) (after_down st request.Locks)) is_up_now in
+        let sorted : sweeps.rest ≡ rising st.locks = now.0 ∙ sym (rising_same then_there rises) ∙ sym (ap rising (locks_then at ∙ filter_all sweeps.p then_there now.1)) in
+        subst (λ b. Then new (after_answer fixed.service sweep_run Listing (cond b (reply_up st request.Locks) (reply_down request.Locks)))) (sym is_up_now)
+        (subst (λ rest. Then new (sweep_on sweep_run rest)) sorted
+        (goes_on new sweep_run sweeps.server
+        (others_served w new sweeps.others_are (same_ups w new s st request.Locks stamp at servers (ap (λ (st : State). st.up) after_is)) (λ x apart. locks_apart w new s st request.Locks stamp at servers x apart))
+        sweeps.p (same_locks w new s st request.Locks stamp at servers (ap (λ (st : State). st.locks) after_is) s ∙ sweeps.locks) sweeps.rest sweeps.left))
+
+    resolving : (t : ℕ) (left : List Lock) → NowIs (Resolving t left) sweeps.p sweeps.rest → server_at w (home_of fixed.service t) ≡ Some st → Serves (home_of fixed.service t) (request.Resolve t)
+        → Then new (after_answer fixed.service sweep_run (Resolving t left) (reply_of st (request.Resolve t)))
+    resolving t left now at servers = of st.up refl
+      where
+        home : ℕ
+        home = home_of fixed.service t
+
+        of : (b : Bool) → st.up ≡ b → Then new (after_answer fixed.service sweep_run (Resolving t left) (reply_of st (request.Resolve t)))
+        of true is =
+            let after_is : after st (request.Resolve t) ≡ after_record (record_of st t) t verdict.Aborted None st = ap (λ b. cond b (after_up st (request.Resolve t)) (after_down st (request.Resolve t))) is in
+            let ups = same_ups w new (home_of fixed.service t) st (request.Resolve t) stamp at servers (ap (λ (st : State). st.up) after_is ∙ record_up (record_of st t) t verdict.Aborted st) in
+            let locks = same_locks w new (home_of fixed.service t) st (request.Resolve t) stamp at servers (ap (λ (st : State). st.locks) after_is ∙ record_locks (record_of st t) t verdict.Aborted st) in
+            subst (λ b. Then new (after_answer fixed.service sweep_run (Resolving t left) (cond b (reply_up st (request.Resolve t)) (reply_down (request.Resolve t))))) (sym is)
+            (record {
+              server = sweeps.server;
+              others_are = others_served w new sweeps.others_are ups (λ x apart. locks x);
+              p = sweeps.p;
+              locks = locks s ∙ sweeps.locks;
+              rest = sweeps.rest;
+              left = sweeps.left;
+              now = (now.0, sym (sweeps.others_are.ups (home_of fixed.service t)) ∙ ap up_in at ∙ is);
+            })
+        of false is =
+            let after_is : after st (request.Resolve t) ≡ st = ap (λ b. cond b (after_up st (request.Resolve t)) (after_down st (request.Resolve t))) is in
+            let ups = same_ups w new (home_of fixed.service t) st (request.Resolve t) stamp at servers (ap (λ (st : State). st.up) after_is) in
+            let locks = same_locks w new (home_of fixed.service t) st (request.Resolve t) stamp at servers (ap (λ (st : State). st.locks) after_is) in
+            let down : is_up first (home_of fixed.service t) ≡ false = sym (sweeps.others_are.ups (home_of fixed.service t)) ∙ ap up_in at ∙ is in
+            subst (λ b. Then new (after_answer fixed.service sweep_run (Resolving t left) (cond b (reply_up st (request.Resolve t)) (reply_down (request.Resolve t))))) (sym is)
+            (elim (home_of fixed.service t == sweep_run.server) as (λ b. (home_of fixed.service t == sweep_run.server) ≡ b → Then new (cond b (lost sweep_run) (sweep_on (record sweep_run { left = sweep_run.left + 1 }) left))) [
+              | true ↦ λ same. absurd (false≢true (sym down ∙ ap (is_up first) (eqb-true (home_of fixed.service t) sweep_run.server same ∙ sweeps.server) ∙ up))
+              | false ↦ λ _.
+                  subst (λ left. Then new (sweep_on (record sweep_run { left = sweep_run.left + 1 }) left)) (sym now.0)
+                  (goes_on new (record sweep_run { left = sweep_run.left + 1 }) sweeps.server (others_served w new sweeps.others_are ups (λ x apart. locks x)) sweeps.p (locks s ∙ sweeps.locks) (others t sweeps.rest)
+                  (left_in_doubt sweeps.p sweeps.rest sweep_run.left t sweeps.left now.1 down))
+            ] refl)
+
+    telling : (t : ℕ) (v : Verdict) (left : List Lock) → NowIs (Telling t v left) sweeps.p sweeps.rest → server_at w s ≡ Some st → Serves s (request.Finish t v)
+        → Then new (after_answer fixed.service sweep_run (Telling t v left) (reply_of st (request.Finish t v)))
+    telling t v left now at servers =
+        let is = up_here at in
+        let after_is : after st (request.Finish t v) ≡ after_up st (request.Finish t v) = ap (λ b. cond b (after_up st (request.Finish t v)) (after_down st (request.Finish t v))) is in
+        let ups = same_ups w new s st (request.Finish t v) stamp at servers (ap (λ (st : State). st.up) after_is) in
+        subst (λ b. Then new (after_answer fixed.service sweep_run (Telling t v left) (cond b (reply_up st (request.Finish t v)) (reply_down (request.Finish t v))))) (sym is)
+        (subst (λ left. Then new (sweep_on (record sweep_run { finished = sweep_run.finished + 1 }) left)) (sym now.0)
+        (goes_on new (record sweep_run { finished = sweep_run.finished + 1 }) sweeps.server
+        (others_served w new sweeps.others_are ups (λ x apart. locks_apart w new s st (request.Finish t v) stamp at servers x apart))
+        (λ lock. sweeps.p lock && not (lock.t == t))
+        (locks_here w new s st (request.Finish t v) stamp at servers ∙ ap (λ (st : State). st.locks) after_is ∙ ap (filter (λ (lock : Lock). not (lock.t == t))) (locks_then at) ∙ filter_twice sweeps.p (λ (lock : Lock). not (lock.t == t)) then_there)
+        (others t sweeps.rest) (left_told sweeps.p sweeps.rest sweep_run.left t sweeps.left now.1)))
+
+    breaking : (lock : Lock) (left : List Lock) → NowIs (Breaking lock left) sweeps.p sweeps.rest → server_at w s ≡ Some st → Serves s (request.Break lock.t lock.suite)
+        → Then new (after_answer fixed.service sweep_run (Breaking lock left) (reply_of st (request.Break lock.t lock.suite)))
+    breaking lock left now at servers =
+        let is = up_here at in
+        let asked = request.Break lock.t lock.suite in
+        let after_is : after st (request.Break lock.t lock.suite) ≡ after_up st (request.Break lock.t lock.suite) = ap (λ b. cond b (after_up st (request.Break lock.t lock.suite)) (after_down st (request.Break lock.t lock.suite))) is in
+        let ups = same_ups w new s st (request.Break lock.t lock.suite) stamp at servers (ap (λ (st : State). st.up) after_is) in
+        subst (λ b. Then new (after_answer fixed.service sweep_run (Breaking lock left) (cond b (reply_up st (request.Break lock.t lock.suite)) (reply_down (request.Break lock.t lock.suite))))) (sym is)
+        (goes_on new (record sweep_run { broken = sweep_run.broken + 1 }) sweeps.server
+        (others_served w new sweeps.others_are ups (λ x apart. locks_apart w new s st (request.Break lock.t lock.suite) stamp at servers x apart))
+        (λ other. sweeps.p other && not (is_own lock.t lock.suite other && not other.prepared))
+        (locks_here w new s st (request.Break lock.t lock.suite) stamp at servers ∙ ap (λ (st : State). st.locks) after_is
+        ∙ ap (filter (λ (other : Lock). not (is_own lock.t lock.suite other && not other.prepared))) (locks_then at) ∙ filter_twice sweeps.p (λ (other : Lock). not (is_own lock.t lock.suite other && not other.prepared)) then_there)
+        left
+        (left_broken sweeps.p lock left sweep_run.left (subst (λ rest. Left sweeps.p rest sweep_run.left) now.0 sweeps.left) (ap (has_prepared lock.t) (sym now.0) ∙ now.1)))
+
+    by_now : (now : Sweeping) → NowIs now sweeps.p sweeps.rest → server_at w (asked_now fixed.service sweep_run now).0 ≡ Some st → Serves (asked_now fixed.service sweep_run now).0 (asked_now fixed.service sweep_run now).1
+        → Then new (after_answer fixed.service sweep_run now (reply_of st (asked_now fixed.service sweep_run now).1))
+    by_now Listing now at servers = listing now (ap (server_at w) (sym sweeps.server) ∙ at) (subst (λ target. Serves target request.Locks) sweeps.server servers)
+    by_now (Resolving t left) now at servers = resolving t left now at servers
+    by_now (Telling t v left) now at servers = telling t v left now (ap (server_at w) (sym sweeps.server) ∙ at) (subst (λ target. Serves target (request.Finish t v)) sweeps.server servers)
+    by_now (Breaking lock left) now at servers = breaking lock left now (ap (server_at w) (sym sweeps.server) ∙ at) (subst (λ target. Serves target (request.Break lock.t lock.suite)) sweeps.server servers)
+
+    pub step_then : server_at w (asked_now fixed.service sweep_run sweep_run.now).0 ≡ Some st → Serves (asked_now fixed.service sweep_run sweep_run.now).0 (asked_now fixed.service sweep_run sweep_run.now).1
+        → Then new (after_answer fixed.service sweep_run sweep_run.now (reply_of st (asked_now fixed.service sweep_run sweep_run.now).1))
+    step_then at servers = by_now sweep_run.now sweeps.now at servers

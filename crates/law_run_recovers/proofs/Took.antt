@@ -1,0 +1,58 @@
+-- A step of an agent that was served: what it asked, of which server, and what it made of the reply.
+use Rattle.std.proofs.Common.{◌≡◌, ℕ, true, false, cond, Option, Some, None, is_some, refl, sym, subst}
+use Rattle.std.specs.Prelude.{slice_set}
+use Rattle.std.proofs.lemmas.Bool.{false≢true}
+use Rattle.rep_core.specs.declared.request.Request.{Request}
+use Rattle.rep_core.specs.declared.stamped.Stamped.{Stamped}
+use Rattle.rep_core.specs.State.{State}
+use Rattle.rep_core.specs.Service.{reply_of}
+use Rattle.rep_core.specs.Serving.{is_full, served, answer_of}
+use Rattle.txn_core.specs.declared.response.Response.TheVariants.{Replied}
+use Rattle.txn_core.specs.Doing.{Fixed}
+use Rattle.txn_core.specs.Agents.{next_of, take}
+use Rattle.run_core.specs.declared.event.Event.TheVariants.{Step}
+use Rattle.run_core.specs.declared.done.Served.{Served}
+use Rattle.run_core.specs.Worlds.{Actor, World, Stepped, server_at, actor_at, serve, moved, outcome_of, answered, asks_at, asks, steps_once, step}
+use Rattle.law_runs.proofs.Worlds.{puts_in}
+
+module _ (fixed : Fixed) (w : World) (agent : ℕ) (here : Actor) (there : actor_at w agent ≡ Some here) where
+  abbrev pub with_stamp : Request → Stamped Request
+  with_stamp asked = record { stamp = here.stamp; value = asked }
+
+  pub record OwnTook (stepped : Stepped) : Type 0 where
+    pub asked : ℕ × Request
+    pub st : State
+    pub next : next_of fixed here.agent ≡ Some asked
+    pub at : server_at w asked.0 ≡ Some st
+    pub room : is_full st (with_stamp asked.1) ≡ false
+    pub servers : stepped.world.servers ≡ slice_set w.servers asked.0 (served st (with_stamp asked.1))
+    pub new : Actor
+    pub now : actor_at stepped.world agent ≡ Some new
+    pub took : new.agent ≡ (take fixed here.agent (Replied (reply_of st asked.1))).agent
+    pub ended : stepped.done.outcome ≡ outcome_of agent here (take fixed here.agent (Replied (reply_of st asked.1))).ending
+
+  served_took : (asked : ℕ × Request) (st : State) → next_of fixed here.agent ≡ Some asked → server_at w asked.0 ≡ Some st → is_some (answered fixed w agent here st (serve asked.0 st (with_stamp asked.1))).done.served ≡ true
+      → OwnTook (answered fixed w agent here st (serve asked.0 st (with_stamp asked.1)))
+  served_took asked st next at =
+      elim (is_full st (with_stamp asked.1)) as (λ b. is_full st (with_stamp asked.1) ≡ b → is_some (answered fixed w agent here st (cond b None (Some what))).done.served ≡ true → OwnTook (answered fixed w agent here st (cond b None (Some what)))) [
+        | true ↦ λ _ is. absurd (false≢true is)
+        | false ↦ λ room _.
+            let new = moved here (answer_of st (with_stamp asked.1)).stamp (take fixed here.agent (Replied (reply_of st asked.1))) in
+            record { asked = asked; st = st; next = next; at = at; room = room; servers = refl; new = new; now = (puts_in w.agents agent here new there).here; took = refl; ended = refl }
+      ] refl
+    where
+      what : Served
+      what = record { server = asked.0; request = with_stamp asked.1; reply = answer_of st (with_stamp asked.1) }
+
+  at_server : (asked : ℕ × Request) → next_of fixed here.agent ≡ Some asked → (found : Option State) → server_at w asked.0 ≡ found → is_some (asks_at fixed w agent here asked found).done.served ≡ true → OwnTook (asks_at fixed w agent here asked found)
+  at_server asked next None at is = absurd (false≢true is)
+  at_server asked next (Some st) at is = served_took asked st next at is
+
+  at_next : (asked : Option (ℕ × Request)) → next_of fixed here.agent ≡ asked → is_some (asks fixed w agent here asked).done.served ≡ true → OwnTook (asks fixed w agent here asked)
+  at_next None next is = absurd (false≢true is)
+  at_next (Some asked) next is = at_server asked next (server_at w asked.0) refl is
+
+  pub own_took : is_some (step fixed w (Step agent)).done.served ≡ true → OwnTook (step fixed w (Step agent))
+  own_took =
+      subst (λ found. is_some (steps_once fixed w agent found).done.served ≡ true → OwnTook (steps_once fixed w agent found)) (sym there)
+      (at_next (next_of fixed here.agent) refl)

@@ -1,0 +1,62 @@
+-- What is available after some events of a run, and from there on; and that a world so lends it.
+use Rattle.std.specs.Prelude.{◌≡◌, true, List, ◌++◌}
+use Rattle.suite_prefix.specs.SettingsRules.{Opening}
+use Rattle.run_core.specs.declared.event.Event.{Event}
+use Rattle.run_core.specs.Opened.{Opened}
+use Rattle.law_agents.specs.Sites.{RunsKeepToSites}
+use Rattle.law_agents.specs.Steps.{JobsEnd}
+use Rattle.law_headline.specs.Promises.{IsRunOf}
+use Rattle.law_run_alone.specs.Alone.{one_at_a_time}
+use Rattle.law_run_alone.specs.Endings.{EndAsTheTable, EndingsAreOne, UndisturbedEndingsAreOne}
+use Rattle.law_run_alone.specs.Undisturbed.{NothingIsInTheWayAt, UndisturbedAreDecidedAt}
+use Rattle.law_run_recovers.specs.Laws.{EndsAreByVotesAt, EndsInTimeAt, MetDemandsAreRowsAt, DecidedWhereVotesAreAt, HomesGoRoundOf, OneOfThemIsDecidedAt, DecidedHadVotesUpAt}
+use Rattle.law_run_recovers.specs.Sweeping.{SweepsLeaveDoubtsAt, SweepsKeepEffectsAt, OnlyDoubtsAreLeftAt, NoLockIsLeftAt, AllIsStoredAt, TakenAwayAreNeverDecidedAt}
+
+-- after these events of a run
+pub record IsAvailable (given : Opening) (events : List Event) : Type 0 where
+  -- a transaction that begins now, goes alone and is decided had its home up, and enough votes of each suite that it had gathered
+  pub had_votes : DecidedHadVotesUpAt given events
+  -- one that begins now and goes alone ends, if it ends, with the first suite of which too few votes are up; else, where its home is down, with that; else
+  -- as the table answers it
+  pub ends : EndsAreByVotesAt given events
+  -- and it ends, before its agent took more steps than its locks and the servers bound
+  pub in_time : EndsInTimeAt given events
+  -- and where votes were never moved until now, it is decided just where its home is up and enough votes are by the rows of the table
+  pub where_votes : DecidedWhereVotesAreAt given events
+  -- where servers that are up have enough votes of all that a transaction locks, as these votes are found, they have enough by the rows of the table
+  pub rows : MetDemandsAreRowsAt given events
+  -- of as many jobs in a row of one agent as there are servers, each server is the home of one
+  pub homes : HomesGoRoundOf given
+  -- so one of as many tries of a transaction is decided, where some server is up and enough votes are, from wherever suites may be looked for
+  pub again : OneOfThemIsDecidedAt given events
+  -- a sweep leaves at its server just the locks in doubt, whose transaction has a prepared one there and its home down, and tells of how many
+  -- transactions these are; other servers' locks stay
+  pub sweep : SweepsLeaveDoubtsAt given events
+  -- a sweep changes no copy in effect, and decides nothing
+  pub effects : SweepsKeepEffectsAt given events
+  -- after sweeps of all servers that are up just the locks in doubt are left there
+  pub doubts : OnlyDoubtsAreLeftAt given events
+  -- after sweeps of all servers, where all are up, none has a lock, whatever other agents are in the middle of
+  pub free : NoLockIsLeftAt given events
+  -- and then what each server has stored is what was in effect there
+  pub stored : AllIsStoredAt given events
+  -- a transaction whose locks at some server are all taken away before it is decided never is
+  pub never : TakenAwayAreNeverDecidedAt given events
+  -- a transaction that begins where every agent is idle, every server up and no lock left is never told Busy or Down, as long as no server crashes and
+  -- no other job begins
+  pub in_the_way : NothingIsInTheWayAt given events
+  -- and it is decided when it ends, as long as none is full and memory is not wanting
+  pub undisturbed : UndisturbedAreDecidedAt given events
+  -- where jobs went one at a time, the decided ones ended as the table answers them, in their order
+  pub endings : one_at_a_time given events ≡ true → EndAsTheTable given events
+  -- of this and other runs of the same jobs, one at a time: who ended in both, ended in both the same way, caches or not
+  pub same : EndingsAreOne
+  pub caches : UndisturbedEndingsAreOne
+  -- an agent that has a job asks, and its job is at an end within a bound on its own steps
+  pub jobs : JobsEnd
+  -- nothing is kept for sites that are not there, and events without sense change nothing
+  pub sites : RunsKeepToSites
+
+-- A world lends this of every list of events that made it, at each moment: after those of them that came before some later ones.
+abbrev pub Lends : Opened → Type 0
+Lends opened = (before later : List Event) → IsRunOf opened (before ++ later) → IsAvailable opened.given before

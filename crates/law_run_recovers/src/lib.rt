@@ -1,0 +1,96 @@
+//! Runs while servers are down, and after they came back: what is available.
+//!
+//! There is no code here but laws. Definitions stand in `specs/`: which servers are up, which locks those have and what
+//! they show in `Standing`; when one agent alone reaches servers in `Alone`; of which suites a transaction needs votes, how
+//! many, and where it finds them in `Demands`; what is decided while servers are down, and how it ends, in `Laws`; what
+//! sweeps leave in `Sweeping`; and runs by computation in `Worked`. What all this lends of a world is [`promise`], field by
+//! field in `Promises`.
+#![tactic(auto)]
+
+mod promises;
+
+ghost use Rattle.law_run_recovers.specs.Laws.{EndsAreByVotes, EndsInTime, MetDemandsAreRows, DecidedWhereVotesAre, HomesGoRound, OneOfThemIsDecided, DecidedHadVotesUp};
+ghost use Rattle.law_run_recovers.specs.Sweeping.{SweepsLeaveDoubts, SweepsKeepEffects, OnlyDoubtsAreLeft, NoLockIsLeft, AllIsStored, TakenAwayAreNeverDecided};
+ghost use Rattle.law_run_recovers.specs.Worked.{SomeRunsRecover};
+
+pub use promises::promise;
+
+/// A law: a transaction that begins where no server that is up has a lock, and that nobody hinders, ends as the votes say
+/// that are up: where a suite has too few of them, with the first such and its numbers; else, where its home is down, with
+/// that; else as the table answers it. It does nothing.
+pub fn ends_are_by_votes()
+    ensures { EndsAreByVotes }
+{}
+
+/// A law: and such a transaction ends, within so many steps of its agent as its locks and the servers bound. It does
+/// nothing.
+pub fn ends_in_time()
+    ensures { EndsInTime }
+{}
+
+/// A law: a transaction that begins where no server that is up has a lock, that nobody hinders, and that is decided, had its
+/// home up, and of each suite that it had gathered the votes of its mode, by the row that the table had as it began, and
+/// those that it left. It does nothing.
+pub fn decided_had_votes_up()
+    ensures { DecidedHadVotesUp }
+{}
+
+/// A law: where servers that are up have enough votes of all that a transaction locks, as it finds these votes, and of all
+/// that it sets, they have enough by the votes of the table's own rows. It does nothing.
+pub fn met_demands_are_rows()
+    ensures { MetDemandsAreRows }
+{}
+
+/// A law: where votes were never moved, such a transaction is decided exactly where its home and the votes of the rows are
+/// up. It does nothing.
+pub fn decided_where_votes_are()
+    ensures { DecidedWhereVotesAre }
+{}
+
+/// A law: of as many jobs of an agent in a row as there are servers one has each server as its home. It does nothing.
+pub fn homes_go_round()
+    ensures { HomesGoRound }
+{}
+
+/// A law: so of as many tries of a transaction one is decided, where the votes and some server are up. It does nothing.
+pub fn one_of_them_is_decided()
+    ensures { OneOfThemIsDecided }
+{}
+
+/// A law: a sweep of a server that is up, which nobody hinders, leaves there the locks of transactions whose homes are
+/// down and that had a prepared one, and says how many transactions those are; it changes no other server's locks. It does
+/// nothing.
+pub fn sweeps_leave_doubts()
+    ensures { SweepsLeaveDoubts }
+{}
+
+/// A law: such a sweep changes no copy in effect, and decides nothing. It does nothing.
+pub fn sweeps_keep_effects()
+    ensures { SweepsKeepEffects }
+{}
+
+/// A law: sweeps of all servers that are up leave there just those locks. It does nothing.
+pub fn only_doubts_are_left()
+    ensures { OnlyDoubtsAreLeft }
+{}
+
+/// A law: where all servers are up they leave no lock, whatever other agents are in the middle of. It does nothing.
+pub fn no_lock_is_left()
+    ensures { NoLockIsLeft }
+{}
+
+/// A law: and then what is stored is what was in effect, and nothing was decided. It does nothing.
+pub fn all_is_stored()
+    ensures { AllIsStored }
+{}
+
+/// A law: a transaction whose locks at a server were taken away before it was decided is never decided. It does nothing.
+pub fn taken_away_are_never_decided()
+    ensures { TakenAwayAreNeverDecided }
+{}
+
+/// A law: runs of which the laws above say something, among them votes that are up and are not found, fewer votes to write
+/// than to read, and an agent that stops for good. It does nothing.
+pub fn some_runs_recover()
+    ensures { SomeRunsRecover }
+{}

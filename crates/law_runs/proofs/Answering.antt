@@ -1,0 +1,207 @@
+-- A decision is what its transaction comes to on what its agent knows.
+use Rattle.std.proofs.Common.{◌≡◌, ℕ, ◌+◌, Bool, true, false, cond, List, [], ◌∷◌, Option, Some, None, refl, sym, ap, subst, ◌∙◌}
+use Rattle.std.specs.Prelude.{◌*◌, ◌&&◌, nat_lt, is_some, Result, Ok, Err}
+use Rattle.std.proofs.lemmas.Option.{none-some, same_Some}
+use Rattle.suite_prefix.specs.SettingsRules.{Opening}
+use Rattle.file_ops.specs.declared.answer.Answer.{Answer}
+use Rattle.file_ops.specs.declared.refusal.Refusal.{Refusal}
+use Rattle.file_ops.specs.Rows.{Rows}
+use Rattle.file_ops.specs.Transactions.{replies}
+use Rattle.rep_core.specs.declared.request.Request.{Request}
+use Rattle.rep_core.specs.declared.request.Request.TheVariants as request
+use Rattle.rep_core.specs.declared.reply.Reply.TheVariants as reply
+use Rattle.rep_core.specs.declared.reply.Verdict.{Verdict}
+use Rattle.rep_core.specs.State.{State, record_of}
+use Rattle.rep_core.specs.Service.{reply_of, recorded, verdict_of}
+use Rattle.rep_core.specs.Serving.{is_full, answer_of}
+use Rattle.file_exec.specs.Following.{Ended}
+use Rattle.file_exec.specs.Known.{on_table}
+use Rattle.file_exec.proofs.More.{done_is_the_tables}
+use Rattle.txn_core.specs.declared.job.Job.{Job}
+use Rattle.txn_core.specs.declared.job.Job.TheVariants.{Transaction, Sweep}
+use Rattle.txn_core.specs.declared.response.Response.{Response}
+use Rattle.txn_core.specs.Suites.{known_of}
+use Rattle.txn_core.specs.Doing.{Fixed, Task, Outcome, TransactionRun, SweepRun, Doing, Running, RunningSweep, After, GoesOn, Ends}
+use Rattle.txn_core.specs.Transactions.{decision_of}
+use Rattle.txn_core.specs.Sweeps as sweep
+use Rattle.txn_core.specs.Laws.{is_decide}
+use Rattle.txn_core.specs.Agents.{Agent, next_in, next_of, left, take_in, begin, started, fixed_of, is_idle, has_sense, max_jobs}
+use Rattle.run_core.specs.declared.event.Event.{Event}
+use Rattle.run_core.specs.declared.event.Event.TheVariants.{Begin, Step, Crash, Return, Forget, Lack}
+use Rattle.run_core.specs.declared.done.Served.{Served}
+use Rattle.run_core.specs.Worlds.{Actor, World, server_at, actor_at, opening, answered, asks_at, asks, steps_once, step}
+use Rattle.run_core.specs.Runs.{after, run}
+use Rattle.run_core.specs.Decisions.{Decided, to_decide, answer_in, decided_as, decided_at, decided_by, task_of, task_at}
+use Rattle.run_core.specs.Decisions as decisions
+use Rattle.law_runs.specs.Answers.{IsAnsweredAsKnown, AnswersFollowKnowledge}
+use Rattle.law_runs.proofs.Asking.{decides}
+use Rattle.law_runs.proofs.Turns.{decides_at, no_decide}
+use Rattle.law_runs.proofs.Worlds.{agent_of, agent_at}
+use Rattle.law_runs.proofs.Each.{old_of, each_event}
+use Rattle.law_runs.proofs.Conclusions.{fresh_agents}
+use Rattle.law_runs.proofs.Knowing.{none_fit}
+use Rattle.law_runs.proofs.Executed.{given_by, Came, answer_as, Keeps, Left, left_execute, left_response}
+
+-- ---- one agent
+
+-- what it is to decide with, the executor came to
+abbrev pub Knows : Fixed → Option Doing → Type 0
+Knows fixed (Some (Running txn_run)) = Keeps fixed txn_run.task txn_run.suites txn_run.phase
+Knows fixed (Some (RunningSweep sweep_run)) = Unit {0}
+Knows fixed None = Unit {0}
+
+knows_left : (fixed : Fixed) (after : After TransactionRun) → Left fixed after → Knows fixed (left Running after)
+knows_left fixed (GoesOn txn_run) keeps = keeps
+knows_left fixed (Ends ending) keeps = tt
+
+knows_round : (fixed : Fixed) (after : After SweepRun) → Knows fixed (left RunningSweep after)
+knows_round fixed (GoesOn sweep_run) = tt
+knows_round fixed (Ends ending) = tt
+
+take_knows : (fixed : Fixed) (agent : Agent) (response : Response) (doing : Option Doing) (asked : Option (ℕ × Request)) → agent.doing ≡ doing → Knows fixed doing → Knows fixed (take_in fixed agent response doing asked).agent.doing
+take_knows fixed agent response (Some (Running running)) (Some asked) was knows = knows_left fixed _ (left_response fixed running.task agent.cache running.suites running.phase asked.0 asked.1 response knows)
+take_knows fixed agent response (Some (Running running)) None was knows = subst (Knows fixed) (sym was) knows
+take_knows fixed agent response (Some (RunningSweep sweep_run)) (Some asked) was knows = knows_round fixed (sweep.after_response fixed.service sweep_run asked.0 response)
+take_knows fixed agent response (Some (RunningSweep sweep_run)) None was knows = subst (Knows fixed) (sym was) tt
+take_knows fixed agent response None asked was knows = subst (Knows fixed) (sym was) tt
+
+starts_knowing : (fixed : Fixed) (agent : Agent) (job : Job) → Knows fixed (started fixed agent job).doing
+starts_knowing fixed agent (Transaction caller site ops) =
+    let task : Task = record { t = 64 * agent.count + agent.index; caller = caller; site = site; ops = ops } in
+    knows_left fixed _ (left_execute fixed task (record { suites = []; cache = agent.cache }) none_fit)
+starts_knowing fixed agent (Sweep server) = tt
+
+begin_knows : (fixed : Fixed) (agent : Agent) (job : Job) → Knows fixed agent.doing → Knows fixed (begin fixed agent job).doing
+begin_knows fixed agent job knows =
+    elim (is_idle agent.doing && has_sense fixed job && nat_lt agent.count max_jobs) as (λ b. Knows fixed (cond b (record (started fixed agent job) { count = agent.count + 1 }) agent).doing) [
+      | true ↦ starts_knowing fixed agent job
+      | false ↦ knows
+    ]
+
+-- ---- all agents of a world
+
+abbrev pub AllKnow : Fixed → (ℕ → Option Agent) → Type 0
+AllKnow fixed h = (i : ℕ) (agent : Agent) → h i ≡ Some agent → Knows fixed agent.doing
+
+abbrev KnowsStill : Fixed → Agent → Agent → Type 0
+KnowsStill fixed old new = Knows fixed old.doing → Knows fixed new.doing
+
+event_knows : (fixed : Fixed) (world : World) (event : Event) → AllKnow fixed (agent_at world) → AllKnow fixed (agent_at (step fixed world event).world)
+event_knows fixed world event all i agent is =
+    let old = old_of (KnowsStill fixed) agent (agent_at world i) (agent_at (step fixed world event).world i) is
+    (each_event fixed (KnowsStill fixed) (λ agent knows. knows) (begin_knows fixed) (λ agent site knows. knows) (λ agent response. take_knows fixed agent response agent.doing (next_of fixed agent) refl) world event i) in
+    old.2 (all i old.0 old.1)
+
+run_knows : (fixed : Fixed) (events : List Event) (world : World) → AllKnow fixed (agent_at world) → AllKnow fixed (agent_at (after fixed world events))
+run_knows fixed [] world all = all
+run_knows fixed (event ∷ events) world all = run_knows fixed events (step fixed world event).world (event_knows fixed world event all)
+
+pub always_knows : (given : Opening) (events : List Event) → AllKnow (fixed_of given) (agent_at (run given events))
+always_knows given events = run_knows (fixed_of given) events (opening given) (λ i agent is. subst (λ (agent : Agent). Knows (fixed_of given) agent.doing) (sym (fresh_agents given i agent is).0) tt)
+
+-- ---- a decision
+
+none_at : (found : Option State) (t : Option ℕ) → decided_at found t None ≡ None
+none_at found None = refl
+none_at None (Some t) = refl
+none_at (Some st) (Some t) = of (is_some (record_of st t))
+  where
+    of : (b : Bool) → ◌≡◌ {A = Option Decided} (cond b None None) None
+    of true = refl
+    of false = refl
+
+-- without a transaction nothing is decided
+no_task : (world : World) (what : Option Served) → decided_by world None what ≡ None
+no_task world None = refl
+no_task world (Some what) = none_at (server_at world what.server) (to_decide what.request.value)
+
+-- what an outcome makes of a task
+abbrev decided_with : Task → Outcome → Decided
+decided_with task outcome = record { t = task.t; caller = task.caller; ops = task.ops; answer = answer_as outcome }
+
+as_carried : (task : Task) (outcome : Outcome) → decided_as (Some task) (decisions.answer_of (verdict_of (decision_of task outcome))) ≡ Some (decided_with task outcome)
+as_carried task (Ok granted) = refl
+as_carried task (Err refusal) = refl
+
+carried_if : (task : Task) (outcome : Outcome) (one : Decided) (old : Option Verdict) → cond (is_some old) None (decided_as (Some task) (decisions.answer_of (recorded old (verdict_of (decision_of task outcome))))) ≡ Some one → one ≡ decided_with task outcome
+carried_if task outcome one (Some old) is = absurd (none-some one is)
+carried_if task outcome one None is = same_Some one (decided_with task outcome) (sym is ∙ as_carried task outcome)
+
+-- what a Decide decides is what it carries
+carried : (st : State) (task : Task) (outcome : Outcome) (one : Decided) → decides_at st task (request.Decide task.t (decision_of task outcome)) (reply_of st (request.Decide task.t (decision_of task outcome))) ≡ Some one → one ≡ decided_with task outcome
+carried st task outcome one =
+    elim (st.up) as (λ b. decides_at st task (request.Decide task.t (decision_of task outcome)) (cond b (reply.Verdict (recorded (record_of st task.t) (verdict_of (decision_of task outcome)))) reply.Down) ≡ Some one → one ≡ decided_with task outcome) [
+      | true ↦ λ is. carried_if task outcome one (record_of st task.t) is
+      | false ↦ λ is. absurd (none-some one (sym (none_at (Some st) (Some task.t)) ∙ is))
+    ]
+
+given_replies : (rows : Rows) (result : Result (Ended (List Answer)) Refusal) → replies (on_table rows result) ≡ given_by result
+given_replies rows (Ok ended) = refl
+given_replies rows (Err refusal) = refl
+
+-- ---- a step that decides
+
+module _ (given : Opening) (world : World) (all : AllKnow (fixed_of given) (agent_at world)) (number : ℕ) (one : Decided) where
+  in_course : (actor : Actor) (txn_run : TransactionRun) (asked : ℕ × Request) (st : State) → actor_at world number ≡ Some actor → actor.agent.doing ≡ Some (Running txn_run) → next_of (fixed_of given) actor.agent ≡ Some asked
+      → decides_at st txn_run.task asked.1 (reply_of st asked.1) ≡ Some one → (b : Bool) → is_decide asked.1 ≡ b → IsAnsweredAsKnown given world (Step number) one
+  in_course actor txn_run asked st there running next is false other =
+      absurd (none-some one (sym (ap (λ t. decided_at (Some st) t (decided_as (Some txn_run.task) (answer_in (reply_of st asked.1)))) (no_decide asked.1 other)) ∙ is))
+  in_course actor txn_run asked st there running next is true decide =
+      let asks' : next_in (fixed_of given) (Some (Running txn_run)) ≡ Some (asked.0, asked.1) = ap (next_in (fixed_of given)) (sym running) ∙ next in
+      let does = decides (fixed_of given) txn_run.task txn_run.suites txn_run.phase asked.0 asked.1 asks' decide in
+      let same : one ≡ decided_with txn_run.task does.outcome =
+      carried st txn_run.task does.outcome one (subst (λ (value : Request). decides_at st txn_run.task value (reply_of st value) ≡ Some one) does.decide is) in
+      let knows : Knows (fixed_of given) (Some (Running txn_run)) = subst (Knows (fixed_of given)) running (all number actor.agent (ap agent_of there)) in
+      let came : Came (fixed_of given) txn_run.task txn_run.suites does.outcome = subst (Keeps (fixed_of given) txn_run.task txn_run.suites) does.deciding knows in
+      subst (IsAnsweredAsKnown given world (Step number)) (sym same) (record {
+        number = number;
+        step = refl;
+        actor = actor;
+        there = there;
+        txn_run = txn_run;
+        running = running;
+        outcome = does.outcome;
+        deciding = does.deciding;
+        t = refl;
+        caller = refl;
+        ops = refl;
+        answered = λ rows agrees.
+            came.answered ∙ sym (given_replies rows came.result)
+            ∙ ap replies (sym (done_is_the_tables (fixed_of given).service (known_of txn_run.suites) rows txn_run.task.t txn_run.task.caller txn_run.task.ops came.result agrees came.is));
+      })
+
+  by_serving : (actor : Actor) (txn_run : TransactionRun) (asked : ℕ × Request) (st : State) → actor_at world number ≡ Some actor → actor.agent.doing ≡ Some (Running txn_run) → next_of (fixed_of given) actor.agent ≡ Some asked → server_at world asked.0 ≡ Some st
+      → (full : Bool) → decided_by world (Some txn_run.task) (answered (fixed_of given) world number actor st (cond full None (Some (record { server = asked.0; request = record { stamp = actor.stamp; value = asked.1 }; reply = answer_of st (record { stamp = actor.stamp; value = asked.1 }) })))).done.served ≡ Some one
+      → IsAnsweredAsKnown given world (Step number) one
+  by_serving actor txn_run asked st there running next at true is = absurd (none-some one is)
+  by_serving actor txn_run asked st there running next at false is =
+      in_course actor txn_run asked st there running next
+      (sym (ap (λ found. decided_at found (to_decide asked.1) (decided_as (Some txn_run.task) (answer_in (reply_of st asked.1)))) at) ∙ is)
+      (is_decide asked.1) refl
+
+  by_server : (actor : Actor) (txn_run : TransactionRun) (asked : ℕ × Request) → actor_at world number ≡ Some actor → actor.agent.doing ≡ Some (Running txn_run) → next_of (fixed_of given) actor.agent ≡ Some asked → (st : Option State) → server_at world asked.0 ≡ st
+      → decided_by world (Some txn_run.task) (asks_at (fixed_of given) world number actor asked st).done.served ≡ Some one → IsAnsweredAsKnown given world (Step number) one
+  by_server actor txn_run asked there running next None at is = absurd (none-some one is)
+  by_server actor txn_run asked there running next (Some st) at is = by_serving actor txn_run asked st there running next at (is_full st (record { stamp = actor.stamp; value = asked.1 })) is
+
+  by_request : (actor : Actor) (txn_run : TransactionRun) → actor_at world number ≡ Some actor → actor.agent.doing ≡ Some (Running txn_run) → (asked : Option (ℕ × Request)) → next_of (fixed_of given) actor.agent ≡ asked
+      → decided_by world (Some txn_run.task) (asks (fixed_of given) world number actor asked).done.served ≡ Some one → IsAnsweredAsKnown given world (Step number) one
+  by_request actor txn_run there running None next is = absurd (none-some one is)
+  by_request actor txn_run there running (Some asked) next is = by_server actor txn_run asked there running next (server_at world asked.0) refl is
+
+  by_doing : (actor : Actor) → actor_at world number ≡ Some actor → (doing : Option Doing) → actor.agent.doing ≡ doing → decided_by world (task_of doing) (asks (fixed_of given) world number actor (next_of (fixed_of given) actor.agent)).done.served ≡ Some one → IsAnsweredAsKnown given world (Step number) one
+  by_doing actor there (Some (Running txn_run)) running is = by_request actor txn_run there running (next_of (fixed_of given) actor.agent) refl is
+  by_doing actor there (Some (RunningSweep sweep_run)) running is = absurd (none-some one (sym (no_task world (asks (fixed_of given) world number actor (next_of (fixed_of given) actor.agent)).done.served) ∙ is))
+  by_doing actor there None running is = absurd (none-some one (sym (no_task world (asks (fixed_of given) world number actor (next_of (fixed_of given) actor.agent)).done.served) ∙ is))
+
+  by_actor : (found : Option Actor) → actor_at world number ≡ found → decided_by world (task_at found) (steps_once (fixed_of given) world number found).done.served ≡ Some one → IsAnsweredAsKnown given world (Step number) one
+  by_actor None there is = absurd (none-some one is)
+  by_actor (Some actor) there is = by_doing actor there actor.agent.doing refl is
+
+pub answers_follow_knowledge : AnswersFollowKnowledge
+answers_follow_knowledge given events (Step number) one is = by_actor given (run given events) (always_knows given events) number one (actor_at (run given events) number) refl is
+answers_follow_knowledge given events (Begin number job) one is = absurd (none-some one (sym (no_task (run given events) (step (fixed_of given) (run given events) (Begin number job)).done.served) ∙ is))
+answers_follow_knowledge given events (Crash server) one is = absurd (none-some one (sym (no_task (run given events) (step (fixed_of given) (run given events) (Crash server)).done.served) ∙ is))
+answers_follow_knowledge given events (Return server) one is = absurd (none-some one (sym (no_task (run given events) (step (fixed_of given) (run given events) (Return server)).done.served) ∙ is))
+answers_follow_knowledge given events (Forget number site) one is = absurd (none-some one (sym (no_task (run given events) (step (fixed_of given) (run given events) (Forget number site)).done.served) ∙ is))
+answers_follow_knowledge given events (Lack number why) one is = absurd (none-some one (sym (no_task (run given events) (step (fixed_of given) (run given events) (Lack number why)).done.served) ∙ is))

@@ -1,0 +1,104 @@
+-- What an event makes of each agent: it is as it was, or it began, forgot, or took a response.
+use Rattle.std.proofs.Common.{◌≡◌, ⊎_elim, ℕ, List, Option, Some, None, refl, sym, subst}
+use Rattle.rep_core.specs.declared.request.Request.{Request}
+use Rattle.rep_core.specs.declared.request.Request.TheVariants as request
+use Rattle.rep_core.specs.declared.stamped.Lack.{Lack as Why}
+use Rattle.rep_core.specs.declared.stamped.Lack.TheVariants as lack
+use Rattle.rep_core.specs.State.{State}
+use Rattle.std.proofs.lemmas.Option.{none-some, same_Some}
+use Rattle.txn_core.specs.declared.job.Job.{Job}
+use Rattle.txn_core.specs.declared.response.Response.{Response}
+use Rattle.txn_core.specs.declared.response.Response.TheVariants.{Replied, Lacked}
+use Rattle.txn_core.specs.Doing.{Fixed}
+use Rattle.txn_core.specs.Agents.{Agent, next_of, take, begin, forget}
+use Rattle.run_core.specs.declared.event.Event.{Event}
+use Rattle.run_core.specs.declared.event.Event.TheVariants.{Begin, Step, Crash, Return, Forget, Lack}
+use Rattle.run_core.specs.declared.done.Served.{Served}
+use Rattle.run_core.specs.Worlds.{Actor, World, server_at, actor_at, with_actor, serve, after_serving, moved, becomes, answered, asks_at, asks, steps_once, lacks_for, lacks, operated, operates, step}
+use Rattle.law_runs.proofs.Places.{same_or}
+use Rattle.law_runs.proofs.Worlds.{agent_at, puts_agent}
+
+-- two agents of one number
+abbrev pub Both : (Agent → Agent → Type 0) → Option Agent → Option Agent → Type 0
+Both R (Some old) (Some new) = R old new
+Both R None None = Unit {0}
+Both R (Some old) None = ⊥
+Both R None (Some new) = ⊥
+
+pub new_of : (R : Agent → Agent → Type 0) (old : Agent) (found new : Option Agent) → found ≡ Some old → Both R found new → (agent : Agent) × (new ≡ Some agent) × R old agent
+new_of R old (Some same) (Some new) is both = (new, refl, subst (λ old. R old new) (same_Some same old is) both)
+new_of R old (Some same) None is both = absurd both
+new_of R old None new is both = absurd (none-some old is)
+
+pub old_of : (R : Agent → Agent → Type 0) (new : Agent) (old found : Option Agent) → found ≡ Some new → Both R old found → (agent : Agent) × (old ≡ Some agent) × R agent new
+old_of R new (Some old) (Some same) is both = (old, refl, subst (R old) (same_Some same new is) both)
+old_of R new None (Some same) is both = absurd both
+old_of R new old None is both = absurd (none-some new is)
+
+-- what holds of an agent and itself, and of an agent and what it is once it began, forgot or took a response, holds of each agent before and after an event
+module _ (fixed : Fixed) (R : Agent → Agent → Type 0) (same : (agent : Agent) → R agent agent) (begins : (agent : Agent) (job : Job) → R agent (begin fixed agent job))
+    (forgets : (agent : Agent) (site : ℕ) → R agent (forget agent site)) (takes : (agent : Agent) (response : Response) → R agent (take fixed agent response).agent) where
+  abbrev Each : World → World → Type 0
+  Each world new = (i : ℕ) → Both R (agent_at world i) (agent_at new i)
+
+  both_same : (found : Option Agent) → Both R found found
+  both_same (Some agent) = same agent
+  both_same None = tt
+
+  each_same : (world : World) → Each world world
+  each_same world i = both_same (agent_at world i)
+
+  each_put : (world : World) (i : ℕ) (actor new : Actor) → actor_at world i ≡ Some actor → R actor.agent new.agent → Each world (with_actor i new world)
+  each_put world i actor new is goes j =
+      let puts = puts_agent world i actor new is in
+      ⊎_elim
+      (λ at. subst (λ j. Both R (agent_at world j) (agent_at (with_actor i new world) j)) (sym at) (subst (λ found. Both R found (agent_at (with_actor i new world) i)) (sym puts.was) (subst (Both R (Some actor.agent)) (sym puts.here) goes)))
+      (λ apart. subst (Both R (agent_at world j)) (sym (puts.apart j apart)) (both_same (agent_at world j)))
+      (same_or j i)
+
+  each_becomes : (world : World) (i : ℕ) (change : Agent → Agent) → ((agent : Agent) → R agent (change agent)) → (found : Option Actor) → actor_at world i ≡ found → Each world (becomes world i change found).world
+  each_becomes world i change goes None is = each_same world
+  each_becomes world i change goes (Some actor) is = each_put world i actor (record actor { agent = change actor.agent }) is (goes actor.agent)
+
+  each_took : (world : World) (i : ℕ) (actor : Actor) (stamp : ℕ) (response : Response) (servers : List State) → actor_at world i ≡ Some actor → Each world (with_actor i (moved actor stamp (take fixed actor.agent response)) (record world { servers = servers }))
+  each_took world i actor stamp response servers is = each_put world i actor (moved actor stamp (take fixed actor.agent response)) is (takes actor.agent response)
+
+  each_answered : (world : World) (i : ℕ) (actor : Actor) (st : State) (what : Option Served) → actor_at world i ≡ Some actor → Each world (answered fixed world i actor st what).world
+  each_answered world i actor st (Some what) is = each_took world i actor what.reply.stamp (Replied what.reply.value) (after_serving st what world).servers is
+  each_answered world i actor st None is = each_took world i actor actor.stamp (Lacked lack.Full) world.servers is
+
+  each_asks : (world : World) (i : ℕ) (actor : Actor) (asked : Option (ℕ × Request)) → actor_at world i ≡ Some actor → Each world (asks fixed world i actor asked).world
+  each_asks world i actor None is = each_same world
+  each_asks world i actor (Some asked) is = at (server_at world asked.0)
+    where
+      at : (st : Option State) → Each world (asks_at fixed world i actor asked st).world
+      at None = each_same world
+      at (Some st) = each_answered world i actor st (serve asked.0 st (record { stamp = actor.stamp; value = asked.1 })) is
+
+  each_steps : (world : World) (i : ℕ) (found : Option Actor) → actor_at world i ≡ found → Each world (steps_once fixed world i found).world
+  each_steps world i None is = each_same world
+  each_steps world i (Some actor) is = each_asks world i actor (next_of fixed actor.agent) is
+
+  each_lacks_for : (world : World) (i : ℕ) (actor : Actor) (why : Why) (asked : Option (ℕ × Request)) → actor_at world i ≡ Some actor → Each world (lacks_for fixed world i actor (Lacked why) asked).world
+  each_lacks_for world i actor why None is = each_same world
+  each_lacks_for world i actor why (Some asked) is = each_took world i actor actor.stamp (Lacked why) world.servers is
+
+  each_lacks : (world : World) (i : ℕ) (why : Why) (found : Option Actor) → actor_at world i ≡ found → Each world (lacks fixed world i (Lacked why) found).world
+  each_lacks world i why None is = each_same world
+  each_lacks world i why (Some actor) is = each_lacks_for world i actor why (next_of fixed actor.agent) is
+
+  each_operated : (world : World) (st : State) (what : Option Served) → Each world (operated world st what).world
+  each_operated world st (Some what) = each_same world
+  each_operated world st None = each_same world
+
+  each_operates : (world : World) (server : ℕ) (asked : Request) (found : Option State) → Each world (operates world server asked found).world
+  each_operates world server asked None = each_same world
+  each_operates world server asked (Some st) = each_operated world st (serve server st (record { stamp = 0; value = asked }))
+
+  pub each_event : (world : World) (event : Event) → (i : ℕ) → Both R (agent_at world i) (agent_at (step fixed world event).world i)
+  each_event world (Begin i job) = each_becomes world i (λ agent. begin fixed agent job) (λ agent. begins agent job) (actor_at world i) refl
+  each_event world (Step i) = each_steps world i (actor_at world i) refl
+  each_event world (Crash server) = each_operates world server request.Crash (server_at world server)
+  each_event world (Return server) = each_operates world server request.Return (server_at world server)
+  each_event world (Forget i site) = each_becomes world i (λ agent. forget agent site) (λ agent. forgets agent site) (actor_at world i) refl
+  each_event world (Lack i why) = each_lacks world i why (actor_at world i) refl

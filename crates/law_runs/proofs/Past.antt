@@ -1,0 +1,70 @@
+-- What jobs that ended say of the decisions, and go on to say.
+use Rattle.std.proofs.Common.{◌≡◌, ⊎_elim, ℕ, ◌+◌, ◌≤◌, ◌<◌, List, ◌++◌, Option, Some, None, sym, ap, subst, ◌∙◌, arith}
+use Rattle.std.specs.Prelude.{◌*◌}
+use Rattle.std.proofs.lemmas.Option.{same_Some}
+use Rattle.rep_core.proofs.Members.{Has}
+use Rattle.txn_core.specs.Agents.{Agent}
+use Rattle.run_core.specs.Decisions.{Decided}
+use Rattle.run_core.specs.declared.done.EndedJob.{EndedJob}
+use Rattle.law_runs.proofs.Standing.{NotIn, has_append}
+use Rattle.law_runs.proofs.Places.{Puts, same_or}
+use Rattle.law_runs.proofs.Agents.{same_place, AreOf, EndStands, EndsAt, end_more, AreAt}
+
+-- the job is over: its agent began more since, or is idle; and its ending stands among the decisions
+pub record IsOver (h : ℕ → Option Agent) (ds : List Decided) (outcome : EndedJob) : Type 0 where
+  pub agent : Agent
+  pub at : h outcome.agent ≡ Some agent
+  pub before : outcome.count < agent.count
+  pub idle : outcome.count + 1 ≡ agent.count → agent.doing ≡ None
+  pub stands : EndStands ds (64 * outcome.count + outcome.agent) outcome.ending
+
+abbrev pub AreOver : (ℕ → Option Agent) → List Decided → List EndedJob → Type 0
+AreOver h ds past = (outcome : EndedJob) → Has past outcome → IsOver h ds outcome
+
+module _ (h g : ℕ → Option Agent) (i : ℕ) (old new : Agent) (ds more : List Decided) (puts : Puts h g i old new) (counts : old.count ≤ new.count)
+    (rests : new.count ≡ old.count → old.doing ≡ None → new.doing ≡ None) (of : AreOf old i more) (holds : AreAt h ds) where
+  -- what is decided now is of no job that is over
+  apart_over : (outcome : EndedJob) → IsOver h ds outcome → NotIn more (64 * outcome.count + outcome.agent)
+  apart_over outcome over d has same =
+      let is = of d has in
+      let places = same_place is.place outcome.count i outcome.agent (sym is.numbered ∙ same) (holds.small i old puts.was) (holds.small outcome.agent over.agent over.at) in
+      let agents : old ≡ over.agent = same_Some old over.agent (sym puts.was ∙ ap h places.1 ∙ over.at) in
+      is.busy (ap (λ (agent : Agent). agent.doing) agents ∙ over.idle (ap (λ n. n + 1) (sym places.0) ∙ is.last ∙ ap (λ (agent : Agent). agent.count) agents))
+
+  over_old : (outcome : EndedJob) → IsOver h ds outcome → IsOver g (ds ++ more) outcome
+  over_old outcome over =
+      let stands : EndStands (ds ++ more) (64 * outcome.count + outcome.agent) outcome.ending = end_more ds more (64 * outcome.count + outcome.agent) outcome.ending (apart_over outcome over) over.stands in
+      ⊎_elim
+      (λ at.
+      let agents : old ≡ over.agent = same_Some old over.agent (sym puts.was ∙ ap h (sym at) ∙ over.at) in
+      let same : old.count ≡ over.agent.count = ap (λ (agent : Agent). agent.count) agents in
+      let before = over.before in
+      record {
+        agent = new;
+        at = ap g at ∙ puts.here;
+        before = omega (arith, same, before, counts);
+        idle = λ now.
+            let unchanged : new.count ≡ old.count = omega (arith, same, before, counts, now) in
+            rests unchanged (ap (λ (agent : Agent). agent.doing) agents ∙ over.idle (now ∙ unchanged ∙ same));
+        stands = stands;
+      })
+      (λ apart. record { agent = over.agent; at = puts.apart outcome.agent apart ∙ over.at; before = over.before; idle = over.idle; stands = stands })
+      (same_or outcome.agent i)
+
+  pub over_put : (past : List EndedJob) → AreOver h ds past → AreOver g (ds ++ more) past
+  over_put past all outcome has = over_old outcome (all outcome has)
+
+-- a job that ends now
+pub over_last : (h : ℕ → Option Agent) (ds : List Decided) (i : ℕ) (agent : Agent) (outcome : EndedJob) → h i ≡ Some agent → outcome.agent ≡ i → agent.doing ≡ None → outcome.count + 1 ≡ agent.count → EndsAt ds i agent.count outcome.ending → IsOver h ds outcome
+over_last h ds i agent outcome at index idle last ends =
+    let place : ends.place ≡ outcome.count = (let before = ends.last in omega (arith, before, last)) in
+    record {
+      agent = agent;
+      at = ap h index ∙ at;
+      before = omega (arith, last);
+      idle = λ _. idle;
+      stands = subst (λ i. EndStands ds (64 * outcome.count + i) outcome.ending) (sym index) (subst (λ k. EndStands ds (64 * k + i) outcome.ending) place ends.stands);
+    }
+
+pub over_more : (h : ℕ → Option Agent) (ds : List Decided) (past more : List EndedJob) → AreOver h ds past → AreOver h ds more → AreOver h ds (past ++ more)
+over_more h ds past more all new outcome has = ⊎_elim (λ left. all outcome left) (λ right. new outcome right) (has_append past more outcome has)

@@ -1,0 +1,170 @@
+-- Requests for locks move the machine, and what lets locks go.
+use Rattle.std.proofs.Common.{◌≡◌, ℕ, Bool, true, false, cond, [], ◌∷◌, Option, Some, None, refl, sym, ap, subst, ◌∙◌, inl, inr}
+use Rattle.std.specs.Prelude.{◌==◌, ◌&&◌, ◌||◌, not}
+use Rattle.suite_prefix.specs.declared.lock_mode.LockMode.{LockMode}
+use Rattle.suite_prefix.specs.declared.lock_mode.LockMode.TheVariants.{Exclusive}
+use Rattle.suite_prefix.specs.LockModes.{is_exclusive}
+use Rattle.rep_core.specs.declared.lock.Lock.{Lock}
+use Rattle.rep_core.specs.declared.request.Request.{Request}
+use Rattle.rep_core.specs.declared.request.Request.TheVariants as request
+use Rattle.rep_core.specs.declared.reply.Reply.{Reply}
+use Rattle.rep_core.specs.declared.reply.Reply.TheVariants as reply
+use Rattle.rep_core.specs.Locks.{rise, lock_at, in_the_way, has_lock, broken}
+use Rattle.rep_core.specs.Store.{copy_of}
+use Rattle.rep_core.specs.State.{State}
+use Rattle.rep_core.specs.Service.{locking_reply, after_locking, poll_reply, after_poll, after_crash}
+use Rattle.rep_core.proofs.LockLookups.{lock_there, way_free}
+use Rattle.rep_core.proofs.Ways.{with_locked}
+use Rattle.law_suite_machine.specs.Registers.{Beginning}
+use Rattle.law_suite_machine.specs.Machine.{World, set1}
+use Rattle.law_suite_machine.specs.Events.{Event, Held, Upgrade, Lose, upgraded, upgraded_hold, lost, kept}
+use Rattle.law_suite_machine.specs.Events as events
+use Rattle.law_suite_machine.specs.Conditions.{IsFree, MayLose}
+use Rattle.law_suite_machine.proofs.Places.{itself, one_is}
+use Rattle.law_server_moves.specs.Views.{hold_of, ShowsAt, Shows}
+use Rattle.law_server_moves.specs.Moves.{is_prepared, left_by_break, left_by_crash, moves}
+use Rattle.law_server_moves.specs.Laws.{Follows}
+use Rattle.law_server_moves.proofs.Placing.{here2}
+use Rattle.law_server_moves.proofs.Holds.{hold_none, hold_some, hold_at-new, hold_at-elsewhere, hold_at-raised, hold_at-crashed, hold_at-broken, hold_at-unbroken}
+use Rattle.law_server_moves.proofs.Elsewhere.{held_apart, upgraded_apart, broken_apart, crashed_apart}
+use Rattle.law_server_moves.proofs.Keeping.{shows_moved, stays, nothing}
+
+-- ---- the machine at the server that is asked
+
+held_here : (z : ℕ) (st : State) (w : World) (i t : ℕ) (m : LockMode) → ShowsAt z st w i → rise st.locks ≡ true → w.lock i t ≡ None → ShowsAt z (with_locked t z m st) (events.held w i t (is_exclusive m)) i
+held_here z st w i t m shows up none = record {
+  copy = shows.copy;
+  lock = λ u.
+      here2 w.lock i t (Some (record { exclusive = is_exclusive m; prepared = false })) u
+      ∙ ap (cond (u == t) (Some (record { exclusive = is_exclusive m; prepared = false }))) (shows.lock u)
+      ∙ sym (hold_at-new t z m st.locks up u (hold_none (lock_at t z st.locks) (sym (shows.lock t) ∙ none)));
+  plan = shows.plan;
+}
+
+upgraded_here : (z : ℕ) (st : State) (w : World) (i t : ℕ) → ShowsAt z st w i → rise st.locks ≡ true → has_lock t z st.locks ≡ true → ShowsAt z (with_locked t z Exclusive st) (upgraded w i t) i
+upgraded_here z st w i t shows up has = record {
+  copy = shows.copy;
+  lock = λ u.
+      here2 w.lock i t (upgraded_hold (w.lock i t)) u
+      ∙ (λ k. cond (u == t) (upgraded_hold (shows.lock t k)) (shows.lock u k))
+      ∙ sym (hold_at-raised t z st.locks up u has);
+  plan = shows.plan;
+}
+
+broken_here : (z : ℕ) (st : State) (w : World) (i t : ℕ) → ShowsAt z st w i → rise st.locks ≡ true → ShowsAt z (record st { locks = broken t z st.locks }) (lost w (left_by_break w i t)) i
+broken_here z st w i t shows up = record {
+  copy = shows.copy;
+  lock = λ u.
+      ap (λ b. kept (not (b && (u == t)) || is_prepared (w.lock i u)) (w.lock i u)) (itself i i refl)
+      ∙ ap (λ h. kept (not (u == t) || is_prepared h) h) (shows.lock u)
+      ∙ sym (hold_at-broken t z st.locks up u);
+  plan = shows.plan;
+}
+
+crashed_here : (z : ℕ) (st : State) (w : World) (i : ℕ) → ShowsAt z st w i → rise st.locks ≡ true → ShowsAt z (after_crash st) (lost w (left_by_crash w i)) i
+crashed_here z st w i shows up = record {
+  copy = shows.copy;
+  lock = λ u.
+      ap (λ b. kept (not b || is_prepared (w.lock i u)) (w.lock i u)) (itself i i refl)
+      ∙ ap (λ h. kept (is_prepared h) h) (shows.lock u)
+      ∙ sym (hold_at-crashed st.locks up u z);
+  plan = shows.plan;
+}
+
+-- ---- the server's side of the conditions
+
+free_way : (z : ℕ) (st : State) (w : World) (i t : ℕ) (m : LockMode) → ShowsAt z st w i → in_the_way t z m st.locks ≡ None → IsFree w i t (is_exclusive m)
+free_way z st w i t m shows none u other lock strong =
+    let l = hold_some (lock_at u z st.locks) other (sym (shows.lock u) ∙ lock) in
+    way_free t z m st.locks none u l.0 l.1 (elim strong [ inl e ↦ inl e | inr e ↦ inr (l.2 ∙ e) ])
+
+or_true : (a b : Bool) → b ≡ true → (a || b) ≡ true
+or_true true b e = refl
+or_true false b e = e
+
+-- a prepared lock stays
+pub spares : (w : World) (goes : ℕ → ℕ → Bool) → MayLose w (λ j u. not (goes j u) || is_prepared (w.lock j u))
+spares w goes = record {
+  prepared_stay = λ j u h lock prepared. or_true (not (goes j u)) (is_prepared (w.lock j u)) (ap is_prepared lock ∙ prepared);
+}
+
+-- ---- each request
+
+module _ (start : Beginning) (z : ℕ) (home : ℕ → ℕ) (servers : ℕ → State) (i : ℕ) (w : World) (shows : Shows z home servers w) (up : rise (servers i).locks ≡ true) (decision : Event) where
+  abbrev pub Comes : Request → Reply → State → Type 0
+  Comes asked said new = Follows start z home (set1 servers i new) w (moves z home decision i w asked said)
+
+  -- ---- Poll
+
+  -- the agent asks a server for a lock of a suite once, and the machine has no lock of which nothing was told
+  poll_held : (t : ℕ) (m : LockMode) → w.told i t ≡ None → w.lock i t ≡ None → in_the_way t z m (servers i).locks ≡ None → Follows start z home (set1 servers i (with_locked t z m (servers i))) w (Held i t (is_exclusive m) ∷ [])
+  poll_held t m untold unlocked none = record {
+    obeys = (record { untold = untold; free = free_way z (servers i) w i t m (shows.at i) none }, tt);
+    shows = shows_moved z home servers i (with_locked t z m (servers i)) w (events.held w i t (is_exclusive m)) shows refl (λ t. refl)
+        (held_here z (servers i) w i t m (shows.at i) up unlocked)
+        (λ j apart. held_apart z (servers j) w i j apart (shows.at j) t (is_exclusive m));
+  }
+
+  locked_elsewhere : (t s : ℕ) (m : LockMode) → (z == s) ≡ false → Follows start z home (set1 servers i (with_locked t s m (servers i))) w []
+  locked_elsewhere t s m other = stays start z home servers i (with_locked t s m (servers i)) w shows (λ t. refl) (record { copy = refl; lock = λ u. hold_at-elsewhere t s m (servers i).locks up z u other; plan = refl })
+
+  pub poll_moves : (t s : ℕ) (m : LockMode) → (z ≡ s → w.told i t ≡ None) → (w.told i t ≡ None → w.lock i t ≡ None) → (o : Option Lock) → in_the_way t s m (servers i).locks ≡ o
+      → Comes (request.Poll t s m) (locking_reply o (copy_of (servers i).store s)) (after_locking o t s m (servers i))
+  poll_moves t s m once unlocked (Some other) e = nothing start z home servers i w shows
+  poll_moves t s m once unlocked None e =
+      elim (z == s) as (λ b. (z == s) ≡ b → Follows start z home (set1 servers i (with_locked t s m (servers i))) w (cond b (Held i t (is_exclusive m) ∷ []) [])) [
+        | true ↦ λ is.
+            let same = one_is s z is in
+            let untold = once same in
+            subst (λ s. in_the_way t s m (servers i).locks ≡ None → Follows start z home (set1 servers i (with_locked t s m (servers i))) w (Held i t (is_exclusive m) ∷ [])) same (poll_held t m untold (unlocked untold)) e
+        | false ↦ λ other. locked_elsewhere t s m other
+      ] refl
+
+  -- ---- Upgrade
+
+  upgrade_held : (t : ℕ) → has_lock t z (servers i).locks ≡ true → in_the_way t z Exclusive (servers i).locks ≡ None → Follows start z home (set1 servers i (with_locked t z Exclusive (servers i))) w (Upgrade i t ∷ [])
+  upgrade_held t has none =
+      let lock = lock_there t z (servers i).locks has in
+      record {
+        obeys = (record { lock = _; stands = (shows.at i).lock t ∙ ap hold_of lock.1; free = free_way z (servers i) w i t Exclusive (shows.at i) none }, tt);
+        shows = shows_moved z home servers i (with_locked t z Exclusive (servers i)) w (upgraded w i t) shows refl (λ t. refl)
+            (upgraded_here z (servers i) w i t (shows.at i) up has)
+            (λ j apart. upgraded_apart z (servers j) w i j apart (shows.at j) t);
+      }
+
+  raising : (t s : ℕ) → has_lock t s (servers i).locks ≡ true → (o : Option Lock) → in_the_way t s Exclusive (servers i).locks ≡ o → Comes (request.Upgrade t s) (locking_reply o (copy_of (servers i).store s)) (after_locking o t s Exclusive (servers i))
+  raising t s has (Some other) e = nothing start z home servers i w shows
+  raising t s has None e =
+      elim (z == s) as (λ b. (z == s) ≡ b → Follows start z home (set1 servers i (with_locked t s Exclusive (servers i))) w (cond b (Upgrade i t ∷ []) [])) [
+        | true ↦ λ is. subst (λ s. has_lock t s (servers i).locks ≡ true → in_the_way t s Exclusive (servers i).locks ≡ None → Follows start z home (set1 servers i (with_locked t s Exclusive (servers i))) w (Upgrade i t ∷ [])) (one_is s z is) (upgrade_held t) has e
+        | false ↦ λ other. locked_elsewhere t s Exclusive other
+      ] refl
+
+  pub upgrade_moves : (t s : ℕ) (b : Bool) → has_lock t s (servers i).locks ≡ b → Comes (request.Upgrade t s) (cond b (poll_reply (servers i) t s Exclusive) reply.Lost) (cond b (after_poll (servers i) t s Exclusive) (servers i))
+  upgrade_moves t s true has = raising t s has (in_the_way t s Exclusive (servers i).locks) refl
+  upgrade_moves t s false has = nothing start z home servers i w shows
+
+  -- ---- Break and Crash
+
+  break_here : (t : ℕ) → Follows start z home (set1 servers i (record (servers i) { locks = broken t z (servers i).locks })) w (Lose (left_by_break w i t) ∷ [])
+  break_here t = record {
+    obeys = (spares w (λ j u. (j == i) && (u == t)), tt);
+    shows = shows_moved z home servers i (record (servers i) { locks = broken t z (servers i).locks }) w (lost w (left_by_break w i t)) shows refl (λ t. refl)
+        (broken_here z (servers i) w i t (shows.at i) up)
+        (λ j apart. broken_apart z (servers j) w i j apart (shows.at j) t);
+  }
+
+  pub break_moves : (t s : ℕ) → Comes (request.Break t s) reply.Done (record (servers i) { locks = broken t s (servers i).locks })
+  break_moves t s =
+      elim (z == s) as (λ b. (z == s) ≡ b → Follows start z home (set1 servers i (record (servers i) { locks = broken t s (servers i).locks })) w (cond b (Lose (left_by_break w i t) ∷ []) [])) [
+        | true ↦ λ is. subst (λ s. Follows start z home (set1 servers i (record (servers i) { locks = broken t s (servers i).locks })) w (Lose (left_by_break w i t) ∷ [])) (one_is s z is) (break_here t)
+        | false ↦ λ other. stays start z home servers i (record (servers i) { locks = broken t s (servers i).locks }) w shows (λ t. refl) (record { copy = refl; lock = λ u. hold_at-unbroken t s (servers i).locks up u z other; plan = refl })
+      ] refl
+
+  pub crash_moves : Comes request.Crash reply.Done (after_crash (servers i))
+  crash_moves = record {
+    obeys = (spares w (λ j u. j == i), tt);
+    shows = shows_moved z home servers i (after_crash (servers i)) w (lost w (left_by_crash w i)) shows refl (λ t. refl)
+        (crashed_here z (servers i) w i (shows.at i) up)
+        (λ j apart. crashed_apart z (servers j) w i j apart (shows.at j));
+  }

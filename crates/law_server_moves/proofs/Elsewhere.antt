@@ -1,0 +1,35 @@
+-- What each event of the machine leaves at the servers that it does not name.
+use Rattle.std.proofs.Common.{◌≡◌, ℕ, Bool, List, Option, ap, ◌∙◌}
+use Rattle.std.specs.Prelude.{◌==◌, ◌&&◌, ◌||◌, not}
+use Rattle.suite_prefix.specs.declared.copies.Replica.{Replica}
+use Rattle.rep_core.specs.State.{State}
+use Rattle.law_suite_machine.specs.Machine.{World, Verdict}
+use Rattle.law_suite_machine.specs.Registers.{Entry}
+use Rattle.law_suite_machine.specs.Events.{held, upgraded, prepared, finished, lost, decided, kept}
+use Rattle.law_suite_machine.proofs.Places.{another}
+use Rattle.law_server_moves.specs.Views.{ShowsAt}
+use Rattle.law_server_moves.specs.Moves.{is_prepared, left_by_break, left_by_crash}
+use Rattle.law_server_moves.proofs.Placing.{there1, there2}
+
+module _ (suite : ℕ) (st : State) (w : World) (i j : ℕ) (apart : j ≡ i → ⊥) (shows : ShowsAt suite st w j) where
+  pub held_apart : (t : ℕ) (exclusive : Bool) → ShowsAt suite st (held w i t exclusive) j
+  held_apart t exclusive = record { copy = shows.copy; lock = λ u. there2 w.lock i t _ j u apart ∙ shows.lock u; plan = shows.plan }
+
+  pub upgraded_apart : (t : ℕ) → ShowsAt suite st (upgraded w i t) j
+  upgraded_apart t = record { copy = shows.copy; lock = λ u. there2 w.lock i t _ j u apart ∙ shows.lock u; plan = shows.plan }
+
+  pub prepared_apart : (t : ℕ) (left : Option Replica) → ShowsAt suite st (prepared w i t left) j
+  prepared_apart t left = record { copy = shows.copy; lock = λ u. there2 w.lock i t _ j u apart ∙ shows.lock u; plan = there1 w.plan i _ j apart ∙ shows.plan }
+
+  pub finished_apart : (t : ℕ) (v : Verdict) → ShowsAt suite st (finished w i t v) j
+  finished_apart t v = record { copy = there1 w.copy i _ j apart ∙ shows.copy; lock = λ u. there2 w.lock i t _ j u apart ∙ shows.lock u; plan = there1 w.plan i _ j apart ∙ shows.plan }
+
+  pub broken_apart : (t : ℕ) → ShowsAt suite st (lost w (left_by_break w i t)) j
+  broken_apart t = record { copy = shows.copy; lock = λ u. ap (λ b. kept (not (b && (u == t)) || is_prepared (w.lock j u)) (w.lock j u)) (another i j apart) ∙ shows.lock u; plan = shows.plan }
+
+  pub crashed_apart : ShowsAt suite st (lost w (left_by_crash w i)) j
+  crashed_apart = record { copy = shows.copy; lock = λ u. ap (λ b. kept (not b || is_prepared (w.lock j u)) (w.lock j u)) (another i j apart) ∙ shows.lock u; plan = shows.plan }
+
+-- a verdict changes nothing that is at a server
+pub decided_shows : (suite : ℕ) (st : State) (w : World) (i t : ℕ) (v : Verdict) (log : List Entry) → ShowsAt suite st w i → ShowsAt suite st (decided w t v log) i
+decided_shows suite st w i t v log shows = record { copy = shows.copy; lock = shows.lock; plan = shows.plan }

@@ -1,0 +1,148 @@
+-- Finish, Decide and Resolve move the machine.
+use Rattle.std.proofs.Common.{◌≡◌, ℕ, Bool, true, false, cond, List, [], ◌∷◌, Option, Some, None, refl, sym, ap, subst, ◌∙◌}
+use Rattle.std.specs.Prelude.{◌==◌}
+use Rattle.std.specs.Ordering.{nat_cmp}
+use Rattle.sorted_map.specs.SortedMap.{get}
+use Rattle.suite_prefix.specs.declared.copies.Replica.{Replica}
+use Rattle.file_ops.specs.declared.audit.AuditItem.{AuditItem}
+use Rattle.rep_core.specs.Intentions as server
+use Rattle.rep_core.specs.declared.request.Decision.{Decision}
+use Rattle.rep_core.specs.declared.request.Request.TheVariants as request
+use Rattle.rep_core.specs.declared.reply.Reply.TheVariants as reply
+use Rattle.rep_core.specs.declared.reply.Verdict as replied
+use Rattle.rep_core.specs.declared.reply.Verdict.TheVariants as verdict
+use Rattle.rep_core.specs.Store.{IsSound, copy_of, left_by}
+use Rattle.rep_core.specs.State.{State, record_of}
+use Rattle.rep_core.specs.Service as service
+use Rattle.rep_core.specs.Service.{after_finish, after_record, recorded}
+use Rattle.rep_core.proofs.Ways.{recording}
+use Rattle.rep_core.proofs.Records.{record_here, record_apart}
+use Rattle.rep_core.proofs.IntentionLookups.{others, stored, get-without_intentions, copy_finished}
+use Rattle.law_suite_machine.specs.Registers.{Beginning, Entry}
+use Rattle.law_suite_machine.specs.Machine.{World, Aborted, set1}
+use Rattle.law_suite_machine.specs.Events as events
+use Rattle.law_suite_machine.specs.Events.{Event, Finish, Overrule, copy_after, plan_after, decided}
+use Rattle.law_suite_machine.specs.Conditions.{MayFinish}
+use Rattle.law_suite_machine.proofs.Places.{at1, one_is, one_not}
+use Rattle.law_server_moves.specs.Views.{plan_of, ended_as, verdict_of, ShowsAt, Shows}
+use Rattle.law_server_moves.specs.Moves.{first_verdict, moves}
+use Rattle.law_server_moves.specs.Agents.{Decides}
+use Rattle.law_server_moves.specs.Laws.{Follows}
+use Rattle.law_server_moves.proofs.Placing.{here1, here2, placed, records_stay}
+use Rattle.law_server_moves.proofs.Holds.{hold_at-released}
+use Rattle.law_server_moves.proofs.Elsewhere.{finished_apart, decided_shows}
+use Rattle.law_server_moves.proofs.Keeping.{keeps_shows, shows_moved, nothing}
+
+-- ---- Finish
+
+copy_by : (v : replied.Verdict) (t : ℕ) (o : Option server.Intention) (copy : Replica) → copy_after (ended_as v) t (plan_of o copy) copy ≡ stored (service.is_answered v) t o copy
+copy_by (verdict.Answered replies) t None copy = refl
+copy_by (verdict.Answered replies) t (Some x) copy = refl
+copy_by (verdict.Refused refusal) t o copy = refl
+copy_by verdict.Aborted t o copy = refl
+
+-- the intention of another transaction stays, and so does the copy beside it
+plan_by : (t : ℕ) (answered : Bool) (o : Option server.Intention) (copy : Replica) → plan_after t (plan_of o copy) ≡ plan_of (others t o) (stored answered t o copy)
+plan_by t true None copy = refl
+plan_by t false None copy = refl
+plan_by t true (Some x) copy =
+    elim (x.t == t) as (λ b. cond b None (Some (record { t = x.t; copy = left_by x.take copy })) ≡ plan_of (cond b None (Some x)) (cond b (left_by x.take copy) copy)) [ true ↦ refl | false ↦ refl ]
+plan_by t false (Some x) copy =
+    elim (x.t == t) as (λ b. cond b None (Some (record { t = x.t; copy = left_by x.take copy })) ≡ plan_of (cond b None (Some x)) copy) [ true ↦ refl | false ↦ refl ]
+
+finished_here : (z : ℕ) (st : State) (w : World) (i t : ℕ) (v : replied.Verdict) → IsSound st.store → ShowsAt z st w i → ShowsAt z (after_finish st t v) (events.finished w i t (ended_as v)) i
+finished_here z st w i t v sound shows =
+    let o = get nat_cmp st.store.intentions z in
+    let copy = copy_of st.store z in
+    record {
+      copy =
+          here1 w.copy i (copy_after (ended_as v) t (w.plan i) (w.copy i))
+          ∙ (λ k. copy_after (ended_as v) t (shows.plan k) (shows.copy k))
+          ∙ copy_by v t o copy
+          ∙ sym (copy_finished st.store t (service.is_answered v) z sound);
+      lock = λ u.
+          here2 w.lock i t None u
+          ∙ ap (cond (u == t) None) (shows.lock u)
+          ∙ sym (hold_at-released t st.locks u z);
+      plan =
+          here1 w.plan i (plan_after t (w.plan i))
+          ∙ ap (plan_after t) shows.plan
+          ∙ plan_by t (service.is_answered v) o copy
+          ∙ sym (λ k. plan_of (get-without_intentions t st.store.intentions z sound.rising k) (copy_finished st.store t (service.is_answered v) z sound k));
+    }
+
+module _ (start : Beginning) (z : ℕ) (home : ℕ → ℕ) (servers : ℕ → State) (i : ℕ) (w : World) (shows : Shows z home servers w) where
+  -- the agent that sends a Finish knows how the transaction ended
+  pub finish_moves : (t : ℕ) (v : replied.Verdict) → MayFinish w t (ended_as v) → IsSound (servers i).store → Follows start z home (set1 servers i (after_finish (servers i) t v)) w (Finish i t (ended_as v) ∷ [])
+  finish_moves t v knows_end sound = record {
+    obeys = (knows_end, tt);
+    shows = shows_moved z home servers i (after_finish (servers i) t v) w (events.finished w i t (ended_as v)) shows refl (λ t. refl)
+        (finished_here z (servers i) w i t v sound (shows.at i))
+        (λ j apart. finished_apart z (servers j) w i j apart (shows.at j) t (ended_as v));
+  }
+
+  -- ---- a record
+
+  -- at the transaction's home
+  recorded_shows : (t : ℕ) (v : replied.Verdict) (item : Option AuditItem) (log : List Entry) → home t ≡ i → Shows z home (set1 servers i (recording t v item (servers i))) (decided w t (ended_as v) log)
+  recorded_shows t v item log at_home =
+      let new = recording t v item (servers i) in
+      record {
+        at = placed z servers i new (decided w t (ended_as v) log)
+            (decided_shows z new w i t (ended_as v) log (keeps_shows z (servers i) new w i (record { copy = refl; lock = λ u. refl; plan = refl }) (shows.at i)))
+            (λ j _. decided_shows z (servers j) w j t (ended_as v) log (shows.at j));
+        verdict = λ u. at1 (λ o. o ≡ verdict_of (record_of (set1 servers i new (home u)) u)) w.verdict t (Some (ended_as v)) u
+            (λ same.
+            sym ((λ k. verdict_of (record_of (set1 servers i new ((ap home same ∙ at_home) k)) (same k)))
+            ∙ ap (λ st. verdict_of (record_of st t)) (here1 servers i new)
+            ∙ ap verdict_of (record_here (servers i) t v item)))
+            (λ apart. shows.verdict u ∙ records_stay home servers i new u (λ _. record_apart (servers i) t u v item apart));
+      }
+
+  -- at another server a record is nothing to the machine
+  recorded_elsewhere : (t : ℕ) (v : replied.Verdict) (item : Option AuditItem) → (home t ≡ i → ⊥) → Shows z home (set1 servers i (recording t v item (servers i))) w
+  recorded_elsewhere t v item elsewhere =
+      let new = recording t v item (servers i) in
+      record {
+        at = placed z servers i new w (keeps_shows z (servers i) new w i (record { copy = refl; lock = λ u. refl; plan = refl }) (shows.at i)) (λ j _. shows.at j);
+        verdict = λ u. shows.verdict u ∙ records_stay home servers i new u (λ is. record_apart (servers i) t u v item (λ same. elsewhere (ap home (sym same) ∙ is)));
+      }
+
+  at_home_is : (t : ℕ) → home t ≡ i → w.verdict t ≡ verdict_of (record_of (servers i) t)
+  at_home_is t at_home = shows.verdict t ∙ ap (λ j. verdict_of (record_of (servers j) t)) at_home
+
+  -- at the home a first verdict is an event
+  ruled : (t : ℕ) (v : replied.Verdict) (item : Option AuditItem) (decision : Event) → home t ≡ i → Decides start w t (ended_as v) decision → (o : Option replied.Verdict) → record_of (servers i) t ≡ o
+      → Follows start z home (set1 servers i (after_record o t v item (servers i))) w (first_verdict (w.verdict t) decision)
+  ruled t v item decision at_home decides (Some old) e =
+      subst (λ o. Follows start z home (set1 servers i (servers i)) w (first_verdict o decision)) (sym (at_home_is t at_home ∙ ap verdict_of e)) (nothing start z home servers i w shows)
+  ruled t v item decision at_home decides None e =
+      let none = at_home_is t at_home ∙ ap verdict_of e in
+      subst (λ o. Follows start z home (set1 servers i (recording t v item (servers i))) w (first_verdict o decision)) (sym none) (record {
+        obeys = (decides.may none, tt);
+        shows = subst (Shows z home (set1 servers i (recording t v item (servers i)))) (sym decides.is) (recorded_shows t v item decides.log at_home);
+      })
+
+  elsewhere : (t : ℕ) (v : replied.Verdict) (item : Option AuditItem) → (home t ≡ i → ⊥) → (o : Option replied.Verdict) → Follows start z home (set1 servers i (after_record o t v item (servers i))) w []
+  elsewhere t v item away (Some old) = nothing start z home servers i w shows
+  elsewhere t v item away None = record { obeys = tt; shows = recorded_elsewhere t v item away }
+
+  -- a verdict that is asked for
+  ruling : (t : ℕ) (v : replied.Verdict) (item : Option AuditItem) (decision : Event) → (home t ≡ i → Decides start w t (ended_as v) decision)
+      → Follows start z home (set1 servers i (after_record (record_of (servers i) t) t v item (servers i))) w (cond (home t == i) (first_verdict (w.verdict t) decision) [])
+  ruling t v item decision decides =
+      elim (home t == i) as (λ b. (home t == i) ≡ b → Follows start z home (set1 servers i (after_record (record_of (servers i) t) t v item (servers i))) w (cond b (first_verdict (w.verdict t) decision) [])) [
+        | true ↦ λ e. let is = one_is i (home t) e in ruled t v item decision is (decides is) (record_of (servers i) t) refl
+        | false ↦ λ e. elsewhere t v item (one_not i (home t) e) (record_of (servers i) t)
+      ] refl
+
+  -- the agent asks the transaction's home to decide it, once it may be decided
+  pub decide_moves : (t : ℕ) (decided : Decision) (decision : Event) → (home t ≡ i → Decides start w t (ended_as (service.verdict_of decided)) decision)
+      → Follows start z home (set1 servers i (after_record (record_of (servers i) t) t (service.verdict_of decided) (service.audit_of t decided) (servers i))) w (moves z home decision i w (request.Decide t decided) (reply.Verdict (recorded (record_of (servers i) t) (service.verdict_of decided))))
+  decide_moves t decided decision decides = ruling t (service.verdict_of decided) (service.audit_of t decided) decision decides
+
+  overrules : (t : ℕ) → Decides start w t Aborted (Overrule t)
+  overrules t = record { log = w.log; is = refl; may = λ undecided. record { undecided = undecided } }
+
+  pub resolve_moves : (t : ℕ) (decision : Event) → Follows start z home (set1 servers i (after_record (record_of (servers i) t) t verdict.Aborted None (servers i))) w (moves z home decision i w (request.Resolve t) (reply.Verdict (recorded (record_of (servers i) t) verdict.Aborted)))
+  resolve_moves t decision = ruling t verdict.Aborted None (Overrule t) (λ _. overrules t)

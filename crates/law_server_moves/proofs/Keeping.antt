@@ -1,0 +1,63 @@
+-- A server that keeps what it has of a suite, and the machine after a change of one server.
+use Rattle.std.proofs.Common.{◌≡◌, ℕ, Bool, true, false, cond, [], refl, sym, ap, ◌∙◌}
+use Rattle.std.specs.Prelude.{◌==◌}
+use Rattle.std.specs.Ordering.{nat_cmp}
+use Rattle.sorted_map.specs.SortedMap.{get}
+use Rattle.rep_core.specs.Locks.{lock_at}
+use Rattle.rep_core.specs.State.{State, record_of}
+use Rattle.rep_core.specs.Store.{copy_of}
+use Rattle.law_suite_machine.specs.Registers.{Beginning}
+use Rattle.law_suite_machine.specs.Machine.{World, set1}
+use Rattle.law_server_moves.specs.Views.{hold_of, plan_of, verdict_of, ShowsAt, Shows}
+use Rattle.law_server_moves.specs.Laws.{Follows}
+use Rattle.law_server_moves.proofs.Placing.{placed, records_stay}
+
+-- what one server has of the suite stays
+pub record Keeps (suite : ℕ) (old new : State) : Type 0 where
+  pub copy : copy_of new.store suite ≡ copy_of old.store suite
+  pub lock : (u : ℕ) → hold_of (lock_at u suite new.locks) ≡ hold_of (lock_at u suite old.locks)
+  pub plan : get nat_cmp new.store.intentions suite ≡ get nat_cmp old.store.intentions suite
+
+pub keeps_all : (suite : ℕ) (st : State) → Keeps suite st st
+keeps_all suite st = record { copy = refl; lock = λ u. refl; plan = refl }
+
+pub keeps_shows : (suite : ℕ) (old new : State) (w : World) (i : ℕ) → Keeps suite old new → ShowsAt suite old w i → ShowsAt suite new w i
+keeps_shows suite old new w i keeps shows = record {
+  copy = shows.copy ∙ sym keeps.copy;
+  lock = λ u. shows.lock u ∙ sym (keeps.lock u);
+  plan = shows.plan ∙ sym (λ k. plan_of (keeps.plan k) (keeps.copy k));
+}
+
+-- the machine moves at one server
+pub shows_moved : (suite : ℕ) (home : ℕ → ℕ) (servers : ℕ → State) (i : ℕ) (new : State) (w later : World) → Shows suite home servers w → later.verdict ≡ w.verdict → ((t : ℕ) → record_of new t ≡ record_of (servers i) t) → ShowsAt suite new later i → ((j : ℕ) → (j ≡ i → ⊥) → ShowsAt suite (servers j) later j) → Shows suite home (set1 servers i new) later
+shows_moved suite home servers i new w later shows verdicts records here there = record {
+  at = placed suite servers i new later here there;
+  verdict = λ t. ap (λ f. f t) verdicts ∙ shows.verdict t ∙ records_stay home servers i new t (λ _. records t);
+}
+
+-- or stays
+pub shows_kept : (suite : ℕ) (home : ℕ → ℕ) (servers : ℕ → State) (i : ℕ) (new : State) (w : World) → Shows suite home servers w → ((t : ℕ) → record_of new t ≡ record_of (servers i) t) → Keeps suite (servers i) new → Shows suite home (set1 servers i new) w
+shows_kept suite home servers i new w shows records keeps =
+    shows_moved suite home servers i new w w shows refl records (keeps_shows suite (servers i) new w i keeps (shows.at i)) (λ j _. shows.at j)
+
+-- the stamp is nothing to the machine
+pub shows_stamped : (suite : ℕ) (home : ℕ → ℕ) (servers : ℕ → State) (i : ℕ) (new : State) (stamp : ℕ) (w : World) → Shows suite home (set1 servers i new) w → Shows suite home (set1 servers i (record new { stamp = stamp })) w
+shows_stamped suite home servers i new stamp w shows = record {
+  at = λ j. at_each (j == i) j (shows.at j);
+  verdict = λ t. shows.verdict t ∙ same (home t == i) t;
+}
+  where
+    at_each : (b : Bool) (j : ℕ) → ShowsAt suite (cond b new (servers j)) w j → ShowsAt suite (cond b (record new { stamp = stamp }) (servers j)) w j
+    at_each true j s = record { copy = s.copy; lock = s.lock; plan = s.plan }
+    at_each false j s = s
+
+    same : (b : Bool) (t : ℕ) → verdict_of (record_of (cond b new (servers (home t))) t) ≡ verdict_of (record_of (cond b (record new { stamp = stamp }) (servers (home t))) t)
+    same true t = refl
+    same false t = refl
+
+-- no event
+pub stays : (start : Beginning) (suite : ℕ) (home : ℕ → ℕ) (servers : ℕ → State) (i : ℕ) (new : State) (w : World) → Shows suite home servers w → ((t : ℕ) → record_of new t ≡ record_of (servers i) t) → Keeps suite (servers i) new → Follows start suite home (set1 servers i new) w []
+stays start suite home servers i new w shows records keeps = record { obeys = tt; shows = shows_kept suite home servers i new w shows records keeps }
+
+pub nothing : (start : Beginning) (suite : ℕ) (home : ℕ → ℕ) (servers : ℕ → State) (i : ℕ) (w : World) → Shows suite home servers w → Follows start suite home (set1 servers i (servers i)) w []
+nothing start suite home servers i w shows = stays start suite home servers i (servers i) w shows (λ t. refl) (keeps_all suite (servers i))

@@ -1,0 +1,129 @@
+-- A step that moves the machine: at a server of one, a transaction with an exclusive lock prepares a new prefix of the root.
+use Rattle.std.proofs.Common.{◌≡◌, ℕ, ◌<◌, true, [], ◌∷◌, None, refl, subst, lit<, arith}
+use Rattle.std.specs.FinSet.{empty}
+use Rattle.std.specs.List.{IsDistinct}
+use Rattle.std.proofs.lemmas.Option.{same_Some}
+use Rattle.std.proofs.lemmas.List.Elements.{All-nil, All-cons}
+use Rattle.vote_core.specs.Quorums.{Representative, Configuration}
+use Rattle.vote_core.specs.declared.TheConstants.{MAX_SERVERS}
+use Rattle.vote_core.specs.Validity.{IsValid}
+use Rattle.suite_prefix.specs.TwoLists.{closed_lists}
+use Rattle.suite_prefix.specs.declared.copies.Prefix.{Prefix}
+use Rattle.suite_prefix.specs.declared.copies.PrefixKind.TheVariants.{Folder}
+use Rattle.suite_prefix.specs.SettingsRules.{Opening}
+use Rattle.suite_prefix.specs.declared.lock_mode.LockMode.TheVariants.{Exclusive}
+use Rattle.rep_core.specs.declared.request.Part.{Part}
+use Rattle.rep_core.specs.declared.request.Take.TheVariants as take
+use Rattle.rep_core.specs.declared.request.Request.{Request}
+use Rattle.rep_core.specs.declared.request.Request.TheVariants as request
+use Rattle.rep_core.specs.declared.stamped.Stamped.{Stamped}
+use Rattle.rep_core.specs.Store.{left_by, root_copy}
+use Rattle.rep_core.specs.State.{State, opening}
+use Rattle.rep_core.specs.Serving.{step}
+use Rattle.rep_core.proofs.Consistent.{consistent_opening, consistent_step}
+use Rattle.law_suite_machine.specs.Machine.{World, set1, begun}
+use Rattle.law_suite_machine.specs.Events.{Overrule, held, aimed}
+use Rattle.law_suite_machine.specs.Registers.{Beginning, Change}
+use Rattle.law_server_moves.specs.Views.{Shows}
+use Rattle.law_server_moves.specs.Preparing.{SendsFixed}
+use Rattle.law_server_moves.specs.Laws.{beginning, SomeStepMoves}
+use Rattle.law_server_moves.proofs.Opening.{opening_shows, aimed_shows}
+use Rattle.law_server_moves.proofs.Steps.{each_step_moves}
+
+votes : Configuration
+votes = record { reps = (0, 1) ∷ []; r = 1; w = 1 }
+
+settings : Opening
+unfolding votes
+settings = record {
+  servers = 1;
+  agents = 1;
+  c0 = votes;
+  root_owner = 0;
+  root_group = 0;
+  root_acl = closed_lists;
+  budget = 0;
+  quota = 0;
+  slots = 0;
+  old = empty;
+}
+
+valid_votes : IsValid votes
+unfolding votes IsDistinct
+valid_votes = record {
+  some_listed = omega arith;
+  numbered = All-cons (λ (rep : Representative). rep.0 < MAX_SERVERS) (0, 1) [] (lit< tt) (All-nil (λ (rep : Representative). rep.0 < MAX_SERVERS));
+  few_votes = All-cons (λ (rep : Representative). rep.1 < 256) (0, 1) [] (lit< tt) (All-nil (λ (rep : Representative). rep.1 < 256));
+  listed_once = (tt, tt);
+  some_votes = omega arith;
+  r_in_range = (omega arith, omega arith);
+  w_in_range = (omega arith, omega arith);
+  reads_meet_writes = omega arith;
+  writes_meet = omega arith;
+}
+
+abbrev at_home : ℕ → ℕ
+at_home t = 0
+
+opened : ℕ → State
+unfolding settings
+opened i = opening i settings
+
+polled : Stamped Request
+polled = record { stamp = 0; value = request.Poll 5 0 Exclusive }
+
+next_prefix : Prefix
+unfolding votes
+next_prefix = record { pver = 2; kind = Folder; owner = 0; group = 0; acl = closed_lists; votes = votes }
+
+new_part : Part
+new_part = record { suite = 0; mode = Exclusive; take = take.Prefix next_prefix }
+
+new : Change
+new = record { prefix = next_prefix; dver = 1; content = None }
+
+locked : ℕ → State
+unfolding opened polled
+locked = set1 opened 0 (step (opened 0) polled)
+
+start : Beginning
+start = beginning 0 settings
+
+before : World
+before = aimed (held (begun start) 0 5 true) 5 new
+
+before_shows : Shows 0 at_home locked before
+unfolding opened polled locked start before settings
+before_shows = aimed_shows 0 at_home locked (held (begun start) 0 5 true) 5 new
+    (each_step_moves start 0 at_home opened 0 (begun start) (Overrule 0) polled (opening_shows 0 at_home settings valid_votes).1 (consistent_opening 0 settings) (λ t _. refl) (λ _. refl) refl).shows
+
+unlocked : (t : ℕ) → before.told 0 t ≡ None → before.lock 0 t ≡ None
+unfolding before start settings
+unlocked t none = grind (arith)
+
+sends : SendsFixed before (locked 0).locks 5 new_part
+unfolding opened polled locked start before settings votes next_prefix new_part new
+sends = record { first = refl; unanswered = λ e. cc; fixed = λ _. (new, refl, refl) }
+
+pub some_step_moves : SomeStepMoves
+unfolding opened polled locked start before settings votes next_prefix new_part new
+some_step_moves = record {
+  start = start;
+  z = 0;
+  home = at_home;
+  servers = locked;
+  i = 0;
+  w = before;
+  decision = Overrule 0;
+  t = 5;
+  parts = new_part ∷ [];
+  left = left_by (take.Prefix next_prefix) (root_copy settings);
+  begins = (opening_shows 0 at_home settings valid_votes).0;
+  shows = before_shows;
+  consistent = consistent_step (opened 0) polled (consistent_opening 0 settings);
+  untold = unlocked;
+  agent = λ part is. subst (λ part. SendsFixed before (locked 0).locks 5 part) (same_Some new_part part is) sends;
+  not_full = refl;
+  replies = refl;
+  event = refl;
+}

@@ -1,5 +1,0 @@
-use Rattle.one_table.proofs.Running.{agents_know_the_table}
-use Rattle.one_table.proofs.agents_know_the_table.Goals as goal
-
-pub returns : goal.returns
-returns c = agents_know_the_table

@@ -1,5 +1,0 @@
-use Rattle.run_alone.proofs.Worked.{some_runs_go_alone}
-use Rattle.run_alone.proofs.some_runs_go_alone.Goals as goal
-
-pub returns : goal.returns
-returns c = some_runs_go_alone

@@ -1,0 +1,17 @@
+use Rattle.std.proofs.Common.{sym, subst}
+use Rattle.run_certify.specs.declared.entry.Entry.{Entry}
+use Rattle.run_certify.specs.code.Walks.{EntryFails}
+use Rattle.run_certify.proofs.Going.{no_play}
+use Rattle.run_certify.proofs.walk.Walk.replay.Goals as goal
+
+pub returns-in-Begun-clause-mismatch : goal.returns-in-Begun-clause-mismatch
+returns-in-Begun-clause-mismatch c = λ is other. subst (λ (entry : Entry). EntryFails c.args.agent entry c.args.self.now) (sym c.in-Begun.is) (c.begin.ensures.mismatch is)
+
+pub returns-in-Lacked-clause-mismatch : goal.returns-in-Lacked-clause-mismatch
+returns-in-Lacked-clause-mismatch c = λ is other. subst (λ (entry : Entry). EntryFails c.args.agent entry c.args.self.now) (sym c.in-Lacked.is) (c.lack.ensures.mismatch is)
+
+pub returns-in-Forgot-clause-mismatch : goal.returns-in-Forgot-clause-mismatch
+returns-in-Forgot-clause-mismatch c = λ is other. subst (λ (entry : Entry). EntryFails c.args.agent entry c.args.self.now) (sym c.in-Forgot.is) (c.forget.ensures.mismatch is)
+
+pub returns-in-Asked-2-clause-mismatch : goal.returns-in-Asked-2-clause-mismatch
+returns-in-Asked-2-clause-mismatch c = λ _ other. no_play c.args.self.now c.args.agent c.args.entry.now other c.in-Asked.is

@@ -1,5 +1,0 @@
-use Rattle.run_knowledge.proofs.Events.{knowledge_was}
-use Rattle.run_knowledge.proofs.knowledge_was.Goals as goal
-
-pub returns : goal.returns
-returns c = knowledge_was

@@ -1,5 +1,0 @@
-use Rattle.run_laws.proofs.Table.{known_answers}
-use Rattle.run_laws.proofs.laws.known_answers_are_the_tables.Goals as goal
-
-pub returns : goal.returns
-returns c = known_answers

@@ -1,5 +1,0 @@
-use Rattle.run_machine.proofs.Following.{machines_follow}
-use Rattle.run_machine.proofs.machines_follow.Goals as goal
-
-pub returns : goal.returns
-returns c = machines_follow

@@ -1,5 +1,0 @@
-use Rattle.run_machine.proofs.Kept.{sides_are_kept}
-use Rattle.run_machine.proofs.sides_are_kept.Goals as goal
-
-pub returns : goal.returns
-returns c = sides_are_kept

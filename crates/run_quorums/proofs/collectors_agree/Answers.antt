@@ -1,5 +1,0 @@
-use Rattle.run_quorums.proofs.Runs.{collectors_agree}
-use Rattle.run_quorums.proofs.collectors_agree.Goals as goal
-
-pub returns : goal.returns
-returns c = collectors_agree

@@ -1,5 +1,0 @@
-use Rattle.run_quorums.proofs.Written.{writes_to_quorums}
-use Rattle.run_quorums.proofs.writes_to_quorums.Goals as goal
-
-pub returns : goal.returns
-returns c = writes_to_quorums

@@ -1,5 +1,0 @@
-use Rattle.run_recovers.proofs.Ends.{ends_are_by_votes}
-use Rattle.run_recovers.proofs.ends_are_by_votes.Goals as goal
-
-pub returns : goal.returns
-returns c = ends_are_by_votes

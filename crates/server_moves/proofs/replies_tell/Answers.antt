@@ -1,5 +1,0 @@
-use Rattle.server_moves.proofs.Replies.{replies_tell}
-use Rattle.server_moves.proofs.replies_tell.Goals as goal
-
-pub returns : goal.returns
-returns c = replies_tell

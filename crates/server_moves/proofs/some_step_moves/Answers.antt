@@ -1,5 +1,0 @@
-use Rattle.server_moves.proofs.Witness.{some_step_moves}
-use Rattle.server_moves.proofs.some_step_moves.Goals as goal
-
-pub returns : goal.returns
-returns c = some_step_moves

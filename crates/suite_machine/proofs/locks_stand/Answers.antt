@@ -1,5 +1,0 @@
-use Rattle.suite_machine.proofs.Conclusions.{always_stand}
-use Rattle.suite_machine.proofs.locks_stand.Goals as goal
-
-pub returns : goal.returns
-returns c = always_stand

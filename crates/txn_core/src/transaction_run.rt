@@ -1,0 +1,327 @@
+//! The run of a transaction.
+
+ghost use Rattle.std.specs.Prelude.{◌≡◌, IfOk, IfErr, IfSome, OnErr, IsTrue, Some, is_some, option_map, true};
+ghost use Rattle.std.specs.Ordering.{nat_cmp};
+ghost use Rattle.sorted_map.specs.SortedMap.{IsOrdered};
+ghost use Rattle.rep_core.specs.Fits.{is_held};
+ghost use Rattle.weak_cache.specs.Entries.{Cache};
+ghost use Rattle.txn_core.specs.Doing as doing;
+ghost use Rattle.txn_core.specs.code.Goings.{Begins, GoesBy, IsReady, IsStep, IsUntouched, IsWidenedBy, Keeps, begun, executed, fixed_by, gathers, given_by, held_by, replied};
+ghost use Rattle.txn_core.specs.code.Hearing.{HearsAt, IsSettled, SettlesAt, heard_at};
+ghost use Rattle.txn_core.specs.code.Learning.{Fits, IsKeepable, content_kept};
+ghost use Rattle.txn_core.specs.code.Reaching.{IsReachedBy, IsReachedIf, IsReachedIn};
+ghost use Rattle.txn_core.specs.code.NextPhases.{follow};
+ghost use Rattle.txn_core.specs.Standing.{FitsAsked};
+ghost use Rattle.txn_core.specs.Suites as gathering;
+ghost use Rattle.txn_core.specs.Suites.{suite_of};
+ghost use Rattle.txn_core.specs.Transactions as txn_run;
+ghost use Rattle.txn_core.specs.code.Unused.{HasUnused, shows_unused};
+ghost use Rattle.txn_core.specs.Wanting as wanting;
+ghost use Rattle.txn_core.specs.declared.response.Response.TheVariants.{Replied};
+
+use crate::cache_after::Fetched;
+use crate::ending::{Cause, Flow};
+use crate::execution::Execution;
+use crate::learned::{Learned, settle};
+use crate::next_phase::NextPhase;
+use crate::pending_quorum::PendingQuorum;
+use crate::phase::Phase;
+use crate::resources::Resources;
+use crate::servers::locked_at;
+use crate::suites::Suite;
+use crate::task::Task;
+use rep_core::Reply;
+use sorted_map::RoomyMap;
+use std::alloc::AllocError;
+use std::marker::Model;
+use suite_collect::{Coming, Hearing};
+use suite_content::Content;
+
+/// A transaction that an agent carries out: what it gathered of the suites that it locks, and where it
+/// stands.
+#[derive(Drop)]
+pub(crate) struct TransactionRun {
+    pub(crate) task: Task,
+    pub(crate) suites: RoomyMap<u64, Suite>,
+    pub(crate) phase: Phase,
+}
+
+impl Model for TransactionRun {
+    ghost use Rattle.txn_core.specs.Doing as doing;
+
+    ghost Value = { doing.TransactionRun };
+
+    ghost use Rattle.txn_core.specs.code.TransactionRunFields.{course_of};
+
+    ghost view = { course_of };
+}
+
+impl TransactionRun {
+    /// A transaction begins: its run, unless it is at its end at once. An error leaves the cache as it
+    /// was.
+    pub(crate) fn begin(
+        resources: &mut Resources,
+        task: Task,
+    ) -> Result<Option<TransactionRun>, AllocError>
+        requires unused { HasUnused resources.old.cache.entries }
+        ensures ok { IfOk result (λ one. Begins (begun (fixed_by resources.old) task resources.old.cache.entries) one resources.new.cache.entries) }
+        ensures err { OnErr result (resources.new.cache ≡ resources.old.cache) }
+        ensures reached { IfOk result (λ one. IsReachedIf one resources.new.fixed_parts resources.new.progress) }
+        ensures keeps { Keeps resources.old resources.new }
+    {
+        resources.begin_anew();
+        let suites = RoomyMap::new(resources.alloc);
+        let mut txn_run = TransactionRun {
+            task,
+            suites,
+            phase: Phase::Gathering(0),
+        };
+        match txn_run.execute(resources, Learned::Nothing)? {
+            Flow::On => Ok(Some(txn_run)),
+            Flow::Ended(_) => Ok(None),
+        }
+    }
+
+    /// The server that is asked next replied. An error leaves all as it was. What was reached is kept as long
+    /// as the transaction goes on.
+    pub(crate) fn on_reply(
+        &mut self,
+        resources: &mut Resources,
+        server: u8,
+        said: &Reply,
+    ) -> Result<Flow, AllocError>
+        requires ready { IsReady resources.old self.old }
+        requires asked { option_map (λ asked. asked.0) (txn_run.request_of (fixed_by resources.old) self.old) ≡ Some server }
+        requires fits { FitsAsked (txn_run.request_of (fixed_by resources.old) self.old) (Replied said.now) }
+        ensures ok { IfOk result (λ flow. GoesBy (replied resources.old self.old said.now) flow self.new resources.new.cache.entries) }
+        ensures err { OnErr result (IsUntouched resources.old self.old self.new resources.new) }
+        ensures keeps { Keeps resources.old resources.new }
+        ensures reached { IsReachedBy resources.new.fixed_parts self.new resources.new.progress }
+        ensures memory { IfErr result (λ _. IsTrue (wanting.by_taking (txn_run.request_of (fixed_by resources.old) self.old) (Replied said.now))) }
+    {
+        let flow = self.on_reply_by_phase(resources, server, said)?;
+        resources.let_go_after(&flow);
+        Ok(flow)
+    }
+
+    /// What comes of a reply in its phase.
+    fn on_reply_by_phase(
+        &mut self,
+        resources: &mut Resources,
+        server: u8,
+        said: &Reply,
+    ) -> Result<Flow, AllocError>
+        requires ready { IsReady resources.old self.old }
+        requires asked { option_map (λ asked. asked.0) (txn_run.request_of (fixed_by resources.old) self.old) ≡ Some server }
+        requires fits { FitsAsked (txn_run.request_of (fixed_by resources.old) self.old) (Replied said.now) }
+        ensures ok { IfOk result (λ flow. IsStep resources.old (replied resources.old self.old said.now) flow self.new resources.new) }
+        ensures err { OnErr result (IsUntouched resources.old self.old self.new resources.new) }
+        ensures memory { IfErr result (λ _. IsTrue (wanting.by_taking (txn_run.request_of (fixed_by resources.old) self.old) (Replied said.now))) }
+    {
+        match &self.phase {
+            Phase::Gathering(number) => {
+                let number = *number;
+                self.on_held(resources, number, server, said)
+            }
+            Phase::Fetching(number) => {
+                let number = *number;
+                self.on_given(resources, number, server, said)
+            }
+            Phase::Widening { number, .. } => {
+                let number = *number;
+                self.on_widened(number, server, said)
+            }
+            Phase::Preparing(..) => Ok(self.on_prepared(server, said)),
+            Phase::Deciding(_) => self.on_verdict(said),
+            Phase::Finishing(..) => Ok(self.on_told()),
+        }
+    }
+
+    /// A suite that is gathered hears what a server said.
+    fn on_held(
+        &mut self,
+        resources: &mut Resources,
+        number: u64,
+        server: u8,
+        said: &Reply,
+    ) -> Result<Flow, AllocError>
+        requires unused { HasUnused resources.old.cache.entries }
+        requires reached { IsReachedIn resources.old.fixed_parts self.old.task self.old.suites resources.old.progress }
+        requires shown { shows_unused said.now ≡ true }
+        ensures ok { IfOk result (λ flow. IsStep resources.old (held_by resources.old self.old number server said.now) flow self.new resources.new) }
+        ensures err { OnErr result (IsUntouched resources.old self.old self.new resources.new) }
+        ensures memory { IfErr result (λ _. IsTrue (is_held said.now)) }
+    {
+        match self.hear(number, said)? {
+            Hearing::Lost => Ok(self.give_up(Cause::Lost { server })),
+            Hearing::Asks => Ok(Flow::On),
+            Hearing::Short => Ok(self.gather(number)),
+            Hearing::Quorum => self.on_quorum(resources, number, server, said),
+        }
+    }
+
+    /// A suite that is widened hears what a server said.
+    fn on_widened(&mut self, number: u64, server: u8, said: &Reply) -> Result<Flow, AllocError>
+        requires shown { shows_unused said.now ≡ true }
+        ensures ok { IfOk result (λ flow. IsWidenedBy self.old number server said.now flow self.new) }
+        ensures err { OnErr result (self.new ≡ self.old) }
+        ensures memory { IfErr result (λ _. IsTrue (is_held said.now)) }
+    {
+        match self.hear(number, said)? {
+            Hearing::Lost => Ok(self.give_up(Cause::Lost { server })),
+            Hearing::Asks => Ok(Flow::On),
+            Hearing::Short => Ok(self.gather(number)),
+            Hearing::Quorum => match self.pending(number, said)? {
+                Some(pending) => {
+                    settle(&mut self.suites, number, pending);
+                    Ok(self.widen_on())
+                }
+                None => Ok(self.give_up(Cause::Lost { server })),
+            },
+        }
+    }
+
+    /// A suite hears what a server said. With a quorum it is as it was, and is still to be settled.
+    fn hear(&mut self, number: u64, said: &Reply) -> Result<Hearing, AllocError>
+        requires { shows_unused said.now ≡ true }
+        ensures ok { IfOk result (λ heard. HearsAt (gathering.suite_of self.old.suites number) number heard self.old said.now self.new) }
+        ensures ordered { IsOrdered nat_cmp self.old.suites }
+        ensures err { OnErr result (self.new ≡ self.old) }
+        ensures memory { IfErr result (λ _. IsTrue (is_held said.now)) }
+    {
+        let Some(suite) = self.suites.get_mut(&number) else {
+            return Ok(Hearing::Lost);
+        };
+        suite.hear(said)
+    }
+
+    /// With a lock a suite that is gathered has a quorum, on which the transaction is executed. It is a call of its
+    /// own, so that what it takes on the stack is not cleared for each lock.
+    #[inline(never)]
+    fn on_quorum(
+        &mut self,
+        resources: &mut Resources,
+        number: u64,
+        server: u8,
+        said: &Reply,
+    ) -> Result<Flow, AllocError>
+        requires unused { HasUnused resources.old.cache.entries }
+        requires reached { IsReachedIn resources.old.fixed_parts self.old.task self.old.suites resources.old.progress }
+        requires shown { shows_unused said.now ≡ true }
+        requires quorum { IsSettled (heard_at (suite_of self.old.suites number) said.now) }
+        ensures ok { IfOk result (λ flow. IsStep resources.old (held_by resources.old self.old number server said.now) flow self.new resources.new) }
+        ensures err { OnErr result (IsUntouched resources.old self.old self.new resources.new) }
+    {
+        match self.pending(number, said)? {
+            Some(pending) => self.execute(resources, Learned::Quorum(number, pending)),
+            None => Ok(self.give_up(Cause::Lost { server })),
+        }
+    }
+
+    /// The quorum that a suite is to have with a reply that completes one.
+    fn pending(&self, number: u64, said: &Reply) -> Result<Option<PendingQuorum>, AllocError>
+        requires { shows_unused said.now ≡ true }
+        ensures { IfOk result (λ pending. SettlesAt (suite_of self.now.suites number) pending said.now) }
+    {
+        match self.suites.get(&number) {
+            Some(suite) => suite.pending(said),
+            None => Ok(None),
+        }
+    }
+
+    /// A server gave the content of a suite, or it did not.
+    fn on_given(
+        &mut self,
+        resources: &mut Resources,
+        number: u64,
+        server: u8,
+        said: &Reply,
+    ) -> Result<Flow, AllocError>
+        requires unused { HasUnused resources.old.cache.entries }
+        requires reached { IsReachedIn resources.old.fixed_parts self.old.task self.old.suites resources.old.progress }
+        ensures ok { IfOk result (λ flow. IsStep resources.old (given_by resources.old self.old number server said.now) flow self.new resources.new) }
+        ensures err { OnErr result (IsUntouched resources.old self.old self.new resources.new) }
+        ensures memory { IfErr result (λ _. IsTrue (is_some (txn_run.given_in said.now))) }
+    {
+        let Reply::Given { content, .. } = said else {
+            return Ok(self.give_up(Cause::Lost { server }));
+        };
+        match self.fetched(number, content)? {
+            Some(fetched) => self.execute(resources, Learned::Content(fetched)),
+            None => Ok(self.give_up(Cause::Lost { server })),
+        }
+    }
+
+    /// What the cache is to keep with the content of a suite; nothing, where the suite had no quorum.
+    fn fetched(&self, number: u64, content: &Content) -> Result<Option<Fetched>, AllocError>
+        ensures value { IfOk result (λ one. one ≡ content_kept self.now number content.now) }
+        ensures keepable { IfOk result (λ one. IfSome one IsKeepable) }
+    {
+        let Some(suite) = self.suites.get(&number) else {
+            return Ok(None);
+        };
+        let Some(first) = suite.first() else {
+            return Ok(None);
+        };
+        let fetched = Fetched::new(&self.task, number, first, content)?;
+        Ok(Some(fetched))
+    }
+
+    /// Executes the transaction, once this was learned, and goes on to what follows. An error leaves all as it
+    /// was; what was reached is let go then.
+    fn execute(
+        &mut self,
+        resources: &mut Resources,
+        just_learned: Learned,
+    ) -> Result<Flow, AllocError>
+        requires unused { HasUnused resources.old.cache.entries }
+        requires reached { IsReachedIn resources.old.fixed_parts self.old.task self.old.suites resources.old.progress }
+        requires fits { Fits just_learned }
+        ensures ok { IfOk result (λ flow. IsStep resources.old (executed resources.old self.old just_learned) flow self.new resources.new) }
+        ensures err { OnErr result (IsUntouched resources.old self.old self.new resources.new) }
+    {
+        let execution = Execution {
+            alloc: resources.alloc,
+            fixed_parts: &resources.fixed_parts,
+            task: &self.task,
+        };
+        let (cache, progress) = (&mut resources.cache, &mut resources.progress);
+        match execution.execute(&mut self.suites, cache, progress, just_learned) {
+            Ok(next_phase) => Ok(self.follow(next_phase)),
+            Err(refused) => {
+                resources.begin_anew();
+                Err(refused)
+            }
+        }
+    }
+
+    /// Goes on to what follows an execution.
+    fn follow(&mut self, next_phase: NextPhase) -> Flow
+        ensures { (cache : Cache) → GoesBy (follow self.old.task cache self.old.suites next_phase) result self.new cache }
+    {
+        match next_phase {
+            NextPhase::Gather(number) => self.gather(number),
+            NextPhase::Fetch(number) => {
+                self.phase = Phase::Fetching(number);
+                Flow::On
+            }
+            NextPhase::Grant(granted) => self.widen_all(0, granted),
+            NextPhase::Refuse(refusal) => {
+                let servers = locked_at(self.suites.as_slice());
+                self.prepare(servers, Err(refusal))
+            }
+        }
+    }
+
+    /// A suite is gathered, unless too few votes are to be had.
+    fn gather(&mut self, number: u64) -> Flow
+        ensures { (cache : Cache) → GoesBy (gathers self.old cache number) result self.new cache }
+    {
+        let coming = self.suites.get(&number).map(Suite::next);
+        if let Some(Coming::Short { got, needed, busy }) = coming {
+            return self.give_up(Cause::of_short(number, got, needed, busy));
+        }
+        self.phase = Phase::Gathering(number);
+        Flow::On
+    }
+}
