@@ -8,6 +8,10 @@ runs).
 
 The program (bench/cache.rattle) is no crate of the repository: it is built in a scratch copy of it, by `rt run`.
 """
+import os
+import sys
+
+sys.path.insert(0, os.path.join(os.path.dirname(os.path.abspath(__file__)), "..", "tests"))
 import scratch
 
 KINDS = ("put", "used", "hint", "beside", "forget")

@@ -7,8 +7,10 @@ program that takes them in a script.
 
 The program (bench/certify.rattle) is no crate of the repository: it is built in a scratch copy of it, by `rt run`.
 """
+import os
 import sys
 
+sys.path.insert(0, os.path.join(os.path.dirname(os.path.abspath(__file__)), "..", "tests"))
 import scratch
 
 FILES, ROUNDS = 100, 20

@@ -6,8 +6,10 @@ best of five runs).
 
 The program (bench/locks.rattle) is no crate of the repository: it is built in a scratch copy of it, by `rt run`.
 """
+import os
 import sys
 
+sys.path.insert(0, os.path.join(os.path.dirname(os.path.abspath(__file__)), "..", "tests"))
 import scratch
 
 

@@ -8,8 +8,10 @@ among the others and not behind them). The figure that counts is how the time of
 
 The program (bench/server.rattle) is no crate of the repository: it is built in a scratch copy of it, by `rt run`.
 """
+import os
 import sys
 
+sys.path.insert(0, os.path.join(os.path.dirname(os.path.abspath(__file__)), "..", "tests"))
 import scratch
 
 KINDS = ("copies", "locks", "told", "recorded", "refused", "taken")

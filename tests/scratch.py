@@ -1,8 +1,8 @@
-"""Programs that are no crates of the repository: tests that want nothing proved, and cost the gate nothing.
+"""Programs that are no crates of the repository: each stands as one more crate in a copy of the crates that it stands on.
 
-The source of such a program stands in tests/programs. It is built unproved, with its checks at run time, as tools/trial.py
-builds `suites`: in a copy of the crates, beside which it stands as one more. What is built stays in out/ until a source of
-the crates that it stands on changes.
+Tests want nothing proved (`built`): their programs stand in tests/programs, are built unproved, with checks at run time, as
+tools/trial.py builds `suites`, and cost the gate nothing. What is built stays in out/ until a source of the crates that
+it stands on changes. Times are measured of proved programs (`runs`): those stand in bench/, and `rt run` makes them.
 """
 import hashlib
 import os
@@ -19,7 +19,7 @@ PARTS = ("src", "specs", "proofs")
 def needs_of_crates():
     """The crates of the repository, each with those that it names."""
     with open(os.path.join(TOP, "crates.txt"), encoding="utf-8") as lines:
-        parted = [line.split("#")[0].partition(":") for line in lines if ":" in line]
+        parted = [text.partition(":") for text in (line.split("#")[0] for line in lines) if ":" in text]
     return {name.split()[0]: needs.split() for name, _, needs in parted}
 
 
@@ -48,13 +48,48 @@ def sum_of(sources, crates):
     return total.hexdigest()
 
 
+def placed(copy, program, direct, sources):
+    """Puts these crates and those below them into a folder, and the program, which stands on these, beside them. Its folder."""
+    needs = needs_of_crates()
+    crates = below(direct, needs)
+    for name in crates:
+        for part in PARTS:
+            folder = os.path.join(TOP, "crates", name, part)
+            if os.path.isdir(folder):
+                shutil.copytree(folder, os.path.join(copy, "crates", name, part))
+    own = os.path.join(copy, "crates", program)
+    os.makedirs(os.path.join(own, "src"))
+    for name, source in sources.items():
+        shutil.copy(source, os.path.join(own, "src", f"{name}.rt"))
+    shutil.copy(os.path.join(TOP, "HANDLES"), copy)
+    with open(os.path.join(copy, "crates.txt"), "w", encoding="utf-8") as listed:
+        listed.writelines([f"{name}: {' '.join(needs[name])}\n" for name in crates])
+        listed.write(f"{program}: {' '.join(direct)}\n")
+    return own
+
+
+def lines(crate, kinds):
+    """The words of each line of a run that begins with one of these words."""
+    done = subprocess.run(["rt", "run"], cwd=crate, capture_output=True, text=True, check=False)
+    found = [words for words in map(str.split, done.stdout.splitlines()) if words and words[0] in kinds]
+    if not found:
+        sys.exit(done.stdout + done.stderr)
+    return found
+
+
+def runs(name, direct, kinds, times=5):
+    """For each line of bench/NAME.rattle that begins with one of these words, its words in each of some runs."""
+    with tempfile.TemporaryDirectory() as copy:
+        crate = placed(copy, f"{name}_bench", direct.split(), {"main": os.path.join(TOP, "bench", f"{name}.rattle")})
+        return list(zip(*(lines(crate, kinds) for _ in range(times))))
+
+
 def built(program, direct, modules=()):
     """The path of a program of tests/programs that names these crates, built where it is not there. Its modules are files too."""
     sources = {"main": os.path.join("tests", "programs", f"{program}.rt.txt")}
     sources.update({os.path.basename(path).split(".")[0]: path for path in modules})
     sources = {name: os.path.join(TOP, path) for name, path in sources.items()}
-    needs = needs_of_crates()
-    crates = below(direct, needs)
+    crates = below(direct, needs_of_crates())
     target, mark = os.path.join(TOP, "out", program), os.path.join(TOP, "out", f"{program}.sum")
     wanted = sum_of(sources.values(), crates)
     if os.path.exists(target) and os.path.exists(mark):
@@ -65,19 +100,7 @@ def built(program, direct, modules=()):
     os.makedirs(os.path.dirname(target), exist_ok=True)
     with tempfile.TemporaryDirectory(prefix="suites-") as copy:
         shutil.copytree(os.path.join(TOP, "tools"), os.path.join(copy, "tools"))
-        for name in crates:
-            for part in PARTS:
-                folder = os.path.join(TOP, "crates", name, part)
-                if os.path.isdir(folder):
-                    shutil.copytree(folder, os.path.join(copy, "crates", name, part))
-        own = os.path.join(copy, "crates", program, "src")
-        os.makedirs(own)
-        for name, source in sources.items():
-            shutil.copy(source, os.path.join(own, f"{name}.rt"))
-        shutil.copy(os.path.join(TOP, "HANDLES"), copy)
-        with open(os.path.join(copy, "crates.txt"), "w", encoding="utf-8") as list_of_crates:
-            lines = [f"{name}: {' '.join(needs[name])}\n" for name in crates]
-            list_of_crates.writelines([*lines, f"{program}: {' '.join(direct)}\n"])
+        placed(copy, program, direct, sources)
         environment = {**os.environ, "SUITES_PROGRAM": program, "PYTHONPATH": os.path.join(copy, "tools")}
         done = subprocess.run([sys.executable, "-c", BUILD, target], env=environment, stdin=subprocess.DEVNULL)
     if done.returncode != 0:

@@ -1,5 +1,5 @@
 #!/usr/bin/env python3
-"""Runs all tests that want no proof (tools/test.py, `./suites --test`), and where they pass `rt ci`, the gate; tells
+"""Runs all tests that need no proof (tools/test.py, `./suites --test`), and where they pass `rt ci`, the gate; tells
 before its last line how long that took and what each step cost.
 
 What passes and what fails is rt's alone: its output and its status are handed on as they are. The environment

@@ -1,12 +1,12 @@
 #!/usr/bin/env python3
 """Looks whether what the documents name is there.
 
-Of all that README.md and docs/ have in backquotes, these have to be found: a name with an underscore, somewhere in
-crates/, tools/, tests/, bench/ or examples/ (also as that of a file there); `Type::name`, both in one file of some
-crate's src/; and a path that ends in the name of a file, at the top, in docs/ or in a crate. Below a heading that says
-what was tried once nothing has to be there. A heading that is named behind a document, as README.md, "Scripts", has to
-stand there, and so has one that a link goes to. What is not found is told, and the status is 1. It takes a second, and
-the gate begins with it.
+Of all that README.md, CONTRIBUTING.md and docs/ have in backquotes, these have to be found: a name with an underscore,
+somewhere in crates/, tools/, tests/, bench/ or examples/ (also as that of a file there); `Type::name`, both in one file of
+some crate's src/; the name of a source file, in any folder; and a path that ends in one, at the top, in docs/ or in a crate.
+A heading that is named behind a document, as README.md, "Scripts", has to stand there, and so has one that a link goes
+to. The counts of lines in tables of definitions have to be right. What is not found is told, and the status is 1. It takes
+a second, and the gate begins with it.
 """
 import glob, os, re, sys
 
@@ -17,9 +17,12 @@ QUOTED = re.compile(r"`([^`]+)`")
 NAME = re.compile(r"\b[a-z][a-z0-9]*(?:_[a-z0-9]+)+\b")
 MEMBER = re.compile(r"([A-Z]\w*)::(\w+)")
 PATH = re.compile(r"(?:[\w.-]+/)+[\w-]+\.(?:rt|antt|py|md|sh|edit|script|txt|csv|svg|c)")
-PAST = "## Tried once"
+FILE = re.compile(r"[\w-]+\.(?:rt|antt)")
 # A document and headings of it, as `docs/HEADLINE.md`, "What is claimed" and "How to try to break it"; a link to a heading.
 REFERENCE = re.compile(r'([\w/-]+\.md)`?, ("[^"]+"(?:(?: and|,) "[^"]+")*)')
+# A row of a table of definitions: how many lines they take, without imports, comments and blank lines, and their file.
+COUNTED = re.compile(r"\| (\d+) \| `([\w/]+\.antt)` \|")
+NO_LINE = re.compile(r" *(--|(pub )?use |$)")
 LINK = re.compile(r"\]\(([\w./-]*)#([\w-]+)\)")
 
 
@@ -37,21 +40,21 @@ def files():
 
 
 def documents():
-    docs = os.path.join(TOP, "docs")
-    return [os.path.join(TOP, "README.md"), *(os.path.join(docs, name) for name in sorted(os.listdir(docs)) if name.endswith(".md"))]
+    below = [path for folder in ("docs", "docs/crates") for path in sorted(glob.glob(os.path.join(TOP, folder, "*.md")))]
+    return [*(os.path.join(TOP, name) for name in ("README.md", "CONTRIBUTING.md")), *below]
 
 
 def quoted(path):
     """What a document has in backquotes, with its line."""
     for number, line in enumerate(content(path).split("\n"), 1):
-        if line.startswith(PAST):
-            return
         for text in QUOTED.findall(line):
             yield number, text
 
 
 def is_there(text, known, members):
     """Whether what is named is there, so far as it can be told by its form."""
+    if FILE.fullmatch(text):
+        return text in known
     if PATH.fullmatch(text):
         return any(glob.glob(os.path.join(TOP, above, text)) for above in ("", "docs", "crates", "crates/*"))
     if any(name not in known for name in NAME.findall(text)):
@@ -82,11 +85,22 @@ def headings_named(path):
             yield number, f"{other}#{title}", title in map(anchor, there)
 
 
+def counts_told(path):
+    """The counts of lines that a document tells and that are others, with its line."""
+    for number, line in enumerate(content(path).split("\n"), 1):
+        row = COUNTED.match(line)
+        file = row and os.path.join(TOP, "crates", row[2])
+        if row and os.path.exists(file):
+            there = sum(not NO_LINE.match(each) for each in content(file).rstrip("\n").split("\n"))
+            if there != int(row[1]):
+                yield number, f"{row[2]} has {there} lines of definitions, and not {row[1]}"
+
+
 def main():
     known, members = set(), []
     for path in files():
         words = set(re.findall(r"\w+", content(path)))
-        known |= words | set(re.findall(r"\w+", os.path.relpath(path, TOP)))
+        known |= words | {os.path.basename(path)} | set(re.findall(r"\w+", os.path.relpath(path, TOP)))
         if "/src/" in path:
             members.append(words)
     lost = 0
@@ -99,6 +113,9 @@ def main():
             if not is_known:
                 lost += 1
                 print(f"{os.path.relpath(path, TOP)}:{number}: there is no heading {named}")
+        for number, what in counts_told(path):
+            lost += 1
+            print(f"{os.path.relpath(path, TOP)}:{number}: {what}")
     return 1 if lost else 0
 
 

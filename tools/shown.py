@@ -13,11 +13,13 @@ import os, re, sys
 import draw, sources, trace, votes
 
 TOP = os.path.join(os.path.dirname(os.path.abspath(__file__)), "..")
+sys.path.append(os.path.join(TOP, "tests"))
+import played
+
 PICTURE, STORY = "docs/revocation.svg", "examples/play/revocation.script"
 HELP, OF_TOOLS = "help", "tools.txt"
 # The commands of which no row can tell the output.
 TOOLS = re.compile(rb"\$ \./suites (?:explain|trace|draw|votes|--version)\b")
-MARKS = {b"r": b"\r", b"t": b"\t", b"\\": b"\\"}
 
 
 def content(name):
@@ -25,32 +27,9 @@ def content(name):
         return file.read()
 
 
-def unmarked(line):
-    """A line of a row as the bytes that it stands for."""
-    end = b"" if line.endswith(b"\\c") else b"\n"
-    line = line[:-2] if end == b"" else line
-    return re.sub(rb"\\(x..|.)", lambda mark: MARKS.get(mark[1]) or bytes([int(mark[1][1:], 16)]), line) + end
-
-
 def rows():
     """The rows: words, input and output of each."""
-    found, part = [], None
-    for line in content("crates/rows/stdin").split(b"\n")[:-1]:
-        if line.startswith(b"$"):
-            part = []
-            found.append((line[2:].decode(), part, []))
-        elif line.startswith(b"="):
-            part = None
-        elif line.startswith(b">") and part is not None:
-            part = found[-1][2]
-        elif part is not None:
-            part.append(unmarked(line))
-    return [(words, b"".join(given), b"".join(printed)) for words, given, printed in found]
-
-
-def said(text):
-    """A script without the lines that say nothing."""
-    return b"".join(line for line in text.splitlines(True) if line.strip() and not line.startswith(b"#"))
+    return [(b" ".join(row["words"]).decode(), row["input"], row["output"]) for row in played.rows()]
 
 
 def blocks(text):
@@ -88,9 +67,9 @@ def traced(block):
     return None
 
 
-def texts_of_help(played):
+def texts_of_help(known):
     """What is wrong with the texts of help/: each is what a row prints."""
-    printed = {words: text for words, given, text in played if not given}
+    printed = {words: text for words, given, text in known if not given}
     words_of = {"suites": "--help", "help": "help help"}
     for name in sorted(os.listdir(os.path.join(TOP, HELP))):
         words = words_of.get(name[:-4], f"{name[:-4]} --help")
@@ -107,9 +86,9 @@ def told_of_votes(block):
 
 
 def main():
-    played = rows()
-    wrong = list(texts_of_help(played))
-    inputs = {given for _, given, _ in played}
+    known = rows()
+    wrong = list(texts_of_help(known))
+    inputs = {given for _, given, _ in known}
     for folder, _, names in sorted(os.walk(os.path.join(TOP, "examples"))):
         for name in sorted(os.path.relpath(os.path.join(folder, name), TOP) for name in names):
             if content(name) not in inputs:
@@ -120,7 +99,7 @@ def main():
         if re.match(rb"\$ |\./|\.ci/", block[0]):
             outputs = {traced(block), told_of_votes(block)} - {None}
             for words, name in commands(block):
-                those = {printed for word, given, printed in played if word == words and given == content(name)}
+                those = {printed for word, given, printed in known if word == words and given == content(name)}
                 outputs |= those
                 if not those:
                     wrong.append(f"README.md:{number}: no row has the words '{words}' and the input {name}")
@@ -130,7 +109,7 @@ def main():
         elif text in outputs:
             outputs = set()
         else:
-            outputs = {printed for _, given, printed in played if said(given) == said(text)}
+            outputs = {printed for _, given, printed in known if played.said(given) == played.said(text)}
             if not outputs:
                 wrong.append(f"README.md:{number}: this block is a script or an output of no row")
     if content("crates/trace/stdin") != content(STORY):

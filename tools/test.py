@@ -1,7 +1,7 @@
 #!/usr/bin/env python3
 """./suites --test
 
-Runs all tests that want no proof, side by side: the rows of crates/rows/stdin through the program that `./suites` runs
+Runs all tests that need no proof, side by side: the rows of crates/rows/stdin through the program that `./suites` runs
 (which it first makes, where there is none), the tests of libraries, runs and commands without their proofs (`rt try`),
 the examples of docs/FAULTS.md, the command lines that README.md and docs/FAULTS.md show, what `./suites votes` tells,
 pictures, random scripts of `play` against the plain table, and the checks of documents. Prints a line for each part as
@@ -80,6 +80,8 @@ PARTS = (
     Part("what README shows", tool("tools/shown.py")),
     Part("what documents name", tool("tools/named.py")),
     Part("texts of wrong bodies", tool("tools/wrong_bodies.py", "--check")),
+    Part("page of wrong bodies", tool("tools/wrong_bodies_page.py", "--check")),
+    Part("table of public functions", tool("tools/proved_page.py", "--check")),
     Part("words that need no build", tool("tests/wrapper.py")),
     Part("tests of runs", **tried("run_tests")),
     Part("tests of libraries", **tried("library_tests")),

@@ -16,9 +16,10 @@ import argparse, contextlib, os, re, shutil, signal, subprocess, sys, tempfile
 
 TOP = os.path.realpath(os.path.join(os.path.dirname(os.path.abspath(__file__)), ".."))
 CRATES = os.path.join(TOP, "crates")
-TOLD = os.path.join(TOP, "docs", "WRONG-BODIES.md")
 GATE, BESIDE = "must-fail", "wrong"
 NAMED = re.compile(r"[A-Za-z0-9_-][A-Za-z0-9_.-]*\.edit")
+# The lines of an edit that rt does not read: tools/wrong_bodies_page.py makes the page of them.
+TOLD = ("why", "refused by")
 SAID = re.compile(r"(?:rt: )?must-fail (\w+)/(\S+)\.edit: (.*)")
 UNPROVED = re.compile(r"rt: (\w+): (the check that its must-fail edits begin with did not end well|it is not proved again)")
 
@@ -66,28 +67,11 @@ def why_not(edit, folder):
             if texts[path].count(old) != 1:
                 return f"its 'old:' text is in {path} {texts[path].count(old)} times, and not once: {old.strip()}"
             texts[path], old = texts[path].replace(old, rest), None
-        elif line.strip() and not line.startswith(("#", "--", "//")):
-            return f"a line is none of 'file: ', 'old: ' and 'new: ': {line}"
+        elif word not in TOLD and line.strip() and not line.startswith(("#", "--", "//")):
+            return f"a line is none of 'why: ', 'refused by: ', 'file: ', 'old: ' and 'new: ': {line}"
     if old is not None:
         return "an 'old:' line has no 'new:' line"
     return None if texts != before else "it changes nothing"
-
-
-def untold(names):
-    """The edits that docs/WRONG-BODIES.md does not tell of, and those that it tells of and that are not there."""
-    if not os.path.isfile(TOLD):
-        return
-    crate, lines = None, {name: set() for name in crates()}
-    for line in content(TOLD).split("\n"):
-        heading, row = re.match(r"## `(\w+)`", line), re.match(r"\| `(\w+)` \| (gate|beside) \|", line)
-        crate = heading[1] if heading else None if line.startswith("## ") else crate
-        if row and crate in lines:
-            lines[crate].add((row[1], GATE if row[2] == "gate" else BESIDE))
-    for name in names:
-        there = {(name_of(edit), place) for place in (GATE, BESIDE) for edit in edits(name, place)}
-        for edit, place in sorted(there ^ lines[name]):
-            what = "is not told in" if (edit, place) in there else "is not there, but told in"
-            yield f"{name}/{place}/{edit}.edit {what} docs/WRONG-BODIES.md"
 
 
 def check(names):
@@ -102,8 +86,6 @@ def check(names):
             if why:
                 lost += 1
                 print(f"{os.path.relpath(edit, TOP)}: {why}")
-    for note in untold(names):
-        print(f"note: {note}")
     print(f"{number} wrong bodies, {lost} of them do not apply" if lost else f"{number} wrong bodies, all of them apply")
     return lost
 

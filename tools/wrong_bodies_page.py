@@ -1,0 +1,102 @@
+#!/usr/bin/env python3
+"""Writes docs/WRONG-BODIES.md: each wrong body of crates/NAME/must-fail and crates/NAME/wrong, crate by crate.
+
+    tools/wrong_bodies_page.py           writes the page
+    tools/wrong_bodies_page.py --check   writes nothing; tells what differs, with status 1
+
+The first line of an edit says what it makes wrong (`why: ..`), the second which function refuses it and by which clause
+(`refused by: ..`). An edit of the gate that has neither has them in docs/wrong-bodies-in-gate.txt: the gate tries an edit
+anew when any of its lines changes, so the words move into it when it changes anyway. ./suites --test runs --check.
+"""
+import difflib, os, sys
+
+import wrong_bodies
+
+PAGE = os.path.join(wrong_bodies.TOP, "docs", "WRONG-BODIES.md")
+IN_GATE = os.path.join(wrong_bodies.TOP, "docs", "wrong-bodies-in-gate.txt")
+PLACES = ((wrong_bodies.GATE, "gate"), (wrong_bodies.BESIDE, "beside"))
+HEAD = """# Wrong bodies
+
+Each line is an edit that makes a function, a definition or a condition wrong. The prover must refuse it: if it does not, a
+contract is too weak. `tools/wrong_bodies_page.py` writes this page from the edits, so change the edits and not the page.
+
+An edit marked `gate` stands in `crates/NAME/must-fail`, and the gate tries it whenever its crate changes. The gate has the
+edits that break a rule of the service, those that were once let through, and those that a reader would try first. An edit
+marked `beside` stands in `crates/NAME/wrong`. It was refused when it was last tried, and `tools/wrong_bodies.py NAME` tries
+it again. Try those of a crate before a change of its public contracts or its definitions lands.
+
+The last column names the function, and in brackets the clause or the definition that the edit breaks. A function with one
+clause is named alone.
+
+The gate has none of six crates of laws, of the programs, of `suite_cli`, `suite_args`, `suite_script` and `suite_play`
+(the rows of `crates/rows` show what those print), and but for `gives_up` none of the crates that the others only build on
+(`sorted_map`, `suite_content`, `byte_streams`, `script_text`, `acl_text`, `file_exec`): the proof of a crate above fails
+where it needs a clause that was weakened. Nobody looked whether each of their clauses is needed above.
+"""
+
+
+def words_of(text):
+    """What the lines `why: ..` and `refused by: ..` of an edit say."""
+    parted = (line.partition(": ") for line in text.split("\n"))
+    return {word: rest for word, _, rest in parted if word in wrong_bodies.TOLD}
+
+
+def words_in_gate():
+    """The words of those edits of the gate that do not have them themselves, by crate/name."""
+    found = {}
+    for piece in wrong_bodies.content(IN_GATE).split("\n\n")[1:] if os.path.exists(IN_GATE) else ():
+        name, _, words = piece.partition("\n")
+        found[name] = words_of(words)
+    return found
+
+
+def crates():
+    """The crates, in the order of crates.txt: bottom up."""
+    lines = wrong_bodies.content(os.path.join(wrong_bodies.TOP, "crates.txt")).split("\n")
+    return [line.split(":")[0].split()[0] for line in (line.partition("#")[0] for line in lines) if ":" in line]
+
+
+def rows(crate, in_gate, faults):
+    """The lines of the table of a crate. What is wrong with its edits is added to the faults."""
+    for folder, place in PLACES:
+        for edit in wrong_bodies.edits(crate, folder):
+            name = f"{crate}/{wrong_bodies.name_of(edit)}"
+            own, kept = words_of(wrong_bodies.content(edit)), in_gate.pop(name, {}) if folder == wrong_bodies.GATE else {}
+            words = own or kept
+            if own and kept:
+                faults.append(f"{name}: its words stand in the edit and in {os.path.relpath(IN_GATE, wrong_bodies.TOP)}")
+            faults += [f"{name}: it has no line '{word}: ..'" for word in wrong_bodies.TOLD if not words.get(word)]
+            if any("|" in text for text in words.values()):
+                faults.append(f"{name}: a word has a |, which a table cannot show")
+            yield f"| `{wrong_bodies.name_of(edit)}` | {place} | {words.get('why', '')} | {words.get('refused by', '')} |"
+
+
+def page():
+    """The page, and what is wrong with the edits."""
+    in_gate, faults, parts, counts = words_in_gate(), [], [HEAD], {place: 0 for _, place in PLACES}
+    for crate in crates():
+        lines = list(rows(crate, in_gate, faults))
+        for place in counts:
+            counts[place] += sum(line.split(" | ")[1] == place for line in lines)
+        if lines:
+            parts.append("\n".join([f"## `{crate}`\n", "| Wrong body | Tried | What it makes wrong | Refused by |", "|---|---|---|---|", *lines, ""]))
+    faults += [f"{name}: there is no such edit in the gate" for name in in_gate]
+    parts.insert(1, f"There are {counts['gate']} in the gate and {counts['beside']} beside it.\n")
+    return "\n".join(parts), faults
+
+
+def main():
+    text, faults = page()
+    print(*faults, sep="\n", end="\n" if faults else "")
+    if "--check" not in sys.argv[1:]:
+        with open(PAGE, "w", encoding="utf-8") as file:
+            file.write(text)
+        return 1 if faults else 0
+    stands = wrong_bodies.content(PAGE) if os.path.exists(PAGE) else ""
+    changes = [line for line in difflib.unified_diff(stands.split("\n"), text.split("\n"), "docs/WRONG-BODIES.md", "from the edits", lineterm="", n=0)]
+    print(*changes, sep="\n", end="\n" if changes else "")
+    return 1 if faults or changes else 0
+
+
+if __name__ == "__main__":
+    sys.exit(main())
