@@ -1,7 +1,7 @@
 #!/usr/bin/env python3
 """Proves and builds the program `suites`, or the one that the environment names (tools/sources.py), and says on standard error how far it is. `./suites --prove` calls it.
 
-Only the crates that the program stands on are proved, side by side where they do not stand on each other.
+The crates that the program stands on are proved, and the laws of all runs, side by side where they do not stand on each other.
 What is proved stays in each crate's out/, so a build that was interrupted goes on where it was. Two builds
 at once wait for each other. Status 0: the program is there; 1: it is not.
 """
@@ -18,6 +18,8 @@ import sources
 
 PROGRAM = sources.PROGRAM
 FOLDER = os.path.join(sources.CRATES, PROGRAM)
+# The topmost crate of laws: those of all runs stand in it and below.
+LAWS = "law_run_recovers"
 BYTES_A_CHECK = 4 << 30
 STOPPED = "stopped; what is proved is kept, and ./suites --prove goes on from there"
 
@@ -38,14 +40,14 @@ def step(teller, done, count, last, stays):
     teller.say(f"{done} of {count} crates proved, {teller.seconds()} s{name}", stays and not teller.changes)
 
 
-def prove(needs, teller):
-    """Proves the crates, side by side where they do not stand on each other. Answers the crate that failed, and what it printed.
+def prove(top, needs, teller):
+    """Proves a crate and those below it, side by side where they do not stand on each other. Answers the crate that failed, and what it printed.
 
     `rt all` in a crate's folder takes that crate and those below it. (An `rt check` for each would not run side by
     side: each keeps all others out of the crates below its own.)
     """
     said, name, rest = {"": ""}, "", b""
-    process = console.start(["rt", "all", "check", "--jobs", str(seats())], FOLDER, subprocess.PIPE)
+    process = console.start(["rt", "all", "check", "--jobs", str(seats())], os.path.join(sources.CRATES, top), subprocess.PIPE)
     try:
         while True:
             step(teller, len(needs.keys() & said), len(needs), name, False)
@@ -71,7 +73,12 @@ def prove(needs, teller):
         return None
     summary = said.get("summary", said[""])
     failed = [one for one in needs if one in said and f"{one}: ok\n" not in summary]
-    return (failed[0], console.tail(said[failed[0]])) if failed else (PROGRAM, console.tail(summary))
+    return (failed[0], console.tail(said[failed[0]])) if failed else (top, console.tail(summary))
+
+
+def prove_laws(teller):
+    """Proves what is promised to who plays: the laws of all runs, of which the program uses some and a caller may want the others."""
+    return prove(LAWS, sources.crates_below(LAWS), teller) if PROGRAM == "suites" else None
 
 
 def build(needs, teller):
@@ -103,7 +110,7 @@ def main():
             teller.say("the program of these sources is proved and built")
             return 0
         teller.say(f"proving and building {len(now.crates)} crates, once (docs/PERFORMANCE.md says how long it takes)")
-        failed = prove(now.crates, teller) or build(now.crates, teller)
+        failed = prove(PROGRAM, now.crates, teller) or prove_laws(teller) or build(now.crates, teller)
         if failed:
             name, text = failed
             raise console.Stop(f"the crate {name} is not proved or not built:\n{text.rstrip()}")
