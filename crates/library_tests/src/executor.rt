@@ -123,7 +123,7 @@ fn hold<'a>(rt: &impl Abort, held: &mut HeldSuites<'a>, number: u64, suite: Know
 }
 
 /// A suite of the small service.
-fn small<'a>(rt: &impl Abort, suites: &'a [Small], number: u64) -> &'a Small {
+fn small_at<'a>(rt: &impl Abort, suites: &'a [Small], number: u64) -> &'a Small {
     let suite = suites.iter().find(|suite| suite.number == number);
     suite.expect(rt, "a suite")
 }
@@ -138,14 +138,14 @@ fn known_after<'a>(
     let mut held = RoomyMap::new(rt.alloc());
     for need in needs {
         if let Need::Hold(number, mode) = need {
-            let prefix = &small(rt, suites, *number).prefix;
+            let prefix = &small_at(rt, suites, *number).prefix;
             hold(rt, &mut held, *number, KnownSuite::new(*mode, prefix, None));
         }
     }
     let mut known = Known::of(service, held);
     for need in needs {
         if let Need::Know(number) = need {
-            open(rt, &mut known, small(rt, suites, *number));
+            open(rt, &mut known, small_at(rt, suites, *number));
         }
     }
     known
