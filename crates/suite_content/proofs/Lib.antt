@@ -1,5 +1,4 @@
 mod ByteOrder
 mod Lists
 mod Fronts
-mod Places
 pub mod Numbered

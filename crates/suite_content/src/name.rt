@@ -66,12 +66,8 @@ impl PartialEq for Name {
 
     ghost laws = { partial_equiv_from_equiv nat_list_eq_equiv };
 
-    /// Behind a name stand zeros, so all places are compared: so many at once that it takes fewer steps than to compare
-    /// as many as there are bytes.
     fn eq(&self, other: &Name) -> bool {
-        let as_long = self.count == other.count;
-        let as_wide = self.array == other.array;
-        as_long & as_wide
+        self.as_bytes() == other.as_bytes()
     }
 }
 
