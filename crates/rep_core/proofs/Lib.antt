@@ -32,3 +32,4 @@ mod Ranges
 mod Places
 mod RisingParts
 mod SuiteHolders
+mod SettledLocks

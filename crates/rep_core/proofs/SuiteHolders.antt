@@ -1,6 +1,6 @@
 -- Who holds locks on a suite: what each change of the locks makes of it, and whom a search finds first.
-use Rattle.std.proofs.Common.{◌≡◌, ℕ, zero, suc, ◌+◌, ◌≤◌, ◌<◌, length, get_or, Bool, true, false, cond, ◌⊎◌, inl, inr, List, [], ◌∷◌, Option, Some, None, is_some, refl, sym, ap, subst, ◌∙◌, arith, Less, Equal, Greater}
-use Rattle.std.specs.Prelude.{◌==◌, ◌&&◌, ◌||◌, not, filter, find, nat_lt, option_map, count_by, Contains}
+use Rattle.std.proofs.Common.{◌≡◌, ℕ, zero, suc, ◌+◌, ◌≤◌, ◌<◌, length, get_or, Bool, true, false, cond, inl, inr, List, [], ◌∷◌, Option, Some, None, is_some, refl, sym, ap, subst, ◌∙◌, arith, Less, Equal, Greater}
+use Rattle.std.specs.Prelude.{◌==◌, ◌&&◌, ◌||◌, not, filter, find, nat_lt, option_map, count_by}
 use Rattle.std.specs.List.{list_any, list_all, slice_range, AllByRecursion}
 use Rattle.std.specs.List.Sorted.{IsStrictlySortedBy, IsPartitionedBy, IsPartitionPoint}
 use Rattle.std.specs.Cmp.{IsTotalOrder, then_total, on_total}
@@ -11,7 +11,6 @@ use Rattle.std.proofs.lemmas.Bool.{and_parts, false≢true, cases_lt}
 use Rattle.std.proofs.lemmas.Bool.Decides.{nat_tests}
 use Rattle.std.proofs.lemmas.Cmp.{nat_cmp_total}
 use Rattle.std.proofs.lemmas.List.Elements.{Contains-get_or}
-use Rattle.std.proofs.lemmas.Map.Entries.{lookup-filter-keys}
 use Rattle.sorted_map.specs.SortedMap.{IsOrdered, get, insert, remove}
 use Rattle.sorted_map.specs.Comparisons.{by_answer}
 use Rattle.sorted_map.specs.Laws.{get-insert, get-remove, IsOrdered-remove, IsOrdered-insert}
@@ -20,14 +19,14 @@ use Rattle.suite_prefix.specs.LockModes.{is_exclusive}
 use Rattle.rep_core.specs.declared.lock.Lock.{Lock}
 use Rattle.rep_core.specs.declared.request.Part.{Part}
 use Rattle.rep_core.specs.Consistency.{IsAlone}
-use Rattle.rep_core.specs.Locks.{rise, is_own, lock_at, conflicts, in_the_way, has_lock, locked, with_prepared, released, broken, prepared_locks}
-use Rattle.rep_core.specs.code.Holders.{Holder, holder_cmp, AreHeld, is_other, told_other, other_in, or_next, if_conflict, without}
+use Rattle.rep_core.specs.Locks.{is_own, lock_at, conflicts, in_the_way, has_lock, locked, with_prepared, released, broken, prepared_locks}
+use Rattle.rep_core.specs.code.Holders.{Holder, holder_cmp, AreHeld, is_other, told_other, other_in, or_next, if_conflict, without, without_one}
 use Rattle.rep_core.specs.code.Ranges.{IsRangeOf}
 use Rattle.rep_core.proofs.Members.{Has, has_from, contains_from, has_filter, find_none}
 use Rattle.rep_core.proofs.Alone.{Alone, alone_locked, alone_prepared, own_is}
-use Rattle.rep_core.proofs.Finding.{any_find, find_some, none_ahead, if_passes}
+use Rattle.rep_core.proofs.Finding.{any_find, find_some, none_ahead, if_passes, find_filter}
 use Rattle.rep_core.proofs.Least.{least, same_lock}
-use Rattle.rep_core.proofs.LockLookups.{taken, ready, names, if_prepared, lock_at-locked, lock_at-prepared, lock_at-released, lock_at-crashed, lock_at-broken}
+use Rattle.rep_core.proofs.LockLookups.{taken, ready, names, if_prepared, lock_at-locked, lock_at-prepared, lock_at-released, lock_at-crashed, lock_at-broken, one_each}
 use Rattle.rep_core.proofs.Ranges.{has_lock_in, some_lock}
 use Rattle.rep_core.proofs.Rising.{rise_filter, rise_locked, rise_prepared}
 use Rattle.rep_core.proofs.Searching.{stands_before, has_lock-at, has_lock-end}
@@ -112,32 +111,6 @@ module _ (ls : List Lock) (hs : List Holder) (held : AreHeld ls hs) where
       either true None = refl
       either true (Some l) = refl
       either false o = refl
-
-  pub held_crashed : (kept : List Holder) → IsOrdered holder_cmp kept → kept ≡ filter (λ h. has_lock h.0.1 h.0.0 (prepared_locks ls)) hs → AreHeld (prepared_locks ls) kept
-  held_crashed kept ordered is = record {
-    rising = rise_filter (λ l. l.prepared) ls held.rising;
-    alone = alone_filter (λ l. l.prepared) ls held.alone;
-    ordered = ordered;
-    same = λ u z.
-        ap (λ l. is_some (get holder_cmp l (z, u))) is
-        ∙ ap is_some (lookup-filter-keys (is_at (holder_cmp (z, u))) (λ k. has_lock k.1 k.0 (prepared_locks ls)) (has_lock u z (prepared_locks ls)) (λ k at. one u z k at) hs)
-        ∙ left u z (has_lock u z (prepared_locks ls)) refl;
-  }
-    where
-      one : (u z : ℕ) (k : ℕ × ℕ) → is_at (holder_cmp (z, u)) k ≡ true → has_lock k.1 k.0 (prepared_locks ls) ≡ has_lock u z (prepared_locks ls)
-      one u z k at =
-          let both = and_parts (k.1 == u) (k.0 == z) (sym (key_is z u k.0 k.1) ∙ at) in
-          let t = same_nat k.1 u both.0 in
-          let s = same_nat k.0 z both.1 in
-          λ i. has_lock (t i) (s i) (prepared_locks ls)
-
-      some_passed : (o : Option Lock) → is_some (if_prepared o) ≡ true → is_some o ≡ true
-      some_passed None is = is
-      some_passed (Some l) is = refl
-
-      left : (u z : ℕ) (b : Bool) → has_lock u z (prepared_locks ls) ≡ b → is_some (cond b (get holder_cmp hs (z, u)) None) ≡ b
-      left u z true is = found u z ∙ some_passed (lock_at u z ls) (ap is_some (sym (lock_at-crashed ls held.rising u z)) ∙ sym (any_find (is_own u z) (prepared_locks ls)) ∙ is)
-      left u z false is = refl
 
   pub held_broken : (t s : ℕ) → AreHeld (broken t s ls) (cond (has_lock t s (broken t s ls)) hs (remove holder_cmp hs (s, t)))
   held_broken t s = by (has_lock t s (broken t s ls)) refl
@@ -233,6 +206,44 @@ held_released t ls hs held start end range = record {
     by true true g o is has = refl
     by true false g o is has = is
     by false h g o is has = is ∙ has
+
+-- a crash lets the locks go that are not prepared
+pub held_crashed : (ls : List Lock) (hs : List Holder) → AreHeld ls hs → AreHeld (prepared_locks ls) (without (filter (λ l. not l.prepared) ls) hs)
+held_crashed ls hs held = record {
+  rising = rise_filter (λ l. l.prepared) ls held.rising;
+  alone = alone_filter (λ l. l.prepared) ls held.alone;
+  ordered = ordered-without (filter (λ l. not l.prepared) ls) hs held.ordered;
+  same = λ u z.
+      ap is_some (get-without (filter (λ l. not l.prepared) ls) hs held.ordered u z ∙ ap (λ b. cond b None (get holder_cmp hs (z, u))) (gone u z))
+      ∙ by (get holder_cmp hs (z, u)) (lock_at u z ls) (held.same u z ∙ any_find (is_own u z) ls)
+      ∙ sym (any_find (is_own u z) (prepared_locks ls) ∙ ap is_some (lock_at-crashed ls held.rising u z));
+}
+  where
+    gone : (u z : ℕ) → has_lock u z (filter (λ l. not l.prepared) ls) ≡ is_some (if_passes (λ l. not l.prepared) (lock_at u z ls))
+    gone u z = any_find (is_own u z) (filter (λ l. not l.prepared) ls) ∙ ap is_some (find_filter (is_own u z) (λ l. not l.prepared) ls (one_each u z ls held.rising))
+
+    one : (p : Bool) (l : Lock) (g : Option (Unit {0})) → is_some g ≡ true → is_some (cond (is_some (cond (not p) (Some l) None)) None g) ≡ is_some (cond p (Some l) None)
+    one true l g is = is
+    one false l g is = refl
+
+    by : (g : Option (Unit {0})) (o : Option Lock) → is_some g ≡ is_some o → is_some (cond (is_some (if_passes (λ l. not l.prepared) o)) None g) ≡ is_some (if_prepared o)
+    by g None is = is
+    by g (Some l) is = one l.prepared l g is
+
+-- all are prepared
+pub all_stay : (ls : List Lock) → list_all (λ l. l.prepared) ls ≡ true → prepared_locks ls ≡ ls
+all_stay [] all = refl
+all_stay (l ∷ ls) all =
+    let parts = and_parts l.prepared (list_all (λ l. l.prepared) ls) all in
+    ap (λ b. cond b (l ∷ prepared_locks ls) (prepared_locks ls)) parts.0 ∙ ap (λ r. l ∷ r) (all_stay ls parts.1)
+
+-- one more lock is taken out, or stays
+pub without-front : (l : Lock) (ls : List Lock) (hs : List Holder) → without (filter (λ l. not l.prepared) (l ∷ ls)) hs ≡ without (filter (λ l. not l.prepared) ls) (without_one l hs)
+without-front l ls hs = by l.prepared
+  where
+    by : (b : Bool) → without (cond (not b) (l ∷ filter (λ l. not l.prepared) ls) (filter (λ l. not l.prepared) ls)) hs ≡ without (filter (λ l. not l.prepared) ls) (cond b hs (remove holder_cmp hs (l.suite, l.t)))
+    by true = refl
+    by false = refl
 
 -- ---- whom a search finds
 

@@ -1,14 +1,11 @@
 //! Who holds locks on a suite: pairs of a suite and a transaction, in this order.
 
-ghost use Rattle.std.specs.Prelude.{◌≡◌, ◌≤◌, ◌<◌, ◌+◌, false, find, get_or, length, nat_lt, IsTrue, option_map};
+ghost use Rattle.std.specs.Prelude.{◌≡◌, ◌+◌, filter, find, nat_lt, not, option_map};
 ghost use Rattle.sorted_map.specs.SortedMap.{IsOrdered};
-ghost use Rattle.rep_core.specs.declared.lock.Lock.{Lock};
-ghost use Rattle.rep_core.specs.Locks as locking;
 ghost use Rattle.rep_core.specs.code.Holders as holding;
-ghost use Rattle.rep_core.specs.code.Holders.{holder_cmp, is_other, told_other, other_in, without};
+ghost use Rattle.rep_core.specs.code.Holders.{holder_cmp, is_other, told_other, other_in, without, without_one};
 
 use crate::lock::Lock;
-use crate::locks::{is_own, stands_before};
 use sorted_map::RoomyMap;
 
 /// The least transaction but this one that holds a lock on a suite: the first on the suite, or the one behind it.
@@ -78,21 +75,20 @@ pub(crate) fn forget_all(holders: &mut RoomyMap<(u64, u64), ()>, locks: &[Lock])
     }
 }
 
-/// Whether the holder's lock is among these.
-pub(crate) fn is_there(locks: &[Lock], holder: &((u64, u64), ())) -> bool
-    ensures { IsTrue (locking.rise locks.now) → result ≡ locking.has_lock holder.now.0.1 holder.now.0.0 locks.now }
+/// Takes out who holds those of these locks that are not prepared.
+pub(crate) fn forget_unprepared(holders: &mut RoomyMap<(u64, u64), ()>, locks: &[Lock])
+    ensures { holders.new.pairs ≡ without (filter (λ lock. not lock.prepared) locks.now) holders.old.pairs }
 {
-    let at = locks.partition_point(|lock| stands_before(lock, holder.0.1, holder.0.0));
-    is_own_here(locks, at, holder.0.1, holder.0.0)
+    for lock in locks {
+        forget_one(holders, lock);
+    }
 }
 
-fn is_own_here(locks: &[Lock], at: usize, t: u64, suite: u64) -> bool
-    ensures here { (lock : Lock) → at < length locks.now → result ≡ locking.is_own t suite (get_or locks.now at lock) }
-    ensures end { length locks.now ≤ at → result ≡ false }
+/// Takes out who holds a lock, where it is not prepared.
+fn forget_one(holders: &mut RoomyMap<(u64, u64), ()>, lock: &Lock)
+    ensures { holders.new.pairs ≡ without_one lock.now holders.old.pairs }
 {
-    if at < locks.len() {
-        is_own(&locks[at], t, suite)
-    } else {
-        false
+    if !lock.prepared {
+        holders.remove(&(lock.suite, lock.t));
     }
 }

@@ -34,6 +34,7 @@ mod reply;
 mod request;
 mod server;
 mod server_state;
+mod settled;
 mod stamped;
 mod step;
 mod store;

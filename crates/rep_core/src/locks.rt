@@ -10,9 +10,10 @@ ghost use Rattle.rep_core.specs.declared.lock.Lock.{Lock};
 ghost use Rattle.rep_core.specs.code.Holders.{AreHeld, if_conflict};
 ghost use Rattle.rep_core.specs.code.Ranges.{IsRangeOf, IsRunOf, IsPlaceOf};
 
-use crate::holders::{first_other, forget_all, is_there};
+use crate::holders::{first_other, forget_all};
 use crate::lock::Lock;
 use crate::request::Part;
+use crate::settled::{all_prepared, forget_unsettled, still_settled};
 use sorted_map::RoomyMap;
 use std::alloc::{AllocError, Global};
 use std::marker::Model;
@@ -22,24 +23,26 @@ use suite_prefix::LockMode;
 const NEAR: usize = 8;
 
 /// The locks of a server by transaction, and beside them by suite who holds them. An exclusive one stands alone on its
-/// suite. It shows how many new ones it takes without memory.
+/// suite. It shows how many new ones it takes without memory. The first `settled` locks are prepared: a crash looks at the
+/// others only.
 #[derive(Drop)]
 pub(crate) struct LockTable {
     locks: Vec<Lock>,
     holders: RoomyMap<(u64, u64), ()>,
+    settled: usize,
 }
 
 impl Model for LockTable {
-    ghost use Rattle.std.specs.Prelude.{◌-◌, min};
+    ghost use Rattle.std.specs.Prelude.{◌-◌, min, IsTrue};
     ghost use Rattle.std.specs.Vec.{vec_len, vec_capacity};
     ghost use Rattle.rep_core.specs.code.Holding.{Locking};
-    ghost use Rattle.rep_core.specs.code.Holders.{AreHeld};
+    ghost use Rattle.rep_core.specs.code.Holders.{AreHeld, are_settled};
 
     ghost Value = { Locking };
 
     ghost view = { λ table. record { locks = table.locks.items; room = min (vec_capacity table.locks - vec_len table.locks) table.holders.room } };
 
-    ghost invariant = { λ table. AreHeld table.locks.items table.holders.pairs };
+    ghost invariant = { λ table. AreHeld table.locks.items table.holders.pairs × IsTrue (are_settled table.settled table.locks.items) };
 }
 
 impl LockTable {
@@ -50,6 +53,7 @@ impl LockTable {
         LockTable {
             locks: Vec::new(alloc),
             holders: RoomyMap::new(alloc),
+            settled: 0,
         }
     }
 
@@ -59,7 +63,12 @@ impl LockTable {
     {
         let locks = Vec::from_slice(*self.locks.allocator(), &self.locks)?;
         let holders = self.holders.clone()?;
-        Ok(LockTable { locks, holders })
+        let settled = self.settled;
+        Ok(LockTable {
+            locks,
+            holders,
+            settled,
+        })
     }
 
     /// The locks.
@@ -94,8 +103,10 @@ impl LockTable {
         requires free { locking.in_the_way t suite mode self.old.locks ≡ None }
         ensures { self.new.locks ≡ locking.locked t suite mode self.old.locks }
     {
+        let settled = still_settled(&self.locks, self.settled, t, suite);
         set_lock(&mut self.locks, t, suite, mode);
         self.holders.insert_in_room((suite, t), ());
+        self.settled = settled;
     }
 
     /// Makes the transaction's locks on the parts' suites prepared.
@@ -110,9 +121,11 @@ impl LockTable {
     pub(crate) fn keep_prepared(&mut self)
         ensures { self.new.locks ≡ locking.prepared_locks self.old.locks }
     {
-        self.locks.retain(|lock| lock.prepared);
-        let locks: &[Lock] = &self.locks;
-        self.holders.retain(|holder| is_there(locks, holder));
+        if !all_prepared(&self.locks, self.settled) {
+            forget_unsettled(&mut self.holders, &self.locks, self.settled);
+            self.locks.retain(|lock| lock.prepared);
+        }
+        self.settled = self.locks.len();
     }
 
     /// Lets a transaction's locks go.
@@ -123,6 +136,7 @@ impl LockTable {
         let (start, end) = range_of(&self.locks, t);
         forget_all(&mut self.holders, &self.locks[start..end]);
         release(&mut self.locks, start, end);
+        self.settled = self.settled.min(start);
     }
 
     /// Lets a lock go that is not prepared.
@@ -371,7 +385,7 @@ pub(crate) fn stands_before(lock: &Lock, t: u64, suite: u64) -> bool
     lock.t < t || lock.t == t && lock.suite < suite
 }
 
-pub(crate) fn is_own(lock: &Lock, t: u64, suite: u64) -> bool
+fn is_own(lock: &Lock, t: u64, suite: u64) -> bool
     ensures { result ≡ locking.is_own t suite lock.now }
 {
     lock.t == t && lock.suite == suite

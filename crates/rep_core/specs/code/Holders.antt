@@ -1,5 +1,5 @@
 -- Who holds locks on a suite, in the order of suites and, on one suite, of transactions.
-use Rattle.std.specs.Prelude.{◌≡◌, ℕ, ◌==◌, ◌&&◌, not, Bool, IsTrue, List, [], ◌∷◌, Option, Some, None, is_some, if◌then◌else◌, zero, suc}
+use Rattle.std.specs.Prelude.{◌≡◌, ℕ, ◌==◌, ◌&&◌, not, Bool, true, false, IsTrue, List, [], ◌∷◌, Option, Some, None, is_some, if◌then◌else◌, zero, suc}
 use Rattle.std.specs.declared.cmp.Ordering.{Ordering}
 use Rattle.std.specs.Ordering.{nat_cmp, ordering_then}
 use Rattle.sorted_map.specs.SortedMap.{IsOrdered, get, remove}
@@ -48,3 +48,13 @@ if_conflict t suite mode lock = if conflicts t suite mode lock then Some lock el
 abbrev pub without : List Lock → List Holder → List Holder
 without [] holders = holders
 without (lock ∷ locks) holders = without locks (remove holder_cmp holders (lock.suite, lock.t))
+
+-- without who holds a lock that is not prepared
+abbrev pub without_one : Lock → List Holder → List Holder
+without_one lock holders = if lock.prepared then holders else remove holder_cmp holders (lock.suite, lock.t)
+
+-- whether there are so many locks at least, and the first so many are prepared
+abbrev pub are_settled : ℕ → List Lock → Bool
+are_settled zero locks = true
+are_settled (suc n) [] = false
+are_settled (suc n) (lock ∷ locks) = lock.prepared && are_settled n locks

@@ -1,4 +1,4 @@
-use Rattle.std.proofs.Common.{◌≡◌, length, drop, drop-cons, add-one, get_or, ap, sym, ◌∙◌, ◌∷◌, ◌+◌}
+use Rattle.std.proofs.Common.{◌≡◌, drop, drop-cons, add-one, get_or, ap, sym, ◌∙◌, ◌∷◌, ◌+◌}
 use Rattle.std.proofs.lemmas.List.{get_or_default}
 use Rattle.sorted_map.specs.SortedMap.{remove}
 use Rattle.rep_core.specs.declared.lock.Lock.{Lock}

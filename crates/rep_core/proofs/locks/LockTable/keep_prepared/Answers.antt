@@ -1,24 +1,48 @@
-use Rattle.std.proofs.Common.{rules, ◌≡◌, Bool, true, filter, ap, sym, subst, ◌∙◌}
+use Rattle.std.proofs.Common.{rules, ◌≡◌, true, length, filter, ap, sym, subst, ◌∙◌}
+use Rattle.std.specs.Prelude.{not}
+use Rattle.std.specs.List.{list_all}
 use Rattle.std.proofs.lemmas.Fn.{filter_same}
 use Rattle.rep_core.specs.code.Holding.{Locking}
-use Rattle.rep_core.specs.code.Holders.{Holder, AreHeld}
-use Rattle.rep_core.specs.Locks.{rise, has_lock, prepared_locks}
-use Rattle.rep_core.proofs.Rising.{rise_filter}
-use Rattle.rep_core.proofs.SuiteHolders.{held_crashed}
+use Rattle.rep_core.specs.code.Holders.{AreHeld, are_settled, without}
+use Rattle.rep_core.specs.Locks.{prepared_locks}
+use Rattle.rep_core.proofs.SuiteHolders.{held_crashed, all_stay}
+use Rattle.rep_core.proofs.SettledLocks.{settled_crashed}
 use Rattle.rep_core.proofs.locks.LockTable.keep_prepared.Goals as goal
+use Rattle.rep_core.proofs.locks.LockTable.keep_prepared.Goals.{then-not-all_prepared, else-not-all_prepared}
 
 pub invariant_of-self : goal.invariant_of-self
 invariant_of-self c =
     let locks = c.self.inside.locks.items in
     let holders = c.self.inside.holders.pairs in
-    let left = c.deref-locks.result.now in
-    let kept : c.retain.new.self.items ≡ prepared_locks locks = filter_same _ _ _ (λ x b f' k. search rules) _ _ c.retain.ensures.filtered in
-    let is : left ≡ prepared_locks locks = c.deref-locks.ensures.value ∙ kept in
-    let up : rise left ≡ true = ap rise is ∙ rise_filter (λ lock. lock.prepared) locks c.self.invariant.rising in
-    let stay : c.retain-2.new.self.pairs ≡ filter (λ (h : Holder). has_lock h.0.1 h.0.0 left) holders = filter_same _ _ _ (λ (x : Holder) (b : Bool) f' k. ((let told : rise left ≡ true → b ≡ has_lock x.0.1 x.0.0 left = search rules in told up), search rules)) _ _ c.retain-2.ensures.pairs in
-    subst (λ l. AreHeld l c.retain-2.new.self.pairs) (sym kept) (held_crashed locks holders c.self.invariant c.retain-2.new.self.pairs c.retain-2.ensures.ordered (stay ∙ ap (λ l. filter (λ (h : Holder). has_lock h.0.1 h.0.0 l) holders) is))
+    let left = c.if-not-all_prepared.self-inside.locks.items in
+    let holding = c.if-not-all_prepared.self-inside.holders.pairs in
+    let now : (left ≡ prepared_locks locks) × AreHeld (prepared_locks locks) holding =
+    elim c.if-not-all_prepared.branch [
+      | then-not-all_prepared w ↦
+          let gone = w.forget_unsettled.ensures ∙ ap (λ ls. without (filter (λ lock. not lock.prepared) ls) holders) w.deref-then-not-all_prepared.ensures.value in (
+            (λ i. (w.self-inside-is i).locks.items) ∙ filter_same _ _ _ (λ x b f' k. search rules) _ _ w.retain.ensures.filtered,
+            subst (AreHeld (prepared_locks locks)) (sym ((λ i. (w.self-inside-is i).holders.pairs) ∙ gone)) (held_crashed locks holders c.self.invariant.0),
+          )
+      | else-not-all_prepared w ↦
+          let all : list_all (λ lock. lock.prepared) locks ≡ true = ap (list_all (λ lock. lock.prepared)) (sym c.deref.ensures.value) ∙ sym c.all_prepared.ensures ∙ w.if-not-all_prepared.false in
+          let stay = all_stay locks all in (
+            (λ i. (w.self-inside-is i).locks.items) ∙ sym stay,
+            subst (AreHeld (prepared_locks locks)) (sym (λ i. (w.self-inside-is i).holders.pairs)) (subst (λ ls. AreHeld ls holders) (sym stay) c.self.invariant.0),
+          )
+    ] in
+    let end : c.len-self-inside.result ≡ length left = search rules in (
+      subst (λ ls. AreHeld ls holding) (sym now.0) now.1,
+      ap (λ n. are_settled n left) end ∙ ap (λ ls. are_settled (length ls) ls) now.0 ∙ settled_crashed locks,
+    )
 
 pub returns : goal.returns
 returns c =
-    let kept : c.retain.new.self.items ≡ prepared_locks c.self.inside.locks.items = filter_same _ _ _ (λ x b f' k. search rules) _ _ c.retain.ensures.filtered in
-    kept ∙ ap (λ (table : Locking). prepared_locks table.locks) c.self.view_is
+    let locks = c.self.inside.locks.items in
+    let left : c.if-not-all_prepared.self-inside.locks.items ≡ prepared_locks locks =
+    elim c.if-not-all_prepared.branch [
+      | then-not-all_prepared w ↦ (λ i. (w.self-inside-is i).locks.items) ∙ filter_same _ _ _ (λ x b f' k. search rules) _ _ w.retain.ensures.filtered
+      | else-not-all_prepared w ↦
+          let all : list_all (λ lock. lock.prepared) locks ≡ true = ap (list_all (λ lock. lock.prepared)) (sym c.deref.ensures.value) ∙ sym c.all_prepared.ensures ∙ w.if-not-all_prepared.false in
+          (λ i. (w.self-inside-is i).locks.items) ∙ sym (all_stay locks all)
+    ] in
+    left ∙ ap (λ (table : Locking). prepared_locks table.locks) c.self.view_is

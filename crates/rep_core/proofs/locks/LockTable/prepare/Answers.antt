@@ -1,13 +1,16 @@
 use Rattle.std.proofs.Common.{ap, sym, subst, ◌∙◌}
 use Rattle.std.proofs.lemmas.List.{with_items_is}
 use Rattle.rep_core.specs.Locks.{with_prepared}
-use Rattle.rep_core.specs.code.Holders.{AreHeld}
+use Rattle.rep_core.specs.code.Holders.{AreHeld, are_settled}
 use Rattle.rep_core.proofs.SuiteHolders.{held_prepared}
+use Rattle.rep_core.proofs.SettledLocks.{settled_prepared}
 use Rattle.rep_core.proofs.locks.LockTable.prepare.Goals as goal
 
 pub invariant_of-self : goal.invariant_of-self
 invariant_of-self c =
     let locks = c.self.inside.locks.items in
     let holders = c.self.inside.holders.pairs in
-    let is = with_items_is c.self.inside.locks c.prepare.new.locks (c.prepare.auto.locks ∙ c.deref_mut.ensures.len) ∙ c.prepare.ensures ∙ ap (with_prepared c.args.t c.args.parts.now) c.deref_mut.ensures.value in
-    subst (λ l. AreHeld l holders) (sym is) (held_prepared locks holders c.self.invariant c.args.t c.args.parts.now)
+    let is = with_items_is c.self.inside.locks c.prepare.new.locks (c.prepare.auto.locks ∙ c.deref_mut.ensures.len) ∙ c.prepare.ensures ∙ ap (with_prepared c.args.t c.args.parts.now) c.deref_mut.ensures.value in (
+      subst (λ l. AreHeld l holders) (sym is) (held_prepared locks holders c.self.invariant.0 c.args.t c.args.parts.now),
+      ap (are_settled c.self.inside.settled) is ∙ settled_prepared c.args.t c.args.parts.now c.self.inside.settled locks c.self.invariant.1,
+    )
