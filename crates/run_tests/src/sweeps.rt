@@ -17,9 +17,11 @@ use vote_core::ServerSet;
 fn asked(rt: &impl Abort, agent: &Agent) -> (u8, Request)
     ensures { next_of agent.now.fixed agent.now.state ≡ Some result }
 {
-    let mut request = Request::Locks;
-    let server = agent.next(&mut request).ok().expect(rt, "memory");
-    (server.expect(rt, "a request"), request)
+    agent
+        .next()
+        .ok()
+        .expect(rt, "memory")
+        .expect(rt, "a request")
 }
 
 /// What is asked: of which server, of which transaction, and of which suite.
@@ -77,9 +79,7 @@ fn fitting(rt: &impl Abort, request: &Request, reply: Reply) -> Response
 fn told(rt: &impl Abort, agent: &mut Agent, response: &Response) -> Option<Ending>
     requires { FitsAsked (next_of agent.old.fixed agent.old.state) response.now }
 {
-    let mut ended = None;
-    had(rt, agent.take(response.as_result(), &mut ended));
-    ended
+    had(rt, agent.take(response))
 }
 
 /// The agent asks this, and is told that.
