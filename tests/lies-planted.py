@@ -87,15 +87,18 @@ TOLD = {
     "a decision is told of another job": changed(lambda decided: [(decided[0][0], decided[0][1] + 1, decided[0][2]), *decided[1:]]),
     "a decision has another answer": changed(lambda decided: [*decided[:-1], (*decided[-1][:2], "refused F4")]),
 }
-ALL = "item._replace(numbers=None) != own"
+ALL, NUMBERS = "item._replace(numbers=None) != own", "if wanted not in (None, item.numbers):"
 # Lines of the judge: what stands there, and what stands there in its place.
 JUDGED = {
     "the judge compares no stamp": [(ALL, "item._replace(numbers=None, stamp=own.stamp) != own")],
     "the judge compares no stamp of a request": [(ALL, "item._replace(numbers=None, sent=own.sent) != own")],
-    "the judge compares no request": [(ALL, "item._replace(numbers=None, request=own.request) != own")],
-    "the judge compares no reply": [(ALL, "item._replace(numbers=None, reply=own.reply) != own")],
+    "the judge compares no request": [
+        (ALL, "item._replace(numbers=None, request=own.request) != own"),
+        (NUMBERS, "if wanted and wanted[1] != item.numbers[1]:")],
+    "the judge compares no reply": [
+        (ALL, "item._replace(numbers=None, reply=own.reply) != own"),
+        (NUMBERS, "if wanted and wanted[0] != item.numbers[0]:")],
     "the judge compares no asker": [(ALL, "item._replace(numbers=None, agent=own.agent) != own")],
-    "the judge compares no number": [("if wanted not in (None, item.numbers):", "if False:")],
     "the judge does not count items": [("if len(items) != len(play.served):", "if False:")],
     "the judge looks at no transcript": [('if self.list_of("transcript", agent, changed) != play.told[agent]:', "if False:")],
     "the judge looks at no end": [(
@@ -147,7 +150,12 @@ def judged(runs, tell=None, pairs=()):
     with contextlib.redirect_stdout(said):
         for run, row in zip(runs, lies.scripts()):
             lies.told = lambda *_, run=run: run.told(tell)
-            lies.judge_script("", tally, len(run.cases), 0, row)
+            try:
+                lies.judge_script("", tally, len(run.cases), 0, row)
+            except lies.judging.Mismatch as why:
+                # the judge does not take the run as it is for one: tests/lies.py ends so
+                tally.differ += 1
+                print(f"{row[0]}: of the run as it is the judge says: {why}")
     lines = [line for line in said.getvalue().splitlines() if ": case " in line or ": of the run as it is" in line]
     return sum(tally.all.values()), tally.differ, lines[:1]
 

@@ -113,10 +113,11 @@ def built():
     return *paths, len(calls)
 
 
-def reports(program, runs):
-    """How many runs of a program there were, what was reported of them, and how many did not end as `serve` does."""
+def reports(program, runs, with_names):
+    """How many runs of a program there were, how many reports of them, and how many did not end as `serve` does. The first report
+    is printed where names are wanted; without them a report is had ten times sooner."""
     count, found, other = 0, 0, 0
-    options = {**os.environ, "TSAN_OPTIONS": "exitcode=0 halt_on_error=0 report_thread_leaks=0"}
+    options = {**os.environ, "TSAN_OPTIONS": f"exitcode=0 halt_on_error=0 report_thread_leaks=0 symbolize={int(with_names)}"}
     for name in SCRIPTS:
         with open(os.path.join(played.TOP, "examples", "serve", f"{name}.script"), encoding="utf-8") as file:
             script = file.read()
@@ -125,6 +126,8 @@ def reports(program, runs):
             words = ["setarch", os.uname().machine, "-R", program, "serve", "--agents", str(agents)]
             ended = subprocess.run(words, input=script, capture_output=True, text=True, env=options)
             count += 1
+            if with_names and not found and REPORT in ended.stderr:
+                print(f"{name} with {agents} agents: {REPORT}{ended.stderr.partition(REPORT)[2].partition('==================')[0]}")
             found += ended.stderr.count(REPORT)
             other += ended.returncode != 0 or not LAST.search(ended.stdout)
             if REPORT not in ended.stderr and ended.stderr:
@@ -136,11 +139,11 @@ def main():
     runs = int(sys.argv[1]) if len(sys.argv) > 1 else 2
     program, control, calls = built()
     begun = time.monotonic()
-    count, found, other = reports(program, runs)
+    count, found, other = reports(program, runs, True)
     print(f"{count} runs with {AGENTS[0]} to {AGENTS[-1]} agents: {found} reports of a race, {other} that did not end certified;"
           f" {time.monotonic() - begun:.1f} s", flush=True)
     begun = time.monotonic()
-    again, seen, _ = reports(control, runs)
+    again, seen, _ = reports(control, runs, False)
     print(f"control: {calls} calls of atomics weakened, {again} runs: {seen} reports; {time.monotonic() - begun:.1f} s")
     return 1 if found or other or not seen else 0
 
