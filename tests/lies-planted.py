@@ -98,7 +98,6 @@ JUDGED = {
     "the judge compares no reply": [
         (ALL, "item._replace(numbers=None, reply=own.reply) != own"),
         (NUMBERS, "if wanted and wanted[0] != item.numbers[0]:")],
-    "the judge compares no asker": [(ALL, "item._replace(numbers=None, agent=own.agent) != own")],
     "the judge does not count items": [("if len(items) != len(play.served):", "if False:")],
     "the judge looks at no transcript": [('if self.list_of("transcript", agent, changed) != play.told[agent]:', "if False:")],
     "the judge looks at no end": [(
