@@ -5,11 +5,12 @@ Looks for data races among agents in threads: builds the program as tools/trial.
 under clang's ThreadSanitizer and linked with gcc's libtsan (the package libgcc-12-dev), and runs scripts of `serve` with 2 to
 64 agents, RUNS times each (default 2). A report is a race; what is printed has to be what `serve` prints.
 
-The same once more is the control: with all orderings of the module's atomics weakened to `monotonic`, so that nothing that one
-thread wrote is ordered before what another reads. There reports have to come, else nothing is looked at. Status 1 where a race
-was reported, and where the control has none.
+The same once more is the control: linked so that each atomic of the module is one of memory_order_relaxed, whatever it was
+written as, so that nothing that one thread wrote is ordered before what another reads. There reports have to come, else nothing
+is looked at. Status 1 where a race was reported, and where the control has none.
 
-Both programs stay in out/ until a source changes; `rt` is needed to build them, some minutes, and `clang` is the kit's.
+Both programs stay in out/ until a source changes; `rt` is needed to build them, some minutes, and `clang` is the kit's. Where
+MODULE names a module that was made before (the one of tools/trial.py), they are made of that one.
 """
 import os
 import re
@@ -27,9 +28,6 @@ import trial  # noqa: E402
 
 AGENTS = (2, 4, 8, 16, 32, 64)
 SCRIPTS = ("files", "sweepers", "revocation")
-ATOMIC = re.compile(r"^.*\b(?:atomicrmw|cmpxchg|load atomic|store atomic)\b.*$", re.M)
-FENCE = re.compile(r"^\s*fence\b.*\n", re.M)
-ORDERING = re.compile(r"\b(?:seq_cst|acq_rel|acquire|release)\b")
 REPORT = "WARNING: ThreadSanitizer: "
 LAST = re.compile(r"certified [0-9]+ steps\n\Z")
 # What clang calls for these, and libtsan of gcc has under their own names alone.
@@ -37,6 +35,20 @@ SHIM = "\n".join(f"void *{name}({words}); void *__tsan_{name}({words}) {{ return
     ("memset", "void *a, int b, unsigned long n"),
     ("memcpy", "void *a, const void *b, unsigned long n"),
     ("memmove", "void *a, const void *b, unsigned long n")))
+# What clang calls in place of an atomic of so many bits (`long` stands for their type), whose last words say how it is ordered:
+# its answer, its words, what is handed on of them.
+ATOMICS = {
+    "load": ("long", "void *a, int o", "a, 0"),
+    "store": ("void", "void *a, long b, int o", "a, b, 0"),
+    "compare_exchange_val": ("long", "void *a, long b, long c, int o, int p", "a, b, c, 0, 0"),
+    "compare_exchange_strong": ("int", "void *a, void *b, long c, int o, int p", "a, b, c, 0, 0"),
+    "compare_exchange_weak": ("int", "void *a, void *b, long c, int o, int p", "a, b, c, 0, 0"),
+    **{name: ("long", "void *a, long b, int o", "a, b, 0")
+       for name in ("exchange", "fetch_add", "fetch_sub", "fetch_and", "fetch_or", "fetch_xor", "fetch_nand")},
+}
+BITS = {8: "unsigned char", 16: "unsigned short", 32: "unsigned", 64: "unsigned long"}
+FENCE = "__tsan_atomic_thread_fence"
+ORDERED = re.compile(r"R_X86_64_\w+ +(__tsan_atomic\w+)")
 
 
 def sanitized(text):
@@ -45,62 +57,67 @@ def sanitized(text):
     return re.sub(r"^(define (?:(?! #\d).)*\))((?:(?! #\d).)*\{)$", r"\1 sanitize_thread\2", text, flags=re.M)
 
 
-def weakened(text):
-    """The text of a module whose atomics order nothing, and how many orderings were there."""
-    count = 0
-
-    def weak(line):
-        nonlocal count
-        new, found = ORDERING.subn("monotonic", line[0])
-        count += found
-        return new
-
-    return FENCE.sub("", ATOMIC.sub(weak, text)), count
+def weakened():
+    """What the linker is told for the control, and the C that its atomics call: the sanitizer's own, with nothing ordered."""
+    lines, names = [f"void __wrap_{FENCE}(int o) {{ }}"], [FENCE]
+    for bits, of in BITS.items():
+        for what, parts in ATOMICS.items():
+            answer, words, handed = (part.replace("long", of) for part in parts)
+            name = f"__tsan_atomic{bits}_{what}"
+            lines.append(f"{answer} __real_{name}({words}); {answer} __wrap_{name}({words}) {{ return __real_{name}({handed}); }}")
+            names.append(name)
+    return [f"-Wl,--wrap={name}" for name in names], "\n".join(lines)
 
 
 def done(words, folder):
-    """Runs a command, which has to end well."""
+    """Runs a command, which has to end well; what it prints."""
     ended = subprocess.run(words, cwd=folder, stdin=subprocess.DEVNULL, capture_output=True, text=True)
     if ended.returncode != 0:
         raise console.Stop(f"{' '.join(words[:2])} ..: status {ended.returncode}: {console.tail(ended.stderr)}")
+    return ended.stdout
 
 
-def compiled(text, folder, target):
-    """Builds a program of the text of a module."""
-    paths = {name: os.path.join(folder, name) for name in ("module.ll", "module.o", "shim.c")}
-    for name, content in (("module.ll", text), ("shim.c", SHIM)):
-        with open(paths[name], "w", encoding="latin1") as file:
-            file.write(content)
-    done([trial.clang(), trial.LEVEL, "-fPIE", *trial.CAREFUL, "-w", "-fsanitize=thread", "-c", paths["module.ll"], "-o", paths["module.o"]], folder)
-    done(["gcc", "-w", "-fno-builtin", "-fsanitize=thread", "-pie", "-o", target, paths["shim.c"], paths["module.o"], *trial.libraries()], folder)
+def linked(folder, made, target, options=(), text=""):
+    """Links a program of what was made, with these options and this C besides."""
+    source, shim = os.path.join(folder, "shim.c"), os.path.join(folder, "shim.o")
+    with open(source, "w", encoding="ascii") as file:
+        file.write(f"{SHIM}\n{text}\n")
+    done(["gcc", "-w", "-O1", "-fno-builtin", "-fPIE", "-c", source, "-o", shim], folder)
+    done(["gcc", "-fsanitize=thread", "-pie", *options, "-o", target, shim, made, *trial.libraries()], folder)
 
 
 def built():
-    """The paths of the program and of the control, and how many orderings were weakened in it; builds them where they are not there."""
+    """The paths of the program and of the control, and how many calls of atomics are weakened in it; builds them where they are not there."""
     mark = os.path.join(sources.KEPT, "races.json")
     paths = [os.path.join(sources.KEPT, name) for name in ("races", "races-weakened")]
-    now, kept = sources.Sources().code, sources.read_json(mark)
+    module = os.environ.get("MODULE")
+    now, kept = sources.sum_of(module) if module else sources.Sources().code, sources.read_json(mark)
     if kept.get("sources") == now and all(map(os.path.exists, paths)):
-        return *paths, kept["orderings"]
+        return *paths, kept["calls"]
     console.Teller().say("building the program under the sanitizer, and its control, some minutes")
     sources.make_folder()
     with tempfile.TemporaryDirectory(prefix="suites-") as folder:
-        module = os.environ.get("MODULE") or trial.module_into(folder, lambda: None)
-        written = os.path.join(folder, "plain.ll")
-        done([trial.clang(), "-S", "-emit-llvm", "-Xclang", "-disable-llvm-passes", "-w", module, "-o", written], folder)
-        with open(written, encoding="latin1") as file:
-            text = sanitized(file.read())
-        weak, orderings = weakened(text)
-        for path, one in zip(paths, (text, weak)):
-            compiled(one, folder, path)
-    sources.write_whole(mark, f'{{"sources": "{now}", "orderings": {orderings}}}')
-    return *paths, orderings
+        module = os.path.abspath(module) if module else trial.module_into(folder, lambda: None)
+        plain, text, made = (os.path.join(folder, name) for name in ("plain.ll", "sanitized.ll", "sanitized.o"))
+        done([trial.clang(), "-S", "-emit-llvm", "-Xclang", "-disable-llvm-passes", "-w", module, "-o", plain], folder)
+        with open(plain, encoding="latin1") as file, open(text, "w", encoding="latin1") as new:
+            new.write(sanitized(file.read()))
+        done([trial.clang(), trial.LEVEL, "-fPIE", *trial.CAREFUL, "-w", "-fsanitize=thread", "-c", text, "-o", made], folder)
+        options, weak = weakened()
+        calls = ORDERED.findall(done(["objdump", "-r", made], folder))
+        if unknown := {name for name in calls if f"-Wl,--wrap={name}" not in options}:
+            raise console.Stop(f"the control does not weaken {', '.join(sorted(unknown))}")
+        linked(folder, made, paths[0])
+        linked(folder, made, paths[1], options, weak)
+    sources.write_whole(mark, f'{{"sources": "{now}", "calls": {len(calls)}}}')
+    return *paths, len(calls)
 
 
-def reports(program, runs):
-    """How many runs of a program there were, what was reported of them, and how many did not end as `serve` does."""
+def reports(program, runs, with_names):
+    """How many runs of a program there were, how many reports of them, and how many did not end as `serve` does. The first report
+    is printed where names are wanted; without them a report is had ten times sooner."""
     count, found, other = 0, 0, 0
-    options = {**os.environ, "TSAN_OPTIONS": "exitcode=0 halt_on_error=0 report_thread_leaks=0"}
+    options = {**os.environ, "TSAN_OPTIONS": f"exitcode=0 halt_on_error=0 report_thread_leaks=0 symbolize={int(with_names)}"}
     for name in SCRIPTS:
         with open(os.path.join(played.TOP, "examples", "serve", f"{name}.script"), encoding="utf-8") as file:
             script = file.read()
@@ -109,6 +126,8 @@ def reports(program, runs):
             words = ["setarch", os.uname().machine, "-R", program, "serve", "--agents", str(agents)]
             ended = subprocess.run(words, input=script, capture_output=True, text=True, env=options)
             count += 1
+            if with_names and not found and REPORT in ended.stderr:
+                print(f"{name} with {agents} agents: {REPORT}{ended.stderr.partition(REPORT)[2].partition('==================')[0]}")
             found += ended.stderr.count(REPORT)
             other += ended.returncode != 0 or not LAST.search(ended.stdout)
             if REPORT not in ended.stderr and ended.stderr:
@@ -118,14 +137,14 @@ def reports(program, runs):
 
 def main():
     runs = int(sys.argv[1]) if len(sys.argv) > 1 else 2
-    program, control, orderings = built()
+    program, control, calls = built()
     begun = time.monotonic()
-    count, found, other = reports(program, runs)
+    count, found, other = reports(program, runs, True)
     print(f"{count} runs with {AGENTS[0]} to {AGENTS[-1]} agents: {found} reports of a race, {other} that did not end certified;"
           f" {time.monotonic() - begun:.1f} s", flush=True)
     begun = time.monotonic()
-    again, seen, _ = reports(control, runs)
-    print(f"control: {orderings} orderings weakened, {again} runs: {seen} reports; {time.monotonic() - begun:.1f} s")
+    again, seen, _ = reports(control, runs, False)
+    print(f"control: {calls} calls of atomics weakened, {again} runs: {seen} reports; {time.monotonic() - begun:.1f} s")
     return 1 if found or other or not seen else 0
 
 

@@ -1,0 +1,181 @@
+#!/usr/bin/env python3
+"""tests/lies-planted.py [CASES [SEED]]
+
+Whether tests/lies.py can fail: plants errors into the verdicts that it reads (each as a `certify` would give them that lets
+something through, or refuses or tells too much) and into its judge (a line of tests/judging.py in place of another), one
+after another, and has it judge the same cases each time (1,000, or CASES), all of them with the programs as they are first.
+Tells each planted error with the cases that are told as differing. Status 1 where one is not found out, or where cases differ
+with nothing planted.
+"""
+import contextlib
+import functools
+import io
+import os
+import sys
+import types
+
+import judging
+import lies
+import played
+import scratch
+
+JUDGE = os.path.join(played.TOP, "tests", "judging.py")
+
+
+def without(*words):
+    """An element without these: of an entry its end, its stamp and so on, of an item a field."""
+    def part(element):
+        if isinstance(element, judging.Item):
+            return element._replace(**{word: None for word in words if word in judging.Item._fields})
+        if element[0] == "ended" and "end" in words:
+            return element[:1]
+        if element[0] == "asked" and "stamp" in words:
+            return element[:2]
+        return element
+    return part
+
+
+def alike(view):
+    """Certifies whatever is the run as it is but for what this view of a list leaves out."""
+    def told(run, lists, decided, _):
+        same = all(list(view(run.lists.get(key, []))) == list(view(own)) for key, own in lists.items())
+        return run.decided if same else decided
+    return told
+
+
+def each(part):
+    return lambda elements: map(part, elements)
+
+
+def of_agents(elements):
+    """A list without what the operator asked, and without the stamps, which its items raise."""
+    return [without("stamp", "sent")(one) for one in elements if not isinstance(one, judging.Item) or one.agent is not None]
+
+
+def first(wanted, answer):
+    """Tells the first case that is so otherwise, and no other one."""
+    def told(run, _, decided, seen):
+        if (decided is None) == wanted and not seen:
+            seen.append(True)
+            return answer(run)
+        return decided
+    return told
+
+
+def changed(change):
+    """Tells all that was decided otherwise, where a case is certified and something was decided."""
+    return lambda _run, _lists, decided, _seen: change(decided) if decided else decided
+
+
+# What is told in place of a verdict; each has the run as it is, the lists of the case, what was decided where it was certified
+# (nothing is a mismatch), and what it keeps from case to case.
+TOLD = {
+    "one mismatch is told as certified": first(True, lambda run: run.decided),
+    "one certified run is told as a mismatch": first(False, lambda _: None),
+    "whatever is told is certified": lambda run, *_: run.decided,
+    "a changed end is let through": alike(each(without("end"))),
+    "stamps of items and entries are not compared": alike(each(without("stamp"))),
+    "stamps of requests are not compared": alike(each(without("sent"))),
+    "replies are not compared": alike(each(without("reply", "numbers"))),
+    "who asked is not compared": alike(each(without("agent"))),
+    "what the operator asked is not looked at": alike(of_agents),
+    "transcripts are not looked at": alike(lambda elements: [one for one in elements if isinstance(one, judging.Item)]),
+    "histories are not looked at": alike(lambda elements: [one for one in elements if not isinstance(one, judging.Item)]),
+    "the last decision is left out": changed(lambda decided: decided[:-1]),
+    "two decisions are exchanged": changed(lambda decided: decided[1:2] + decided[:1] + decided[2:]),
+    "a decision is told of another transaction": changed(lambda decided: [(decided[0][0] + 1, *decided[0][1:]), *decided[1:]]),
+    "a decision is told of another job": changed(lambda decided: [(decided[0][0], decided[0][1] + 1, decided[0][2]), *decided[1:]]),
+    "a decision has another answer": changed(lambda decided: [*decided[:-1], (*decided[-1][:2], "refused F4")]),
+}
+ALL, NUMBERS = "item._replace(numbers=None) != own", "if wanted not in (None, item.numbers):"
+# Lines of the judge: what stands there, and what stands there in its place.
+JUDGED = {
+    "the judge compares no stamp": [(ALL, "item._replace(numbers=None, stamp=own.stamp) != own")],
+    "the judge compares no stamp of a request": [(ALL, "item._replace(numbers=None, sent=own.sent) != own")],
+    "the judge compares no request": [
+        (ALL, "item._replace(numbers=None, request=own.request) != own"),
+        (NUMBERS, "if wanted and wanted[1] != item.numbers[1]:")],
+    "the judge compares no reply": [
+        (ALL, "item._replace(numbers=None, reply=own.reply) != own"),
+        (NUMBERS, "if wanted and wanted[0] != item.numbers[0]:")],
+    "the judge does not count items": [("if len(items) != len(play.served):", "if False:")],
+    "the judge looks at no transcript": [('if self.list_of("transcript", agent, changed) != play.told[agent]:', "if False:")],
+    "the judge looks at no end": [(
+        'if self.list_of("transcript", agent, changed) != play.told[agent]:',
+        'if [one for one in self.list_of("transcript", agent, changed) if one[0] != "ended"] != [one for one in play.told[agent] if one[0] != "ended"]:')],
+    "the judge drops the operator's items": [("for item in history]", "for item in history if item.agent is not None]")],
+    "the judge's operator crashes a server twice": [('"down" if what == "crash" and server in self.down else "done"', '"done"')],
+    "the judge counts a stamp from the server's alone": [("max(self.stamps[server], sent) + 1", "self.stamps[server] + 1")],
+    "the judge takes a mismatch for a run": [('return Said("found out", str(why), None)', 'return Said("a run", "", [])')],
+    "the judge finds out all that is told": [("if is_open else", "if is_open else \"found out\" if changed else")],
+    "the judge lists no decision that was refused": [('"verdict answered", "verdict refused")', '"verdict answered",)')],
+    "the judge takes a decision for one of its first job": [("self.asks(job), play.ends[of]", "0, play.ends[of]")],
+}
+
+
+class Run:
+    """A run as the liar tells it, and its cases."""
+
+    def __init__(self, stream):
+        _, self.lists, self.decided = next(stream)
+        self.cases = list(stream)
+
+    def told(self, tell):
+        """The run and its cases, with what this tells in place of each verdict."""
+        seen = []
+        yield [], self.lists, self.decided
+        for lie, lists, decided in self.cases:
+            yield lie, lists, tell(self, lists, decided, seen) if tell else decided
+
+
+def judge_with(pairs):
+    """The judge, with texts in place of others; each of these stands there once."""
+    with open(JUDGE, encoding="utf-8") as file:
+        text = file.read()
+    for old, new in pairs:
+        if text.count(old) != 1:
+            sys.exit(f"tests/judging.py has not once: {old}")
+        text = text.replace(old, new)
+    module = types.ModuleType("judging")
+    exec(compile(text, JUDGE, "exec"), module.__dict__)
+    module.traced = judging.traced
+    return module
+
+
+def judged(runs, tell=None, pairs=()):
+    """How many cases there are, how many of them tests/lies.py tells as differing, and the first line that says so."""
+    tally, said = lies.Tally(), io.StringIO()
+    lies.judging = judge_with(pairs)
+    with contextlib.redirect_stdout(said):
+        for run, row in zip(runs, lies.scripts()):
+            lies.told = lambda *_, run=run: run.told(tell)
+            try:
+                lies.judge_script("", tally, len(run.cases), 0, row)
+            except lies.judging.Mismatch as why:
+                # the judge does not take the run as it is for one: tests/lies.py ends so
+                tally.differ += 1
+                print(f"{row[0]}: of the run as it is the judge says: {why}")
+    lines = [line for line in said.getvalue().splitlines() if ": case " in line or ": of the run as it is" in line]
+    return sum(tally.all.values()), tally.differ, lines[:1]
+
+
+def main():
+    cases = int(sys.argv[1]) if len(sys.argv) > 1 else 1000
+    seed = int(sys.argv[2]) if len(sys.argv) > 2 else 1
+    liar, rows = scratch.built("liar", lies.CRATES, lies.MODULES), lies.scripts()
+    judging.traced = functools.cache(judging.traced.__wrapped__)
+    runs = [Run(lies.told(liar, agents, seed * len(rows) + place, cases // len(rows), (script, given)))
+            for place, (_, agents, given, script) in enumerate(rows)]
+    count, differ, _ = judged(runs)
+    print(f"{count} cases with nothing planted: {differ} differ", flush=True)
+    missed = 0
+    for name, plant in [*((name, {"tell": tell}) for name, tell in TOLD.items()), *((name, {"pairs": pairs}) for name, pairs in JUDGED.items())]:
+        _, found, lines = judged(runs, **plant)
+        missed += not found
+        print(f"  {name}: {found} told" if found else f"  {name}: NOT FOUND OUT", *(f" ({line[:110]})" for line in lines), flush=True)
+    print(f"{len(TOLD) + len(JUDGED)} planted, {missed} not found out")
+    return 1 if differ or missed else 0
+
+
+if __name__ == "__main__":
+    sys.exit(main())
