@@ -246,9 +246,13 @@ def shown(place):
 
 
 def judge(caller, wanted, path, verbose=False):
-    """What is told of a path, a line each, and the status."""
+    """What is told of a path, a line each; the last sentence, and the status."""
     places, end = way(path, wanted)
-    given = answers([question(place, caller) for place in places])
+    return judged(caller, wanted, path, verbose, places, end, answers([question(place, caller) for place in places]))
+
+
+def judged(caller, wanted, path, verbose, places, end, given):
+    """The same, where the places on the way and the answers of the program are known."""
     wide = max((len(place.path) for place in places), default=0)
     told = []
     for place, answer in zip(places, given):
