@@ -1,5 +1,5 @@
 #!/usr/bin/env python3
-"""tests/may-against-the-kernel.py [--questions N] [--seed SEED] [PROGRAM]
+"""tests/may-against-the-kernel.py [--questions N] [--seed SEED] [--if-possible] [PROGRAM]
 
 Compares what `./suites may` tells with what this Linux does, on random trees of files, folders and links with random
 lists and default lists. Each question is put to `may`, and then tried as that user, in a process that takes its groups
@@ -8,7 +8,8 @@ and its number: by access(2), and by opening where that can be asked so. PROGRAM
 Known to differ, told by `may` and counted: a list whose mask is `---`, which Linux looks at for the owner alone, and root.
 Status 1 where anything else differs.
 
-It needs root and a file system with lists, here /dev/shm (tmpfs). It is no part of the gate.
+It needs root and a file system with lists, here /dev/shm (tmpfs). With --if-possible it says where these are wanting, and
+ends well: so `./suites --test` runs some questions.
 """
 import argparse
 import ctypes
@@ -173,12 +174,14 @@ def main():
     parser = argparse.ArgumentParser()
     parser.add_argument("--questions", type=int, default=2000)
     parser.add_argument("--seed", type=int, default=1)
+    parser.add_argument("--if-possible", action="store_true")
     parser.add_argument("program", nargs="?")
     given = parser.parse_args()
     if given.program:
         os.environ["MAY"] = os.path.abspath(given.program)
     if os.geteuid() != 0 or not os.path.isdir(PLACE):
-        sys.exit(f"{sys.argv[0]}: needs root and {PLACE}")
+        print(f"this needs root and {PLACE}: 0 questions, 0 differ")
+        return 0 if given.if_possible else 1
     dice, wrong, left = Dice(given.seed), 0, given.questions
     counts = dict.fromkeys(["granted", "denied", "unread", "opened", "root", "differ by the mask"], 0)
     os.umask(0)

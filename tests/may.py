@@ -100,16 +100,21 @@ def asks_of_files(tests):
         asks(tests, words, 2, "(./suites may --help)")
 
 
+def plain(code):
+    """Code without the spaces before its lines."""
+    return re.sub(r"^ +", "", code, flags=re.M)
+
+
 def shown_code_stands(tests):
     with open(os.path.join(TOP, "README.md"), encoding="utf-8") as file:
         code = re.findall(r"^```rust\n(.*?)^```", file.read(), re.M | re.S)
     sources = ""
     for name in sorted(os.listdir(os.path.join(TOP, "crates", "may", "src"))):
         with open(os.path.join(TOP, "crates", "may", "src", name), encoding="utf-8") as file:
-            sources += re.sub(r"^    (?:requires|ensures).*\n(?:        .*\n(?!\{))*", "", file.read(), flags=re.M)
+            sources += plain(file.read())
     tests.holds(code, "README shows no code")
     for block in code:
-        tests.holds(block in sources, f"this code of README stands in no file of crates/may/src:\n{block}")
+        tests.holds(plain(block) in sources, f"this code of README stands in no file of crates/may/src:\n{block}")
 
 
 def main():
