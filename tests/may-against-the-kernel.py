@@ -170,6 +170,18 @@ def compare(found, counts):
     return wrong
 
 
+def is_possible():
+    """Whether this is root, on a file system that keeps lists."""
+    if os.geteuid() != 0 or not os.path.isdir(PLACE):
+        return False
+    try:
+        with tempfile.NamedTemporaryFile(dir=PLACE) as file:
+            os.setxattr(file.name, may.XATTR, Dice(1).value())
+    except OSError:
+        return False
+    return True
+
+
 def main():
     parser = argparse.ArgumentParser()
     parser.add_argument("--questions", type=int, default=2000)
@@ -179,8 +191,8 @@ def main():
     given = parser.parse_args()
     if given.program:
         os.environ["MAY"] = os.path.abspath(given.program)
-    if os.geteuid() != 0 or not os.path.isdir(PLACE):
-        print(f"this needs root and {PLACE}: 0 questions, 0 differ")
+    if not is_possible():
+        print(f"this needs root, and lists in {PLACE}\n0 questions, 0 differ")
         return 0 if given.if_possible else 1
     dice, wrong, left = Dice(given.seed), 0, given.questions
     counts = dict.fromkeys(["granted", "denied", "unread", "opened", "root", "differ by the mask"], 0)
