@@ -161,7 +161,7 @@ def compare(found, counts):
         told, last, status = may.judged(caller, wanted, path, False, places, end, given)
         said = ANSWERS[status]
         counts[said] += 1
-        counts["differ by the mask"] += any("its mask is" in line for line in told)
+        counts["told of an empty mask"] += any("its mask is" in line for line in told)
         counts["root"] += caller.uid == 0
         counts["opened"] += by_opening is not None
         if said != by_access or by_opening not in (None, said):
@@ -195,7 +195,7 @@ def main():
         print(f"this needs root, and lists in {PLACE}\n0 questions, 0 differ")
         return 0 if given.if_possible else 1
     dice, wrong, left = Dice(given.seed), 0, given.questions
-    counts = dict.fromkeys(["granted", "denied", "unread", "opened", "root", "differ by the mask"], 0)
+    counts = dict.fromkeys(["granted", "denied", "unread", "opened", "root", "told of an empty mask"], 0)
     os.umask(0)
     while left > 0:
         top = tempfile.mkdtemp(dir=PLACE)
