@@ -100,7 +100,7 @@ def build(needs, teller):
 
 def main():
     if len(sys.argv) > 1:
-        raise console.Stop("--prove takes no other word than trace")
+        raise console.Stop("--prove takes no other word than trace or may")
     kit = sources.Kit()
     kit.wanted()
     sources.make_folder()

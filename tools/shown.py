@@ -33,10 +33,11 @@ def rows():
 
 
 def blocks(text):
-    """The indented blocks of a text, each with the number of its first line."""
-    block, begun = [], 0
+    """The indented blocks of a text, each with the number of its first line; code between fences is none."""
+    block, begun, is_fenced = [], 0, False
     for number, line in enumerate(text.split(b"\n") + [b""], 1):
-        if line.startswith(b"    "):
+        is_fenced ^= line.startswith(b"```")
+        if line.startswith(b"    ") and not is_fenced:
             begun = begun if block else number
             block.append(line[4:])
         elif block:

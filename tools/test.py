@@ -74,7 +74,7 @@ def tried(crate):
     return {"words": TRY, "folder": os.path.join("crates", crate)}
 
 
-PROGRAM, TRACE = "the program", "the program of trace"
+PROGRAM, TRACE, MAY = "the program", "the program of trace", "the program of may"
 # What takes longest stands first, but for what tells at once that something is wrong.
 PARTS = (
     Part("what README shows", tool("tools/shown.py")),
@@ -87,11 +87,14 @@ PARTS = (
     Part("tests of libraries", **tried("library_tests")),
     Part(PROGRAM, tool("tools/choose.py")),
     Part(TRACE, tool("tools/choose.py"), program="trace"),
+    Part(MAY, tool("tools/choose.py"), program="may"),
     Part("tests of commands", **tried("command_tests")),
     Part("rows", tool("tests/checked-build.py"), [PROGRAM]),
     Part("examples of FAULTS", tool("tests/explained.py"), [PROGRAM, TRACE]),
     Part("what explain says of damaged scripts", tool("tests/damaged-scripts.py", "--cases", "1000"), [PROGRAM]),
     Part("command lines of documents", tool("tests/typed.py"), [PROGRAM, TRACE]),
+    Part("answers of may", tool("tests/may.py"), [MAY]),
+    Part("may against the kernel", tool("tests/may-against-the-kernel.py", "--questions", "300", "--if-possible"), [MAY]),
     Part("what votes tells", tool("tests/votes.py"), [PROGRAM, TRACE]),
     Part("pictures", tool("tests/drawn.py"), [TRACE]),
     Part("random scripts", tool("tools/compare.py", "--seeds", "200"), [PROGRAM, TRACE]),

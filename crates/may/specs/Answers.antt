@@ -1,0 +1,66 @@
+-- What is printed: a line for each question, the answer of the access check; or the line of the first fault alone.
+use Rattle.std.specs.Prelude.{◌≡◌, ℕ, ◌+◌, List, [], ◌∷◌, ◌++◌, codes, Vec, Result, Ok, Err}
+use Rattle.std.specs.declared.alloc.Global.{Global}
+use Rattle.std.specs.Str.Lines.{lines}
+use Rattle.acl_core.specs.Checks.{check_of}
+use Rattle.acl_core.specs.declared.check.Check.{Check}
+use Rattle.acl_core.specs.declared.check.Check.TheVariants.{Granted, Denied}
+use Rattle.acl_core.specs.declared.check.Decider.{Decider}
+use Rattle.acl_core.specs.declared.check.Decider.TheVariants as decider
+use Rattle.acl_core.specs.declared.entry.Tag.TheVariants as tag
+use Rattle.acl_core.specs.declared.perms.Perms.{Perms}
+use Rattle.acl_text.specs.Writing.{permission_text, tag_text}
+use Rattle.may.specs.declared.fault.InputError.{InputError}
+use Rattle.may.specs.declared.fault.InputError.TheVariants as input
+use Rattle.may.specs.declared.fault.LineFault.{LineFault}
+use Rattle.may.specs.declared.question.Question.{Question}
+use Rattle.may.specs.Faults.{fault_line, line_feed}
+use Rattle.may.specs.Questions.{question_in}
+
+-- the answer of the access check
+abbrev pub verdict : Question → Check
+verdict question = check_of question.list question.owner question.group question.caller question.wanted
+
+-- what decided a denial: an entry, by whom it is about. The check names no other rule
+abbrev pub decider_text : Decider → List ℕ
+decider_text decider.UserObj = tag_text tag.UserObj
+decider_text (decider.User id) = tag_text (tag.User id)
+decider_text decider.GroupObj = tag_text tag.GroupObj
+decider_text (decider.Group id) = tag_text (tag.Group id)
+decider_text decider.Mask = tag_text tag.Mask
+decider_text decider.Other = tag_text tag.Other
+decider_text decider.OwnerRule = codes "owner"
+
+abbrev pub verdict_text : Perms → Check → List ℕ
+verdict_text wanted Granted = codes "granted"
+verdict_text wanted (Denied decider) = codes "denied " ++ permission_text wanted ++ codes " by " ++ decider_text decider
+
+-- the line of a question that was answered
+abbrev pub answer_line : Question → List ℕ
+answer_line question = verdict_text question.wanted (verdict question) ++ line_feed
+
+-- all that is written
+pub data Output : Type 0 where
+  Done : List ℕ → Output
+  Faulty : List ℕ → Output
+
+-- what comes after the answer to a line; or the line of its fault alone
+abbrev pub answered_or : ℕ → Result Question LineFault → (List ℕ → Output) → Output
+answered_or number (Ok question) next = next (answer_line question)
+answered_or number (Err fault) next = Faulty (fault_line (record { line = number; fault = fault }))
+
+-- the answers to lines, numbered from a number on, after those that were given: each line's own, or the first fault alone
+abbrev pub answers_from : ℕ → List ℕ → List (List ℕ) → Output
+answers_from number answered [] = Done answered
+answers_from number answered (line ∷ more) =
+    answered_or number (question_in line) (λ answer. answers_from (number + 1) (answered ++ answer) more)
+
+-- what the program writes for its input
+abbrev pub output_of : List ℕ → Output
+output_of text = answers_from 1 [] (lines text)
+
+-- what the program has gathered of an output, or why it stopped
+abbrev pub Comes : Result (Vec ℕ Global) InputError → Output → Type 0
+Comes (Ok text) output = output ≡ Done text.items
+Comes (Err (input.Faulty fault)) output = output ≡ Faulty (fault_line fault)
+Comes (Err input.Memory) output = Unit {0}

@@ -1,0 +1,73 @@
+-- The faults of a line, their printed codes, and what a reading by the program comes to.
+use Rattle.std.specs.Prelude.{◌≡◌, ℕ, List, [], ◌∷◌, ◌++◌, codes, decimal, Vec, Result, Ok, Err}
+use Rattle.std.specs.declared.alloc.Global.{Global}
+use Rattle.acl_core.specs.declared.fault.AclFault.{AclFault}
+use Rattle.acl_core.specs.declared.fault.AclFault.TheVariants.{NoUserObj, NoGroupObj, NoOther, TwiceSingle, UserTwice, GroupTwice, MaskMissing, TooMany}
+use Rattle.acl_text.specs.declared.read.TextFault.{TextFault}
+use Rattle.acl_text.specs.declared.read.TextFault.TheVariants as text
+use Rattle.may.specs.declared.fault.InputError.{InputError}
+use Rattle.may.specs.declared.fault.InputError.TheVariants as input
+use Rattle.may.specs.declared.fault.InputFault.{InputFault}
+use Rattle.may.specs.declared.fault.LineError.{LineError}
+use Rattle.may.specs.declared.fault.LineError.TheVariants.{Faulty, Memory}
+use Rattle.may.specs.declared.fault.LineFault.{LineFault}
+use Rattle.may.specs.declared.fault.LineFault.TheVariants as line
+
+-- the codes of what can be wrong with a list
+abbrev pub list_code : AclFault → List ℕ
+list_code NoUserObj = codes "A1"
+list_code NoGroupObj = codes "A2"
+list_code NoOther = codes "A3"
+list_code TwiceSingle = codes "A4"
+list_code UserTwice = codes "A5"
+list_code GroupTwice = codes "A6"
+list_code MaskMissing = codes "A7"
+list_code TooMany = codes "A8"
+
+-- a code with the number of an item
+abbrev pub item_code : List ℕ → ℕ → List ℕ
+item_code code item = code ++ codes " item " ++ decimal item
+
+-- the codes of what can be wrong with a list's text; want of memory is no fault and has none
+abbrev pub text_code : TextFault → List ℕ
+text_code (text.Syntax item) = item_code (codes "A9") item
+text_code (text.UnknownName item) = item_code (codes "A10") item
+text_code (text.NumberTooBig item) = item_code (codes "A11") item
+text_code (text.Invalid fault) = list_code fault
+text_code (text.DefaultInvalid fault) = codes "A13 " ++ list_code fault
+text_code text.Memory = []
+
+-- the codes of what can be wrong with a line
+abbrev pub code_of : LineFault → List ℕ
+code_of line.Form = codes "S1"
+code_of (line.List fault) = text_code fault
+
+abbrev pub line_feed : List ℕ
+line_feed = 10 ∷ []
+
+-- the line that a fault prints
+abbrev pub fault_line : InputFault → List ℕ
+fault_line fault = codes "fault line " ++ decimal fault.line ++ codes ": " ++ code_of fault.fault ++ line_feed
+
+-- ---- what a reading by the program comes to: what is said, or the fault; memory may always run out
+
+abbrev pub Gives : {A : Type 0} → Result A LineError → Result A LineFault → Type 0
+Gives (Ok value) reading = reading ≡ Ok value
+Gives (Err (Faulty fault)) reading = reading ≡ Err fault
+Gives (Err Memory) reading = Unit {0}
+
+-- the same of numbers that are gathered
+abbrev pub Gathers : Result (Vec ℕ Global) LineError → Result (List ℕ) LineFault → Type 0
+Gathers (Ok numbers) reading = reading ≡ Ok numbers.items
+Gathers (Err (Faulty fault)) reading = reading ≡ Err fault
+Gathers (Err Memory) reading = Unit {0}
+
+-- a fault of a list's text as one of its line
+abbrev pub line_error_of : TextFault → LineError
+line_error_of text.Memory = Memory
+line_error_of fault = Faulty (line.List fault)
+
+-- the error of a line, by the line's number
+abbrev pub error_at : ℕ → LineError → InputError
+error_at number (Faulty fault) = input.Faulty (record { line = number; fault = fault })
+error_at number Memory = input.Memory

@@ -1,0 +1,5 @@
+pub mod Words
+pub mod Questions
+pub mod Faults
+pub mod Answers
+pub mod Runs
