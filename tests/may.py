@@ -72,7 +72,8 @@ def plays_rows(tests):
 def asks(tests, words, status, last):
     """The command, its status, and what its last line has."""
     done = subprocess.run([sys.executable, os.path.join(TOP, "tools", "may.py"), *words], stdin=subprocess.DEVNULL, stdout=subprocess.PIPE, stderr=subprocess.PIPE, text=True)
-    lines = (done.stdout + done.stderr).splitlines()
+    # a checked build says so each time
+    lines = [line for line in (done.stdout + done.stderr).splitlines() if not line.startswith("suites: checked build")]
     tests.holds(done.returncode == status and last in lines[-1], f"may {words}: {done.returncode}, and not {status} with {last!r}: {lines}")
 
 
