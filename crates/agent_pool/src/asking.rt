@@ -1,15 +1,18 @@
 //! What comes of asking a server.
 
-ghost use Rattle.std.specs.Prelude.{◌≡◌, ◌+◌, ◌-◌, ◌≤◌, ◌++◌, ◌∷◌, [], length, true, Ok, Err};
+ghost use Rattle.std.specs.Prelude.{◌≡◌, ◌+◌, ◌-◌, ◌≤◌, ◌++◌, ◌∷◌, [], length, true, Ok, Err, IfOk, IfErr, OnOk, OnErr, IsTrue};
 ghost use Rattle.std.specs.Vec.{vec_len, vec_capacity};
+ghost use Rattle.txn_core.specs.Agents as agents;
 ghost use Rattle.txn_core.specs.Agents.{next_of};
 ghost use Rattle.txn_core.specs.Standing.{FitsAsked};
+ghost use Rattle.txn_core.specs.Wanting.{by_taking};
 ghost use Rattle.agent_pool.specs.code.Steps.{Hears, told_by};
 
 use run_certify::Entry;
 use run_core::EndedJob;
 use server_lock::{Answer, Miss};
-use txn_core::{Agent, Response};
+use std::alloc::AllocError;
+use txn_core::{Agent, Ending, Response};
 
 /// Where a job ended: the count of its agent's jobs before it, and the place of its end in the transcript.
 #[derive(Clone, Copy)]
@@ -75,7 +78,7 @@ pub(crate) fn hear(
     let count = agent.count().saturating_sub(1);
     let Told { entry, response } = told;
     entries.push_reserved(entry);
-    let Ok(ending) = agent.take(&response) else {
+    let Ok(ending) = take(agent, &response) else {
         return Came::Lacked;
     };
     let Some(ending) = ending else {
@@ -90,4 +93,17 @@ pub(crate) fn hear(
         ending,
     }));
     Came::Ended(Ran { count, at })
+}
+
+/// An agent takes what came of what it asks next: the ending of its job, where that is at its end.
+fn take(agent: &mut Agent, response: &Response) -> Result<Option<Ending>, AllocError>
+    requires { FitsAsked (next_of agent.old.fixed agent.old.state) response.now }
+    ensures ok { IfOk result (λ ending. ending ≡ (agents.take agent.old.fixed agent.old.state response.now).ending) }
+    ensures new { OnOk result (agent.new ≡ record agent.old { state = (agents.take agent.old.fixed agent.old.state response.now).agent }) }
+    ensures err { OnErr result (agent.new ≡ agent.old) }
+    ensures memory { IfErr result (λ _. IsTrue (by_taking (next_of agent.old.fixed agent.old.state) response.now)) }
+{
+    let mut ending = None;
+    agent.take(response.as_result(), &mut ending)?;
+    Ok(ending)
 }

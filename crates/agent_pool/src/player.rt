@@ -151,7 +151,8 @@ fn asked_next(agent: &Agent, servers: &Servers) -> Result<Option<(u8, Request)>,
         × (agents.next_of agent.now.fixed agent.now.state ≡ Some asked))) }
     ensures none { result ≡ Ok None → AsksNobody servers.now.servers (agents.next_of agent.now.fixed agent.now.state) }
 {
-    let Some((server, request)) = agent.next()? else {
+    let mut request = Request::Locks;
+    let Some(server) = agent.next(&mut request)? else {
         return Ok(None);
     };
     if usize::from(server) >= servers.settings().servers() {

@@ -13,7 +13,7 @@ use rep_core::{Lack, Reply, Request, Stamped};
 use std::alloc::{AllocError, Global};
 use std::marker::Model;
 use suite_prefix::Settings;
-use txn_core::{Agent, Ending, Job, Response};
+use txn_core::{Agent, Ending, Job};
 
 /// An agent, with the last stamp that it was told, and how many steps its job has taken.
 #[derive(Drop)]
@@ -74,7 +74,7 @@ impl Seat {
         ensures err { OnErr result (request.new ≡ request.old) }
         ensures memory { IfErr result (λ _. IsTrue (wanting.by_asking (agents.next_of self.now.fixed self.now.actor.agent))) }
     {
-        self.agent.ask(request)
+        self.agent.next(request)
     }
 
     /// Begins a job.
@@ -112,7 +112,7 @@ impl Seat {
     {
         let count = self.agent.count().saturating_sub(1);
         let mut ending = None;
-        self.agent.hear(server, &reply.value, &mut ending)?;
+        self.agent.take(Ok(&reply.value), &mut ending)?;
         self.stamp = reply.stamp;
         self.move_on(number, count, ending, ended);
         Ok(())
@@ -126,7 +126,8 @@ impl Seat {
         ensures state { self.new ≡ seats.after_response self.old self.old.actor.stamp (Lacked lack) }
     {
         let count = self.agent.count().saturating_sub(1);
-        let Ok(ending) = self.agent.take(&Response::Lacked(lack)) else {
+        let mut ending = None;
+        let Ok(()) = self.agent.take(Err(lack), &mut ending) else {
             unreachable!();
         };
         self.move_on(number, count, ending, ended);

@@ -1,18 +1,16 @@
 //! Short talks of a collector with servers, and each law called once. What comes next is told in words:
-//! what a server is asked; the prefix, its content's version, the members and the first source of a
-//! Current; or the votes of a Short, with the first Busy.
+//! what a server is asked; the prefix, its content's version and the members of a Current, with the first source
+//! that its last quorum before a widening gave; or the votes of a Short, with the first Busy.
 
 mod talks;
-
-ghost use Rattle.std.specs.Prelude.{◌<◌};
 
 use crate::fixtures::{self, had, lists, number, same};
 use rep_core::{Reply, Request};
 use std::alloc::AllocError;
 use std::process::Abort;
 use suite_collect::{
-    Collect, Hearing, Next, Told, asks_are_few, current_is_a_quorum, nobody_is_asked_twice,
-    prefix_and_version_stay, short_has_none_left, widened_is_a_write_quorum,
+    Collect, Hearing, Next, Told, asks_are_few, current_has_a_source, current_is_a_quorum,
+    nobody_is_asked_twice, prefix_and_version_stay, short_has_none_left, widened_is_a_write_quorum,
 };
 use suite_prefix::{LockMode, Prefix, PrefixKind, SharedPrefix};
 use talks::TALKS;
@@ -54,9 +52,21 @@ fn prefix(rt: &(impl Abort + AllocGlobal), pver: u64, place: &str) -> SharedPref
     SharedPrefix::new(rt.alloc(), prefix).expect(rt, "memory")
 }
 
-/// A collector of suite 9 for transaction 7, from version 0 with these votes.
-fn collector(rt: &(impl Abort + AllocGlobal), mode: LockMode, place: &str) -> Collect {
-    Collect::new(7, 9, mode, prefix(rt, 0, place))
+/// A collector, and the first source that its last quorum before a widening gave.
+#[derive(Drop)]
+struct Talk {
+    collect: Collect,
+    source: Option<u8>,
+    is_widened: bool,
+}
+
+/// A talk with a collector of suite 9 for transaction 7, from version 0 with these votes.
+fn talk_on(rt: &(impl Abort + AllocGlobal), mode: LockMode, place: &str) -> Talk {
+    Talk {
+        collect: Collect::new(7, 9, mode, prefix(rt, 0, place)),
+        source: None,
+        is_widened: false,
+    }
 }
 
 /// A reply as text: `held`, the version of the prefix, its votes, and the content's version; `busy` and a transaction;
@@ -81,49 +91,52 @@ fn reply(rt: &(impl Abort + AllocGlobal), text: &str) -> Reply {
     }
 }
 
-fn hear(rt: &impl Abort, collect: &mut Collect, reply: &Reply) -> Hearing {
-    collect.hear(reply).ok().expect(rt, "memory")
+fn take(rt: &impl Abort, collect: &mut Collect, reply: &Reply) -> Hearing {
+    collect.take(reply).ok().expect(rt, "memory")
 }
 
 /// What a reply to what is asked next comes to. A lock that gives a quorum is told, too.
-fn hears(rt: &impl Abort, collect: &mut Collect, reply: &Reply) -> &'static str {
-    match hear(rt, collect, reply) {
+fn takes(rt: &impl Abort, talk: &mut Talk, reply: &Reply) -> &'static str {
+    match take(rt, &mut talk.collect, reply) {
         Hearing::Lost => "lost",
         Hearing::Asks => "asks",
         Hearing::Short => "short",
-        Hearing::Quorum => {
-            let last = told_by(rt, collect, reply);
-            collect.tell(last);
+        Hearing::Quorum(last) => {
+            tell(rt, talk, last);
             "quorum"
         }
     }
 }
 
-fn heard(rt: &(impl Abort + AllocGlobal), collect: &mut Collect, text: &str) -> &'static str {
-    hears(rt, collect, &reply(rt, text))
+/// It is told a lock that gives a quorum.
+fn tell(rt: &impl Abort, talk: &mut Talk, last: Told) {
+    assert!(rt; usize::from(last.server) < MAX_SERVERS);
+    if !talk.is_widened {
+        talk.source = talk.collect.quorum_after(&last).source;
+    }
+    talk.collect.tell(last);
 }
 
-/// What is told by a reply that answers what was asked.
-fn told_by(rt: &impl Abort, collect: &Collect, reply: &Reply) -> Told
-    ensures { result.server < MAX_SERVERS }
-{
-    let told = collect.told_by(reply).ok().expect(rt, "memory");
-    told.expect(rt, "an answer")
+fn taken(rt: &(impl Abort + AllocGlobal), talk: &mut Talk, text: &str) -> &'static str {
+    takes(rt, talk, &reply(rt, text))
 }
 
 /// What is done with a collector: it is raised, widened to votes, or told a reply.
-fn act(rt: &(impl Abort + AllocGlobal), collect: &mut Collect, text: &str) {
+fn act(rt: &(impl Abort + AllocGlobal), talk: &mut Talk, text: &str) {
     match text.split_once(' ') {
-        None if text == "raise" => collect.raise(),
-        Some(("widen", place)) => collect.widen(&votes(rt, place)),
-        _ => goes_on(rt, collect, text),
+        None if text == "raise" => talk.collect.raise(),
+        Some(("widen", place)) => {
+            talk.collect.widen(&votes(rt, place));
+            talk.is_widened = true;
+        }
+        _ => goes_on(rt, talk, text),
     }
 }
 
 /// It is told a reply that answers what it asked.
-fn goes_on(rt: &(impl Abort + AllocGlobal), collect: &mut Collect, text: &str) {
-    let heard = heard(rt, collect, text);
-    assert!(rt; heard != "lost", "{text}");
+fn goes_on(rt: &(impl Abort + AllocGlobal), talk: &mut Talk, text: &str) {
+    let came = taken(rt, talk, text);
+    assert!(rt; came != "lost", "{text}");
 }
 
 /// What is asked, in words: of a poll the mode alone.
@@ -164,26 +177,26 @@ fn next_words(
     }
 }
 
-fn words(rt: &(impl Abort + AllocGlobal), collect: &Collect) -> String {
-    had(rt, next_words(rt, &collect.next(), collect.source()))
+fn words(rt: &(impl Abort + AllocGlobal), talk: &Talk) -> String {
+    had(rt, next_words(rt, &talk.collect.next(), talk.source))
 }
 
-fn comes(rt: &(impl Abort + AllocGlobal), collect: &Collect, want: &str, about: &str) {
-    same(rt, &words(rt, collect), want, about);
+fn comes(rt: &(impl Abort + AllocGlobal), talk: &Talk, want: &str, about: &str) {
+    same(rt, &words(rt, talk), want, about);
 }
 
 /// A talk, line by line: what is done, and what comes next.
-fn talk(rt: &(impl Abort + AllocGlobal), mode: LockMode, text: &str) {
-    let mut collect = collector(rt, mode, "here");
+fn play(rt: &(impl Abort + AllocGlobal), mode: LockMode, text: &str) {
+    let mut talk = talk_on(rt, mode, "here");
     for line in text.lines().skip(1) {
-        goes(rt, &mut collect, line);
+        goes(rt, &mut talk, line);
     }
 }
 
-fn goes(rt: &(impl Abort + AllocGlobal), collect: &mut Collect, line: &str) {
+fn goes(rt: &(impl Abort + AllocGlobal), talk: &mut Talk, line: &str) {
     let (what, want) = line.split_once(" -> ").expect(rt, "a line");
-    act(rt, collect, what);
-    comes(rt, collect, want, line);
+    act(rt, talk, what);
+    comes(rt, talk, want, line);
 }
 
 // ---- talks
@@ -237,11 +250,12 @@ widen here -> prefix 1 content 2 of [0, 1] from Some(1)";
 #[test]
 fn a_quorum_is_had_under_the_newest_prefix(rt: HostRuntime) {
     current_is_a_quorum();
+    current_has_a_source();
     short_has_none_left();
-    talk(&rt, LockMode::Shared, ONE_DOWN);
-    talk(&rt, LockMode::Shared, TWO_BUSY);
-    talk(&rt, LockMode::Shared, ALL_DOWN);
-    talk(&rt, LockMode::Shared, MOVED);
+    play(&rt, LockMode::Shared, ONE_DOWN);
+    play(&rt, LockMode::Shared, TWO_BUSY);
+    play(&rt, LockMode::Shared, ALL_DOWN);
+    play(&rt, LockMode::Shared, MOVED);
 }
 
 #[test]
@@ -250,9 +264,9 @@ fn locks_are_raised_and_widened(rt: HostRuntime) {
     prefix_and_version_stay();
     nobody_is_asked_twice();
     asks_are_few();
-    talk(&rt, LockMode::Shared, WEAK);
-    talk(&rt, LockMode::Shared, RAISED);
-    talk(&rt, LockMode::Exclusive, WIDENED);
+    play(&rt, LockMode::Shared, WEAK);
+    play(&rt, LockMode::Shared, RAISED);
+    play(&rt, LockMode::Exclusive, WIDENED);
 }
 
 /// An act of the table of talks.
@@ -268,25 +282,25 @@ fn act_of(letter: u8) -> &'static str {
 }
 
 /// Plays a row of the table of talks.
-fn play(rt: &(impl Abort + AllocGlobal), row: &str) {
+fn play_row(rt: &(impl Abort + AllocGlobal), row: &str) {
     let (acts, want) = row.split_once(' ').expect(rt, "a row");
-    let mut collect = collector(rt, LockMode::Shared, "pair");
+    let mut talk = talk_on(rt, LockMode::Shared, "pair");
     for letter in acts.as_bytes() {
-        act(rt, &mut collect, act_of(*letter));
+        act(rt, &mut talk, act_of(*letter));
     }
-    comes(rt, &collect, want, acts);
+    comes(rt, &talk, want, acts);
 }
 
 #[test]
 fn all_short_talks_go_as_another_program_says(rt: HostRuntime) {
     for row in TALKS.lines() {
-        play(&rt, row);
+        play_row(&rt, row);
     }
 }
 
 /// It is told a reply, which comes to this.
-fn said(rt: &(impl Abort + AllocGlobal), collect: &mut Collect, text: &str, want: &str) {
-    same(rt, heard(rt, collect, text), want, text);
+fn said(rt: &(impl Abort + AllocGlobal), talk: &mut Talk, text: &str, want: &str) {
+    same(rt, taken(rt, talk, text), want, text);
 }
 
 /// It holds the lock of server 1 to read, and not to write.
@@ -297,46 +311,45 @@ fn reads_alone(rt: &impl Abort, collect: &Collect) {
 
 #[test]
 fn only_some_replies_are_gone_on_with(rt: HostRuntime) {
-    let mut collect = collector(&rt, LockMode::Shared, "uneven");
-    said(&rt, &mut collect, "lost", "lost");
-    said(&rt, &mut collect, "held 1 uneven 1", "quorum");
-    reads_alone(&rt, &collect);
-    said(&rt, &mut collect, "down", "lost");
-    collect.raise();
-    said(&rt, &mut collect, "down", "lost");
+    let mut talk = talk_on(&rt, LockMode::Shared, "uneven");
+    said(&rt, &mut talk, "lost", "lost");
+    said(&rt, &mut talk, "held 1 uneven 1", "quorum");
+    reads_alone(&rt, &talk.collect);
+    said(&rt, &mut talk, "down", "lost");
+    talk.collect.raise();
+    said(&rt, &mut talk, "down", "lost");
 }
 
-/// What is told by a lock that gives a quorum.
-fn quorum_of(rt: &impl Abort, collect: &mut Collect, reply: &Reply) -> Told
-    ensures { result.server < MAX_SERVERS }
-{
-    let hearing = hear(rt, collect, reply);
-    assert!(rt; matches!(hearing, Hearing::Quorum));
-    told_by(rt, collect, reply)
+/// What a lock tells that gives a quorum.
+fn quorum_of(rt: &impl Abort, collect: &mut Collect, reply: &Reply) -> Told {
+    let last = match take(rt, collect, reply) {
+        Hearing::Quorum(last) => Some(last),
+        _ => None,
+    };
+    last.expect(rt, "a quorum")
 }
 
 /// What a quorum gives before it is told.
-fn gives(rt: &impl Abort, collect: &Collect, last: &Told)
-    requires { last.now.server < MAX_SERVERS }
-{
+fn gives(rt: &impl Abort, collect: &Collect, last: &Told) {
+    assert!(rt; usize::from(last.server) < MAX_SERVERS);
     let quorum = collect.quorum_after(last);
     assert!(rt; quorum.prefix.pver == 2 && quorum.dver == 2 && quorum.source == Some(1));
 }
 
 /// A quorum by this reply is known before it is told.
-fn known(rt: &(impl Abort + AllocGlobal), collect: &mut Collect, reply: &Reply) {
-    let last = quorum_of(rt, collect, reply);
-    comes(rt, collect, "Shared at 1", "a quorum that is not told");
-    gives(rt, collect, &last);
-    collect.tell(last);
+fn known(rt: &(impl Abort + AllocGlobal), talk: &mut Talk, reply: &Reply) {
+    let last = quorum_of(rt, &mut talk.collect, reply);
+    comes(rt, talk, "Shared at 1", "a quorum that is not told");
+    gives(rt, &talk.collect, &last);
+    tell(rt, talk, last);
 }
 
 /// What a quorum gives is the same before it is told and after it.
 #[test]
 fn a_quorum_is_known_before_it_is_told(rt: HostRuntime) {
-    let mut collect = collector(&rt, LockMode::Shared, "here");
-    said(&rt, &mut collect, "held 1 here 1", "asks");
-    known(&rt, &mut collect, &reply(&rt, "held 2 here 2"));
+    let mut talk = talk_on(&rt, LockMode::Shared, "here");
+    said(&rt, &mut talk, "held 1 here 1", "asks");
+    known(&rt, &mut talk, &reply(&rt, "held 2 here 2"));
     let wanted = "prefix 2 content 2 of [0, 1] from Some(1)";
-    comes(&rt, &collect, wanted, "a quorum that is told");
+    comes(&rt, &talk, wanted, "a quorum that is told");
 }

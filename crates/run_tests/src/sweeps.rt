@@ -17,11 +17,9 @@ use vote_core::ServerSet;
 fn asked(rt: &impl Abort, agent: &Agent) -> (u8, Request)
     ensures { next_of agent.now.fixed agent.now.state ≡ Some result }
 {
-    agent
-        .next()
-        .ok()
-        .expect(rt, "memory")
-        .expect(rt, "a request")
+    let mut request = Request::Locks;
+    let server = agent.next(&mut request).ok().expect(rt, "memory");
+    (server.expect(rt, "a request"), request)
 }
 
 /// What is asked: of which server, of which transaction, and of which suite.
@@ -79,7 +77,9 @@ fn fitting(rt: &impl Abort, request: &Request, reply: Reply) -> Response
 fn told(rt: &impl Abort, agent: &mut Agent, response: &Response) -> Option<Ending>
     requires { FitsAsked (next_of agent.old.fixed agent.old.state) response.now }
 {
-    had(rt, agent.take(response))
+    let mut ended = None;
+    had(rt, agent.take(response.as_result(), &mut ended));
+    ended
 }
 
 /// The agent asks this, and is told that.

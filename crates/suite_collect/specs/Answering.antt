@@ -1,5 +1,6 @@
 -- What a `Next` tells of a collector, and what comes of a reply.
-use Rattle.std.specs.Prelude.{◌≡◌, ℕ, ◌==◌, List, Bool, true, false, find, Option, Some, None}
+use Rattle.std.specs.Prelude.{◌≡◌, ℕ, ◌<◌, ◌==◌, List, Bool, true, false, find, Option, Some, None}
+use Rattle.vote_core.specs.declared.TheConstants.{MAX_SERVERS}
 use Rattle.suite_prefix.specs.declared.copies.Prefix.{Prefix}
 use Rattle.rep_core.specs.declared.reply.Reply.{Reply}
 use Rattle.rep_core.specs.declared.reply.Reply.TheVariants as reply
@@ -59,9 +60,9 @@ pub record IsTold (before : Collecting) (reply : Reply) (after : Collecting) : T
   pub new : after ≡ record before { collector = tell last before.collector }
 
 -- or with what it says there is a quorum, and the collector is as it was
-pub record Completes (before : Collecting) (reply : Reply) (after : Collecting) : Type 0 where
-  pub last : Told
+pub record Completes (last : Told) (before : Collecting) (reply : Reply) (after : Collecting) : Type 0 where
   pub told : told_by (next before.collector) reply ≡ Some last
+  pub known : last.server < MAX_SERVERS
   pub lock : shows_lock reply ≡ true
   pub quorum : has_quorum (next (tell last before.collector)) ≡ true
   pub same : after ≡ before
@@ -70,7 +71,7 @@ abbrev pub Hears : Hearing → Collecting → Reply → Collecting → Type 0
 Hears hearing.Lost before reply after = (told_by (next before.collector) reply ≡ None) × (after ≡ before)
 Hears hearing.Asks before reply after = IsTold before reply after × IsAsk (next after.collector)
 Hears hearing.Short before reply after = IsTold before reply after × IsShort (next after.collector)
-Hears hearing.Quorum before reply after = Completes before reply after
+Hears (hearing.Quorum last) before reply after = Completes last before reply after
 
 -- what a quorum gives, where there is one
 pub record IsQuorumOf (quorum : Quorum) (c : Collector) : Type 0 where

@@ -2,6 +2,7 @@
 use Rattle.std.specs.Prelude.{◌≡◌, ℕ, ◌+◌, ◌*◌, ◌<◌, ◌≤◌, ◌==◌, ◌⊎◌, Bool, true, false, List, [], ◌∷◌, length, Option, Some, None, IsSome, Contains}
 use Rattle.std.specs.List.{list_any, list_all}
 use Rattle.vote_core.specs.Quorums.{Representative, Configuration, votes_in, votes_at}
+use Rattle.vote_core.specs.Validity.{IsValid}
 use Rattle.suite_prefix.specs.declared.copies.Prefix.{Prefix}
 use Rattle.suite_prefix.specs.declared.lock_mode.LockMode.{LockMode}
 use Rattle.suite_prefix.specs.declared.lock_mode.LockMode.TheVariants.{Exclusive}
@@ -41,9 +42,12 @@ pub record IsCurrent (c : Collector) (prefix : Prefix) (dver : ℕ) (members : L
 abbrev pub CurrentIsAQuorum : Type 0
 CurrentIsAQuorum = (c : Collector) (prefix : Prefix) (dver : ℕ) (members : List ℕ) → c.widening ≡ None → next c ≡ Current prefix dver members → IsCurrent c prefix dver members
 
--- one of them showed that version, so that there is a source of the content
+-- one of them showed that version, so that there is a source of the content; the votes of what is collected are always valid
 abbrev pub HasSource : Collector → Type 0
 HasSource c = (prefix : Prefix) (dver : ℕ) (members : List ℕ) → c.widening ≡ None → next c ≡ Current prefix dver members → IsSome (source c)
+
+abbrev pub CurrentHasASource : Type 0
+CurrentHasASource = (c : Collector) → IsValid (newest c.start c.told).votes → HasSource c
 
 -- After it: they have a write quorum's votes of those that were given, and each has a vote and holds an exclusive lock.
 pub record IsWidened (c : Collector) (votes : Configuration) (members : List ℕ) : Type 0 where

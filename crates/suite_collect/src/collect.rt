@@ -9,7 +9,6 @@ ghost use Rattle.suite_collect.specs.code.Adding.{IsAdded};
 ghost use Rattle.suite_collect.specs.code.Dues.{IsKnown, tally_in};
 ghost use Rattle.suite_collect.specs.code.Sayings.{said_of, told_of};
 ghost use Rattle.suite_collect.specs.Collecting as spec;
-ghost use Rattle.suite_collect.specs.Laws.{HasSource};
 ghost use Rattle.suite_collect.specs.Telling as telling;
 ghost use Rattle.suite_collect.specs.Telling.{is_held};
 
@@ -155,9 +154,9 @@ impl Collect {
         }
     }
 
-    /// Hears the reply to what was asked next. It is told what the reply says (`told_by`), but for a lock with
-    /// which there is a quorum: nothing changes yet. Only a lock that is held may want memory.
-    pub fn hear(&mut self, reply: &Reply) -> Result<Hearing, AllocError>
+    /// Takes the reply to what was asked next. It is told what the reply says, but for a lock with which there
+    /// is a quorum: nothing changes yet. Only a lock that is held may want memory.
+    pub fn take(&mut self, reply: &Reply) -> Result<Hearing, AllocError>
         ensures ok { IfOk result (λ hearing. Hears hearing self.old reply.now self.new) }
         ensures err { OnErr result (self.new ≡ self.old) }
         ensures memory { IfErr result (λ _. IsTrue (shows_lock reply.now)) }
@@ -167,25 +166,12 @@ impl Collect {
         };
         let tally = self.tally_after(last);
         let hearing = match tally.due {
-            Due::Current => return Ok(Hearing::Quorum),
+            Due::Current => return Ok(Hearing::Quorum(last.keep()?)),
             Due::Ask { .. } => Hearing::Asks,
             Due::Short { .. } => Hearing::Short,
         };
         self.put(last, tally)?;
         Ok(hearing)
-    }
-
-    /// What is told by a reply that answers what was asked; nothing, where the transaction is to end. Only a lock
-    /// that is held may want memory.
-    pub fn told_by(&self, reply: &Reply) -> Result<Option<Told>, AllocError>
-        ensures told { IfOk result (λ one. one ≡ spec.told_by (spec.next self.now.collector) reply.now) }
-        ensures known { IfOk result (λ one. IfSome one (λ one. one.server < MAX_SERVERS)) }
-        ensures memory { IfErr result (λ _. IsTrue (shows_lock reply.now)) }
-    {
-        match self.said_by(reply) {
-            Some(last) => Ok(Some(last.keep()?)),
-            None => Ok(None),
-        }
     }
 
     /// What a reply says that answers what was asked; nothing, where the transaction is to end.
@@ -297,16 +283,6 @@ impl Collect {
         ensures { (server : ℕ) → contains result server ≡ telling.holds mode (spec.all_told self.now.collector) server }
     {
         self.heard().holders(mode)
-    }
-
-    /// The first member, in listed order, that showed the version of the content, before a widening.
-    pub fn source(&self) -> Option<u8>
-        ensures value { result ≡ spec.source self.now.collector }
-        ensures found { HasSource self.now.collector }
-    {
-        let members = self.first_members();
-        let version = self.told.greatest(members.as_slice());
-        self.told.first_showing(version, members.as_slice())
     }
 
     /// What is due once this is told, and the votes that are had then.

@@ -1,9 +1,10 @@
 //! What comes of a reply, and what a quorum gives.
 
+use crate::told::Told;
 use suite_prefix::SharedPrefix;
 
 /// What comes of a reply to what a collector asked.
-#[derive(Clone, Copy)]
+#[derive(Drop)]
 pub enum Hearing {
     /// It does not answer what was asked: a lock is lost, or the server of a lock is down.
     Lost,
@@ -11,8 +12,8 @@ pub enum Hearing {
     Asks,
     /// It was told, and nobody is left to ask.
     Short,
-    /// With it there is a quorum. It is not told yet.
-    Quorum,
+    /// With this there is a quorum. It is not told yet.
+    Quorum(Told),
 }
 
 /// What a quorum gives: the newest prefix, the version of the content, and the first member that showed

@@ -1,12 +1,18 @@
 //! What holds of every collector.
 
-ghost use Rattle.suite_collect.specs.Laws.{AsksAreFew, CurrentIsAQuorum, NobodyIsAskedTwice, PrefixAndVersionStay, ShortHasNoneLeft, WidenedIsAWriteQuorum};
+ghost use Rattle.suite_collect.specs.Laws.{AsksAreFew, CurrentHasASource, CurrentIsAQuorum, NobodyIsAskedTwice, PrefixAndVersionStay, ShortHasNoneLeft, WidenedIsAWriteQuorum};
 
 /// A law: before a widening, a Current is a quorum under the very prefix that it gives, the newest that
 /// was shown or the start, with the greatest version of the content that the quorum's members showed. Each
 /// member has a vote. It does nothing.
 pub fn current_is_a_quorum()
     ensures { CurrentIsAQuorum }
+{}
+
+/// A law: before a widening, some member of a Current showed the version of the content, so that there is a
+/// source of it. It does nothing.
+pub fn current_has_a_source()
+    ensures { CurrentHasASource }
 {}
 
 /// A law: after a widening, a Current is a write quorum of the votes that were given, held exclusively.

@@ -14,6 +14,7 @@ use Rattle.weak_cache.specs.Cache.{Limited}
 use Rattle.std.specs.Prelude.{option_map, IfErr, OnErr}
 use Rattle.std.specs.declared.alloc.AllocError.{AllocError}
 use Rattle.std.proofs.lemmas.Option.{none-some, same_Some}
+use Rattle.suite_collect.specs.declared.told.Told.{Told}
 use Rattle.suite_collect.specs.declared.hearing.Hearing.TheVariants.{Lost, Asks, Short, Quorum as Complete}
 use Rattle.suite_content.specs.declared.content.Content.{Content}
 use Rattle.txn_core.specs.declared.ending.Cause.{Cause}
@@ -32,7 +33,7 @@ use Rattle.txn_core.specs.Doing.{Fixed, TransactionRun, Granted, Phase, Running,
 use Rattle.txn_core.specs.Suites.{ReadPoint, Suite, Suites, suite_of, with_suite}
 use Rattle.txn_core.specs.Transactions.{Step, after_lack, execute, fetched, gather_by, give_up, given_in, keep_content, request_of, widen_all}
 use Rattle.txn_core.specs.code.Goings.{GoesBy, IsStep, IsUntouched, Keeps, fixed_by, given, held, replied, widened}
-use Rattle.txn_core.specs.code.Hearing.{Hearing, HearsAt, IsSettled, SettlesAt, heard_at, on_hearing}
+use Rattle.txn_core.specs.code.Hearing.{CompletesAt, Hearing, HearsAt, IsSettled, IsSound, SettlesAt, heard_at, on_hearing}
 use Rattle.txn_core.specs.code.Learning.{content_kept, learned}
 use Rattle.txn_core.specs.code.Plans.{kept_of, shelved}
 use Rattle.txn_core.specs.code.Reaching.{IsReachedBy, IsReachedIn}
@@ -40,7 +41,7 @@ use Rattle.txn_core.specs.code.Seeing.{changed_at, first_at, settled_with, with_
 use Rattle.txn_core.specs.code.NextPhases.{gather_again}
 use Rattle.txn_core.specs.code.Steps.{Becomes, taken}
 use Rattle.txn_core.specs.code.Unused.{HasUnused}
-use Rattle.txn_core.proofs.InPlace.{at_lost, at_asks, at_short, at_quorum, settles_there, settles_lost}
+use Rattle.txn_core.proofs.InPlace.{at_lost, at_asks, at_short, at_quorum, held_at, settled_at, sound_at, settles_there, settles_lost}
 use Rattle.txn_core.proofs.Reaching.{IsLate, gives_up, goes_gather, goes_unless, late, reached_asks, reached_at, reached_short}
 
 module _ (before mid : TransactionRun) (number server : ℕ) (said : Reply) where
@@ -144,15 +145,18 @@ module _ (resources : Resources) (before mid : TransactionRun) (number server : 
         }
 
   -- with a quorum nothing changes yet
-  module _ (hears : HearsAt found' number Complete before said mid) where
+  module _ (last : Told) (hears : HearsAt found' number (Complete last) before said mid) where
     pub quorum_same : mid ≡ before
-    quorum_same = (at_quorum before mid number said found' hears).1
+    quorum_same = (at_quorum before mid number said last found' hears).1
 
     pub quorum_held : is_held said ≡ true
-    quorum_held = (at_quorum before mid number said found' hears).2
+    quorum_held = held_at last said found' (at_quorum before mid number said last found' hears).0
 
-    pub quorum_settles : IsSettled (heard_at (suite_of mid.suites number) said)
-    quorum_settles = subst (λ (txn_run : TransactionRun). IsSettled (heard_at (suite_of txn_run.suites number) said)) (sym quorum_same) (at_quorum before mid number said found' hears).0
+    pub quorum_sound : IsSound last
+    quorum_sound = sound_at last said found' (at_quorum before mid number said last found' hears).0
+
+    pub quorum_completes : CompletesAt (suite_of mid.suites number) last said
+    quorum_completes = subst (λ (txn_run : TransactionRun). CompletesAt (suite_of txn_run.suites number) last said) (sym quorum_same) (at_quorum before mid number said last found' hears).0
 
     pub quorum_step : (flow : Flow) (after : TransactionRun) (left : Resources) → IsStep resources (held (fixed_by resources) mid resources.cache.entries number server said) flow after left → IsStep resources held' flow after left
     quorum_step flow after left is = subst (λ (txn_run : TransactionRun). IsStep resources (held (fixed_by resources) txn_run resources.cache.entries number server said) flow after left) quorum_same is
@@ -192,9 +196,15 @@ module _ (before mid : TransactionRun) (number server : ℕ) (said : Reply) (cac
   widened_short flow after hears gathers = short_goes before mid number server said cache (λ suite. widens (with_suite number suite before.suites)) flow after hears gathers
 
   -- with a quorum the suites that are left are widened
-  module _ (hears : HearsAt (suite_of before.suites number) number Complete before said mid) where
-    abbrev pub at_mid : IsSettled (heard_at (suite_of before.suites number) said) × (mid ≡ before) × (is_held said ≡ true)
-    at_mid = at_quorum before mid number said (suite_of before.suites number) hears
+  module _ (last : Told) (hears : HearsAt (suite_of before.suites number) number (Complete last) before said mid) where
+    abbrev pub at_mid : CompletesAt (suite_of before.suites number) last said × (mid ≡ before)
+    at_mid = at_quorum before mid number said last (suite_of before.suites number) hears
+
+    pub widened_sound : IsSound last
+    widened_sound = sound_at last said (suite_of before.suites number) at_mid.0
+
+    pub widened_completes : CompletesAt (suite_of mid.suites number) last said
+    widened_completes = subst (λ (txn_run : TransactionRun). CompletesAt (suite_of txn_run.suites number) last said) (sym at_mid.1) at_mid.0
 
     settles_mid : (pending : Option PendingQuorum) → SettlesAt (suite_of mid.suites number) pending said → SettlesAt (suite_of before.suites number) pending said
     settles_mid pending by = subst (λ (txn_run : TransactionRun). SettlesAt (suite_of txn_run.suites number) pending said) at_mid.1 by
@@ -207,7 +217,7 @@ module _ (before mid : TransactionRun) (number server : ℕ) (said : Reply) (cac
         let settled : TransactionRun → TransactionRun = λ txn_run. record txn_run { suites = changed_at (settled_with pending) number (suite_of txn_run.suites number) txn_run.suites } in
         subst Goes'
         (ap (λ (txn_run : TransactionRun). widen_all txn_run.task cache txn_run.suites granted left) (is ∙ ap settled at_mid.1)
-        ∙ settled_step before mid number server said cache pending widens at_mid.0 (settles_mid (Some pending) by)) steps
+        ∙ settled_step before mid number server said cache pending widens (settled_at last said (suite_of before.suites number) at_mid.0) (settles_mid (Some pending) by)) steps
 
     pub widened_unsettled : (flow : Flow) (after : TransactionRun) → SettlesAt (suite_of mid.suites number) None said → GoesBy (give_up mid.task cache mid.suites (cause.Lost server)) flow after cache → GoesBy widened' flow after cache
     widened_unsettled flow after by up =

@@ -11,19 +11,20 @@ use Rattle.sorted_map.specs.SortedMap.{IsOrdered, replace}
 use Rattle.sorted_map.specs.Edits.{replace_same}
 use Rattle.suite_collect.specs.Answering as collector
 use Rattle.suite_collect.specs.Answering.{IsTold, shows_lock}
-use Rattle.suite_collect.specs.Collecting.{Collector, Collecting}
+use Rattle.suite_collect.specs.Collecting.{Collector, Collecting, next}
+use Rattle.suite_collect.specs.declared.told.Told.{Told}
 use Rattle.suite_collect.specs.declared.hearing.Hearing.{Hearing as Heard}
 use Rattle.suite_collect.specs.declared.hearing.Hearing.TheVariants.{Lost, Asks, Short, Quorum}
 use Rattle.txn_core.specs.declared.pending_quorum.PendingQuorum.{PendingQuorum}
 use Rattle.txn_core.specs.Doing.{TransactionRun}
 use Rattle.txn_core.specs.code.Hearing as hearing
-use Rattle.txn_core.specs.code.Hearing.{heard, heard_at, Hears, HearsIn, HearsAt, FallsShort, IsSettled, SettlesAt}
+use Rattle.txn_core.specs.code.Hearing.{heard, heard_at, CompletesAt, Hears, HearsIn, HearsAt, FallsShort, IsSettled, IsSound, SettlesAt}
 use Rattle.txn_core.specs.code.Seeing.{settled_with}
 use Rattle.txn_core.specs.Suites.{Suite, Suites, suite_of, with_suite}
 use Rattle.txn_core.specs.code.Unused.{SawUnused, shows_unused}
 use Rattle.txn_core.proofs.Carried.{set_there}
 use Rattle.txn_core.proofs.Heard.{hears_lost, hears_asks, hears_short, hears_quorum}
-use Rattle.txn_core.proofs.Unused.{saw_more}
+use Rattle.txn_core.proofs.Unused.{saw_more, told_says}
 
 -- a lock that is shown, of versions that are not used up, is held
 pub locks_held : (answer : Reply) → shows_unused answer ≡ true → shows_lock answer ≡ true → is_held answer ≡ true
@@ -48,10 +49,14 @@ module _ (rest : Suite) (before after : Collecting) (answer : Reply) (unused : s
   heard_as (Ok Lost) hears = (hears_lost (with_collector before.collector) answer hears.0, ap (λ (now : Collecting). with_collector now.collector) hears.1)
   heard_as (Ok Asks) hears = hears_asks (with_collector before.collector) answer hears.0.last after.collector hears.0.told (ap (λ (now : Collecting). now.collector) hears.0.new) hears.1
   heard_as (Ok Short) hears = hears_short (with_collector before.collector) answer hears.0.last after.collector hears.0.told (ap (λ (now : Collecting). now.collector) hears.0.new) hears.1
-  heard_as (Ok Quorum) hears = (
-    hears_quorum (with_collector before.collector) answer hears.last hears.told hears.quorum,
+  heard_as (Ok (Quorum last)) hears = (
+    record {
+      settled = hears_quorum (with_collector before.collector) answer last hears.told hears.quorum;
+      told = hears.told;
+      held = locks_held answer unused hears.lock;
+      sound = record { known = hears.known; unused = told_says (next before.collector) answer last hears.told unused };
+    },
     ap (λ (now : Collecting). with_collector now.collector) hears.same,
-    locks_held answer unused hears.lock,
   )
 
   pub heard_unused : (result : Result Heard AllocError) → IfOk result (λ hearing. collector.Hears hearing before answer after) → OnErr result (after ≡ before) → SawUnused before.collector → SawUnused after.collector
@@ -68,7 +73,7 @@ module _ (rest : Suite) (before after : Collecting) (answer : Reply) (unused : s
       of (Ok Lost) hears left = same hears.1
       of (Ok Asks) hears left = told hears.0
       of (Ok Short) hears left = told hears.0
-      of (Ok Quorum) hears left = same hears.same
+      of (Ok (Quorum last)) hears left = same hears.same
 
 -- a suite that was left is as it was
 pub left_there : (before after : TransactionRun) (held : Suites) (number : ℕ) (suite new : Suite) → held ≡ before.suites → Some suite ≡ suite_of held number → new ≡ suite
@@ -91,7 +96,7 @@ module _ (before after : TransactionRun) (held : Suites) (number : ℕ) (suite n
   hears_one Lost hears = (hears.0, left_there before after held number suite new same there hears.1 put)
   hears_one Asks hears = (new, hears, inserted)
   hears_one Short hears = (new, hears, inserted)
-  hears_one Quorum hears = (hears.0, left_there before after held number suite new same there hears.1 put, hears.2)
+  hears_one (Quorum last) hears = (hears.0, left_there before after held number suite new same there hears.1 put)
 
   pub hears_there : (result : Result Heard AllocError) → IfOk result (λ what. Hears what suite said new) → IfOk result (λ what. HearsAt (suite_of before.suites number) number what before said after)
   hears_there (Ok what) hears = subst (λ found. HearsAt found number what before said after) (there ∙ ap (λ held. suite_of held number) same) (hears_one what hears)
@@ -115,9 +120,26 @@ module _ (before after : TransactionRun) (number : ℕ) (said : Reply) where
   at_short (Some suite) hears = hears
   at_short None hears = cc
 
-  pub at_quorum : (found : Option Suite) → HearsAt found number Quorum before said after → IsSettled (heard_at found said) × (after ≡ before) × (is_held said ≡ true)
-  at_quorum (Some suite) hears = hears
-  at_quorum None hears = cc
+  pub at_quorum : (last : Told) (found : Option Suite) → HearsAt found number (Quorum last) before said after → CompletesAt found last said × (after ≡ before)
+  at_quorum last (Some suite) hears = hears
+  at_quorum last None hears = cc
+
+-- with a lock that completes a quorum
+module _ (last : Told) (said : Reply) where
+  pub settled_at : (found : Option Suite) → CompletesAt found last said → IsSettled (heard_at found said)
+  settled_at (Some suite) is = is.settled
+  settled_at None is = is
+
+  pub held_at : (found : Option Suite) → CompletesAt found last said → is_held said ≡ true
+  held_at (Some suite) is = is.held
+  held_at None is = let bad : hearing.Lost ≡ hearing.Settled is.0 = is.1 in cc
+
+  pub sound_at : (found : Option Suite) → CompletesAt found last said → IsSound last
+  sound_at (Some suite) is = is.sound
+  sound_at None is = let bad : hearing.Lost ≡ hearing.Settled is.0 = is.1 in absurd (lost_alone is.0 bad)
+    where
+      lost_alone : (suite : Suite) → hearing.Lost ≡ hearing.Settled suite → ⊥
+      lost_alone suite is = cc
 
 -- the quorum that a suite is to have then
 module _ (said : Reply) where

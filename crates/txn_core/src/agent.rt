@@ -5,7 +5,7 @@ ghost use Rattle.std.specs.Option.{option_or};
 ghost use Rattle.weak_cache.specs.Cache.{Limits};
 ghost use Rattle.txn_core.specs.code.AgentFields.{doing_of};
 ghost use Rattle.txn_core.specs.Agents as agents;
-ghost use Rattle.txn_core.specs.Standing.{FitsAsked};
+ghost use Rattle.txn_core.specs.Standing.{FitsAsked, response_of};
 ghost use Rattle.txn_core.specs.Wanting as wanting;
 ghost use Rattle.txn_core.specs.code.Asking.{Asks, Wants, fixed_on};
 ghost use Rattle.txn_core.specs.code.Goings.{begun, ending_of};
@@ -17,7 +17,6 @@ use crate::ending::{Ending, Flow};
 use crate::fixed_parts::FixedParts;
 use crate::job::Job;
 use crate::resources::Resources;
-use crate::response::Response;
 use crate::sweep_run::SweepRun;
 use crate::task::Task;
 use crate::transaction_run::TransactionRun;
@@ -164,7 +163,7 @@ impl Agent {
     /// Of which server it asks next, and what, which is put into a place of the caller's: nothing is, where
     /// it is idle. Only the list of a Prepare may want memory, and the answers of a Decide or a Finish.
     #[inline(always)]
-    pub fn ask(&self, request: &mut Request) -> Result<Option<u8>, AllocError>
+    pub fn next(&self, request: &mut Request) -> Result<Option<u8>, AllocError>
         ensures ok { IfOk result (λ server. option_map (λ server. (server, request.new)) server ≡ agents.next_of self.now.fixed self.now.state) }
         ensures none { IfOk result (λ server. IfNone server (request.new ≡ request.old)) }
         ensures err { OnErr result (request.new ≡ request.old) }
@@ -172,18 +171,6 @@ impl Agent {
     {
         match &self.doing {
             Some(doing) => doing.ask(&self.resources, request),
-            None => Ok(None),
-        }
-    }
-
-    /// What it asks next, and of which server, as `ask` puts it.
-    pub fn next(&self) -> Result<Option<(u8, Request)>, AllocError>
-        ensures ok { IfOk result (λ asked. asked ≡ agents.next_of self.now.fixed self.now.state) }
-        ensures memory { IfErr result (λ _. IsTrue (wanting.by_asking (agents.next_of self.now.fixed self.now.state))) }
-    {
-        let mut request = Request::Locks;
-        match self.ask(&mut request)? {
-            Some(server) => Ok(Some((server, request))),
             None => Ok(None),
         }
     }
@@ -202,28 +189,35 @@ impl Agent {
     /// An error leaves the agent as it was, and the same may be taken again. Memory may be wanting for
     /// a lock that is held, a content, answers and a list of locks, and for nothing else: never where a
     /// request was not served, at a Prepare, a Finish or a Break, or where a lock or a decision was lost.
-    pub fn take(&mut self, response: &Response) -> Result<Option<Ending>, AllocError>
-        requires { FitsAsked (agents.next_of self.old.fixed self.old.state) response.now }
-        ensures ok { IfOk result (λ ending. ending ≡ (agents.take self.old.fixed self.old.state response.now).ending) }
-        ensures new { OnOk result (self.new ≡ record self.old { state = (agents.take self.old.fixed self.old.state response.now).agent }) }
-        ensures err { OnErr result (self.new ≡ self.old) }
-        ensures memory { IfErr result (λ _. IsTrue (wanting.by_taking (agents.next_of self.old.fixed self.old.state) response.now)) }
+    /// The ending is put into a place of the caller's, which else keeps what it has.
+    #[inline(always)]
+    pub fn take(
+        &mut self,
+        came: Result<&Reply, Lack>,
+        ended: &mut Option<Ending>,
+    ) -> Result<(), AllocError>
+        requires { FitsAsked (agents.next_of self.old.fixed self.old.state) (response_of came) }
+        ensures ok { OnOk result (ended.new ≡ option_or (agents.take self.old.fixed self.old.state (response_of came.entry)).ending ended.old) }
+        ensures new { OnOk result (self.new ≡ record self.old { state = (agents.take self.old.fixed self.old.state (response_of came.entry)).agent }) }
+        ensures err { OnErr result ((self.new ≡ self.old) × (ended.new ≡ ended.old)) }
+        ensures memory { IfErr result (λ _. IsTrue (wanting.by_taking (agents.next_of self.old.fixed self.old.state) (response_of came.entry))) }
     {
         let Some(server) = self.asked() else {
-            return Ok(None);
+            return Ok(());
         };
-        let mut ended = None;
-        match response {
-            Response::Replied(said) => self.hear(server, said, &mut ended)?,
-            Response::Lacked(lack) => ended = self.lack(*lack),
+        match came {
+            Ok(said) => self.hear(server, said, ended),
+            Err(lack) => {
+                self.lack(lack, ended);
+                Ok(())
+            }
         }
-        Ok(ended)
     }
 
-    /// Takes the reply to what it asks next, from the server that it asks, as `take` does. The ending of its
-    /// job, where that is at its end, is put into a place of the caller's, which else keeps what it has.
+    /// The server that it asks next replied. The ending of its job, where that is at its end, is put into a
+    /// place, which else keeps what it has.
     #[inline(always)]
-    pub fn hear(
+    fn hear(
         &mut self,
         server: u8,
         said: &Reply,
@@ -260,17 +254,15 @@ impl Agent {
         }
     }
 
-    /// Its request was not served: the ending of its job, where that is at its end.
-    fn lack(&mut self, lack: Lack) -> Option<Ending>
-        ensures ending { result ≡ (agents.take self.old.fixed self.old.state (Lacked lack)).ending }
+    /// Its request was not served. The ending of its job, where that is at its end, is put into a place, which
+    /// else keeps what it has.
+    fn lack(&mut self, lack: Lack, ended: &mut Option<Ending>)
+        ensures ending { ended.new ≡ option_or (agents.take self.old.fixed self.old.state (Lacked lack)).ending ended.old }
         ensures new { self.new ≡ record self.old { state = (agents.take self.old.fixed self.old.state (Lacked lack)).agent } }
     {
-        match self.on_lack(lack) {
-            Flow::On => None,
-            Flow::Ended(ending) => {
-                self.doing = None;
-                Some(ending)
-            }
+        if let Flow::Ended(ending) = self.on_lack(lack) {
+            self.doing = None;
+            *ended = Some(ending);
         }
     }
 

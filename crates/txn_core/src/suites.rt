@@ -7,7 +7,7 @@ ghost use Rattle.rep_core.specs.Fits.{is_held};
 ghost use Rattle.rep_core.specs.Store.{is_used_up};
 ghost use Rattle.suite_collect.specs.Answering.{Comes};
 ghost use Rattle.suite_collect.specs.Collecting as spec;
-ghost use Rattle.txn_core.specs.code.Hearing.{Hears, IsFirstAfter, Settles};
+ghost use Rattle.txn_core.specs.code.Hearing.{Hears, IsFirstAfter, IsSound, SettlesBy};
 ghost use Rattle.txn_core.specs.code.Plans.{takes_in};
 ghost use Rattle.txn_core.specs.code.Seeing.{settled_with, suite_view_of, view_of_suite};
 ghost use Rattle.txn_core.specs.Suites as gathering;
@@ -127,20 +127,17 @@ impl Suite {
         ensures err { OnErr result (self.new ≡ self.old) }
         ensures memory { IfErr result (λ _. IsTrue (is_held reply.now)) }
     {
-        self.gathered.collect.hear(reply)
+        self.gathered.collect.take(reply)
     }
 
-    /// The quorum that it is to have with a reply that completes one; none, where a lock is lost.
-    pub(crate) fn pending(&self, reply: &Reply) -> Result<Option<PendingQuorum>, AllocError>
-        requires { shows_unused reply.now ≡ true }
-        ensures { IfOk result (λ pending. Settles pending self.now reply.now) }
+    /// The quorum that it is to have with a lock that completes one.
+    pub(crate) fn pending(&self, last: Told) -> Result<PendingQuorum, AllocError>
+        requires { IsSound last }
+        ensures { IfOk result (λ pending. SettlesBy (Some self.now) last (Some pending)) }
     {
-        let Some(last) = self.gathered.collect.told_by(reply)? else {
-            return Ok(None);
-        };
         let first = self.first_after(&last)?;
         let pending = PendingQuorum { last, first };
-        Ok(Some(pending))
+        Ok(pending)
     }
 
     /// What the first quorum gives, where there is one once this is told, and was none before.

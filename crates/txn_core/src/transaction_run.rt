@@ -6,8 +6,8 @@ ghost use Rattle.sorted_map.specs.SortedMap.{IsOrdered};
 ghost use Rattle.rep_core.specs.Fits.{is_held};
 ghost use Rattle.weak_cache.specs.Entries.{Cache};
 ghost use Rattle.txn_core.specs.Doing as doing;
-ghost use Rattle.txn_core.specs.code.Goings.{Begins, GoesBy, IsReady, IsStep, IsUntouched, IsWidenedBy, Keeps, begun, executed, fixed_by, gathers, given_by, held_by, replied};
-ghost use Rattle.txn_core.specs.code.Hearing.{HearsAt, IsSettled, SettlesAt, heard_at};
+ghost use Rattle.txn_core.specs.code.Goings.{Begins, CompletesBy, GoesBy, IsReady, IsStep, IsUntouched, IsWidenedBy, Keeps, begun, executed, fixed_by, gathers, given_by, held_by, replied};
+ghost use Rattle.txn_core.specs.code.Hearing.{HearsAt, IsSound, SettlesBy};
 ghost use Rattle.txn_core.specs.code.Learning.{Fits, IsKeepable, content_kept};
 ghost use Rattle.txn_core.specs.code.Reaching.{IsReachedBy, IsReachedIf, IsReachedIn};
 ghost use Rattle.txn_core.specs.code.NextPhases.{follow};
@@ -34,7 +34,7 @@ use rep_core::Reply;
 use sorted_map::RoomyMap;
 use std::alloc::AllocError;
 use std::marker::Model;
-use suite_collect::{Coming, Hearing};
+use suite_collect::{Coming, Hearing, Told};
 use suite_content::Content;
 
 /// A transaction that an agent carries out: what it gathered of the suites that it locks, and where it
@@ -156,7 +156,7 @@ impl TransactionRun {
             Hearing::Lost => Ok(self.give_up(Cause::Lost { server })),
             Hearing::Asks => Ok(Flow::On),
             Hearing::Short => Ok(self.gather(number)),
-            Hearing::Quorum => self.on_quorum(resources, number, server, said),
+            Hearing::Quorum(last) => self.on_quorum(resources, number, server, last),
         }
     }
 
@@ -171,7 +171,7 @@ impl TransactionRun {
             Hearing::Lost => Ok(self.give_up(Cause::Lost { server })),
             Hearing::Asks => Ok(Flow::On),
             Hearing::Short => Ok(self.gather(number)),
-            Hearing::Quorum => match self.pending(number, said)? {
+            Hearing::Quorum(last) => match self.pending(number, last)? {
                 Some(pending) => {
                     settle(&mut self.suites, number, pending);
                     Ok(self.widen_on())
@@ -203,28 +203,30 @@ impl TransactionRun {
         resources: &mut Resources,
         number: u64,
         server: u8,
-        said: &Reply,
+        last: Told,
     ) -> Result<Flow, AllocError>
         requires unused { HasUnused resources.old.cache.entries }
         requires reached { IsReachedIn resources.old.fixed_parts self.old.task self.old.suites resources.old.progress }
-        requires shown { shows_unused said.now ≡ true }
-        requires quorum { IsSettled (heard_at (suite_of self.old.suites number) said.now) }
-        ensures ok { IfOk result (λ flow. IsStep resources.old (held_by resources.old self.old number server said.now) flow self.new resources.new) }
+        requires sound { IsSound last }
+        ensures ok { IfOk result (λ flow. CompletesBy resources.old self.old number server last flow self.new resources.new) }
         ensures err { OnErr result (IsUntouched resources.old self.old self.new resources.new) }
     {
-        match self.pending(number, said)? {
+        match self.pending(number, last)? {
             Some(pending) => self.execute(resources, Learned::Quorum(number, pending)),
             None => Ok(self.give_up(Cause::Lost { server })),
         }
     }
 
-    /// The quorum that a suite is to have with a reply that completes one.
-    fn pending(&self, number: u64, said: &Reply) -> Result<Option<PendingQuorum>, AllocError>
-        requires { shows_unused said.now ≡ true }
-        ensures { IfOk result (λ pending. SettlesAt (suite_of self.now.suites number) pending said.now) }
+    /// The quorum that a suite is to have with a lock that completes one.
+    fn pending(&self, number: u64, last: Told) -> Result<Option<PendingQuorum>, AllocError>
+        requires { IsSound last }
+        ensures { IfOk result (λ pending. SettlesBy (suite_of self.now.suites number) last pending) }
     {
         match self.suites.get(&number) {
-            Some(suite) => suite.pending(said),
+            Some(suite) => {
+                let pending = suite.pending(last)?;
+                Ok(Some(pending))
+            }
             None => Ok(None),
         }
     }

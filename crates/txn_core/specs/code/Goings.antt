@@ -4,6 +4,7 @@ use Rattle.rep_core.specs.declared.reply.Reply.{Reply}
 use Rattle.rep_core.specs.declared.reply.Verdict.{Verdict}
 use Rattle.rep_core.specs.declared.stamped.Lack.{Lack}
 use Rattle.vote_core.specs.declared.TheConstants.{MAX_SERVERS}
+use Rattle.suite_collect.specs.declared.told.Told.{Told}
 use Rattle.weak_cache.specs.Entries.{Cache}
 use Rattle.txn_core.specs.declared.ending.Ending.{Ending}
 use Rattle.txn_core.specs.declared.ending.Flow.{Flow}
@@ -15,7 +16,7 @@ use Rattle.txn_core.specs.Agents.{left}
 use Rattle.txn_core.specs.Doing.{Fixed, Task, TransactionRun, Granted, Outcome, Running, Widening, Preparing, Finishing}
 use Rattle.txn_core.specs.Suites.{suite_of, with_suite}
 use Rattle.txn_core.specs.Transactions.{Step, execute, fetched, given_in, prepare, prepared, request_of, tell_end, widen_all}
-use Rattle.txn_core.specs.code.Hearing.{heard_at, on_hearing}
+use Rattle.txn_core.specs.code.Hearing.{CompletesAt, heard_at, on_hearing}
 use Rattle.txn_core.specs.code.Learning.{learned}
 use Rattle.txn_core.specs.code.Reaching.{IsReachedBy, IsReachedUnless}
 use Rattle.txn_core.specs.code.NextPhases.{gather_again}
@@ -105,6 +106,11 @@ given_by resources txn_run number server said = given (fixed_by resources) txn_r
 -- it is executed once something was learned
 abbrev pub executed : Resources → TransactionRun → Learned → Step
 executed resources txn_run just_learned = execute (fixed_by resources) txn_run.task (learned just_learned resources.cache txn_run.suites)
+
+-- a suite that is gathered has a quorum, by whatever reply says this
+abbrev pub CompletesBy : Resources → TransactionRun → ℕ → ℕ → Told → Flow → TransactionRun → Resources → Type 0
+CompletesBy resources txn_run number server last flow left after =
+    (said : Reply) → CompletesAt (suite_of txn_run.suites number) last said → IsStep resources (held_by resources txn_run number server said) flow left after
 
 -- a suite is gathered
 abbrev pub gathers : TransactionRun → Cache → ℕ → Step

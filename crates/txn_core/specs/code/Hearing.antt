@@ -1,6 +1,7 @@
 -- What comes of a reply to what a suite asks.
-use Rattle.std.specs.Prelude.{◌≡◌, ℕ, List, true, Option, Some, None}
+use Rattle.std.specs.Prelude.{◌≡◌, ℕ, ◌<◌, List, true, Option, Some, None}
 use Rattle.std.specs.Option.{option_or}
+use Rattle.vote_core.specs.declared.TheConstants.{MAX_SERVERS}
 use Rattle.suite_prefix.specs.declared.copies.Prefix.{Prefix}
 use Rattle.rep_core.specs.Fits.{is_held}
 use Rattle.rep_core.specs.declared.reply.Reply.{Reply}
@@ -15,6 +16,7 @@ use Rattle.txn_core.specs.declared.pending_quorum.PendingQuorum.{PendingQuorum}
 use Rattle.txn_core.specs.declared.ending.Cause.TheVariants as cause
 use Rattle.txn_core.specs.Doing.{Task, Phase, TransactionRun}
 use Rattle.txn_core.specs.code.Seeing.{settled_with}
+use Rattle.txn_core.specs.code.Unused.{says_unused}
 use Rattle.txn_core.specs.Transactions.{Step, on_with, give_up, short_cause}
 
 -- the transaction ends; the suite asks on; nobody is left to ask; or it has a quorum, and knows what that gave
@@ -61,17 +63,33 @@ FallsShort hearing after =
 abbrev pub IsSettled : Hearing → Type 0
 IsSettled hearing = (suite : Suite) × (hearing ≡ Settled suite)
 
+-- what a server said is of one of the service, and shows no version that is used up
+pub record IsSound (last : Told) : Type 0 where
+  pub known : last.server < MAX_SERVERS
+  pub unused : says_unused last.said ≡ true
+
+-- a lock with which a suite has a quorum
+pub record Completes (last : Told) (suite : Suite) (said : Reply) : Type 0 where
+  pub settled : IsSettled (heard suite said)
+  pub told : told_by (next suite.collector) said ≡ Some last
+  pub held : is_held said ≡ true
+  pub sound : IsSound last
+
+abbrev pub CompletesAt : Option Suite → Told → Reply → Type 0
+CompletesAt (Some suite) last said = Completes last suite said
+CompletesAt None last said = IsSettled Lost
+
 -- a suite was told; or the lock gives a quorum, and the suite is as it was
 abbrev pub Hears : Heard → Suite → Reply → Suite → Type 0
 Hears coded.Lost before said after = (heard before said ≡ Lost) × (after ≡ before)
 Hears coded.Asks before said after = heard before said ≡ Asks after
 Hears coded.Short before said after = FallsShort (heard before said) after
-Hears coded.Quorum before said after = IsSettled (heard before said) × (after ≡ before) × (is_held said ≡ true)
+Hears (coded.Quorum last) before said after = Completes last before said × (after ≡ before)
 
 -- the same of a suite among those of a transaction's run
 abbrev pub HearsIn : Heard → ℕ → Suite → TransactionRun → Reply → TransactionRun → Type 0
 HearsIn coded.Lost number suite before said after = (heard suite said ≡ Lost) × (after ≡ before)
-HearsIn coded.Quorum number suite before said after = IsSettled (heard suite said) × (after ≡ before) × (is_held said ≡ true)
+HearsIn (coded.Quorum last) number suite before said after = Completes last suite said × (after ≡ before)
 HearsIn heard number suite before said after = (new : Suite) × Hears heard suite said new × (after ≡ record before { suites = with_suite number new before.suites })
 
 abbrev pub HearsAt : Option Suite → ℕ → Heard → TransactionRun → Reply → TransactionRun → Type 0
@@ -92,3 +110,7 @@ Settles None suite said = heard suite said ≡ Lost
 abbrev pub SettlesAt : Option Suite → Option PendingQuorum → Reply → Type 0
 SettlesAt (Some suite) pending said = Settles pending suite said
 SettlesAt None pending said = pending ≡ None
+
+-- it settles by whatever reply says this
+abbrev pub SettlesBy : Option Suite → Told → Option PendingQuorum → Type 0
+SettlesBy found last pending = (said : Reply) → CompletesAt found last said → SettlesAt found pending said

@@ -1,10 +1,13 @@
-use Rattle.std.proofs.Common.{rules, sym, ◌∙◌}
-use Rattle.suite_collect.specs.Collecting.{next}
-use Rattle.txn_core.proofs.Unused.{told_says}
+use Rattle.txn_core.specs.code.Hearing.{IsFirstAfter}
+use Rattle.txn_core.specs.declared.pending_quorum.PendingQuorum.{PendingQuorum}
+use Rattle.txn_core.proofs.Heard.{settles_if}
 use Rattle.txn_core.proofs.suites.Suite.pending.Goals as goal
 
 pub invariant_of-pending : goal.invariant_of-pending
-invariant_of-pending c = record {
-  known = search rules;
-  unused = told_says (next c.deref.result.now.collect.collector) c.args.reply.now c.in-Some.last (sym c.in_ok-last.ensures.told ∙ c.in-Some.is) c.requires;
-}
+invariant_of-pending c = record { known = c.requires.known; unused = c.requires.unused }
+
+pub returns : goal.returns
+returns c = λ said is settles.
+    let first : IsFirstAfter c.args.self.now c.args.last c.in_ok-first.first = c.in_ok-first.ensures in
+    let pending : PendingQuorum = record { last = c.args.last; first = c.in_ok-first.first; known = c.requires.known; unused = c.requires.unused } in
+    settles_if c.args.self.now said pending is.told first settles

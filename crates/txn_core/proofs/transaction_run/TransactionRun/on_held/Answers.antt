@@ -1,12 +1,13 @@
 use Rattle.std.proofs.Common.{sym, subst}
-use Rattle.std.specs.Prelude.{IfOk, OnErr}
+use Rattle.std.specs.Prelude.{OnErr}
+use Rattle.std.proofs.lemmas.Result.{IfOk-weaker}
 use Rattle.suite_collect.specs.declared.hearing.Hearing.{Hearing}
 use Rattle.txn_core.specs.code.Goings.{IsStep, IsUntouched, held_by}
 use Rattle.txn_core.specs.code.Hearing.{HearsAt}
 use Rattle.txn_core.specs.code.Reaching.{IsReachedIn}
 use Rattle.txn_core.specs.Doing.{TransactionRun}
 use Rattle.txn_core.specs.Suites.{suite_of}
-use Rattle.txn_core.proofs.Handling.{held_lost, held_asks, held_short, quorum_same, quorum_held, quorum_settles, untouched, reached_by, err_by}
+use Rattle.txn_core.proofs.Handling.{held_lost, held_asks, held_short, quorum_same, quorum_held, quorum_sound, quorum_completes, untouched, reached_by, err_by}
 use Rattle.txn_core.proofs.transaction_run.TransactionRun.on_held.Goals as goal
 
 pub returns-in-Lost-clause-ok : goal.returns-in-Lost-clause-ok
@@ -35,31 +36,33 @@ on_quorum-requires-clause-reached c =
     let now = c.args.self.now in
     let mid = c.hear.new.self in
     let Hears : Hearing → Type 0 = λ what. HearsAt (suite_of now.suites c.args.number) c.args.number what now c.args.said.now mid in
-    let same = quorum_same c.args.resources.now now mid c.args.number c.args.server c.args.said.now c.requires.unused (subst Hears c.in-Quorum.is c.in_ok-hear.ensures.ok) in
+    let same = quorum_same c.args.resources.now now mid c.args.number c.args.server c.args.said.now c.requires.unused c.in-Quorum.last (subst Hears c.in-Quorum.is c.in_ok-hear.ensures.ok) in
     subst (λ (txn_run : TransactionRun). IsReachedIn c.args.resources.now.fixed_parts txn_run.task txn_run.suites c.args.resources.now.progress) (sym same) c.requires.reached
 
-pub on_quorum-requires-clause-quorum : goal.on_quorum-requires-clause-quorum
-on_quorum-requires-clause-quorum c =
+pub on_quorum-requires-clause-sound : goal.on_quorum-requires-clause-sound
+on_quorum-requires-clause-sound c =
     let now = c.args.self.now in
     let mid = c.hear.new.self in
     let Hears : Hearing → Type 0 = λ what. HearsAt (suite_of now.suites c.args.number) c.args.number what now c.args.said.now mid in
-    quorum_settles c.args.resources.now now mid c.args.number c.args.server c.args.said.now c.requires.unused (subst Hears c.in-Quorum.is c.in_ok-hear.ensures.ok)
+    quorum_sound c.args.resources.now now mid c.args.number c.args.server c.args.said.now c.requires.unused c.in-Quorum.last (subst Hears c.in-Quorum.is c.in_ok-hear.ensures.ok)
 
 pub returns-in-Quorum-clause-ok : goal.returns-in-Quorum-clause-ok
 returns-in-Quorum-clause-ok c =
     let now = c.args.self.now in
     let mid = c.hear.new.self in
     let Hears : Hearing → Type 0 = λ what. HearsAt (suite_of now.suites c.args.number) c.args.number what now c.args.said.now mid in
-    let same = quorum_same c.args.resources.now now mid c.args.number c.args.server c.args.said.now c.requires.unused (subst Hears c.in-Quorum.is c.in_ok-hear.ensures.ok) in
-    let Goes : TransactionRun → Type 0 = λ txn_run. IfOk c.on_quorum.result (λ flow. IsStep c.args.resources.now (held_by c.args.resources.now txn_run c.args.number c.args.server c.args.said.now) flow c.on_quorum.new.self c.on_quorum.new.resources) in
-    subst Goes same c.on_quorum.ensures.ok
+    let same = quorum_same c.args.resources.now now mid c.args.number c.args.server c.args.said.now c.requires.unused c.in-Quorum.last (subst Hears c.in-Quorum.is c.in_ok-hear.ensures.ok) in
+    let completes = quorum_completes c.args.resources.now now mid c.args.number c.args.server c.args.said.now c.requires.unused c.in-Quorum.last (subst Hears c.in-Quorum.is c.in_ok-hear.ensures.ok) in
+    IfOk-weaker c.on_quorum.result _ _
+    (λ flow by. subst (λ (txn_run : TransactionRun). IsStep c.args.resources.now (held_by c.args.resources.now txn_run c.args.number c.args.server c.args.said.now) flow c.on_quorum.new.self c.on_quorum.new.resources) same (by c.args.said.now completes))
+    c.on_quorum.ensures.ok
 
 pub returns-in-Quorum-clause-err : goal.returns-in-Quorum-clause-err
 returns-in-Quorum-clause-err c =
     let now = c.args.self.now in
     let mid = c.hear.new.self in
     let Hears : Hearing → Type 0 = λ what. HearsAt (suite_of now.suites c.args.number) c.args.number what now c.args.said.now mid in
-    let same = quorum_same c.args.resources.now now mid c.args.number c.args.server c.args.said.now c.requires.unused (subst Hears c.in-Quorum.is c.in_ok-hear.ensures.ok) in
+    let same = quorum_same c.args.resources.now now mid c.args.number c.args.server c.args.said.now c.requires.unused c.in-Quorum.last (subst Hears c.in-Quorum.is c.in_ok-hear.ensures.ok) in
     subst (λ (txn_run : TransactionRun). OnErr c.on_quorum.result (IsUntouched c.args.resources.now txn_run c.on_quorum.new.self c.on_quorum.new.resources)) same c.on_quorum.ensures.err
 
 pub returns-in-Quorum-clause-memory : goal.returns-in-Quorum-clause-memory
@@ -67,7 +70,7 @@ returns-in-Quorum-clause-memory c =
     let now = c.args.self.now in
     let mid = c.hear.new.self in
     let Hears : Hearing → Type 0 = λ what. HearsAt (suite_of now.suites c.args.number) c.args.number what now c.args.said.now mid in
-    err_by c.on_quorum.result (quorum_held c.args.resources.now now mid c.args.number c.args.server c.args.said.now c.requires.unused (subst Hears c.in-Quorum.is c.in_ok-hear.ensures.ok))
+    err_by c.on_quorum.result (quorum_held c.args.resources.now now mid c.args.number c.args.server c.args.said.now c.requires.unused c.in-Quorum.last (subst Hears c.in-Quorum.is c.in_ok-hear.ensures.ok))
 
 pub returns-in_err-hear-clause-err : goal.returns-in_err-hear-clause-err
 returns-in_err-hear-clause-err c =

@@ -1,14 +1,15 @@
 use Rattle.std.proofs.Common.{◌≡◌, true, Some, refl, sym, ap, subst, ◌∙◌, rules}
 use Rattle.suite_collect.specs.code.Dues.{Tally, due_in}
 use Rattle.suite_collect.specs.declared.hearing.Hearing.{Hearing}
-use Rattle.suite_collect.specs.Answering.{IsTold, Hears, has_quorum}
+use Rattle.suite_collect.specs.declared.told.Told.{Told}
+use Rattle.suite_collect.specs.Answering.{Completes, IsTold, Hears, has_quorum}
 use Rattle.suite_collect.specs.code.Sayings.{told_of}
 use Rattle.suite_collect.specs.Telling.{first_busy}
 use Rattle.suite_collect.specs.Collecting.{Collecting, all_told, asked_of, next, tell, told_by}
 use Rattle.suite_collect.proofs.Dues.{current_next, ask_next, short_next}
 use Rattle.suite_collect.proofs.Refusals.{quorum_shows}
-use Rattle.suite_collect.proofs.collect.Collect.hear.Goals.{in-Ask, in-Short}
-use Rattle.suite_collect.proofs.collect.Collect.hear.Goals as goal
+use Rattle.suite_collect.proofs.collect.Collect.take.Goals.{in-Ask, in-Short}
+use Rattle.suite_collect.proofs.collect.Collect.take.Goals as goal
 
 pub returns-in-Current-clause-ok : goal.returns-in-Current-clause-ok
 returns-in-Current-clause-ok c =
@@ -16,7 +17,9 @@ returns-in-Current-clause-ok c =
     let last = told_of c.in-Some.last in
     let told : told_by (next was) c.args.reply.now ≡ Some last = search rules in
     let quorum : has_quorum (next (tell last was)) ≡ true = ap has_quorum (current_next (tell last was) (ap (λ (tally : Tally). tally.due) (sym c.tally_after-tally.ensures.value) ∙ ap due_in c.in-Current.is)) in
-    record { last = last; told = told; lock = quorum_shows was c.args.reply.now last told quorum; quorum = quorum; same = refl }
+    let kept : c.in_ok-keep-in-Current.field-0 ≡ last = search rules in
+    let Done : Told → Type 0 = λ one. Completes one c.args.self.now c.args.reply.now c.args.self.now in
+    subst Done (sym kept) (record { told = told; known = search rules; lock = quorum_shows was c.args.reply.now last told quorum; quorum = quorum; same = refl })
 
 pub returns-clause-ok : goal.returns-clause-ok
 returns-clause-ok c =

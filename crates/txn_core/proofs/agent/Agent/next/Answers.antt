@@ -8,7 +8,7 @@ use Rattle.txn_core.specs.code.AgentFields.{doing_of, standing_of}
 use Rattle.txn_core.specs.Agents.{next_of, next_in}
 use Rattle.txn_core.specs.Standing.{Standing}
 use Rattle.txn_core.specs.Wanting.{by_asking}
-use Rattle.txn_core.proofs.agent.Agent.ask.Goals as goal
+use Rattle.txn_core.proofs.agent.Agent.next.Goals as goal
 
 pub returns-in-Some-clause-ok : goal.returns-in-Some-clause-ok
 returns-in-Some-clause-ok c =
