@@ -1,12 +1,33 @@
 //! Access lists as acl(5) has them: entries, valid lists, and the access check.
 //!
-//! An [`Acl`] is a valid list by its type. [`Acl::from_entries`] makes one of entries in any order or
-//! says what the first thing wrong with them is, and a [`Tally`] takes entries one at a time.
-//! [`Acl::from_mode`] makes the list of a file mode, and [`Acl::inherit`] that of what is made in a folder
-//! with a default list. [`Acl::check`] answers whether a caller is granted what it wants, and if not, which
-//! entry decided. [`Lists`] are the two lists of a folder.
-//! The contract of `check` is the algorithm of acl(5), stated on a list in any order
-//! (`specs/Checks.antt`).
+//! An entry says whom it is about (`Tag`) and what it grants (`Perms`). A list is valid when it has one entry each
+//! for the owner, the file's group and all others, and no user and no group twice. It has a mask where it names a
+//! user or a group, and else at most one. The limit of 128 entries is this project's.
+//!
+//! **Promises.**
+//! - An `Acl` is a valid list by its type. `Acl::from_entries` and `Tally` take entries in any order. They give the
+//!   list in canonical order, or the first of eight faults, also where memory would not have sufficed
+//!   (`IsAccepted`, `first_fault`).
+//! - `Acl::check` answers as the algorithm of acl(5) does on the list in any order (`check_of`). The first case
+//!   that matches decides: the owner, a named user, the groups, anyone. For named users and groups the mask has to
+//!   grant it too.
+//! - A denial names the entry that decided. acl(5) leaves open which. Where a group matches and none has all, it is
+//!   the first that matches, the file's group before the others, rising. Where the entry has all, it is the mask.
+//! - `Acl::from_mode` makes the list of a mode, and `Acl::inherit` the list of what is made in a folder with a
+//!   default list (`inherited`). The mode cuts the owner's entry, the others' entry, and the mask, or the file's
+//!   group's entry where there is no mask.
+//! - `Lists` are the two lists of a file or a folder. That a file has no default list is a rule of operations and
+//!   of valid copies, not of the type.
+//! - A `Caller` has at most 32 supplementary groups; more are refused.
+//!
+//! **The caller owes** a digit below 8 for `from_digit`, and a valid list in canonical order for `from_canonical`.
+//!
+//! **Files**: `perms`, `entry`, `fault`, `caller`, `mode`, `lists`, `search` and `tally` (the first fault of many
+//! entries), `acl`, `check`.
+//!
+//! **Definitions** (`specs/`): `Permissions`, `Tags`, `Entries`, `Identity`, `AccessLists`, `Checks`, `InOrder`,
+//! `Modes`, `Creation`, `Pairs`, `Tallies`. To be believed above all: `check_of`, `IsValid`, `inherited`, each
+//! after the section of acl(5) that it names.
 #![tactic(auto)]
 
 mod acl;

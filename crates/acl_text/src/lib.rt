@@ -1,12 +1,33 @@
-//! The text of access lists, after acl(5): long text, one entry a line, and short text, its entries
-//! joined by commas.
+//! The text of access lists, after acl(5): long text with one entry a line, short text with commas. A text may mix
+//! both.
 //!
-//! [`read_acl`] reads both, also mixed, with comments and white space, as `getfacl` writes them. It
-//! answers the lists that the text spells (`specs/Grammar.antt`, `specs/Texts.antt`), the access list and,
-//! where items begin with `default:`, the default list, or the first thing wrong with the text. Names of
-//! users and groups are looked up in [`Names`]. [`write_acl`] and [`write_short`] give the one long and the
-//! one short text of two lists (`specs/Writing.antt`). That each of them spells its lists is a theorem: see
-//! [`long_text_spells_its_lists`].
+//! **The grammar.**
+//! - A line feed ends a line, and a comment runs from the first `#` to its end. What stands between commas is an
+//!   item; items are numbered from 1 over all lines, empty ones too. White space is space, tab and carriage return;
+//!   an item of it alone says nothing.
+//! - An item has fields between colons, with white space at their ends taken off. A first field `default` or `d`
+//!   makes the rest an item of the default list.
+//! - An entry has three fields: a keyword (`user`, `group`, `mask`, `other`, or its first letter), a qualifier,
+//!   permissions. `mask` and `other` may do without their empty qualifier and its colon.
+//! - Permissions are `r`, `w` and `x`, each at most once, and at most three hyphens, in any order.
+//! - The qualifier of `mask` and `other` is empty. Of `user` and `group` it is empty, digits up to 4294967295, or a
+//!   name of bytes from 33 to 126 without `: , # \`.
+//! - The fault of a text is its first faulty item's: A9 (no such form) before A11 (number too big) and A10 (unknown
+//!   name). Else it is the access list's first fault (A1 to A8), or A13 with that of the default list.
+//!   `docs/FAULTS.md` explains them.
+//!
+//! **Promises.** `read_acl` gives the lists that a text spells, or its fault (`Spells`, `fault`). Two lists have
+//! one long text (`write_acl`, `append_acl`) and one short text (`write_short`, `append_short`), in canonical order
+//! and with numbers. That each spells its lists is a law (`long_text_spells_its_lists`,
+//! `short_text_spells_its_lists`). `Names` takes names of 1 to 64 bytes that are not digits alone, each once.
+//!
+//! **The caller owes** nothing.
+//!
+//! **Files**: `keyword`, `qualifier`, `cut`, `item`, `keys`, `names`, `read`, `write`, `laws`.
+//!
+//! **Definitions** (`specs/`): `Layout`, `Keywords`, `Qualifiers`, `Tables`, `Sides`, `Grammar`, `Faults`, `Texts`,
+//! `Writing`, `Laws`. `Items` says how an item is written; `items_read_as_written` ties it to `Grammar`, so that
+//! one of the two need not be believed.
 #![tactic(auto)]
 
 mod cut;

@@ -1,8 +1,16 @@
-//! Where the program's bytes come from and where they go.
+//! Where the program's bytes come from, and where they go.
 //!
-//! [`ByteIn`] and [`ByteOut`] have one call each that may fail, and count their failures, so that a
-//! contract can say when a failure was real. A stream over memory tells its bytes to contracts; one over
-//! the system cannot, since nothing is known of what a file holds.
+//! `ByteIn` and `ByteOut` have one call each that may fail. They count their failures, so that a contract can say
+//! when a failure was real. A stream over memory tells its bytes to contracts. One over the system cannot, since
+//! nothing is known of what a file holds.
+//!
+//! **Promises.** `read_all` gives all bytes of a stream, or says why not (`IsWhole`, `Explains`). `write_all` adds
+//! a text whole, or fails with one failure more (`Adds`). A system read that a signal broke off is made again.
+//!
+//! **The caller owes** a limit below 2^62 for `read_all`, and a buffer with room for `read`.
+//!
+//! **Files**: `traits`, `memory` (streams of tests, where a given call can fail), `system`, `reading`, `writing`.
+//! **Definitions** (`specs/`): `Streams`, `Whole`.
 #![tactic(auto)]
 
 mod memory;

@@ -1,8 +1,14 @@
 //! The command line of the program `suites`: what its words ask for.
 //!
-//! [`read_words`] reads the words after the program's name. Its contract has the whole command line
-//! as a function of those words (`specs/CommandLine.antt`) and the answers that there may be to each
-//! thing that they ask for (`specs/Answering.antt`). `clap` reads the words and writes the help.
+//! **Promises.** `read_words` reads the words after the program's name. Its contract has the whole command line as
+//! a function of those words (`asked_by`) and the answers that each may get (`Answers`). The kit's `clap` reads the
+//! words and writes the help. Memory may run out on any words.
+//!
+//! **The caller owes** nothing.
+//!
+//! **Files**: `script`, `request` (what can be asked, and errors), `commands` (the commands as `clap` is told
+//! them), `answer` (from what it found to a request). **Definitions** (`specs/`): `CommandLine`, `Answering`,
+//! `Texts` (what errors print).
 #![tactic(auto)]
 
 ghost use Rattle.std.specs.Prelude.{map};

@@ -1,13 +1,16 @@
-//! What files and folders hold.
+//! What files and folders hold: the bytes of a file, or the names of a folder, each with the number of its suite.
 //!
-//! A [`Content`] is the bytes of a file or the names of a folder. [`FileBytes`] and [`FolderNames`]
-//! are held behind shared pointers, so that a content can be given, stored, cached and recorded
-//! without a copy; a [`NameList`] is what listing a folder answers, and shares its names.
+//! **Promises.** A `Name` is valid by its type: 1 to 64 bytes of `A-Za-z0-9._-`, neither `.` nor `..`. `FileBytes`
+//! and `FolderNames` stand behind shared pointers, so a content is given, stored, cached and recorded without a
+//! copy. A content that is shared is never changed. A `NameList`, which listing a folder answers, shares the names.
+//! To contracts all are plain values: lists of bytes, and the sorted list of names with their numbers. Each call is
+//! the function on these lists, and `==` is equality.
 //!
-//! In a contract all of them are plain values: a [`Name`] and a file's bytes are lists of bytes, a
-//! folder is the list of its names with their numbers, and `≡` compares them. What a name is stands
-//! in `specs/Names.antt`, look-ups and edits of a folder in `specs/Folders.antt`, and their laws,
-//! with those of undoing an edit, in `specs/FolderLaws.antt`.
+//! **The caller owes** the bytes of a name to `Name::known`. The limits (65,536 bytes, 1,024 names) are asked by
+//! `is_too_long` and `is_full`; the types do not keep them.
+//!
+//! **Files**: `name`, `file_bytes`, `folder_names`, `name_list`, `content`. **Definitions** (`specs/`): `Limits`,
+//! `Names`, `Folders`, `Contents`; `FolderLaws` has laws for proofs above.
 #![tactic(auto)]
 
 mod content;

@@ -1,12 +1,50 @@
 //! Prefixes, copies and their bytes, and settings.
 //!
-//! A [`Replica`] is what a server stores of a file or a folder, and what it sends: the [`Prefix`] (its
-//! version, kind, owner, group, lists and votes), the content's version, and the content. Which
-//! copies are valid stands in `specs/Copies.antt`, the bytes of a copy in `specs/Bytes.antt`, and what keeps
-//! bytes from being a copy's in `specs/Faults.antt`.
-//! [`Settings`] are what a service is opened with.
+//! A `Prefix` is the version, kind, owner, group, lists and votes of a file or a folder. A `Replica`, a copy, is a
+//! prefix, the content's version and the content: what a server stores and sends. To contracts both are records of
+//! their fields. What was never made has the kind Absent, version 0 and an empty content. `Settings` are what a
+//! service is opened with.
 //!
-//! In a contract a prefix and a copy are the records of their fields, and `≡` compares them.
+//! **Promises.**
+//! - `Prefix::is_valid` and `Replica::is_valid` test the rules of valid copies (`specs/Copies.antt`); definitions
+//!   above judge by tests that are exact (`tests_are_exact`).
+//! - `encode` writes a valid copy in form 2. `decode` reads the bytes of valid copies in form 1 or 2 and no others,
+//!   and tells of other bytes their one fault (`IsShapeFault`, `faults_tell_apart`). A fault comes before out of
+//!   memory. No bytes of a copy begin another's (`no_bytes_begin_others`); a front of them is Short
+//!   (`fronts_are_short`).
+//! - A `StoredCopy` keeps a copy as its bytes, which were judged once. `keep_head` and `keep_content` share what is
+//!   read of them.
+//! - `Settings::new` refuses by the first fault (`specs/SettingsRules.antt`). There are 1 to 32 servers and 1 to 64
+//!   agents. Contracts see an `Opening`.
+//!
+//! **The caller owes** a valid copy to `encode`, `StoredCopy::new`, `in_form` (one that the form can hold) and
+//! `under`.
+//!
+//! **The bytes**, highest byte of a number first, with their lengths:
+//!
+//! | Part | Bytes |
+//! |---|---|
+//! | form | 1: 2 |
+//! | version of the prefix; kind | 8; 1 (0 Absent, 1 File, 2 Folder) |
+//! | owner, group | 4, 4 |
+//! | access list, then default list | each: count 1 (0 where there is no default list), then its entries |
+//! | an entry | tag 1 (1 owner, 2 user, 3 file's group, 4 group, 5 mask, 6 others); number 4, or 0; permissions 1 |
+//! | representatives | count 1; each: server 1, votes 1, in listed order |
+//! | r, w; version of the content | 2, 2; 8 |
+//! | content, Absent or File | length 4, then the bytes |
+//! | content, Folder | count 2; each: length 1, the name, number 8; names rising |
+//!
+//! Form 1, which is read for ever, has no default list. It holds at most 64 entries, and no representative above
+//! server 15 (`CanHold`). `docs/FORMATS.md` says how forms change.
+//!
+//! **Reading.** Bytes are read from the left into a shape, which borrows from them; the first fault met there is
+//! Short or BadTag. A whole shape is then judged: NotCanonical, Invalid, TrailingBytes, in this order.
+//!
+//! **Files**: `copies`, `lock_mode`, `shared`, `absent`, `validity`, `forms`, `faults`, `entries`, `heads`,
+//! `shapes`, `reading`, `decoding`, `writing`, `stored`, `settings`.
+//!
+//! **Definitions** (`specs/`): `TwoLists`, `LockModes`, `Copies`, `Absent`, `Tests`, `TestsExact`, `Forms`,
+//! `Bytes`, `Reading`, `Faults`, `Stored`, `SettingsRules`.
 #![tactic(auto)]
 
 mod absent;

@@ -1,13 +1,20 @@
-//! Votes and quorums of replicated files, after Gifford's weighted voting.
+//! Votes and quorums of replicated files, after Gifford's weighted voting (1979).
 //!
-//! `Votes` say at which servers a file's representatives are, how many votes each of them has, and how
-//! many votes a read and a write collect. Votes are valid once they are made (`Votes::new`), and so two
-//! quorums that must meet do: a read and a write (`Votes::reads_meet_writes`), and two writes
-//! (`Votes::writes_meet`). No crate above counts votes: it keeps servers in a `ServerSet`, and asks
-//! `Votes::is_read` or `Votes::is_write`. Nothing here takes memory.
+//! `Votes` say at which servers a file's representatives are, how many votes each has, and how many a read (r) and
+//! a write (w) collect. A set of servers is a test on their numbers; it is a quorum when its servers have r or w
+//! votes.
 //!
-//! The caller owes one thing: what it puts into a `ServerSet` is below `MAX_SERVERS`, as each server of
-//! `Votes::reps` is.
+//! **Promises.** `Votes` are valid by their type. `Votes::new` refuses others by the first of seven faults
+//! (`specs/Validity.antt`). So quorums meet in a server with a vote: a read and a write
+//! (`Votes::reads_meet_writes`), and two writes (`Votes::writes_meet`). That two writes meet is this project's own
+//! rule; the other is Gifford's. Nothing here takes memory.
+//!
+//! **The caller owes** valid votes to `Votes::known`, and servers below `MAX_SERVERS` to `ServerSet::insert`, as
+//! each server of `Votes::reps` is. No crate above counts votes: it keeps a `ServerSet` and asks `is_read` or
+//! `is_write`.
+//!
+//! **Files**: `fault`, `server_set`, `validity`, `votes`. **Definitions** (`specs/`): `Quorums`, `Validity`,
+//! `Servers`.
 #![tactic(auto)]
 
 mod fault;
