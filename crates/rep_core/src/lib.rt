@@ -1,23 +1,50 @@
-//! One server of a replicated file service, as a sequential object.
+//! One server of a replicated file service, as a sequential object. It takes one request at a time, answers at
+//! once, and waits for nobody.
 //!
-//! A [`Server`] has copies of files and folders, locks of transactions on them, what prepared
-//! transactions will make of them (their intentions), the verdicts of the transactions whose home it is,
-//! an audit of denials, and a stamp by Lamport's logical clock. It takes one request at a time
-//! ([`Server::serve`]), answers at once, and waits for nobody: a lock that stands in the way is answered
-//! Busy. What each request is answered and what it changes are two functions of a state and a request,
-//! `reply_of` and `after` (`specs/Service.antt`); `answer_of`, `served` and `is_full`
-//! (`specs/Serving.antt`) put the stamps round them. The contract of `serve` is these, exactly, and it
-//! says more: each reply fits its request ([`Request::fits`]), and Finish, Break, Crash and Return take
-//! no memory, since a Prepare makes the room that its Finish needs. [`Server::evaluate`] gives what would be answered
-//! and done as a [`Step`], and changes nothing; [`Server::apply`] does it, and cannot fail.
+//! A server has **copies** by suite and **locks** of transactions on suites, shared or exclusive, prepared or not.
+//! It has **intentions**: what a prepared transaction will make of a copy. It has **verdicts** of the transactions
+//! whose home it is, an **audit** of denials, and a **stamp** (Lamport's logical clock); and it is up or down. A
+//! suite without a copy stands for what was never made. At the opening each representative has the root folder.
 //!
-//! What holds of every server, whatever it was asked, are laws: functions that do nothing, whose contract is
-//! the law ([`exclusive_stands_alone`], [`prepared_stands`], [`copies_are_valid`] and others).
+//! **Promises.** The server function is `reply_of` and `after` (`specs/Service.antt`), with stamps and fullness
+//! round them (`specs/Serving.antt`). `Server::evaluate` finds the reply and a `Step`, with all room that it takes,
+//! and changes nothing. `Server::apply` does the step and cannot fail. `Server::serve` is both. Each reply fits its
+//! request (`Request::fits`). The laws hold of every server that was opened, whatever it was asked
+//! (`specs/Laws.antt`).
 //!
-//! What a caller owes: each server of a service is opened with its own number and the same settings; a
-//! crash is a request like the others, and what it keeps (copies, intentions, prepared locks, verdicts,
-//! audit, stamp) is what has to be kept on stable storage. That a transaction sends its requests in a
-//! sensible order is nowhere presumed.
+//! - Poll(t, suite, mode): Busy with the least holder in the way; else the lock is t's, or is raised: Held(prefix,
+//!   version of the content).
+//! - Upgrade(t, suite): Lost without a lock of t; Busy; else the lock is exclusive, and Held.
+//! - Fetch(t, suite): Lost without a lock of t; else Given(version, content).
+//! - Prepare(t, parts): a part is a suite, a mode and what is taken (Keep, a prefix, or a whole copy). With a
+//!   prepared lock of t here, or without parts, nothing changes. Lost where a lock is missing or too weak, or what
+//!   is taken is not sound. Else the intentions are kept, the locks are prepared, and there is room for the copies:
+//!   Prepared.
+//! - Decide(t, outcome): the recorded Verdict, or this one is recorded; a denial adds an item to the audit.
+//! - Resolve(t): the recorded Verdict; without one, Aborted is recorded.
+//! - Finish(t, verdict): Done. Intentions of t become copies where it is an answer, and go in any case; so do its
+//!   locks.
+//! - Break(t, suite): Done. A lock of t there that is not prepared goes.
+//! - Locks: Locked(all locks), by transaction, then suite.
+//! - Crash: Done; the server is down, and locks that are not prepared are lost. Return: Done; it is up.
+//!
+//! A server that is down answers Down to everything but Return. Two things keep it from serving, and then nothing
+//! changes, not even the stamp. It is **full** of 4,096 suites, of stamps, or of versions (`is_full`). Or it is out
+//! of **memory**, which Crash, Return, Break and Finish do not need, nor what is answered Busy, Lost, Done or Down.
+//!
+//! **The caller owes** a step to `apply` that was evaluated at the server as it stands (`IsStep`). It opens each
+//! server with its own number and the same settings. What a crash keeps is what has to be on stable storage. That
+//! requests come in a sensible order is nowhere presumed.
+//!
+//! In code copies and intentions are bytes (`StoredCopy`), so a Finish moves them. Some things are kept so that
+//! nothing is searched through: who holds locks on a suite, which locks the next crash looks at, verdicts by agent.
+//!
+//! **Files**: `lock`, `request`, `reply`, `stamped`, `takes`, `fitting`, `intention`, `store`, `maps`, `copying`,
+//! `holders`, `settled`, `locks`, `verdicts`, `step`, `server_state`, `evaluate`, `server`, `effect`, `types_fit`,
+//! `laws`.
+//!
+//! **Definitions** (`specs/`): `Locks`, `Intentions`, `Store`, `State`, `Service`, `Serving`, `Fits`, `Roomed`,
+//! `Evaluated`, `Wanting`; of the laws `Consistency`, `Steps`, `ValidCopies`, `Laws`.
 #![tactic(auto)]
 
 mod copying;

@@ -1,19 +1,32 @@
-//! The servers of a service, each under a lock of its own, which threads ask.
+//! The servers of a service, each under a lock of its own (std's `Mutex`), which threads ask.
 //!
-//! Under a lock stands a [`Locked`]: a server with the history of what it served. Its type keeps that the
-//! history is legal (`IsLegal` in `specs/Histories.antt`: a replay of its requests from the opening gives its
-//! replies and stamps), and that the server is as it is at the end of it. So no thread can falsify a history,
-//! whatever it asks. [`Locked::serve`] is the one step of a server: it evaluates the request, makes room for the item, and
-//! applies what it evaluated; the request goes into the history, and only the reply is cloned. [`Servers::ask`] takes that
-//! step under the lock: it waits for the lock, and for nothing else but what the caller's gate does.
+//! No clause of a call can say what another thread did meanwhile. So what is promised is what always lies under a
+//! lock: a `Locked`, which is a server with the **history** of what it served.
 //!
-//! An asker has a [`Pass`], which remembers how much it has seen of each server's history. What it is told
-//! next comes after that: where a history is shorter, the answer is Stale. [`Servers::close`] takes the
-//! servers out of their locks and has [`close_locked`] compare what lay behind them: that each is the server of
-//! its place, and that each asker made as many items as its one pass counted.
+//! **Promises.**
+//! - A history is legal by its type (`IsLegal`): a replay of its requests from the opening gives its replies and
+//!   stamps. The server is as it is at the end. There are at most 1,000,000 items. So no thread can falsify a
+//!   history.
+//! - `Locked::serve` is the one step. It evaluates the request, makes room for the item, and applies the step.
+//!   Without a reply nothing has changed.
+//! - `Servers::ask` takes that step under the lock. It waits for the lock and for the caller's `Gate`, and for
+//!   nothing else. An `Answer` is what a server of that number gives after some legal history of that length
+//!   (`IsTold`).
+//! - A `Pass` says how much an asker has seen of each history. Where a history is shorter, the answer is Stale. So
+//!   what an asker reads never goes back.
+//! - `Servers::close` gives the histories. Place names the first server under whose lock another stands. Count
+//!   names the first asker of whom the histories have other items than its pass counted.
 //!
-//! What a caller owes: a pass is used at the servers that it was started with. Whether the value under a lock
-//! is the server of its place no type can say, and no clause of `ask` does; `close` looks.
+//! No clause says that `ask` returns, that two threads ran at once, or that waiting is fair. Which legal history an
+//! answer came after, `run_certify` finds.
+//!
+//! **The caller owes** a server below their number to `ask`, and a pass only to the servers that it was started
+//! with. No type can say that the value under a lock is the server of its place; `close` looks.
+//!
+//! **Files**: `item`, `history`, `miss`, `answer`, `gate` (where a test can hold a thread), `pass`, `locked`,
+//! `servers`, `counting`, `close_fault`, `closing`, `laws`.
+//!
+//! **Definitions** (`specs/`): `Histories`, `Kept`, `Told`, `Passes`, `Counts`, `Closed`.
 #![tactic(auto)]
 
 mod answer;
