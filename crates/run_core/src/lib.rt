@@ -1,24 +1,34 @@
 //! Servers and agents together, event by event.
 //!
-//! A [`World`] is the servers and the agents of a service. An [`Event`] is one thing that happens there: an
-//! agent begins a job; it sends its request to a server and takes the reply; a server falls down or comes
-//! up; an agent forgets what its cache keeps for a site, or is told that its request was not served. An
-//! event without sense (a number that nobody has, a step of an agent without a job, a begin of one that has
-//! one; `specs/Senses.antt`) does nothing. [`World::step`] plays one event, and answers what was served and how a job ended;
-//! [`World::advance`] plays one and tells the second alone, by the same body; [`World::play`] plays many.
-//! [`World::server`] lends a server, to be read.
+//! A `World` is the servers and the agents of a service, each at the place of its number. With an agent goes the
+//! last stamp that it was told, and how many own steps its job has taken. An `Event` is one thing that happens
+//! there:
+//! - an agent begins a job, or forgets what it keeps for a site;
+//! - an agent takes a step: a server serves what it asks, and it takes the reply; where the server is full it is
+//!   told that;
+//! - an agent is told that its request was not served;
+//! - a server crashes, or restarts.
 //!
-//! What an event makes of a world is one equation each (`specs/Worlds.antt`). A run is events one after the
-//! other, from the opening on (`specs/Runs.antt`). Its decisions are the transactions that a served Decide
-//! decided, with their answers, in the order in which that was recorded (`specs/Decisions.antt`); its table
-//! is the plain table that takes them one at a time (`specs/TableOfRun.antt`). The contracts of `World` are
-//! these definitions, exactly: on success the world is the one that they give, and where memory runs out
-//! nothing has changed, or `play` tells how many events were played.
+//! **Promises.** `World::step` plays an event as the definition says (`specs/Worlds.antt`, one equation an event).
+//! It answers what was served and how a job ended. `World::advance` plays it by the same body and tells the second
+//! alone. `World::play` plays many. Where memory runs out nothing has changed, or `play` tells how many events were
+//! played. Only a begin and a step may need memory (`specs/Wanting.antt`). An event without sense does nothing
+//! (`specs/Senses.antt`, `nothing_comes`). `World::server` lends a server, to be read.
 //!
-//! A step copies no server, no agent and no request. It reads straight down: the agent says what it asks (`ask` in
-//! `moves.rt`), the server evaluates that, the agent takes the reply, and the server applies what it evaluated, which
-//! takes no memory (`exchange`). Where the agent is refused memory the step is let go, and nothing is taken back. Contracts
-//! say when an event may want memory, and when none may (`specs/Wanting.antt`).
+//! A **run** is events from the opening on. Its **decisions** are the transactions whose Decide made the first
+//! record at its server, as an answer or a refusal, in that order. Its **table** is the plain table that takes
+//! these one at a time. All that is said of runs is said with these.
+//!
+//! **The caller owes** nothing: numbers that nobody has make no sense.
+//!
+//! A step copies no server, agent or request. The agent puts its request into a place (`Seat::ask`), the server
+//! evaluates it, the agent takes the reply, and the server applies what it evaluated, which takes no memory
+//! (`exchange`). Where the agent is out of memory the step is let go, and nothing is undone.
+//!
+//! **Files**: `event`, `done`, `host`, `seat`, `operator`, `opening`, `exchange`, `moves`, `world`, `laws`.
+//!
+//! **Definitions** (`specs/`): `Worlds`, `Opened`, `Runs`, `Decisions`, `TableOfRun`, `Senses`, `Asking`,
+//! `Wanting`, `WorkedRuns` (two runs whose ends are known from outside), `Laws`.
 #![tactic(auto)]
 
 mod done;
