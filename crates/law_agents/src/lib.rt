@@ -1,17 +1,35 @@
-//! What holds of agents: in which order a job asks, that it is at an end within a bound on its own steps, and that nothing is
-//! kept for sites that are not there.
+//! What holds of every agent and job, whatever it is told: in which order it asks, and that it ends in time. There
+//! is no code but laws.
 //!
-//! There is no code here but laws. How long a job takes stands in `specs/Steps`, beside the counts of `txn_core` on which the
-//! bound rests: an agent that is not idle asks, it asks servers that it knows of, and so a transaction is at an end within a
-//! bound on the servers and suites, and a sweep within one on the locks that it was told. The premise is that votes are
-//! valid: of what a program holds that is a law as well. That each job which ended in a run took so few steps, by the count
-//! in its outcome, needs no premise (`specs/RunBounds`). For which sites agents keep something, in every run, stands in
-//! `specs/Sites`.
+//! The laws speak of exchanges alone, which are requests with what was told of each, and never of where an agent
+//! stands.
 //!
-//! The order of requests is said of exchanges alone, which are requests with what was told of them, and never of where an
-//! agent stands: what a transaction asks next (`specs/Orders`, `Gathers`, `Fetches`, `Quorate`) and how it ends
-//! (`specs/Endings`), what a sweep asks next and counts (`specs/SweepOrders`), and that all this is a function of what was told
-//! (`specs/Same`).
+//! - It gathers, prepares, has it decided and finishes, in this order, and asks nothing else: `asks_in_order`.
+//! - A lock is asked for only while votes are too few, of the first server in listed order that is left:
+//!   `gathers_in_order`.
+//! - A content is fetched at the first member of the first quorum that showed the version: `fetches_in_order`.
+//! - All servers that told of a lock prepare, rising, each once. By then each suite is held by its quorums:
+//!   `prepares_on_quorums`.
+//! - It ends by the verdict that its home told, and else undecided: `ends_as_told`.
+//! - A sweep resolves, finishes or breaks the first lock that is left, and its counts are of what it was told:
+//!   `sweeps_in_order`.
+//! - What it asks, and how it ends, is a function of what it was told: `same_told_same_asked`.
+//! - Who is not idle asks, and only servers that it may know; so its job ends within a bound: `jobs_end`,
+//!   `runs_end_in_time`.
+//! - Where votes were too few, a suite was gathered from the hint of the moment when a lock was first due:
+//!   `starts_are_asked`.
+//! - Agents of runs keep nothing for sites that are not there, so events without sense do nothing:
+//!   `runs_keep_to_sites`.
+//!
+//! No law says over exchanges alone in which order operations need suites, that a widening rises, or what a Prepare
+//! has a server take beyond what all of them take.
+//!
+//! **What is presumed**: `jobs_end` and `starts_are_asked` speak of valid votes. A program meets no others
+//! (`settings_open_with_valid_votes`, `replies_show_valid_votes`). Of other votes they would be false: a hint whose
+//! servers have too few votes leaves nobody to ask.
+//!
+//! **Definitions** (`specs/`): `Orders`, `Gathers`, `Fetches`, `Quorate`, `Endings`, `SweepOrders`, `Same`;
+//! `Steps`, `RunBounds`; `Starts`; `Sites`. The proof is one walk through a job (`proofs/Walk.antt`).
 #![tactic(auto)]
 
 ghost use Rattle.law_agents.specs.Endings.{EndsAsTold};

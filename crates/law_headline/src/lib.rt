@@ -1,9 +1,22 @@
-//! What holds of every run that there can be: it is answered as one table answers it.
+//! What holds of every run that there can be: it is answered as one table answers it. `docs/HEADLINE.md` tells it;
+//! there is no code but laws.
 //!
-//! There is no code here but laws. Which runs there can be stands in `specs/Premises`, what is promised of each in
-//! `specs/Promises`, and the laws in `specs/Laws`. What holds together event by event stands in `proofs/Together` and
-//! `proofs/Keeping`, what is owed at each decision in `proofs/Owing`, and that operations leave what they do not set in
-//! `proofs/Fair`. What all this promises of a world is [`promise`].
+//! A run that there can be (`CanBe`) has an opening that settings accept, and operations that set valid votes, as
+//! all votes of a program are by their type.
+//!
+//! **Promises.** `answers_are_the_tables`, `audit_is_the_denials`, `answered_before_decided_before`,
+//! `revocations_are_met`, `locks_stand`, `rows_have_versions`, `rows_are_the_registers`, `knowledge_was`. Together
+//! they are one record, `IsPromised`. `promise` promises it of a world: of each list of events that made it, at
+//! each moment. What is decided was begun (`decided_as_begun`). The premises of the crates below are laws here:
+//! `agents_keep_sides`, `firsts_are_given`. Runs in which all this says something: `src/witnesses.rt`.
+//!
+//! **The caller owes** to `promise` a world that some events made of accepted settings (`IsOfRun`). Who opens,
+//! plays and counts its events has that: `opens_a_run`, `plays_on`, and valid votes by `all_votes_are_valid`.
+//! `crates/run_tests/src/promises.rt` does it.
+//!
+//! **Files**: `lib`, `promises`, `witnesses`. **Definitions** (`specs/`): `Premises`, `Laws`, `Promises`, `Worked`.
+//! What goes from event to event: `proofs/Together.antt`, `Keeping.antt`; what is owed at a decision: `Owing.antt`;
+//! that operations leave what they do not set: `Fair.antt`.
 #![tactic(auto)]
 
 mod promises;

@@ -1,7 +1,13 @@
-//! Every run is that of one table.
+//! Every run is that of one table. There is no code but laws, of runs in which agents keep to their side;
+//! `law_headline` shows that all do.
 //!
-//! There is no code here but laws. What they say of the table of a run stands in `specs/Tables`, and what they say of its
-//! versions, of the copies in effect at servers and of caches in `specs/Effects` and `specs/Versions`.
+//! **Promises.** Each row of the table of the run so far is what its suite's register holds
+//! (`rows_are_the_registers`). Only a step that decides changes either side. What the agent then knows agrees with
+//! the table (`agents_know_the_table`), so its answer is the table's (`answers_are_one_tables`). Rows have
+//! versions, at which they are in effect in each quorum of their votes (`rows_have_versions`). The law says that
+//! there are such versions, and not how they are counted. `audit_is_one_tables`, `owed_is_enough`.
+//!
+//! **Definitions** (`specs/`): `Tables`, `Effects`, `Versions`.
 #![tactic(auto)]
 
 ghost use Rattle.law_one_table.specs.Tables.{RowsAreTheRegisters, AgentsKnowTheTable, AnswersAreOneTables, AuditIsOneTables, OwedIsEnough};

@@ -1,7 +1,15 @@
-//! Runs in which jobs go one at a time.
+//! Runs in which a job begins only when every agent is idle. Servers may crash and restart, and requests not be
+//! served, anywhere. There is no code but laws.
 //!
-//! There is no code here but laws. Definitions stand in `specs/`: which runs these are in `Alone`, what disturbs a
-//! transaction in `Undisturbed`, how jobs end in `Endings`, and runs by computation in `Worked`.
+//! **Promises.** The endings of decided transactions are those that one table gives, in order
+//! (`endings_are_the_tables`). The answer with a cache is the answer without (`endings_are_one`). A transaction
+//! that begins where every server is up and no lock is left meets nobody in its way (`nothing_is_in_the_way`). It
+//! is decided, while no server crashes or is full, memory does not run out, and no other job begins
+//! (`undisturbed_are_decided`, `undisturbed_endings_are_one`). In `some_runs_go_alone` these laws say something.
+//!
+//! **Definitions** (`specs/`): `Alone`, `Undisturbed`, `Endings`, `Worked`. The proofs: one invariant
+//! (`proofs/Alone.antt`); what a transaction is replied whose agent alone asks (`Goes.antt`, `Exchanged.antt`);
+//! each cause of an undecided end excluded (`Undisturbed.antt`).
 #![tactic(auto)]
 
 ghost use Rattle.law_run_alone.specs.Endings.{EndingsAreTheTables, EndingsAreOne, UndisturbedEndingsAreOne};

@@ -1,6 +1,11 @@
-//! What agents know of each suite in a run was its register's.
+//! What agents know of each suite in a run was its register's. There is no code but laws, of runs in which agents
+//! keep to their side (`law_run_machine`).
 //!
-//! There is no code here but laws. What an agent keeps and holds of a suite stands in `specs/Knowledge`, the laws in `specs/Laws`.
+//! **Promises.** A cache may be old, but each hint was the suite's prefix at its version, and each content the
+//! suite's at its version. So was every prefix from which a transaction began or that it was told, and every
+//! content that it knows, also where it will be given up (`knowledge_was`, `known_was`).
+//!
+//! **Definitions** (`specs/`): `Knowledge`, `Laws`.
 #![tactic(auto)]
 
 ghost use Rattle.law_run_knowledge.specs.Laws.{KnowledgeWas, KnownWas};

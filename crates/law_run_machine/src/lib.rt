@@ -1,8 +1,12 @@
-//! The machine of each suite in a run of servers and agents.
+//! The machine of each suite in a run of servers and agents. There is no code but laws.
 //!
-//! There is no code here but laws. What an agent does to a suite by itself stands in `specs/Deciding`, what each event of a
-//! world is to the machine of a suite in `specs/Machines`, what the machine told a transaction in `specs/Telling`, what
-//! agents keep to in `specs/Sides` and what they owe at a decision in `specs/Owed`, and the laws in `specs/Laws`.
+//! **Promises.** `machines_follow`: in every run in which agents keep to their side, all that happens may happen on
+//! the machine of each suite, and the machine shows the servers. So the laws of `law_suite_machine` hold there.
+//! `sides_are_kept`: in every run agents do so, but for what `specs/Owed.antt` names. At a decision, what is known
+//! has to be from a quorum, and what is written has to go to enough servers; `law_run_quorums` shows that.
+//! `servers_are_consistent`, `agents_are_of_jobs`.
+//!
+//! **Definitions** (`specs/`): `Deciding`, `Machines`, `Telling`, `Sides`, `Owed`, `Laws`.
 #![tactic(auto)]
 
 ghost use Rattle.law_run_machine.specs.Laws.{MachinesFollow, ServersAreConsistent, SidesAreKept, AgentsAreOfJobs};

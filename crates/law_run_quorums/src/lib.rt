@@ -1,8 +1,12 @@
-//! What transactions know in a run, and on which quorums they decide.
+//! On which quorums transactions know and decide. There is no code but laws, of runs in which agents keep to their
+//! side.
 //!
-//! There is no code here but laws. What a suite's machine told a transaction, against what its collector holds, stands in
-//! `specs/Telling`; from which list a first Current came, in `specs/Firsts`; what writing rests on, in `specs/Fairness`; and
-//! the laws in `specs/Laws`.
+//! **Promises.** A collector holds what the machine of its suite told, server by server (`collectors_agree`). So
+//! what is known is from a quorum (`knows_from_a_quorum`), and what is written goes to write quorums of the votes
+//! before and after (`writes_to_quorums`). That is what `law_run_machine` leaves owed. The premises are shown in
+//! `law_headline`.
+//!
+//! **Definitions** (`specs/`): `Telling`, `Firsts`, `Fairness`, `Laws`.
 #![tactic(auto)]
 
 ghost use Rattle.law_run_quorums.specs.Laws.{KnowsFromAQuorum, WritesToQuorums, CollectorsAgree};

@@ -1,10 +1,26 @@
-//! Runs while servers are down, and after they came back: what is available.
+//! What is available while servers are down, and after they came back. `docs/HEADLINE.md`, *What is available*,
+//! says it field by field; there is no code but laws.
 //!
-//! There is no code here but laws. Definitions stand in `specs/`: which servers are up, which locks those have and what
-//! they show in `Standing`; when one agent alone reaches servers in `Alone`; of which suites a transaction needs votes, how
-//! many, and where it finds them in `Demands`; what is decided while servers are down, and how it ends, in `Laws`; what
-//! sweeps leave in `Sweeping`; and runs by computation in `Worked`. What all this lends of a world is [`promise`], field by
-//! field in `Promises`.
+//! The laws are of an agent that alone reaches servers for a while, others being anywhere in their jobs, or of
+//! sweeps one after the other.
+//!
+//! **Promises.**
+//! - Such a transaction ends as the votes say that are up, in time (`ends_are_by_votes`, `ends_in_time`). What is
+//!   decided had its votes up (`decided_had_votes_up`).
+//! - Votes that are found are those of the table's rows (`met_demands_are_rows`). Where votes were never moved,
+//!   they and the home say exactly what is decided (`decided_where_votes_are`).
+//! - Homes go round. So where the votes are up, of as many tries as there are servers one is decided
+//!   (`homes_go_round`, `one_of_them_is_decided`).
+//! - Sweeps leave only locks in doubt, change no copy in effect, and with all servers up leave none
+//!   (`sweeps_leave_doubts`, `sweeps_keep_effects`, `only_doubts_are_left`, `no_lock_is_left`, `all_is_stored`).
+//! - A transaction whose lock was taken away is never decided (`taken_away_are_never_decided`).
+//! - `promise` lends all this of a world. In `some_runs_recover` it says something.
+//!
+//! **The caller owes** to `promise` a world that some events made of accepted settings (`IsOfRun`).
+//!
+//! **Files**: `lib`, `promises`. **Definitions** (`specs/`): `Standing`, `Alone`, `Demands`, `Laws`, `Sweeping`,
+//! `Promises`, `Worked`. The proofs follow a transaction over its agent's steps (`proofs/Ends.antt`, `Stands.antt`,
+//! `Asking.antt`) and a sweep by its list (`Sweeps.antt`, `Swept.antt`, `Rounds.antt`).
 #![tactic(auto)]
 
 mod promises;

@@ -1,8 +1,14 @@
-//! What holds of the decisions of every run.
+//! What holds of the decisions of every run, without the machines of suites. There is no code but laws
+//! (`src/laws.rt`), each of every list of events from every opening that settings accept.
 //!
-//! There is no code here but laws. Definitions stand in `specs/`: the claims in `Claims`; the numbers of transactions
-//! and who asks in their names in `Numbers`; which requests name a transaction in `Naming`; what an agent knew when its
-//! transaction was decided, and how it was so answered, in `Answers`; and a run by computation in `Worked`.
+//! **Promises.** `decided_once`, `decisions_are_the_records`, `audit_is_the_denials`,
+//! `answered_before_decided_before`, `changes_are_met`, `each_is_begun_once`. In the name of a transaction only its
+//! own agent (t mod 64) asks, but for sweeps (`agents_ask_for_themselves`). Answers are the plain transaction's on
+//! what the agent knew (`answers_follow_knowledge`, `known_answers_are_the_tables`). In `some_runs_decide` all this
+//! says something.
+//!
+//! **Definitions** (`specs/`): `Numbers`, `Naming`, `Answers`, `Claims`, `Worked`. The proof is one invariant of
+//! servers, agents and past decisions (`proofs/Worlds.antt`).
 #![tactic(auto)]
 
 mod laws;

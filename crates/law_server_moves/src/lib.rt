@@ -1,7 +1,12 @@
-//! Each request that a server serves moves the machine of each suite, or leaves it.
+//! Each request that a server serves moves the machine of each suite by one event, or leaves it. There is no code
+//! but laws.
 //!
-//! There is no code here but laws. What the machine of a suite sees of the servers stands in `specs/Views`, what a request
-//! and its reply are to it in `specs/Moves`, what agents keep to in `specs/Agents`, and the laws in `specs/Laws`.
+//! **Promises.** `each_step_moves`: whatever a server is asked and replies, up or down, the event of the reply may
+//! happen on the machine (`law_suite_machine`), which shows the servers after it. What the agent owes for that is
+//! named (`specs/Agents.antt`): it polls a server once, prepares what it fixed, and finishes by what was recorded.
+//! `replies_tell`: what is replied is what the machine has. `opening_shows`, `some_step_moves`.
+//!
+//! **Definitions** (`specs/`): `Views`, `Moves`, `Preparing`, `Agents`, `Laws`.
 #![tactic(auto)]
 
 ghost use Rattle.law_server_moves.specs.Laws.{EachStepMoves, RepliesTell, OpeningShows, SomeStepMoves};

@@ -1,8 +1,31 @@
-//! One suite, replicated at servers whose votes may change: what its servers and transactions do to it, and the
-//! laws that hold whatever they do.
+//! One suite at servers whose votes may change: why it is one plain register. There are no lists of servers here,
+//! no agents, no messages, and no code but laws.
 //!
-//! There is no code here but laws. Definitions stand in `specs/`: the plain register in `Registers`, the suite at all
-//! servers in `Machine`, what may happen to it in `Events`, and when in `Conditions`, and what then holds in `Laws`.
+//! **What it stands on**, in reading order (`specs/`). `Registers` is what is promised: a row (prefix and content
+//! with their versions), and a log of decided transactions, which read and write it one at a time. `Machine` is
+//! what there is: at each server a stored copy, locks, at most one intention; and of each transaction what it was
+//! told, prepared and recorded. The copy in effect at a server is the stored one, or the intention there once its
+//! transaction is recorded as answered. `Events` are the twelve things that happen, and `Conditions` say when each
+//! may; `Laws` has the laws.
+//!
+//! **Promises**, of every list of events that keeps the conditions: `is_one_register`, `every_copy_was`,
+//! `replaced_is_superseded`, `quorums_show_the_row`, `decided_once`, `locks_hold_copies`, `locks_stand`,
+//! `what_was_stays`. In `some_run_obeys` all of them say something. The conditions are what servers and agents are
+//! shown to keep (`law_server_moves`, `law_run_machine`), so nobody has to believe this crate for itself.
+//!
+//! Four facts carry it.
+//! 1. Quorums meet in a vote: a read and a write quorum of the same votes, and two write quorums.
+//! 2. A lock that is gone never comes back, since a transaction asks a server once for a lock on a suite. So where
+//! its lock stands at Prepare, the copy that it was told is still the stored one.
+//! 3. A verdict takes effect at once everywhere. Copies change later, server by server; the copy in effect changes
+//! at the record alone.
+//! 4. A replaced prefix is superseded in each of its quorums, since a change of votes is decided by write quorums
+//! of the old votes and of the new.
+//!
+//! So a transaction that counts votes under the newest prefix that it was told counts under the current one. Were
+//! that replaced, its quorum would hold a server that shows a newer one (4), which it was told (2). Then its quorum
+//! shows the current content (1). All this is so at the record and not before: what a transaction was told may be
+//! stale while it gathers.
 #![tactic(auto)]
 
 ghost use Rattle.law_suite_machine.specs.Laws.{OneRegister, EveryCopyWas, AlwaysSuperseded, AlwaysCurrent, AlwaysOnce, LocksAlwaysHold, LocksAlwaysStand, WhatWasStays, SomeRunObeys};
