@@ -1,26 +1,36 @@
 //! Agents in threads, over servers under locks.
 //!
-//! [`run_pool`] hands jobs to agents, each in a thread of its own. The jobs go through one channel, whose rule
-//! (`IsEachOnce` in `specs/Line.antt`) is that each item is an end mark or names its job, that no job is put twice,
-//! and that after the jobs no more end marks are put than threads may take. An agent that takes a job begins it, asks
-//! servers until it ends, and writes all of that into its transcript; an agent that takes an end mark ends. What the
-//! threads bring back is put together by their promises (`IsWorked` in `specs/code/Working.antt`): there is one
-//! outcome for each job, no two with one agent and count, and the agent's transcript has the job as its begin of that
-//! count, and that outcome after it, as the agent function ends the job at the last that the agent was told (`IsPoolOf`
-//! in `specs/Pools.antt`). The agents began just as many jobs as were handed in, all after what they had begun before.
+//! `run_pool` has jobs carried out by agents, each in a thread of its own, until none is left. It gives the agents
+//! back, each with the **transcript** of what it did: jobs that it began, servers that it asked, sites that it
+//! forgot, and how jobs ended.
 //!
-//! Where there is no pool, the fault is what gathering answers of what the agents handed back (`GathersOrLacks` and
-//! `Gathers` in `specs/Gathers.antt`): Memory, where it was refused to one of them; else Stranger, where one took a place
-//! beyond the jobs; else Double, where there is a second outcome of a job; else Missing, where there is none of one. Memory
-//! is told too where it was refused before the first agent began, and where no thread could be started.
+//! **Promises**, on success (`IsPoolOf`): there is one outcome for each job, no two of one agent and count. The
+//! agent's transcript has the job as its begin of that count, and that outcome after it. The agents are idle and
+//! began just as many jobs as were handed in. So no job is lost, carried out twice, or ended by an end of another
+//! time.
 //!
-//! What a caller owes (`AreReady` in `specs/Seats.antt`): the agents are idle, no two have one number, and each has its
-//! pass among those that are handed in. [`are_ready`] tells whether it is so. It is so of the agents of
-//! [`first_players`] with the passes of a start, and of what comes back (`proofs/Readiness.antt`).
+//! Else the fault is what gathering finds in what the agents handed back (`GathersOrLacks`), the first of these.
+//! Memory: an agent was out of memory, or none could begin. Stranger: an agent took a place beyond the jobs.
+//! Double: a second outcome of a job. Missing: no outcome of a job. Nothing that is known of this code makes it
+//! answer Stranger or Double.
 //!
-//! No clause says that a call returns, that two agents work at once, or which of them takes a job. Whether what the
-//! threads did is what servers and agents do, event by event, no thread can tell alone: [`certify`] judges it from the
-//! histories and the transcripts, once the servers are closed.
+//! No clause says that a call returns, that threads run at once, or which agent takes a job. Whether transcripts
+//! and histories are those of one run, `certify` judges.
+//!
+//! **The caller owes** `AreReady` and at least one agent: the agents are idle, no two have one number, and each has
+//! its pass. `are_ready` tells it. It is so of `first_players` with the passes of a start, and of what comes back.
+//! A `Player` has a number below 64.
+//!
+//! Jobs go through one channel (`crossbeam_channel`), under a rule that every step of every thread keeps
+//! (`IsEachOnce`). What was put is the jobs, each once, and then end marks, no more than threads may take. A thread
+//! writes down what its agent is told before the agent takes it, in room that was made before it asked. What a
+//! thread hands back is known by its promise (`IsWorked`), which std gives at the join. An agent that is out of
+//! memory goes on taking and runs nothing, so nobody waits for it in vain.
+//!
+//! **Files**: `line` (the channel and its rule), `player`, `outcome`, `fault`, `passes`, `ready`, `pool_context`,
+//! `asking`, `work`, `start`, `gather`, `pool`.
+//!
+//! **Definitions** (`specs/`): `Line`, `Transcripts`, `Endings`, `Seats`, `Gathers`, `Pools`.
 #![tactic(auto)]
 
 mod asking;

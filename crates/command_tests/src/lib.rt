@@ -1,6 +1,5 @@
-//! Tests of the commands: what no row of `crates/rows` can say.
-//!
-//! They stand here and not in `suite_cli` or in `rows`, since a crate with tests is proved a second time for them.
+//! Tests of the commands: what no row of `crates/rows` can say (`commands`). A crate with tests is proved a second
+//! time for them, so they stand here.
 #![tactic(auto)]
 
 #[cfg(test)]

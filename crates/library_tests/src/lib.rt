@@ -1,7 +1,10 @@
-//! Tests of the libraries, a module for each, through what a library shows: that its calls succeed while
-//! there is memory, worked examples, printed text, and callers that are proved against its contracts.
+//! Tests of the libraries, a module for each, through what a library shows. They are worked examples, printed text,
+//! calls that succeed while there is memory, and callers that are proved against its contracts (`uses`). A crate
+//! with tests is proved a second time for them, so they stand here.
 //!
-//! They stand here and not in their crates, since a crate with tests is proved a second time for them.
+//! **Files**: `checks`, `fixtures` (what tests share); `streams`, `words`, `scripts`, `faults`, `outcomes`;
+//! `lists`, `list_text`, `votes`, `maps`, `contents`, `copies`, `old_copies`; `operations`, `table`, `executor`;
+//! `server`, `shelves`, `caches`.
 #![tactic(auto)]
 
 #[cfg(test)]

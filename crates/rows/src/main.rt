@@ -1,9 +1,11 @@
-//! Plays the rows of standard input: command lines, each with an input and with what must be printed for it.
-//! Prints what a row printed in place of that, and at the end how many rows there are; the exit status is 1
-//! where a row differs.
+//! Plays the rows of standard input: command lines, each with an input and with what must be printed for it. It
+//! prints what a row printed in place of that, and at the end how many rows there are. The exit status is 1 where a
+//! row differs.
 //!
-//! `src/row.rt` tells how a row is written, `stdin` has them all. Run it by hand from this folder, once it is
-//! built, as `out/rows < stdin`.
+//! `stdin` has all rows, and `src/row.rt` says how one is written. By hand, from this folder, once it is built:
+//! `out/rows < stdin`.
+//!
+//! **Files**: `line`, `row`, `report`.
 #![tactic(auto)]
 
 mod line;

@@ -1,10 +1,28 @@
-//! Whether what threads did was a run.
+//! Whether what threads did was a run. No proof follows what threads do to servers and agents, but what they leave
+//! either is a run or it is not.
 //!
-//! No proof follows what threads do, but what they leave either is a run of servers and agents or it is not: the
-//! histories of the servers, and what each agent put down. [`certify`] says which, and trusts neither. It plays the
-//! events that they spell once more on one world (`specs/Weaves.antt`), and compares what is served with the items and
-//! what agents do with their transcripts (`specs/Shown.antt`, `specs/Certified.antt`). Where it says yes, all that
-//! holds of every run holds of what the threads did.
+//! **Promises.** `certify` says which, and trusts nobody. It is lent the settings, the histories of the servers
+//! (`server_lock`) and a transcript of each agent. Where it says yes, all that holds of every run holds of what the
+//! threads did, and it gives the decisions.
+//!
+//! Three definitions say what it looks for (`specs/`). The **merge** orders the items of all histories by stamps
+//! and then by servers, each server's in its own order (`Merges`). A history whose stamps fall has none. The
+//! **weave** makes events of the merge and the transcripts; no request, reply or outcome is in them (`Weaves`).
+//! **What a run shows** is the way back: which items are served, and what each agent puts down (`Shown`). Certified
+//! is where the woven events have sense and show just these items and transcripts (`IsCertified`).
+//!
+//! **The caller owes** nothing: what is no run is refused.
+//!
+//! The code is one walk, `Walk`: a world, and of each history and transcript what is left. It plays the events with
+//! `World::step` up to the next item, the least of at most 32 heads. It compares request, stamps and reply with
+//! that item, and the ends of jobs with the entries. Nothing is sorted, and no event is gathered. A decision is
+//! pushed where a Decide was answered with an answer or a refusal.
+//!
+//! **Files**: `entry` (transcripts), `decided`, `fault`, `heads`, `unused`, `operator`, `sense`, `votes`, `same`,
+//! `begun`, `verdicts`, `walk`, `judging`.
+//!
+//! **Definitions** (`specs/`): `Merges`, `Weaves`, `Shown`, `Certified`, `Deciding`, `Promised`.
+//! `docs/HEADLINE.md`, "The certified run", has what a reader must believe.
 #![tactic(auto)]
 
 mod begun;

@@ -1,9 +1,10 @@
-//! Tests of runs: of the collector, of agents and of worlds, of servers under locks, of agents in threads, and of what is
-//! promised and certified of all that, through what they show: events, talks, replies, and that their calls succeed while
-//! there is memory. What a script can say of agents and servers is a row of `rows`.
+//! Tests of runs: of the collector, agents, worlds, servers under locks, agents in threads, and what is promised
+//! and certified of all that. They look at what these show: events, talks, replies, and that calls succeed while
+//! there is memory. What a script can say is a row of `rows`. A crate with tests is proved a second time for them,
+//! so they stand here, and in one crate, since each pays anew for reading the libraries.
 //!
-//! They stand here and not in their crates, since a crate with tests is proved a second time for them; and in one
-//! crate, since each crate pays anew for the reading of the libraries and for what its types cost.
+//! **Files**: `fixtures`, `events`, `ends` (what tests share); `collector`, `sweeps`, `worlds`, `promises`;
+//! `asking`, `locks`; `crew`, `files`, `overlap`, `runs`, `certified`, `test_cluster`, `lies`.
 #![tactic(auto)]
 
 /// What a call gives, where memory may be refused to it once. It writes the call twice, so it stands in small helpers.

@@ -1,8 +1,19 @@
 //! The command `play`: a script of events, played on a world of servers and agents.
 //!
-//! What the scripts of other commands over servers and agents share with it is public too: lines of headers, transactions
-//! as words, and how the end of a job is printed; and, for a program that shows what happens in a script of events, how
-//! its header and lines are read ([`Places`] is their language), and how outcomes and audits are printed.
+//! **Promises.** `play_events` plays the lines as they are read, and writes what the definition says
+//! (`specs/Outputs.antt`). The events of a script are those of a run that there can be, so at each moment of it
+//! `IsPromised` holds (the clause `promised`). A line makes of a world what its events make of it
+//! (`lines_are_events`). `run A` steps until the agent has no job (`run_is_until_idle`). A job that ends prints
+//! `A.C K` (agent, number of its job, own steps) and how it ended; an audit prints `audit S COUNT` and its items.
+//!
+//! Others use what is public beside that. `serve` takes the lines of the header, transactions as words, and
+//! endings. `trace` takes the header, the lines (`Places` is their language), outcomes and audits.
+//!
+//! **The caller owes** a text below 2^60 bytes, and to `read_opening` 1 to 32 servers and 1 to 64 agents.
+//!
+//! **Files**: `places`, `verb`, `command`, `caches`, `header`, `language`, `outcome`, `player`, `laws`.
+//!
+//! **Definitions** (`specs/`): `Headers`, `Commands`, `Playing`, `Texts`, `Outputs`, `Promised`, `Laws`.
 #![tactic(auto)]
 
 mod caches;

@@ -1,7 +1,20 @@
 //! The command `serve`: a script of jobs, carried out by agents in threads on servers under locks.
 //!
-//! [`read_script`] reads a script whole, before anything is served. `specs/Scripts.antt` says what a script says, and
-//! which is its first fault.
+//! **Promises.** `read_script` reads a script whole, before anything is served, and says its first fault. `serve`
+//! has the jobs above `together` carried out by agent 0 alone, then the others by all agents. It closes the servers
+//! and asks `certify`. What it gives (`IsServed`) names one run. For each job, in the script's order, its agent's
+//! transcript has it as its begin of some count, then so many requests, and then the end that its line tells. No
+//! two lines are of one agent and count. So a line cannot be another job's, and nothing is printed that was not
+//! certified.
+//!
+//! A job prints `J K` (its number and its own steps) and how it ended; last comes `certified K steps`. A fault of
+//! the pool but Memory, of closing, or of certifying prints `mismatch` and no outcome. No clause says that threads
+//! do anything at once, that a call returns, or which of two jobs comes first.
+//!
+//! **The caller owes** a text below 2^60 bytes, and 1 to 64 agents.
+//!
+//! **Files**: `verb`, `command`, `language`, `header`, `script`, `serving`, `served`. **Definitions** (`specs/`):
+//! `Commands`, `Scripts`, `Readings`, `Served`.
 #![tactic(auto)]
 
 mod command;

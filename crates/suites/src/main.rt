@@ -1,5 +1,6 @@
-//! The program `suites`: a replicated file service, its plain table and its access lists, over standard input
-//! and standard output. All of it but the reading of its words is in `suite_cli`.
+//! The program `suites`: a replicated file service, its plain table and its access lists, over standard input and
+//! output. It reads its words, hands them with the streams to `suite_cli::run`, and ends with the status that this
+//! answers. A word that is not UTF-8 is refused like any wrong word.
 #![tactic(auto)]
 
 ghost use Rattle.std.specs.Prelude.{◌≡◌, map, string_bytes, IfOk};
