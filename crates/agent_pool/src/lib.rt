@@ -1,8 +1,7 @@
 //! Agents in threads, over servers under locks.
 //!
 //! `run_pool` has jobs carried out by agents, each in a thread of its own, until none is left. It gives the agents
-//! back, each with the **transcript** of what it did: jobs that it began, servers that it asked, sites that it
-//! forgot, and how jobs ended.
+//! back, each with the **transcript** of what it did.
 //!
 //! **Promises**, on success (`IsPoolOf`): there is one outcome for each job, no two of one agent and count. The
 //! agent's transcript has the job as its begin of that count, and that outcome after it. The agents are idle and
@@ -23,9 +22,9 @@
 //!
 //! Jobs go through one channel (`crossbeam_channel`), under a rule that every step of every thread keeps
 //! (`IsEachOnce`). What was put is the jobs, each once, and then end marks, no more than threads may take. A thread
-//! writes down what its agent is told before the agent takes it, in room that was made before it asked. What a
-//! thread hands back is known by its promise (`IsWorked`), which std gives at the join. An agent that is out of
-//! memory goes on taking and runs nothing, so nobody waits for it in vain.
+//! writes down what its agent is told before the agent takes it. What a thread hands back is known by its promise
+//! (`IsWorked`), which std gives at the join. An agent that is out of memory goes on taking and runs nothing, so
+//! nobody waits for it in vain.
 //!
 //! **Files**: `line` (the channel and its rule), `player`, `outcome`, `fault`, `passes`, `ready`, `pool_context`,
 //! `asking`, `work`, `start`, `gather`, `pool`.

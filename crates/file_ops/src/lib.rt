@@ -1,28 +1,23 @@
 //! The plain table: files and folders, and transactions of operations on them. It is the yardstick: one table that
 //! is not replicated, one transaction at a time.
 //!
-//! A `Table` has a row for each file and folder: owner, group, lists, votes, content. It is opened with settings
-//! and the root folder alone. `Service` is what never changes: how many servers there are, and the opening votes
-//! C0.
+//! A `Table` has a row for each file and folder: owner, group, lists, votes, content. It opens with settings and
+//! the root folder alone. `Service` is what never changes: how many servers there are, and the opening votes C0.
 //!
 //! **Promises.** `Table::apply` plays a transaction of one to eight operations, each on the table that the one
-//! before left. At the first refusal the table is as it was, and a denial adds an item to the audit. Its contract
-//! is the definition of a transaction on rows as a finite map, for every table, caller and list of operations
-//! (`transaction`). Out of memory is the one answer that the definition does not have. It is never given where the
-//! first operation is refused, unless that is a denial, nor to a wrong number of operations (`RefusesFirst`).
+//! before left. At the first refusal the table is as it was, and a denial adds an item to the audit. That is the
+//! definition of a transaction on rows as a finite map, for every table, caller and list of operations
+//! (`transaction`). Out of memory is the one answer beside it, never in place of a refusal of the first operation
+//! that is no denial (`RefusesFirst`).
 //!
 //! `specs/Operations.antt` reads like the rules. First the path (F1), the length written (F8), unknown servers in
-//! votes (F11), and a default list for a file (F12). Then the walk from the root, at each folder its kind (F2),
-//! search (F3) and name (F4). Then at the target what is wanted (F3), its kind (F6, F2), and the rest. Who may do
-//! what, `Acl::check` says.
+//! votes (F11), a default list for a file (F12). Then the walk from the root, at each folder its kind (F2), search
+//! (F3) and name (F4). Then at the target what is wanted (F3), its kind (F6, F2), and the rest. Who may do what,
+//! `Acl::check` says. Votes count for nothing here. What is made with a mode gets its lists from its folder
+//! (`lists_of`).
 //!
-//! Votes count for nothing here: the table keeps and answers them. What is made with a mode gets its lists from its
-//! folder (`lists_of`). Lists that are given are taken as they are.
-//!
-//! The executor (`file_exec`) says each operation once more, as a course, from the same rules; a law ties both
-//! (`is_the_transaction`). Both share the leaf rules of the code: `Guarded`, `PathText::names`, `last_name`,
-//! `Service::known_votes`, `Init::lists`, `require_placed`, `made_number`. `Answers` are made once and shared: a
-//! clone copies no reply.
+//! The executor (`file_exec`) says each operation once more, as a course; a law ties both (`is_the_transaction`).
+//! They share the leaf rules, which are public for that. `Answers` are shared: a clone copies no reply.
 //!
 //! **The caller owes** a transaction number below 2^60.
 //!

@@ -5,8 +5,8 @@
 //! with their versions), and a log of decided transactions, which read and write it one at a time. `Machine` is
 //! what there is: at each server a stored copy, locks, at most one intention; and of each transaction what it was
 //! told, prepared and recorded. The copy in effect at a server is the stored one, or the intention there once its
-//! transaction is recorded as answered. `Events` are the twelve things that happen, and `Conditions` say when each
-//! may; `Laws` has the laws.
+//! transaction is recorded as answered. `Events` are what happens, and `Conditions` say when it may; `Laws` has the
+//! laws.
 //!
 //! **Promises**, of every list of events that keeps the conditions: `is_one_register`, `every_copy_was`,
 //! `replaced_is_superseded`, `quorums_show_the_row`, `decided_once`, `locks_hold_copies`, `locks_stand`,
@@ -22,10 +22,9 @@
 //! 4. A replaced prefix is superseded in each of its quorums, since a change of votes is decided by write quorums
 //! of the old votes and of the new.
 //!
-//! So a transaction that counts votes under the newest prefix that it was told counts under the current one. Were
-//! that replaced, its quorum would hold a server that shows a newer one (4), which it was told (2). Then its quorum
-//! shows the current content (1). All this is so at the record and not before: what a transaction was told may be
-//! stale while it gathers.
+//! So the newest prefix that a transaction was told is the current one. Were it replaced, its quorum would hold a
+//! server that shows a newer one (4), which it was told (2). Then its quorum shows the current content (1). All
+//! this is so at the record and not before.
 #![tactic(auto)]
 
 ghost use Rattle.law_suite_machine.specs.Laws.{OneRegister, EveryCopyWas, AlwaysSuperseded, AlwaysCurrent, AlwaysOnce, LocksAlwaysHold, LocksAlwaysStand, WhatWasStays, SomeRunObeys};

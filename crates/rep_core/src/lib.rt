@@ -2,9 +2,9 @@
 //! once, and waits for nobody.
 //!
 //! A server has **copies** by suite and **locks** of transactions on suites, shared or exclusive, prepared or not.
-//! It has **intentions**: what a prepared transaction will make of a copy. It has **verdicts** of the transactions
-//! whose home it is, an **audit** of denials, and a **stamp** (Lamport's logical clock); and it is up or down. A
-//! suite without a copy stands for what was never made. At the opening each representative has the root folder.
+//! It has **intentions** (what a prepared transaction will make of a copy), **verdicts** of the transactions whose
+//! home it is, an **audit** of denials, and a **stamp** (Lamport's logical clock). It is up or down. A suite
+//! without a copy stands for what was never made. At the opening each representative has the root folder.
 //!
 //! **Promises.** The server function is `reply_of` and `after` (`specs/Service.antt`), with stamps and fullness
 //! round them (`specs/Serving.antt`). `Server::evaluate` finds the reply and a `Step`, with all room that it takes,
@@ -13,13 +13,12 @@
 //! (`specs/Laws.antt`).
 //!
 //! - Poll(t, suite, mode): Busy with the least holder in the way; else the lock is t's, or is raised: Held(prefix,
-//!   version of the content).
+//!   version).
 //! - Upgrade(t, suite): Lost without a lock of t; Busy; else the lock is exclusive, and Held.
 //! - Fetch(t, suite): Lost without a lock of t; else Given(version, content).
 //! - Prepare(t, parts): a part is a suite, a mode and what is taken (Keep, a prefix, or a whole copy). With a
 //!   prepared lock of t here, or without parts, nothing changes. Lost where a lock is missing or too weak, or what
-//!   is taken is not sound. Else the intentions are kept, the locks are prepared, and there is room for the copies:
-//!   Prepared.
+//!   is taken is not sound. Else intentions are kept, locks prepared, and room made for the copies: Prepared.
 //! - Decide(t, outcome): the recorded Verdict, or this one is recorded; a denial adds an item to the audit.
 //! - Resolve(t): the recorded Verdict; without one, Aborted is recorded.
 //! - Finish(t, verdict): Done. Intentions of t become copies where it is an answer, and go in any case; so do its
@@ -28,16 +27,15 @@
 //! - Locks: Locked(all locks), by transaction, then suite.
 //! - Crash: Done; the server is down, and locks that are not prepared are lost. Return: Done; it is up.
 //!
-//! A server that is down answers Down to everything but Return. Two things keep it from serving, and then nothing
-//! changes, not even the stamp. It is **full** of 4,096 suites, of stamps, or of versions (`is_full`). Or it is out
-//! of **memory**, which Crash, Return, Break and Finish do not need, nor what is answered Busy, Lost, Done or Down.
+//! A server that is down answers Down to all but Return. It does not serve, and nothing changes, where it is
+//! **full** of suites (4,096), stamps or versions (`is_full`), or out of **memory**. Crash, Return, Break and
+//! Finish need none, nor does what is answered Busy, Lost, Done or Down.
 //!
-//! **The caller owes** a step to `apply` that was evaluated at the server as it stands (`IsStep`). It opens each
-//! server with its own number and the same settings. What a crash keeps is what has to be on stable storage. That
-//! requests come in a sensible order is nowhere presumed.
+//! **The caller owes** to `apply` a step that was evaluated at the server as it stands (`IsStep`). It opens each
+//! server with its own number and the same settings. That requests come in a sensible order is nowhere presumed.
 //!
-//! In code copies and intentions are bytes (`StoredCopy`), so a Finish moves them. Some things are kept so that
-//! nothing is searched through: who holds locks on a suite, which locks the next crash looks at, verdicts by agent.
+//! In code copies and intentions are bytes (`StoredCopy`), so a Finish moves them. Beside the locks stands who
+//! holds them by suite, and which the next crash looks at.
 //!
 //! **Files**: `lock`, `request`, `reply`, `stamped`, `takes`, `fitting`, `intention`, `store`, `maps`, `copying`,
 //! `holders`, `settled`, `locks`, `verdicts`, `step`, `server_state`, `evaluate`, `server`, `effect`, `types_fit`,

@@ -13,10 +13,9 @@
 //!
 //! **The caller owes** nothing: what is no run is refused.
 //!
-//! The code is one walk, `Walk`: a world, and of each history and transcript what is left. It plays the events with
-//! `World::step` up to the next item, the least of at most 32 heads. It compares request, stamps and reply with
-//! that item, and the ends of jobs with the entries. Nothing is sorted, and no event is gathered. A decision is
-//! pushed where a Decide was answered with an answer or a refusal.
+//! The code is one `Walk`: a world, and of each history and transcript what is left. It plays the events up to the
+//! next item, the least of at most 32 heads. It compares what the world serves with that item, and the ends of jobs
+//! with the entries. Nothing is sorted, and no event is gathered.
 //!
 //! **Files**: `entry` (transcripts), `decided`, `fault`, `heads`, `unused`, `operator`, `sense`, `votes`, `same`,
 //! `begun`, `verdicts`, `walk`, `judging`.

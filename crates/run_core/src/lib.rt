@@ -1,19 +1,14 @@
 //! Servers and agents together, event by event.
 //!
-//! A `World` is the servers and the agents of a service, each at the place of its number. With an agent goes the
-//! last stamp that it was told, and how many own steps its job has taken. An `Event` is one thing that happens
-//! there:
-//! - an agent begins a job, or forgets what it keeps for a site;
-//! - an agent takes a step: a server serves what it asks, and it takes the reply; where the server is full it is
-//!   told that;
-//! - an agent is told that its request was not served;
-//! - a server crashes, or restarts.
+//! A `World` is the servers and the agents of a service, each at the place of its number. An `Event` is one thing
+//! that happens there. An agent begins a job, or forgets a site. It takes a step: a server serves what it asks, and
+//! it takes the reply. Or it is told that its request was not served. A server crashes, or restarts.
 //!
 //! **Promises.** `World::step` plays an event as the definition says (`specs/Worlds.antt`, one equation an event).
-//! It answers what was served and how a job ended. `World::advance` plays it by the same body and tells the second
-//! alone. `World::play` plays many. Where memory runs out nothing has changed, or `play` tells how many events were
-//! played. Only a begin and a step may need memory (`specs/Wanting.antt`). An event without sense does nothing
-//! (`specs/Senses.antt`, `nothing_comes`). `World::server` lends a server, to be read.
+//! It answers what was served and how a job ended; `World::advance` tells the second alone. `World::play` plays
+//! many. Where memory runs out nothing has changed, or `play` tells how many events were played. Only a begin and a
+//! step may need memory (`specs/Wanting.antt`). An event without sense does nothing (`specs/Senses.antt`,
+//! `nothing_comes`). `World::server` lends a server, to be read.
 //!
 //! A **run** is events from the opening on. Its **decisions** are the transactions whose Decide made the first
 //! record at its server, as an answer or a refusal, in that order. Its **table** is the plain table that takes
@@ -23,7 +18,7 @@
 //!
 //! A step copies no server, agent or request. The agent puts its request into a place (`Seat::ask`), the server
 //! evaluates it, the agent takes the reply, and the server applies what it evaluated, which takes no memory
-//! (`exchange`). Where the agent is out of memory the step is let go, and nothing is undone.
+//! (`exchange`). Where the agent is out of memory the step is let go.
 //!
 //! **Files**: `event`, `done`, `host`, `seat`, `operator`, `opening`, `exchange`, `moves`, `world`, `laws`.
 //!

@@ -5,23 +5,20 @@
 //!
 //! **Promises.**
 //! - A history is legal by its type (`IsLegal`): a replay of its requests from the opening gives its replies and
-//!   stamps. The server is as it is at the end. There are at most 1,000,000 items. So no thread can falsify a
-//!   history.
-//! - `Locked::serve` is the one step. It evaluates the request, makes room for the item, and applies the step.
-//!   Without a reply nothing has changed.
-//! - `Servers::ask` takes that step under the lock. It waits for the lock and for the caller's `Gate`, and for
-//!   nothing else. An `Answer` is what a server of that number gives after some legal history of that length
-//!   (`IsTold`).
-//! - A `Pass` says how much an asker has seen of each history. Where a history is shorter, the answer is Stale. So
+//!   stamps, and the server as it is. It has at most 1,000,000 items. No thread can falsify it.
+//! - `Locked::serve` is the one step: it evaluates the request, makes room for the item, and applies. Without a
+//!   reply nothing has changed.
+//! - `Servers::ask` takes that step under the lock. It waits for the lock and the caller's `Gate`. An `Answer` is
+//!   what a server of that number gives after some legal history of that length (`IsTold`).
+//! - A `Pass` says how much an asker has seen of each history. Where a history is shorter, the answer is Stale; so
 //!   what an asker reads never goes back.
-//! - `Servers::close` gives the histories. Place names the first server under whose lock another stands. Count
-//!   names the first asker of whom the histories have other items than its pass counted.
+//! - `Servers::close` gives the histories. Place names the first server under whose lock another stands; Count the
+//!   first asker of whom the histories have other items than its pass counted.
 //!
-//! No clause says that `ask` returns, that two threads ran at once, or that waiting is fair. Which legal history an
-//! answer came after, `run_certify` finds.
+//! No clause says that `ask` returns, that two threads ran at once, or that waiting is fair.
 //!
 //! **The caller owes** a server below their number to `ask`, and a pass only to the servers that it was started
-//! with. No type can say that the value under a lock is the server of its place; `close` looks.
+//! with. That the value under a lock is the server of its place no type can say; `close` looks.
 //!
 //! **Files**: `item`, `history`, `miss`, `answer`, `gate` (where a test can hold a thread), `pass`, `locked`,
 //! `servers`, `counting`, `close_fault`, `closing`, `laws`.

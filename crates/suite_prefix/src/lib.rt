@@ -1,24 +1,21 @@
 //! Prefixes, copies and their bytes, and settings.
 //!
 //! A `Prefix` is the version, kind, owner, group, lists and votes of a file or a folder. A `Replica`, a copy, is a
-//! prefix, the content's version and the content: what a server stores and sends. To contracts both are records of
-//! their fields. What was never made has the kind Absent, version 0 and an empty content. `Settings` are what a
-//! service is opened with.
+//! prefix, the content's version and the content. To contracts both are records of their fields. What was never
+//! made has the kind Absent, version 0 and an empty content. `Settings` are what a service is opened with.
 //!
 //! **Promises.**
-//! - `Prefix::is_valid` and `Replica::is_valid` test the rules of valid copies (`specs/Copies.antt`); definitions
+//! - `Prefix::is_valid` and `Replica::is_valid` test the rules of valid copies (`specs/Copies.antt`). Definitions
 //!   above judge by tests that are exact (`tests_are_exact`).
-//! - `encode` writes a valid copy in form 2. `decode` reads the bytes of valid copies in form 1 or 2 and no others,
-//!   and tells of other bytes their one fault (`IsShapeFault`, `faults_tell_apart`). A fault comes before out of
-//!   memory. No bytes of a copy begin another's (`no_bytes_begin_others`); a front of them is Short
-//!   (`fronts_are_short`).
-//! - A `StoredCopy` keeps a copy as its bytes, which were judged once. `keep_head` and `keep_content` share what is
-//!   read of them.
+//! - `encode` writes a valid copy in form 2. `decode` reads the bytes of valid copies in either form, and tells of
+//!   others their one fault, before out of memory (`IsShapeFault`, `faults_tell_apart`).
+//! - No bytes of a copy begin another's (`no_bytes_begin_others`). A front of them is Short (`fronts_are_short`).
+//! - A `StoredCopy` keeps a copy as its bytes, which were judged once. What was read of them is shared.
 //! - `Settings::new` refuses by the first fault (`specs/SettingsRules.antt`). There are 1 to 32 servers and 1 to 64
 //!   agents. Contracts see an `Opening`.
 //!
-//! **The caller owes** a valid copy to `encode`, `StoredCopy::new`, `in_form` (one that the form can hold) and
-//! `under`.
+//! **The caller owes** a valid copy to `encode`, `StoredCopy::new`, `under`, and `in_form` (one that the form can
+//! hold).
 //!
 //! **The bytes**, highest byte of a number first, with their lengths:
 //!
@@ -34,11 +31,11 @@
 //! | content, Absent or File | length 4, then the bytes |
 //! | content, Folder | count 2; each: length 1, the name, number 8; names rising |
 //!
-//! Form 1, which is read for ever, has no default list. It holds at most 64 entries, and no representative above
-//! server 15 (`CanHold`). `docs/FORMATS.md` says how forms change.
+//! Form 1, which is read for ever, has no default list, at most 64 entries, and no representative above server 15
+//! (`CanHold`). `docs/FORMATS.md` says how forms change.
 //!
-//! **Reading.** Bytes are read from the left into a shape, which borrows from them; the first fault met there is
-//! Short or BadTag. A whole shape is then judged: NotCanonical, Invalid, TrailingBytes, in this order.
+//! Bytes are read from the left into a shape, which borrows from them; the first fault met there is Short or
+//! BadTag. A whole shape is then judged: NotCanonical, Invalid, TrailingBytes, in this order.
 //!
 //! **Files**: `copies`, `lock_mode`, `shared`, `absent`, `validity`, `forms`, `faults`, `entries`, `heads`,
 //! `shapes`, `reading`, `decoding`, `writing`, `stored`, `settings`.

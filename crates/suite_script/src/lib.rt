@@ -16,11 +16,11 @@
 //! - `serve`: the header of `play` without `agents`. Jobs count from 0. A second `together` is S1; without one all
 //!   jobs are above it.
 //! - `table`: `root` comes first, and a mode there gives no default list. Transactions count from 0.
-//! - A line of no such form, or with an agent, server or site that is not there, is S1. A line of the header that
-//!   is missing, doubled or out of its place is S2.
+//! - A line of no such form, or with an agent, server or site that is not there, is S1. A header's line that is
+//!   missing, doubled or out of its place is S2.
 //! - VOTES is `V0,V1,../R/W`. A field is a server's votes (0 to 255), or `-` where it is not listed; then what a
-//!   read and a write collects (0 to 65535). Of another form it is S1. Valid votes they are not: V1 to V7, as
-//!   `vote_core` orders its faults.
+//!   read and a write collects (0 to 65535). Another form is S1; votes that are not valid are V1 to V7, in
+//!   `vote_core`'s order.
 //! - INIT is three octal digits or lists; LIST is lists, as text without white space, a default list's entries with
 //!   `d:`. `setacl` sets both lists. GIDS is the caller's group and up to 32 others.
 //!

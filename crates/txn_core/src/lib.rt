@@ -7,21 +7,19 @@
 //! **Promises.** An `Agent` is the agent function, exactly (`specs/Agents.antt`): `begin`, `next`, `take`,
 //! `forget`. `next` puts what it asks into a place of the caller's. `take` is told the reply, or why the request
 //! was not served. An agent's index is below 64. A begin without sense changes nothing. Out of memory leaves the
-//! agent as it was, and the call may be made again. `specs/Wanting.antt` says when memory may run out. An agent
-//! that gave up, or whose refusal is recorded, comes to its end without any.
+//! agent as it was, and the call may be made again. `specs/Wanting.antt` says when memory may run out; an agent
+//! that gave up comes to its end without any.
 //!
-//! The laws hold of every agent and job, whatever it is told (`src/laws.rt`, `specs/Laws.antt`). An exchange is a
-//! request with what was told of it.
+//! The laws hold of every agent and job, whatever it is told (`specs/Laws.antt`).
 //! - Nobody is polled twice for a suite (`nobody_is_polled_twice`). A decision is asked for once, after all have
-//!   prepared with every lock, on quorums of the newest votes seen (`decide_is_sent_once`, `all_prepare_first`,
-//!   `prepare_lists_the_locks`, `decides_on_quorums`).
+//!   prepared, on quorums of the newest votes seen (`decide_is_sent_once`, `all_prepare_first`,
+//!   `decides_on_quorums`).
 //! - What is written is fixed once (`what_is_written_is_fixed`). The end is told as the home told it
 //!   (`finish_carries_the_verdict`).
 //! - An undecided end was told its cause (`ends_are_caused`). What is cached was fetched
 //!   (`caches_what_was_fetched`).
 //! - A transaction of k suites at n servers takes k*(2n + 1) + 2n + 1 steps at most (`ends_in_time`), a sweep of m
-//!   locks 1 + 2m (`sweep_ends_in_time`).
-//! - Talks are worked by computation, among them a revocation that old hints do not hide (`worked_runs`).
+//!   locks 1 + 2m (`sweep_ends_in_time`). Some talks are worked by computation (`worked_runs`).
 //!
 //! **The caller owes** to `take` what fits the request (`FitsAsked`), as each reply of a server does.
 //!
@@ -35,8 +33,8 @@
 //! **In code** nothing is undone. What was learned (a quorum, a content) is `Learned`; the transaction is executed
 //! on a view of the suites as they will be (`SuitesAfter`). An execution is planned while it may fail (`plan`).
 //! Then it is carried out (`carrying`), which cannot fail. It goes on from where the transaction came while what is
-//! known only grows, and else begins anew. Each handler answers a `Flow`: the job goes on, or has ended. Clauses of
-//! the steps have names in `specs/code/Goings.antt`.
+//! known only grows, and else begins anew. Each handler answers a `Flow`: the job goes on, or has ended. The
+//! clauses of its steps have names in `specs/code/Goings.antt`.
 //!
 //! **Files**, what a job is: `job`, `ending`, `response`, `task`, `phase`, `resources`, `fixed_parts`, `servers`,
 //! `home`. Suites: `read_point`, `suites`, `pending_quorum`, `learned`, `suites_after`, `empty`, `cache_after`,

@@ -2,29 +2,27 @@
 //! nothing.
 //!
 //! A `WeakCache` keeps, for a site and a suite, a prefix that the suite had, and the content that it had at a
-//! version. A caller takes a prefix as a hint where to begin (`hint`). It takes a content only at the version that
-//! a read quorum told (`content_at`). So a cache saves the reading of contents.
+//! version. A caller takes a prefix as a hint where to begin (`hint`), and a content only at the version that a
+//! read quorum told (`content_at`). So a cache saves the reading of contents.
 //!
 //! **Promises.** In a contract a cache is its limits and the list of its entries, the newest first; each call is
 //! the function on that list (`specs/Cache.antt`).
-//! - A put takes the place of what its site kept of the suite, and goes to the front. Then the site's oldest go
-//!   while it is above the quota, and the oldest of all while the cache is above budget or slots. What has no room
-//!   at all is not kept (`put`; in words `oldest_go`).
-//! - All entries are within budget and slots, those of a site within the quota, each suite of a site once, by the
-//!   type (`WeakCache::is_within`).
-//! - What is found was put for that site and suite, a content at that version, and nothing else was put there since
-//!   (`found_was_put`).
-//! - Only the budget and the slots reach across sites (`site_lists`).
-//! - `content`, `hint_beside` and `content_beside` change nothing: the last two say what would be found once an
-//!   entry was put. An agent plans with them.
+//! - A put takes the place of what its site kept of the suite, in front. Then the site's oldest go while it is
+//!   above the quota, and the oldest of all while the cache is above budget or slots (`put`; in words `oldest_go`).
+//!   What has no room at all is not kept.
+//! - By the type, entries are within these limits, and each suite of a site stands once (`WeakCache::is_within`).
+//! - What is found was put for that site and suite, and nothing else was put there since (`found_was_put`). Only
+//!   budget and slots reach across sites (`site_lists`).
+//! - `content`, `hint_beside` and `content_beside` change nothing. The last two say what would be found once an
+//!   entry was put: an agent plans with them.
 //! - Out of memory leaves the cache as it was. Beside `new`, only a put where the site kept nothing of the suite
 //!   can be refused.
 //!
 //! **The caller owes** a site below `MAX_SITES` to `put`.
 //!
-//! An index has the slot of each site and suite, and the entries stand on a `recency::Shelf`. A call costs a
+//! The entries stand on a `recency::Shelf`, and an index has the slot of each site and suite. A call costs a
 //! look-up, and constant work for each entry that moves or goes. The `_beside` calls pass over the entries where
-//! not all have room. Contents and prefixes are shared with whoever gave them.
+//! not all have room.
 //!
 //! **Files**: `entry`, `tally` (number and bytes), `kept` (shelf, index and tally), `stock` (the same, seen as a
 //! list), `cache`, `laws`.
