@@ -40,7 +40,7 @@ def files():
 
 
 def documents():
-    below = [path for folder in ("docs", "docs/crates") for path in sorted(glob.glob(os.path.join(TOP, folder, "*.md")))]
+    below = sorted(glob.glob(os.path.join(TOP, "docs", "*.md")))
     return [*(os.path.join(TOP, name) for name in ("README.md", "CONTRIBUTING.md")), *below]
 
 
