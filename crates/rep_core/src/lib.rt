@@ -34,8 +34,8 @@
 //! **The caller owes** to `apply` a step that was evaluated at the server as it stands (`IsStep`). It opens each
 //! server with its own number and the same settings. That requests come in a sensible order is nowhere presumed.
 //!
-//! In code copies and intentions are bytes (`StoredCopy`), so a Finish moves them. Beside the locks stands who
-//! holds them by suite, and which the next crash looks at.
+//! In code copies and intentions are bytes (`StoredCopy`), so a Finish moves them. Beside the locks, `holders` and
+//! `settled` save searches through them.
 //!
 //! **Files**: `lock`, `request`, `reply`, `stamped`, `takes`, `fitting`, `intention`, `store`, `maps`, `copying`,
 //! `holders`, `settled`, `locks`, `verdicts`, `step`, `server_state`, `evaluate`, `server`, `effect`, `types_fit`,
