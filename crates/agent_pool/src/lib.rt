@@ -10,21 +10,18 @@
 //!
 //! Else the fault is what gathering finds in what the agents handed back (`GathersOrLacks`), the first of these.
 //! Memory: an agent was out of memory, or none could begin. Stranger: an agent took a place beyond the jobs.
-//! Double: a second outcome of a job. Missing: no outcome of a job. Nothing that is known of this code makes it
-//! answer Stranger or Double.
+//! Double: a second outcome of a job. Missing: no outcome of a job.
 //!
 //! No clause says that a call returns, that threads run at once, or which agent takes a job. Whether transcripts
 //! and histories are those of one run, `certify` judges.
 //!
 //! **The caller owes** `AreReady` and at least one agent: the agents are idle, no two have one number, and each has
-//! its pass. `are_ready` tells it. It is so of `first_players` with the passes of a start, and of what comes back.
-//! A `Player` has a number below 64.
+//! its pass. `are_ready` tells it. `first_players` with the passes of a start are so, and so is what comes back.
 //!
 //! Jobs go through one channel (`crossbeam_channel`), under a rule that every step of every thread keeps
-//! (`IsEachOnce`). What was put is the jobs, each once, and then end marks, no more than threads may take. A thread
-//! writes down what its agent is told before the agent takes it. What a thread hands back is known by its promise
-//! (`IsWorked`), which std gives at the join. An agent that is out of memory goes on taking and runs nothing, so
-//! nobody waits for it in vain.
+//! (`IsEachOnce`). What was put is the jobs, each once, and then end marks. A thread writes down what its agent is
+//! told before the agent takes it. What a thread hands back is known by its promise (`IsWorked`), which std gives
+//! at the join. An agent that is out of memory goes on taking and runs nothing, so nobody waits for it in vain.
 //!
 //! **Files**: `line` (the channel and its rule), `player`, `outcome`, `fault`, `passes`, `ready`, `pool_context`,
 //! `asking`, `work`, `start`, `gather`, `pool`.

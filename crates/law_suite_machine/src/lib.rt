@@ -1,5 +1,5 @@
-//! One suite at servers whose votes may change: why it is one plain register. There are no lists of servers here,
-//! no agents, no messages, and no code but laws.
+//! One suite at servers whose votes may change: why it is one plain register. There are no agents and no messages
+//! here, and no code but laws.
 //!
 //! **What it stands on**, in reading order (`specs/`). `Registers` is what is promised: a row (prefix and content
 //! with their versions), and a log of decided transactions, which read and write it one at a time. `Machine` is
@@ -10,21 +10,19 @@
 //!
 //! **Promises**, of every list of events that keeps the conditions: `is_one_register`, `every_copy_was`,
 //! `replaced_is_superseded`, `quorums_show_the_row`, `decided_once`, `locks_hold_copies`, `locks_stand`,
-//! `what_was_stays`. In `some_run_obeys` all of them say something. The conditions are what servers and agents are
-//! shown to keep (`law_server_moves`, `law_run_machine`), so nobody has to believe this crate for itself.
+//! `what_was_stays`. In `some_run_obeys` all say something. Servers and agents are shown to keep the conditions
+//! (`law_server_moves`, `law_run_machine`), so nobody has to believe this crate for itself.
 //!
 //! Four facts carry it.
 //! 1. Quorums meet in a vote: a read and a write quorum of the same votes, and two write quorums.
 //! 2. A lock that is gone never comes back, since a transaction asks a server once for a lock on a suite. So where
 //! its lock stands at Prepare, the copy that it was told is still the stored one.
-//! 3. A verdict takes effect at once everywhere. Copies change later, server by server; the copy in effect changes
-//! at the record alone.
+//! 3. A verdict takes effect at once everywhere. The copy in effect changes at the record alone.
 //! 4. A replaced prefix is superseded in each of its quorums, since a change of votes is decided by write quorums
 //! of the old votes and of the new.
 //!
 //! So the newest prefix that a transaction was told is the current one. Were it replaced, its quorum would hold a
-//! server that shows a newer one (4), which it was told (2). Then its quorum shows the current content (1). All
-//! this is so at the record and not before.
+//! server that shows a newer one (4), which it was told (2). Then its quorum shows the current content (1).
 #![tactic(auto)]
 
 ghost use Rattle.law_suite_machine.specs.Laws.{OneRegister, EveryCopyWas, AlwaysSuperseded, AlwaysCurrent, AlwaysOnce, LocksAlwaysHold, LocksAlwaysStand, WhatWasStays, SomeRunObeys};

@@ -1,7 +1,6 @@
-//! Whether what threads did was a run. No proof follows what threads do to servers and agents, but what they leave
-//! either is a run or it is not.
+//! Whether what threads left is a run of servers and agents. No proof follows what they do.
 //!
-//! **Promises.** `certify` says which, and trusts nobody. It is lent the settings, the histories of the servers
+//! **Promises.** `certify` says it, and trusts nobody. It is lent the settings, the histories of the servers
 //! (`server_lock`) and a transcript of each agent. Where it says yes, all that holds of every run holds of what the
 //! threads did, and it gives the decisions.
 //!

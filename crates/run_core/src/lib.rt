@@ -16,9 +16,9 @@
 //!
 //! **The caller owes** nothing: numbers that nobody has make no sense.
 //!
-//! A step copies no server, agent or request. The agent puts its request into a place (`Seat::ask`), the server
-//! evaluates it, the agent takes the reply, and the server applies what it evaluated, which takes no memory
-//! (`exchange`). Where the agent is out of memory the step is let go.
+//! A step copies no server, agent or request (`exchange`). The server evaluates what the agent asks, the agent
+//! takes the reply, and the server applies the step, which takes no memory. Where the agent is out of memory the
+//! step is let go.
 //!
 //! **Files**: `event`, `done`, `host`, `seat`, `operator`, `opening`, `exchange`, `moves`, `world`, `laws`.
 //!

@@ -1,8 +1,7 @@
 //! Maps kept as a vector of pairs, sorted by key.
 //!
 //! A look-up is a binary search. A new key moves the pairs behind it up by one place, and a removal moves them
-//! down. So a key above all others is put in by a push. A large map that gains and loses keys all over is better
-//! kept in a tree. No key and no value is cloned.
+//! down. So a key above all others is put in by a push. A large map that changes all over is better kept in a tree.
 //!
 //! **Promises.** In a contract a `SortedMap` is the list of its pairs. Each call is the look-up or the edit of that
 //! list (`get`, `insert`, `remove`). An insertion that is out of memory gives the pair back and leaves the map. A

@@ -3,8 +3,7 @@
 //! **Promises.** `play_events` plays the lines as they are read, and writes what the definition says
 //! (`specs/Outputs.antt`). The events of a script are those of a run that there can be, so at each moment of it
 //! `IsPromised` holds (the clause `promised`). A line makes of a world what its events make of it
-//! (`lines_are_events`). `run A` steps until the agent has no job (`run_is_until_idle`). A job that ends prints
-//! `A.C K` (agent, number of its job, own steps) and how it ended; an audit prints `audit S COUNT` and its items.
+//! (`lines_are_events`). `run A` steps until the agent has no job (`run_is_until_idle`).
 //!
 //! Others use what is public beside that. `serve` takes the lines of the header, transactions as words, and
 //! endings. `trace` takes the header, the lines (`Places` is their language), outcomes and audits.

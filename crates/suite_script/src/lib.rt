@@ -1,8 +1,8 @@
 //! The language of scripts, as the commands of `suites` share it.
 //!
-//! A script is bytes. Its lines end at line feeds. Words stand between spaces and tabs, and operations between
-//! words that are a semicolon. An empty line, and one that begins with `#`, says nothing. A command says with which
-//! words its own lines begin, and what they say (`Language`).
+//! Words stand between spaces and tabs, and operations between words that are a semicolon. An empty line, and one
+//! that begins with `#`, says nothing. A command says with which words its own lines begin, and what they say
+//! (`Language`).
 //!
 //! **Promises.** `ScriptReader` gives the lines one by one, each with the names that are known there, or the first
 //! fault (`specs/Scripts.antt`). `ScriptReader::look_ahead` says whether the lines that are left have a fault, so
@@ -10,19 +10,11 @@
 //! `read_caller`), and outcomes and faults print as these say (`push_answered`, `push_refused`, `push_votes`,
 //! `push_fault`). Text is gathered and written in pieces (`write_if_full`).
 //!
-//! The forms of all lines are in the `--help` of each command, and in README.md, "Scripts". Beside that:
-//! - `play`: `servers` and `agents` out of range are G1, votes V1 to V7, `cache` G3. `old` names servers whose root
-//!   is first in form 1 (G4). `step A N` goes up to 1,000,000.
-//! - `serve`: the header of `play` without `agents`. Jobs count from 0. A second `together` is S1; without one all
-//!   jobs are above it.
-//! - `table`: `root` comes first, and a mode there gives no default list. Transactions count from 0.
-//! - A line of no such form, or with an agent, server or site that is not there, is S1. A header's line that is
-//!   missing, doubled or out of its place is S2.
-//! - VOTES is `V0,V1,../R/W`. A field is a server's votes (0 to 255), or `-` where it is not listed; then what a
-//!   read and a write collects (0 to 65535). Another form is S1; votes that are not valid are V1 to V7, in
-//!   `vote_core`'s order.
-//! - INIT is three octal digits or lists; LIST is lists, as text without white space, a default list's entries with
-//!   `d:`. `setacl` sets both lists. GIDS is the caller's group and up to 32 others.
+//! The forms of lines, votes, lists and operations are in the `--help` of each command and in README.md, "Scripts";
+//! `docs/FAULTS.md` has the faults. A line of no such form, or with an agent, server or site that is not there, is
+//! S1. A line of a header that is out of its place is S2. A server has 0 to 255 votes, and a read or a write
+//! collects 0 to 65535, else it is S1. Votes that are not valid are V1 to V7, in `vote_core`'s order. `step A N`
+//! goes up to 1,000,000. `setacl` sets both lists.
 //!
 //! **The caller owes** a text below 2^62 bytes to `ScriptReader::new`, and to `look_ahead` that the header was
 //! read.

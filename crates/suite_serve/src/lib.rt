@@ -7,9 +7,8 @@
 //! two lines are of one agent and count. So a line cannot be another job's, and nothing is printed that was not
 //! certified.
 //!
-//! A job prints `J K` (its number and its own steps) and how it ended; last comes `certified K steps`. A fault of
-//! the pool but Memory, of closing, or of certifying prints `mismatch` and no outcome. No clause says that threads
-//! do anything at once, that a call returns, or which of two jobs comes first.
+//! A fault of the pool but Memory, of closing, or of certifying prints `mismatch` and no outcome. No clause says
+//! that threads do anything at once, that a call returns, or which of two jobs comes first.
 //!
 //! **The caller owes** a text below 2^60 bytes, and 1 to 64 agents.
 //!

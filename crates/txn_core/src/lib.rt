@@ -1,8 +1,7 @@
 //! One agent of a replicated file service: where a client's transaction becomes requests to servers.
 //!
 //! An agent does one job at a time: a **transaction** of a caller with the cache of a site, or a **sweep** of a
-//! server. It asks one server one thing, is told what came of it, and asks the next thing, until its job ends. In
-//! between it may be told to forget a site's cache.
+//! server. It asks one server one thing, is told what came of it, and asks the next thing, until its job ends.
 //!
 //! **Promises.** An `Agent` is the agent function, exactly (`specs/Agents.antt`): `begin`, `next`, `take`,
 //! `forget`. `next` puts what it asks into a place of the caller's. `take` is told the reply, or why the request
@@ -42,8 +41,8 @@
 //! `writing`, `sorting`, `finishing`. The whole: `asking`, `transaction_run`, `sweep_run`, `agent`, `laws`.
 //!
 //! **Definitions** (`specs/`): `Suites`, `Doing`, `Transactions`, `Writing`, `Sweeps`, `Agents`, `Standing`,
-//! `Wanting`; for the laws `Undecided`, `Caching`, `Worlds`, `Runs`, `Laws`. The proofs of the laws are one walk
-//! through what was told (`proofs/Walk.antt`).
+//! `Wanting`; for the laws `Undecided`, `Caching`, `Worlds`, `Runs`, `Laws`. The laws' proofs are one walk
+//! (`proofs/Walk.antt`).
 #![tactic(auto)]
 
 mod agent;

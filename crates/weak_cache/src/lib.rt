@@ -21,8 +21,7 @@
 //! **The caller owes** a site below `MAX_SITES` to `put`.
 //!
 //! The entries stand on a `recency::Shelf`, and an index has the slot of each site and suite. A call costs a
-//! look-up, and constant work for each entry that moves or goes. The `_beside` calls pass over the entries where
-//! not all have room.
+//! look-up, and constant work for each entry that moves or goes; the `_beside` calls may pass over all.
 //!
 //! **Files**: `entry`, `tally` (number and bytes), `kept` (shelf, index and tally), `stock` (the same, seen as a
 //! list), `cache`, `laws`.
