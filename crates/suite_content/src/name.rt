@@ -161,6 +161,16 @@ impl Name {
         Ok(())
     }
 
+    /// Writes its bytes. Its place is copied whole, as in `put`.
+    pub fn append(&self, out: &mut Vec<u8>) -> Result<(), AllocError>
+        ensures { OnOk result (out.new.items ≡ out.old.items ++ self.now) }
+    {
+        let all = out.len() + usize::from(self.count);
+        out.extend_from_slice(&self.array)?;
+        out.truncate(all);
+        Ok(())
+    }
+
     /// Its first eight bytes as one number, with zeros behind a shorter name.
     fn front(&self) -> u64
         ensures value { result ≡ front 8 self.now }

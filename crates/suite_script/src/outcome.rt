@@ -104,10 +104,10 @@ fn push_names(text: &mut Vec<u8>, names: &NameList) -> Result<(), AllocError>
     let Some(first) = names.next() else {
         return text.extend_from_slice(b"-");
     };
-    text.extend_from_slice(first.as_bytes())?;
+    first.append(text)?;
     for name in names {
         text.push(b',')?;
-        text.extend_from_slice(name.as_bytes())?;
+        name.append(text)?;
     }
     Ok(())
 }
