@@ -101,7 +101,8 @@ impl Rings {
     pub(crate) fn put(&mut self, site: usize) -> Option<usize>
         requires { site < 16 }
         ensures none { IfNone result ((length self.old.order ≡ self.old.slots) × (self.new ≡ self.old)) }
-        ensures some { IfSome result (λ slot. (self.new.order ≡ (slot, site) ∷ self.old.order) × (self.new.slots ≡ self.old.slots) × (length self.old.order < self.old.slots)) }
+        ensures some { IfSome result (λ slot. (self.new.order ≡ (slot, site) ∷ self.old.order) × (self.new.slots ≡ self.old.slots)) }
+        ensures room { IfSome result (λ slot. length self.old.order < self.old.slots) }
         ensures fresh { IfSome result (λ slot. (slot < self.old.slots) × (In slot (keys self.old.order) → ⊥)) }
     {
         let free = place_of(&self.nodes, self.slots + FREE);

@@ -73,14 +73,15 @@ oldest_of_all slot shelved once is =
 
 -- ---- all entries move, the oldest first
 
-in_last : (newer : List Slotted) (s : Slotted) → In s.site (map (λ (s : Slotted). s.site) (newer ++ s ∷ []))
-in_last [] s = inl refl
-in_last (x ∷ newer) s = inr (in_last newer s)
+in_between : (newer : List Slotted) (s : Slotted) (older : List Slotted) → In s.site (map (λ (s : Slotted). s.site) (newer ++ s ∷ older))
+in_between [] s older = inl refl
+in_between (x ∷ newer) s older = inr (in_between newer s older)
 
-pub last_site : (newer : List Slotted) (s : Slotted) (shelved : List Slotted) → shelved ≡ newer ++ s ∷ [] → Sited shelved → ((n : ℕ) → In n (map (λ (s : Slotted). s.site) shelved) → n < 16) → s.value.site < 16
-last_site newer s shelved parts sited below =
-    let b : s.site < 16 = below s.site (subst (λ l. In s.site (map (λ (s : Slotted). s.site) l)) (sym parts) (in_last newer s)) in
-    omega (arith, b, (sited_between newer s [] (subst Sited parts sited)).0)
+-- each entry's site is below 16
+pub site_below : (newer : List Slotted) (s : Slotted) (older shelved : List Slotted) → shelved ≡ newer ++ s ∷ older → Sited shelved → ((n : ℕ) → In n (map (λ (s : Slotted). s.site) shelved) → n < 16) → s.value.site < 16
+site_below newer s older shelved parts sited below =
+    let b : s.site < 16 = below s.site (subst (λ l. In s.site (map (λ (s : Slotted). s.site) l)) (sym parts) (in_between newer s older)) in
+    omega (arith, b, (sited_between newer s older (subst Sited parts sited)).0)
 
 append_again : (a : Cache) (e : Entry) (b : Cache) → (a ++ []) ++ e ∷ b ≡ (a ++ e ∷ []) ++ b
 append_again [] e b = refl

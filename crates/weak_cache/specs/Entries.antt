@@ -13,6 +13,10 @@ pub record Entry : Type 0 where
   pub dver : ℕ
   pub content : Content
 
+-- an entry with these fields
+abbrev pub entry_with : ℕ → ℕ → Prefix → ℕ → Content → Entry
+entry_with site suite prefix dver content = record { site = site; suite = suite; prefix = prefix; dver = dver; content = content }
+
 -- the entries, the newest first
 abbrev pub Cache : Type 0
 Cache = List Entry

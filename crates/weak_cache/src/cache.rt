@@ -1,6 +1,6 @@
 //! The cache of an agent's sites.
 
-ghost use Rattle.std.specs.Prelude.{◌≡◌, ◌-◌, ◌<◌, ◌≤◌, IfOk, OnOk, OnErr, IsOk, IsSome, IsTrue, None, [], false};
+ghost use Rattle.std.specs.Prelude.{◌≡◌, ◌<◌, ◌≤◌, IfOk, OnOk, OnErr, IsOk, IsSome, IsTrue, None, [], false};
 ghost use Rattle.std.specs.Option.{option_copied, SomeIff};
 ghost use Rattle.std.specs.Borrow.{sem};
 ghost use Rattle.weak_cache.specs.Entries.{is_of};
@@ -49,8 +49,9 @@ impl Model for WeakCache {
 
 impl WeakCache {
     ghost use Rattle.weak_cache.specs.Cache.{IsWithin, hint, has_room, put, searched, content_at};
-    ghost use Rattle.weak_cache.specs.Entries.{size_of, keys_of, forgotten, entry_of, max_sites};
+    ghost use Rattle.weak_cache.specs.Entries.{size_of, keys_of, forgotten, entry_of, entry_with, max_sites};
     ghost use Rattle.weak_cache.specs.Loans.{EndsWith};
+    ghost use Rattle.weak_cache.specs.code.Beside.{room_beside};
 
     /// A cache without entries. All sites together may keep as many bytes as the budget says, each site
     /// as many as the quota, and there may be as many entries as there are slots.
@@ -172,7 +173,7 @@ impl WeakCache {
         content: Content,
     ) -> Result<(), AllocError>
         requires { site < max_sites }
-        ensures ok { OnOk result (self.new ≡ record self.old { entries = put self.old.limits (record { site = site; suite = suite; prefix = prefix; dver = dver; content = content }) self.old.entries }) }
+        ensures ok { OnOk result (self.new ≡ record self.old { entries = put self.old.limits (entry_with site suite prefix dver content) self.old.entries }) }
         ensures err { OnErr result (self.new ≡ self.old) }
         ensures too_large { has_room self.old.limits content ≡ false → IsOk result }
         ensures memory { OnErr result (IsTrue (has_room self.old.limits content) × (entry_of self.old.entries site suite ≡ None)) }
@@ -197,7 +198,7 @@ impl WeakCache {
     fn beside(&self, site: u8, suite: u64, size: usize) -> Beside
         requires room { (size ≤ self.now.limits.budget) × (size ≤ self.now.limits.quota) }
         requires slot { 0 < self.now.limits.slots }
-        ensures { result ≡ record { site = site; suite = suite; quota = self.now.limits.quota - size; budget = self.now.limits.budget - size; slots = self.now.limits.slots - 1 } }
+        ensures { result ≡ room_beside self.now.limits site suite size }
     {
         Beside {
             site,

@@ -3,7 +3,7 @@
 ghost use Rattle.std.specs.Prelude.{◌≡◌, ◌<◌, ◌≤◌, ◌+◌, ◌^◌, ◌⊎◌, ◌∷◌, [], length, None, IfOk, OnOk, OnErr, IsOk, IsSome, true, false};
 ghost use Rattle.indexmap.specs.IndexMap.{spare};
 ghost use Rattle.recency.specs.Shelf.{value_of, without as without_slot};
-ghost use Rattle.weak_cache.specs.Entries.{size_of, sum_of, forgotten, entry_of, without};
+ghost use Rattle.weak_cache.specs.Entries.{size_of, sum_of, list_of, forgotten, entry_of, without};
 ghost use Rattle.weak_cache.specs.Cache.{within_quota, within_budget};
 ghost use Rattle.weak_cache.specs.code.Shelved.{IsKept, slot_in, values};
 
@@ -47,6 +47,18 @@ impl Kept {
         ensures { result ≡ slot_in site suite self.now.shelf.entries }
     {
         self.index.get(&(site, suite)).copied()
+    }
+
+    /// How many bytes the contents of a site take.
+    pub(crate) fn sum_at(&self, site: u8) -> u128
+        requires { IsKept self.now }
+        ensures { result ≡ sum_of (list_of site (values self.now.shelf.entries)) }
+    {
+        self.shelf.is_valid();
+        if site >= MAX_SITES {
+            return 0;
+        }
+        self.tally.sum_at(site)
     }
 
     /// Takes an entry out of its slot.

@@ -136,8 +136,7 @@ impl Stock {
     fn all_have_bytes(&self, new: Beside) -> bool
         ensures { IsTrue result ↔ ((sum_of self.now ≤ new.budget) × (sum_of (list_of new.site self.now) ≤ new.quota)) }
     {
-        let tally = &self.kept.tally;
-        tally.sum <= new.budget as u128 && tally.sum_at(new.site) <= new.quota as u128
+        self.kept.tally.sum <= new.budget as u128 && self.kept.sum_at(new.site) <= new.quota as u128
     }
 
     /// What a site would keep of a suite beside an entry that is put: the entries are gone through, and what

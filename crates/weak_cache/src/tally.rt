@@ -1,11 +1,11 @@
 //! How many bytes the contents of entries take, and how many entries there are.
 
-ghost use Rattle.std.specs.Prelude.{◌≡◌, ◌+◌, ◌<◌, ◌^◌, ◌++◌, ◌∷◌, [], length};
+ghost use Rattle.std.specs.Prelude.{◌≡◌, ◌+◌, ◌<◌, ◌^◌, ◌∷◌, [], length};
 ghost use Rattle.weak_cache.specs.Entries.{Cache, Entry, list_of, sum_of};
-ghost use Rattle.weak_cache.specs.code.Counts.{Counts, IsEntry, IsTally};
+ghost use Rattle.weak_cache.specs.code.Counts.{Counts, IsEntry, IsTally, Uncounted};
 
-/// As many as the numbers that a site's type has.
-const SITES: usize = 256;
+/// As many as an agent has sites.
+const SITES: usize = 16;
 
 /// How many entries there are, and how many bytes the contents of all take together, and those of each site. The
 /// sums have room for one entry more than there may be.
@@ -30,7 +30,8 @@ impl Tally {
 
     /// How many bytes the contents of a site take.
     pub(crate) fn sum_at(&self, site: u8) -> u128
-        requires { length self.now.sites ≡ 256 }
+        requires sites { length self.now.sites ≡ 16 }
+        requires site { site < 16 }
         ensures { (cache : Cache) → IsTally self.now cache → result ≡ sum_of (list_of site cache) }
     {
         self.sites[usize::from(site)]
@@ -38,7 +39,8 @@ impl Tally {
 
     /// One entry more.
     pub(crate) fn add(&mut self, site: u8, size: usize)
-        requires { (cache : Cache) × IsTally self.old cache × (sum_of cache + size < 2 ^ 128) × (length cache + 1 < 2 ^ 64) }
+        requires site { site < 16 }
+        requires room { (cache : Cache) × IsTally self.old cache × (sum_of cache + size < 2 ^ 128) × (length cache + 1 < 2 ^ 64) }
         ensures { (cache : Cache) (entry : Entry) → IsTally self.old cache → IsEntry entry site size → IsTally self.new (entry ∷ cache) }
     {
         self.count += 1;
@@ -48,8 +50,9 @@ impl Tally {
 
     /// One entry less.
     pub(crate) fn sub(&mut self, site: u8, size: usize)
-        requires { Counts self.old site size }
-        ensures { (newer : Cache) (entry : Entry) (older : Cache) → IsTally self.old (newer ++ entry ∷ older) → IsEntry entry site size → IsTally self.new (newer ++ older) }
+        requires site { site < 16 }
+        requires counted { Counts self.old site size }
+        ensures { Uncounted self.old self.new site size }
     {
         self.count -= 1;
         self.sum -= size as u128;

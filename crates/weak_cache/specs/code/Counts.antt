@@ -7,8 +7,8 @@ use Rattle.weak_cache.specs.Entries.{Entry, Cache, list_of, size_of, sum_of}
 pub record IsTally (tally : Tally) (cache : Cache) : Type 0 where
   pub count : tally.count ≡ length cache
   pub sum : tally.sum ≡ sum_of cache
-  pub sites : (site : ℕ) → site < 256 → slice_index tally.sites site ≡ sum_of (list_of site cache)
-  pub all : length tally.sites ≡ 256
+  pub sites : (site : ℕ) → site < 16 → slice_index tally.sites site ≡ sum_of (list_of site cache)
+  pub all : length tally.sites ≡ 16
 
 -- an entry is of this site, and takes so many bytes
 pub record IsEntry (entry : Entry) (site size : ℕ) : Type 0 where
@@ -22,3 +22,8 @@ pub record Counts (tally : Tally) (site size : ℕ) : Type 0 where
   pub older : Cache
   pub counted : IsTally tally (newer ++ entry ∷ older)
   pub is : IsEntry entry site size
+
+-- the counts before and after such an entry is no longer counted
+abbrev pub Uncounted : Tally → Tally → ℕ → ℕ → Type 0
+Uncounted before after site size =
+    (newer : Cache) (entry : Entry) (older : Cache) → IsTally before (newer ++ entry ∷ older) → IsEntry entry site size → IsTally after (newer ++ older)

@@ -1,15 +1,22 @@
 -- An entry goes from the shelf, from the index and from the counts.
-use Rattle.std.proofs.Common.{◌∙◌, sym, ap, subst, refl}
+use Rattle.std.proofs.Common.{◌∙◌, sym, ap, subst, refl, arith}
 use Rattle.weak_cache.specs.Entries.{Entry, size_of}
 use Rattle.weak_cache.specs.code.Counts.{IsTally}
 use Rattle.weak_cache.specs.code.Shelved.{same_key, values}
 use Rattle.indexmap.specs.IndexMap.{get_by}
 use Rattle.std.specs.Prelude.{None, cond}
+use Rattle.weak_cache.proofs.Oldest.{site_below}
 use Rattle.weak_cache.proofs.Shelving.{cut_of, values_cut, kept_less}
 use Rattle.weak_cache.proofs.kept.Kept.let_go.Goals as goal
 
-pub sub-requires : goal.sub-requires
-sub-requires c =
+pub sub-requires-clause-site : goal.sub-requires-clause-site
+sub-requires-clause-site c =
+    let all = c.args.self.now.shelf.entries in
+    let d = cut_of c.args.slot all c.in-Some.entry c.is_valid.ensures.once (sym c.in-Some.ensures.value) in
+    omega (arith, site_below d.newer d.s d.older all d.cut.parts c.requires.kept.sited c.is_valid.ensures.sites, ap (λ (e : Entry). e.site) d.value, c.site.ensures)
+
+pub sub-requires-clause-counted : goal.sub-requires-clause-counted
+sub-requires-clause-counted c =
     let all = c.args.self.now.shelf.entries in
     let d = cut_of c.args.slot all c.in-Some.entry c.is_valid.ensures.once (sym c.in-Some.ensures.value) in
     record {

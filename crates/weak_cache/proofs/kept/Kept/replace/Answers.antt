@@ -5,6 +5,7 @@ use Rattle.recency.specs.Shelf.{Shelf, without}
 use Rattle.weak_cache.specs.Entries.{Entry, Cache, size_of}
 use Rattle.weak_cache.specs.code.Counts.{IsTally}
 use Rattle.weak_cache.specs.code.Shelved.{same_key, values}
+use Rattle.weak_cache.proofs.Oldest.{site_below}
 use Rattle.weak_cache.proofs.Shelving.{replaced, key_found, values_cut, sum_left, length_left, kept_swapped}
 use Rattle.weak_cache.proofs.kept.Kept.replace.Goals as goal
 
@@ -13,8 +14,14 @@ unreachable-requires c =
     let f = key_found c.args.entry.site c.args.entry.suite c.args.slot c.args.self.now.shelf.entries c.is_valid.ensures.once c.requires.there in
     let e = sym c.in_default.is ∙ c.take.ensures.value ∙ f.6 in cc e
 
-pub sub-requires : goal.sub-requires
-sub-requires c =
+pub sub-requires-clause-site : goal.sub-requires-clause-site
+sub-requires-clause-site c =
+    let all = c.args.self.now.shelf.entries in
+    let r = replaced c.args.entry.site c.args.entry.suite c.args.slot all c.in-Some.old c.is_valid.ensures.once c.requires.kept.once c.requires.there (sym c.in-Some.ensures.value) in
+    omega (arith, site_below r.0.newer r.0.s r.0.older all r.0.cut.parts c.requires.kept.sited c.is_valid.ensures.sites, ap (λ (e : Entry). e.site) r.0.value, c.site.ensures)
+
+pub sub-requires-clause-counted : goal.sub-requires-clause-counted
+sub-requires-clause-counted c =
     let k = c.args.self.now in
     let r = replaced c.args.entry.site c.args.entry.suite c.args.slot k.shelf.entries c.in-Some.old c.is_valid.ensures.once c.requires.kept.once c.requires.there (sym c.in-Some.ensures.value) in
     record {
@@ -25,8 +32,8 @@ sub-requires c =
       is = record { own_site = ap (λ (e : Entry). e.site) r.0.value ∙ sym c.site.ensures; own_size = ap (λ (e : Entry). size_of e.content) r.0.value ∙ sym c.size.ensures };
     }
 
-pub add-requires : goal.add-requires
-add-requires c =
+pub add-requires-clause-room : goal.add-requires-clause-room
+add-requires-clause-room c =
     let k = c.args.self.now in
     let all = k.shelf.entries in
     let r = replaced c.args.entry.site c.args.entry.suite c.args.slot all c.in-Some.old c.is_valid.ensures.once c.requires.kept.once c.requires.there (sym c.in-Some.ensures.value) in (

@@ -4,7 +4,7 @@ use Rattle.recency.specs.Shelf.{Shelf}
 use Rattle.weak_cache.specs.Entries.{Entry, entry_of, size_of}
 use Rattle.weak_cache.specs.code.Shelved.{Sited, values}
 use Rattle.weak_cache.proofs.Found.{key_own}
-use Rattle.weak_cache.proofs.Oldest.{OldestOfAll, oldest_of_all, moved_one, not_moved, sum_moved, last_site}
+use Rattle.weak_cache.proofs.Oldest.{OldestOfAll, oldest_of_all, moved_one, not_moved, sum_moved, site_below}
 use Rattle.weak_cache.proofs.Shelving.{none_oldest, sited_between}
 use Rattle.weak_cache.proofs.kept.Kept.widen.Goals as goal
 use Rattle.weak_cache.proofs.kept.Kept.widen.Goals.{After-take}
@@ -40,7 +40,7 @@ pub add-requires-clause-site : goal.add-requires-clause-site
 add-requires-clause-site c =
     let o = taken (goal.at.add-requires-clause-site c).After-take in
     let e : c.in-Some-take.entry ≡ o.last.value = same_entry _ _ (c.in-Some-take.ensures.value ∙ o.there) in
-    omega (arith, ap (λ (x : Entry). x.site) e, last_site o.newer o.last c.loop-oldest.self.shelf.entries o.parts c.loop-oldest.invariant.sited c.is_valid-in-Some-oldest.ensures.sites)
+    omega (arith, ap (λ (x : Entry). x.site) e, site_below o.newer o.last [] c.loop-oldest.self.shelf.entries o.parts c.loop-oldest.invariant.sited c.is_valid-in-Some-oldest.ensures.sites)
 
 pub loop-oldest-smaller : goal.loop-oldest-smaller
 loop-oldest-smaller c =

@@ -8,6 +8,6 @@ returns c =
     record {
       count = refl;
       sum = refl;
-      sites = λ site small. get_or-replicate 256 site none none small;
-      all = length-replicate 256 none;
+      sites = λ site small. get_or-replicate 16 site none none small;
+      all = length-replicate 16 none;
     }

@@ -1,0 +1,13 @@
+use Rattle.std.proofs.Common.{sym, ap, arith}
+use Rattle.weak_cache.specs.Entries.{sum_of}
+use Rattle.weak_cache.specs.code.Shelved.{values}
+use Rattle.weak_cache.proofs.Oldest.{none_beyond}
+use Rattle.weak_cache.proofs.kept.Kept.sum_at.Goals as goal
+
+pub returns-then-site-ge-MAX_SITES : goal.returns-then-site-ge-MAX_SITES
+returns-then-site-ge-MAX_SITES c =
+    let all = c.args.self.now.shelf.entries in
+    sym (ap sum_of (none_beyond c.args.site all c.requires.sited c.is_valid.ensures.sites (omega (arith, c.if-site-ge-MAX_SITES.true))))
+
+pub returns : goal.returns
+returns c = c.sum_at.ensures (values c.args.self.now.shelf.entries) c.requires.counted
