@@ -136,7 +136,8 @@ pub(crate) fn drop_name(rows: &mut StoredRows, folder: u64, name: &Name)
     ensures capacity { KeepsCapacity rows.old rows.new }
 
     // It can be put back.
-    ensures back { (number : ℕ) → number_at (plain rows.old) folder name.now ≡ Some number → edited (plain rows.new) folder (put_name name.now number) ≡ plain rows.old }
+    ensures back { (number : ℕ) → number_at (plain rows.old) folder name.now ≡ Some number →
+        edited (plain rows.new) folder (put_name name.now number) ≡ plain rows.old }
 {
     if let Some(row) = rows.get_mut(&folder) {
         row.content.drop_name(name);

@@ -129,7 +129,8 @@ impl StoredContent {
         ensures capacity { capacity_in self.old ≤ capacity_in self.new }
 
         // It can be put back.
-        ensures back { (number : ℕ) → number_in (plain_content self.old) name.now ≡ Some number → in_names (λ names. with_name names name.now number) (plain_content self.new) ≡ plain_content self.old }
+        ensures back { (number : ℕ) → number_in (plain_content self.old) name.now ≡ Some number →
+            in_names (λ names. with_name names name.now number) (plain_content self.new) ≡ plain_content self.old }
     {
         if let StoredContent::Names(names) = self {
             let _ = names.remove(name);

@@ -72,7 +72,8 @@ impl Table {
         requires { t < 2 ^ 60 }
         ensures answer { IsUnlessMemory result (replies (transaction self.old.service self.old.rows t caller.now ops.now)) }
         ensures first { RefusesFirst result (transaction self.old.service self.old.rows t caller.now ops.now) }
-        ensures after { self.new ≡ left_by result self.old (table_after self.old t caller.now (transaction self.old.service self.old.rows t caller.now ops.now)) }
+        ensures after { self.new ≡ left_by result self.old
+            (table_after self.old t caller.now (transaction self.old.service self.old.rows t caller.now ops.now)) }
     {
         if ops.is_empty() || ops.len() > MAX_OPERATIONS {
             return Err(ApplyError::Refused(Refusal {

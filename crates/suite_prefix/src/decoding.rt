@@ -247,7 +247,8 @@ fn lists_from(
     requires default_known { All (λ entry. entry.permissions < 8) default.now }
     requires rise { IsTrue (entries_rise entries.now) }
     requires default_rises { IsTrue (entries_rise default.now) }
-    ensures value { IfOk result (λ lists. IfSome lists (λ made. made ≡ record { access = map entry_from entries.now; default = default_of (map entry_from default.now) })) }
+    ensures value { IfOk result (λ lists. IfSome lists (λ made.
+        made ≡ record { access = map entry_from entries.now; default = default_of (map entry_from default.now) })) }
     ensures accepted { IsOk result ↔ MakeLists entries.now default.now }
     ensures fault { IfErr result (λ fault. fault ≡ Invalid) }
 {

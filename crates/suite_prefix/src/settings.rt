@@ -134,9 +134,42 @@ impl Settings {
         slots: usize,
         old: ServerSet,
     ) -> Result<Settings, SettingsFault>
-        ensures fault { result_err result ≡ first_fault (record { servers = servers; agents = agents; c0 = c0; root_owner = root_owner; root_group = root_group; root_acl = root_acl; budget = budget; quota = quota; slots = slots; old = old }) }
-        ensures accepted { IsOk result ↔ IsAccepted (record { servers = servers; agents = agents; c0 = c0; root_owner = root_owner; root_group = root_group; root_acl = root_acl; budget = budget; quota = quota; slots = slots; old = old }) }
-        ensures value { IfOk result (λ settings. settings ≡ record { servers = servers; agents = agents; c0 = c0; root_owner = root_owner; root_group = root_group; root_acl = root_acl; budget = budget; quota = quota; slots = slots; old = old }) }
+        ensures fault { result_err result ≡ first_fault (record {
+          servers = servers;
+          agents = agents;
+          c0 = c0;
+          root_owner = root_owner;
+          root_group = root_group;
+          root_acl = root_acl;
+          budget = budget;
+          quota = quota;
+          slots = slots;
+          old = old;
+        }) }
+        ensures accepted { IsOk result ↔ IsAccepted (record {
+          servers = servers;
+          agents = agents;
+          c0 = c0;
+          root_owner = root_owner;
+          root_group = root_group;
+          root_acl = root_acl;
+          budget = budget;
+          quota = quota;
+          slots = slots;
+          old = old;
+        }) }
+        ensures value { IfOk result (λ settings. settings ≡ record {
+          servers = servers;
+          agents = agents;
+          c0 = c0;
+          root_owner = root_owner;
+          root_group = root_group;
+          root_acl = root_acl;
+          budget = budget;
+          quota = quota;
+          slots = slots;
+          old = old;
+        }) }
     {
         if servers == 0 || servers > MAX_SERVERS || agents == 0 || agents > MAX_AGENTS {
             return Err(SettingsFault::BadCount);

@@ -67,7 +67,14 @@ impl Settings {
     pub fn fits(&self)
         ensures accepted { IsAccepted self.now }
         ensures held { (server : ℕ) → Holds (form_of_root self.now server) self.now.root_acl self.now.c0 }
-        ensures root { PrefixFits (record { pver = 1; kind = Folder; owner = self.now.root_owner; group = self.now.root_group; acl = self.now.root_acl; votes = self.now.c0 }) }
+        ensures root { PrefixFits (record {
+          pver = 1;
+          kind = Folder;
+          owner = self.now.root_owner;
+          group = self.now.root_group;
+          acl = self.now.root_acl;
+          votes = self.now.c0;
+        }) }
     {
         let _servers = self.servers();
         fits_four(self.root_owner());
