@@ -3,8 +3,9 @@
 //! A list may come with a million entries. What is kept of them is the first entries, one more than a list may
 //! have, whether each entry that can stand only once came once or more often, and the users and groups that were named.
 
-ghost use Rattle.std.specs.Prelude.{◌≡◌, ◌==◌, ◌+◌, ◌≤◌, nat_lt, not, ◌&&◌, ◌||◌, ◌⊎◌, IsTrue, List, [], ◌∷◌, ◌++◌, None, Some, IfOk, IsPermutation, MatchResult, OnErr, OnOk, drop, length};
+ghost use Rattle.std.specs.Prelude.{◌≡◌, ◌==◌, ◌+◌, ◌≤◌, nat_lt, not, ◌&&◌, ◌||◌, ◌⊎◌, IsTrue, List, [], ◌∷◌, ◌++◌, None, Some, IfOk, IsPermutation, OnErr, OnOk, drop, length};
 ghost use Rattle.std.specs.List.{list_any, zip};
+ghost use Rattle.std.specs.Result.{result_err};
 ghost use Rattle.acl_core.specs.AccessLists.{IsAccepted, fault_in, first_fault, max_entries};
 ghost use Rattle.acl_core.specs.InOrder.{in_order};
 ghost use Rattle.acl_core.specs.Tags.{is_group, is_user};
@@ -111,7 +112,7 @@ impl Tally {
     /// The entries that were kept, where they are all that were taken and make a list; or the first fault of
     /// those that were taken.
     fn checked(self) -> Result<Vec<Entry>, AclFault>
-        ensures fault { (entries : List Entry) → IsTallyOf self entries → MatchResult result (λ _. first_fault entries ≡ None) (λ fault. first_fault entries ≡ Some fault) }
+        ensures fault { (entries : List Entry) → IsTallyOf self entries → first_fault entries ≡ result_err result }
         ensures kept { IfOk result (λ kept. kept.items ≡ self.kept) }
         ensures accepted { IfOk result (λ kept. IsAccepted kept.items) }
     {
