@@ -12,3 +12,4 @@ pub mod OneOrder
 pub mod Reordered
 pub mod Inheriting
 pub mod ListsEquality
+pub mod OneEntry

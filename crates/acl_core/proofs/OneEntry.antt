@@ -1,0 +1,128 @@
+-- The one entry of a tag in a canonical list, by the place before which all entries stand before the tag.
+use Rattle.std.proofs.Common.{◌≡◌, ℕ, zero, suc, ◌<◌, ◌≤◌, Bool, true, false, cond, eqb, ltb, Less, Equal, Greater, Option, None, Some, is_some, List, [], ◌∷◌, All, length, get_or, refl, ◌∙◌, ap, sym, inl, inr, filter, arith}
+use Rattle.std.specs.List.{cons_option, list_any}
+use Rattle.std.specs.Ordering.{partial_lt}
+use Rattle.std.specs.List.Sorted.{IsPartitionedBy}
+use Rattle.std.proofs.lemmas.Bool.{cases_Bool}
+use Rattle.std.proofs.lemmas.Bool.Decides.{nat_tests}
+use Rattle.std.proofs.lemmas.List.Elements.{All-head, All-tail}
+use Rattle.acl_core.specs.declared.entry.Tag.{Tag}
+use Rattle.acl_core.specs.declared.entry.Tag.TheVariants.{UserObj, User, GroupObj, Group, Mask, Other}
+use Rattle.acl_core.specs.declared.entry.Entry.{Entry}
+use Rattle.acl_core.specs.Tags.{same_tag, precedes}
+use Rattle.acl_core.specs.AccessLists.{IsCanonical}
+use Rattle.acl_core.specs.contracts.entry.TagPartialOrd.TheImpl as tag_ord
+
+-- the order of tags that `<` asks
+abbrev pub tag_lt : Tag → Tag → Bool
+tag_lt s t = partial_lt (tag_ord.ghosts).partial_cmp s t
+
+lt_by : (a b : ℕ) → partial_lt (tag_ord.ghosts).partial_cmp (User a) (User b) ≡ ltb a b
+lt_by a b = elim (cases_Bool (ltb a b)) [
+  | inl less ↦ rw less refl
+  | inr not_less ↦ elim (cases_Bool (eqb a b)) [ inl same ↦ rw (not_less, same) refl | inr other ↦ rw (not_less, other) refl ]
+]
+
+group_lt_by : (a b : ℕ) → partial_lt (tag_ord.ghosts).partial_cmp (Group a) (Group b) ≡ ltb a b
+group_lt_by a b = elim (cases_Bool (ltb a b)) [
+  | inl less ↦ rw less refl
+  | inr not_less ↦ elim (cases_Bool (eqb a b)) [ inl same ↦ rw (not_less, same) refl | inr other ↦ rw (not_less, other) refl ]
+]
+
+-- it is the canonical one
+pub tag_lt_is : (s t : Tag) → tag_lt s t ≡ precedes s t
+tag_lt_is UserObj UserObj = refl
+tag_lt_is UserObj (User b) = refl
+tag_lt_is UserObj GroupObj = refl
+tag_lt_is UserObj (Group b) = refl
+tag_lt_is UserObj Mask = refl
+tag_lt_is UserObj Other = refl
+tag_lt_is (User a) UserObj = refl
+tag_lt_is (User a) (User b) = lt_by a b
+tag_lt_is (User a) GroupObj = refl
+tag_lt_is (User a) (Group b) = refl
+tag_lt_is (User a) Mask = refl
+tag_lt_is (User a) Other = refl
+tag_lt_is GroupObj UserObj = refl
+tag_lt_is GroupObj (User b) = refl
+tag_lt_is GroupObj GroupObj = refl
+tag_lt_is GroupObj (Group b) = refl
+tag_lt_is GroupObj Mask = refl
+tag_lt_is GroupObj Other = refl
+tag_lt_is (Group a) UserObj = refl
+tag_lt_is (Group a) (User b) = refl
+tag_lt_is (Group a) GroupObj = refl
+tag_lt_is (Group a) (Group b) = group_lt_by a b
+tag_lt_is (Group a) Mask = refl
+tag_lt_is (Group a) Other = refl
+tag_lt_is Mask UserObj = refl
+tag_lt_is Mask (User b) = refl
+tag_lt_is Mask GroupObj = refl
+tag_lt_is Mask (Group b) = refl
+tag_lt_is Mask Mask = refl
+tag_lt_is Mask Other = refl
+tag_lt_is Other UserObj = refl
+tag_lt_is Other (User b) = refl
+tag_lt_is Other GroupObj = refl
+tag_lt_is Other (Group b) = refl
+tag_lt_is Other Mask = refl
+tag_lt_is Other Other = refl
+
+chained : (a b tag : Tag) → precedes a b ≡ true → precedes b tag ≡ true → precedes a tag ≡ true
+chained a b tag h k = grind (arith, nat_tests)
+
+-- a canonical list has all that stand before a tag in front
+pub before_in_front : (tag : Tag) (entries : List Entry) → IsCanonical entries → IsPartitionedBy (λ (e : Entry). tag_lt e.tag tag) entries
+before_in_front tag entries canonical i j d le inside later =
+    elim (cases_Bool (eqb i j)) [
+      | inl same ↦ let is : i ≡ j = grind (arith, nat_tests) in rw is later
+      | inr other ↦
+          let less : i < j = grind (arith, nat_tests) in
+          tag_lt_is _ tag ∙ chained (get_or entries i d).tag (get_or entries j d).tag tag (canonical i j d less inside) (sym (tag_lt_is _ tag) ∙ later)
+    ]
+
+not_later : (a b tag : Tag) → precedes a tag ≡ false → precedes a b ≡ true → same_tag b tag ≡ false
+not_later a b tag h k = grind (arith, nat_tests)
+
+not_before : (a tag : Tag) → precedes a tag ≡ true → same_tag a tag ≡ false
+not_before a tag h = grind (arith, nat_tests)
+
+-- nothing after an entry that does not stand before a tag has that tag
+none_after : (tag : Tag) (e : Entry) (es : List Entry) → precedes e.tag tag ≡ false → All (λ (y : Entry). precedes e.tag y.tag ≡ true) es → filter (λ y. same_tag y.tag tag) es ≡ []
+none_after tag e [] h all = refl
+none_after tag e (y ∷ es) h all =
+    let other = not_later e.tag y.tag tag h (All-head (λ (y : Entry). precedes e.tag y.tag ≡ true) y es all) in
+    rw other (none_after tag e es h (All-tail (λ (y : Entry). precedes e.tag y.tag ≡ true) y es all))
+
+rest_canonical : (e : Entry) (es : List Entry) → IsCanonical (e ∷ es) → IsCanonical es
+rest_canonical e es canonical = λ i j d lt inside. canonical (suc i) (suc j) d (omega arith) (omega arith)
+
+-- an entry of the tag stands at that place, or nowhere
+pub one_at : (tag : Tag) (entries : List Entry) (place : ℕ) (d : Entry) → IsCanonical entries → place < length entries
+    → ((k : ℕ) (x : Entry) → k < place → precedes (get_or entries k x).tag tag ≡ true) → precedes (get_or entries place d).tag tag ≡ false
+    → filter (λ e. same_tag e.tag tag) entries ≡ cond (same_tag (get_or entries place d).tag tag) (get_or entries place d ∷ []) []
+one_at tag [] place d canonical inside before at = absurd (omega (arith, inside))
+one_at tag (e ∷ es) zero d canonical inside before at =
+    let after : All (λ (y : Entry). precedes e.tag y.tag ≡ true) es = λ k x within. canonical zero (suc k) x (omega arith) (omega arith) in
+    let none = none_after tag e es at after in
+    elim (cases_Bool (same_tag e.tag tag)) [ inl same ↦ rw same (ap (λ l. e ∷ l) none) | inr other ↦ rw other none ]
+one_at tag (e ∷ es) (suc place) d canonical inside before at =
+    let other = not_before e.tag tag (before zero e (omega arith)) in
+    let within : place < length es = omega (arith, inside) in
+    rw other (one_at tag es place d (rest_canonical e es canonical) within (λ k x lt. before (suc k) x (omega arith)) at)
+
+-- where all stand before it, nowhere
+pub none_at_end : (tag : Tag) (entries : List Entry) → ((k : ℕ) (x : Entry) → k < length entries → precedes (get_or entries k x).tag tag ≡ true) → filter (λ (e : Entry). same_tag e.tag tag) entries ≡ []
+none_at_end tag [] before = refl
+none_at_end tag (e ∷ es) before =
+    let other = not_before e.tag tag (before zero e (omega arith)) in
+    rw other (none_at_end tag es (λ k x lt. before (suc k) x (omega arith)))
+
+-- some entry passes where one is left of those that pass
+pub any_kept : (p : Entry → Bool) (entries : List Entry) → list_any p entries ≡ list_any (λ e. true) (filter p entries)
+any_kept p [] = refl
+any_kept p (e ∷ es) = elim (cases_Bool (p e)) [ inl passes ↦ rw passes refl | inr fails ↦ rw fails (any_kept p es) ]
+
+pub some_of : (o : Option Entry) → is_some o ≡ list_any (λ (e : Entry). true) (cons_option o [])
+some_of None = refl
+some_of (Some e) = refl
