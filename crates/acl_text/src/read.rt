@@ -4,7 +4,7 @@ ghost use Rattle.std.specs.Prelude.{◌≡◌, ◌≢◌, List, [], ◌∷◌, �
 ghost use Rattle.acl_core.specs.Tallies.{IsTallyOf};
 ghost use Rattle.acl_core.specs.declared.entry.Entry.{Entry};
 ghost use Rattle.acl_text.specs.Faults.{fault_at, fault_of_list};
-ghost use Rattle.acl_text.specs.code.Tallied.{AreTallied};
+ghost use Rattle.acl_text.specs.code.Tallied.{AreTallied, ForTallied};
 ghost use Rattle.acl_text.specs.declared.item.Said.{Said};
 ghost use Rattle.acl_text.specs.declared.item.Side.TheVariants.{Access, Default};
 ghost use Rattle.acl_text.specs.Sides.{default_entries, default_of, entries_of, lists_of};
@@ -120,12 +120,12 @@ impl Tallies {
 
     /// The lists of the entries that were taken, or the first thing that is wrong with them.
     fn finish(self) -> Result<Lists, TextFault>
-        ensures value { IfOk result (λ lists. (taken : List Said) → AreTallied self taken → lists ≡ lists_of taken) }
-        ensures same_access { IfOk result (λ lists. (taken : List Said) → AreTallied self taken → IsPermutation (entries_of Access taken) lists.access) }
-        ensures same_default { IfOk result (λ lists. (taken : List Said) → AreTallied self taken → IsPermutation (entries_of Default taken) (default_entries lists.default)) }
-        ensures faultless { OnOk result ((taken : List Said) → AreTallied self taken → lists_fault taken ≡ None) }
-        ensures refused { IfErr result (λ e. (taken : List Said) → AreTallied self taken → e ≢ TextFault.Memory → lists_fault taken ≡ Some e) }
-        ensures memory { result ≡ Err TextFault.Memory → (taken : List Said) → AreTallied self taken → taken ≢ [] }
+        ensures value { IfOk result (λ lists. ForTallied self (λ taken. lists ≡ lists_of taken)) }
+        ensures same_access { IfOk result (λ lists. ForTallied self (λ taken. IsPermutation (entries_of Access taken) lists.access)) }
+        ensures same_default { IfOk result (λ lists. ForTallied self (λ taken. IsPermutation (entries_of Default taken) (default_entries lists.default))) }
+        ensures faultless { OnOk result (ForTallied self (λ taken. lists_fault taken ≡ None)) }
+        ensures refused { IfErr result (λ e. ForTallied self (λ taken. e ≢ TextFault.Memory → lists_fault taken ≡ Some e)) }
+        ensures memory { result ≡ Err TextFault.Memory → ForTallied self (λ taken. taken ≢ []) }
     {
         let access = self.access.finish()?;
         let default = default_list(self.default)?;

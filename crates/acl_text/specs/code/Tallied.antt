@@ -10,3 +10,7 @@ use Rattle.acl_text.specs.Sides.{entries_of}
 pub record AreTallied (tallies : Tallies) (taken : List Said) : Type 0 where
   pub access : IsTallyOf tallies.access (entries_of Access taken)
   pub default : IsTallyOf tallies.default (entries_of Default taken)
+
+-- what holds of the entries of some tallies
+abbrev pub ForTallied : Tallies → (List Said → Type 0) → Type 0
+ForTallied tallies P = (taken : List Said) → AreTallied tallies taken → P taken
