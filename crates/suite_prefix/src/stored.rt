@@ -6,7 +6,7 @@ ghost use Rattle.suite_prefix.specs.Copies.{IsCopy};
 ghost use Rattle.suite_prefix.specs.Forms.{CanHold};
 ghost use Rattle.suite_prefix.specs.Stored.{under};
 ghost use Rattle.suite_prefix.specs.code.Heads.{head_of};
-ghost use Rattle.suite_prefix.specs.code.Records.{IsRecord, kept_in};
+ghost use Rattle.suite_prefix.specs.code.Records.{IsReadOf, IsRecord, kept_in};
 ghost use Rattle.suite_prefix.specs.declared.forms.Form.TheVariants.{Two};
 
 use crate::copies::{Prefix, PrefixKind, Replica};
@@ -20,8 +20,8 @@ use std::alloc::{AllocError, Global};
 use std::marker::Model;
 use suite_content::Content;
 
-/// A valid copy, kept as its bytes, in a form that can hold it. What was read of them is kept beside them, to be shared when it is asked
-/// for again, and does not show. It stands on the heap, so that the copy is cheap to move.
+/// A valid copy, kept as its bytes, in a form that can hold it. What was written or read of them is kept beside them, to be shared when it
+/// is asked for, and does not show. It stands on the heap, so that the copy is cheap to move.
 #[derive(Drop)]
 pub struct StoredCopy {
     bytes: Vec<u8>,
@@ -76,7 +76,8 @@ impl StoredCopy {
         ensures { IfOk result (λ stored. stored ≡ record { form = form; copy = copy.now }) }
     {
         let bytes = encode_in(alloc, form, copy)?;
-        Ok(kept(bytes))
+        let read = read_of(alloc, copy)?;
+        Ok(kept_beside(bytes, read))
     }
 
     /// The copy under another prefix, in the form that is written. The bytes of its content are taken as they
@@ -261,4 +262,32 @@ fn kept(bytes: Vec<u8>) -> StoredCopy
     ensures { result ≡ kept_in bytes.items }
 {
     StoredCopy { bytes, read: None }
+}
+
+/// The copy with these bytes, and beside them what would be read of them.
+fn kept_beside(bytes: Vec<u8>, read: Box<Read>) -> StoredCopy
+    requires record { IsRecord bytes.items }
+    requires read { IsReadOf (kept_in bytes.items).copy read.value }
+    ensures { result ≡ kept_in bytes.items }
+{
+    StoredCopy {
+        bytes,
+        read: Some(read),
+    }
+}
+
+/// What would be read of the bytes of a copy. It shares the lists and the content.
+fn read_of(alloc: Global, copy: &Replica) -> Result<Box<Read>, AllocError>
+    ensures { IfOk result (λ read. IsReadOf copy.now read.value) }
+{
+    let prefix = copy.prefix.clone()?;
+    let prefix = SharedPrefix::new(alloc, prefix)?;
+    let content = copy.content.clone()?;
+    let read = Read {
+        prefix,
+        dver: copy.dver,
+        content: Some(content),
+    };
+    let read = Box::new(alloc, read)?;
+    Ok(read)
 }

@@ -1,9 +1,16 @@
-use Rattle.std.proofs.Common.{◌∙◌}
+use Rattle.std.proofs.Common.{sym, subst, ◌∙◌}
+use Rattle.suite_prefix.specs.Stored.{Kept}
+use Rattle.suite_prefix.specs.code.Records.{IsReadOf}
 use Rattle.suite_prefix.proofs.Records.{is_record, kept_of_bytes}
 use Rattle.suite_prefix.proofs.stored.StoredCopy.in_form.Goals as goal
 
-pub kept-requires : goal.kept-requires
-kept-requires c = is_record c.in_ok-bytes.bytes.items c.args.form c.args.copy.now c.requires.valid c.requires.held c.in_ok-bytes.ensures
+pub kept_beside-requires-clause-record : goal.kept_beside-requires-clause-record
+kept_beside-requires-clause-record c = is_record c.in_ok-bytes.bytes.items c.args.form c.args.copy.now c.requires.valid c.requires.held c.in_ok-bytes.ensures
+
+pub kept_beside-requires-clause-read : goal.kept_beside-requires-clause-read
+kept_beside-requires-clause-read c =
+    let kept = kept_of_bytes c.in_ok-bytes.bytes.items c.args.form c.args.copy.now c.requires.valid c.requires.held c.in_ok-bytes.ensures in
+    subst (λ (k : Kept). IsReadOf k.copy c.in_ok-read.read.value) (sym kept) c.in_ok-read.ensures
 
 pub returns : goal.returns
-returns c = c.kept.ensures ∙ kept_of_bytes c.in_ok-bytes.bytes.items c.args.form c.args.copy.now c.requires.valid c.requires.held c.in_ok-bytes.ensures
+returns c = c.kept_beside.ensures ∙ kept_of_bytes c.in_ok-bytes.bytes.items c.args.form c.args.copy.now c.requires.valid c.requires.held c.in_ok-bytes.ensures
