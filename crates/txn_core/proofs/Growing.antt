@@ -1,6 +1,8 @@
 -- What is known of the suites that were gathered grows with them.
 use Rattle.std.proofs.Common.{◌≡◌, ℕ, Bool, true, false, cond, [], ◌∷◌, Option, Some, None, Less, refl, sym, ap, subst, ◌∙◌}
 use Rattle.std.specs.Ordering.{nat_cmp, is_eq}
+use Rattle.std.specs.Prelude.{is_some, not, ◌||◌}
+use Rattle.std.specs.Option.{option_or}
 use Rattle.std.specs.List.{AllByRecursion}
 use Rattle.std.specs.Map.{keys_of}
 use Rattle.std.proofs.lemmas.Cmp.{nat_cmp_total}
@@ -18,6 +20,8 @@ use Rattle.file_exec.specs.Known as known
 use Rattle.file_exec.specs.Known.{Known}
 use Rattle.file_exec.specs.Laws.{IsMore, IsMoreAt, MoreKnown}
 use Rattle.txn_core.specs.Suites.{ReadPoint, Suite, Suites, suite_of, with_suite, known_row, known_if, known_of}
+use Rattle.txn_core.specs.declared.pending_quorum.PendingQuorum.{PendingQuorum}
+use Rattle.txn_core.specs.code.Seeing.{settled_with}
 use Rattle.txn_core.proofs.Setting.{known_at}
 
 -- ---- what is known is of a suite
@@ -125,3 +129,11 @@ collects before after is first was = record {
 -- nothing is known of a suite without a quorum
 pub starts : (before after : Suite) → before.first ≡ None → GoesOnFrom before after
 starts before after none first was = absurd (none-some first (sym none ∙ was))
+
+-- a suite that had no quorum goes on with its first, and another with one in its mode or a stronger one
+pub settles : (pending : PendingQuorum) (suite : Suite) → (not (is_some suite.first) || serves suite.collector.mode suite.mode) ≡ true → GoesOnFrom suite (settled_with pending suite)
+settles pending suite may first was = record {
+  first = ap (λ had. option_or had pending.first) was;
+  content = refl;
+  mode = ap (λ had. not (is_some had) || serves suite.collector.mode suite.mode) (sym was) ∙ may;
+}

@@ -1,6 +1,6 @@
 -- How far a transaction came, as its suites and its phase go on.
 use Rattle.std.proofs.Common.{◌≡◌, ℕ, Bool, true, false, cond, List, [], ◌∷◌, Option, Some, None, Ok, Err, refl, sym, ap, subst, ◌∙◌}
-use Rattle.std.specs.Prelude.{is_some, not, option_map}
+use Rattle.std.specs.Prelude.{is_some, option_map}
 use Rattle.std.specs.Option.{MatchOption, IsSomeAnd}
 use Rattle.std.specs.Ordering.{nat_cmp}
 use Rattle.std.proofs.lemmas.Bool.{false≢true}
@@ -46,7 +46,7 @@ use Rattle.txn_core.specs.declared.agent.Doing.TheVariants as coded
 use Rattle.txn_core.specs.code.Hearing.{heard_next, heard_one, heard, FallsShort}
 use Rattle.txn_core.specs.code.Goings.{GoesBy}
 use Rattle.txn_core.specs.code.Seeing.{changed_at, settled_with, with_content, learned_suites}
-use Rattle.txn_core.specs.code.Learning.{adds, is_fresh}
+use Rattle.txn_core.specs.code.Learning.{adds, goes_on}
 use Rattle.txn_core.specs.declared.learned.Learned.{Learned}
 use Rattle.txn_core.specs.declared.learned.Learned.TheVariants.{Nothing, Quorum, Content as Given}
 use Rattle.txn_core.specs.declared.ending.Flow.{Flow as Going}
@@ -57,7 +57,7 @@ use Rattle.txn_core.specs.code.NextPhases.{gather_again, follow}
 use Rattle.txn_core.specs.code.Steps.{Becomes, taken}
 use Rattle.txn_core.specs.code.Plans.{takes_in, new_unless, new_for, raised_at, with_asked_at, with_asked, opened_all, carried_out, shelved, IsPlanOf}
 use Rattle.txn_core.proofs.Kept.{Keeps, keeps_all}
-use Rattle.txn_core.proofs.Growing.{more_known, no_less, collects, starts}
+use Rattle.txn_core.proofs.Growing.{GoesOnFrom, more_known, no_less, collects, settles}
 use Rattle.txn_core.proofs.Openings.{known_opened}
 use Rattle.txn_core.proofs.Setting.{known_at}
 
@@ -287,16 +287,16 @@ module _ (service : Service) (reached : Reached) where
       (reached_in service before.task before.suites (with_suite number new before.suites) reached
       (more_known before.suites number new ordered (λ one found. collects one new (falls_short suite new said short.0 short.1 short.2 short.4 ∙ ap (λ (suite : Suite). record suite { collector = new.collector }) (same_Some suite one (sym there ∙ found))))) is)
 
-  -- a suite that had no quorum is settled
-  pub reached_settled : (task : Task) (suites : Suites) (number : ℕ) (pending : PendingQuorum) → IsOrdered nat_cmp suites → ((suite : Suite) → suite_of suites number ≡ Some suite → suite.first ≡ None)
+  -- a suite is settled that had no quorum, or gets one in its mode or a stronger one
+  pub reached_settled : (task : Task) (suites : Suites) (number : ℕ) (pending : PendingQuorum) → IsOrdered nat_cmp suites → ((suite : Suite) → suite_of suites number ≡ Some suite → GoesOnFrom suite (settled_with pending suite))
       → IsReachedIn service task suites reached → IsReachedIn service task (changed_at (settled_with pending) number (suite_of suites number) suites) reached
-  reached_settled task suites number pending ordered fresh is = of (suite_of suites number) refl
+  reached_settled task suites number pending ordered flow is = of (suite_of suites number) refl
     where
       of : (found : Option Suite) → suite_of suites number ≡ found → IsReachedIn service task (changed_at (settled_with pending) number found suites) reached
       of (Some suite) there =
           let new : Suite = settled_with pending suite in
           reached_in service task suites (with_suite number new suites) reached
-          (more_known suites number new ordered (λ one found. starts one new (fresh one found))) is
+          (more_known suites number new ordered (λ one found. subst (λ one. GoesOnFrom one new) (same_Some suite one (sym there ∙ found)) (flow suite there))) is
       of None there = is
 
   -- a suite gets a content that it takes
@@ -321,11 +321,7 @@ module _ (service : Service) (reached : Reached) where
 pub reached_learned : (service : Service) (reached : Reached) (task : Task) (suites : Suites) (just_learned : Learned) → IsOrdered nat_cmp suites → adds just_learned suites ≡ true → IsReachedIn service task suites reached → IsReachedIn service task (learned_suites just_learned suites) reached
 reached_learned service reached task suites Nothing ordered may is = is
 reached_learned service reached task suites (Quorum number pending) ordered may is =
-    reached_settled service reached task suites number pending ordered (λ suite there. fresh suite.first (sym (ap is_fresh there) ∙ may)) is
-  where
-    fresh : (first : Option ReadPoint) → not (is_some first) ≡ true → first ≡ None
-    fresh None none = refl
-    fresh (Some first) none = cc
+    reached_settled service reached task suites number pending ordered (λ suite there. settles pending suite (sym (ap goes_on there) ∙ may)) is
 reached_learned service reached task suites (Given fetched) ordered may is =
     reached_given service reached task suites (learned_suites (Given fetched) suites) fetched.suite fetched.content ordered may refl is
 

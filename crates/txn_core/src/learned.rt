@@ -37,15 +37,15 @@ impl Learned {
         }
     }
 
-    /// Whether more is known by it, and nothing else than before: a suite had no quorum, or its content was
-    /// not there, and this one is of its kind.
+    /// Whether more is known by it, and nothing else than before: a suite had no quorum, or is held in its mode or a
+    /// stronger one, or its content was not there, and this one is of its kind.
     pub(crate) fn adds_to(&self, suites: &RoomyMap<u64, Suite>) -> bool
         ensures { result ≡ adds self.now suites.now.pairs }
     {
         match self {
             Learned::Nothing => true,
             Learned::Quorum(number, _) => match suites.get(number) {
-                Some(suite) => suite.first().is_none(),
+                Some(suite) => suite.first().is_none() || suite.wants_more(),
                 None => true,
             },
             Learned::Content(fetched) => match suites.get(&fetched.suite) {

@@ -5,6 +5,7 @@ ghost use Rattle.std.specs.Prelude.{◌≡◌, ℕ, ◌<◌, IfOk, IfErr, IsTrue
 ghost use Rattle.std.specs.Option.{option_copied, option_or};
 ghost use Rattle.rep_core.specs.Fits.{is_held};
 ghost use Rattle.rep_core.specs.Store.{is_used_up};
+ghost use Rattle.suite_prefix.specs.LockModes.{serves};
 ghost use Rattle.suite_collect.specs.Answering.{Comes};
 ghost use Rattle.suite_collect.specs.Collecting as spec;
 ghost use Rattle.txn_core.specs.code.Hearing.{Hears, IsFirstAfter, IsSound, SettlesBy};
@@ -96,6 +97,14 @@ impl Suite {
             Some(known) => known.takes(content),
             None => false,
         }
+    }
+
+    /// Whether the mode that is wanted serves the one in which it had a quorum last.
+    pub(crate) fn wants_more(&self) -> bool
+        ensures { result ≡ serves self.now.collector.mode self.now.mode }
+    {
+        let gathered = &self.gathered;
+        gathered.collect.mode().serves(gathered.mode)
     }
 
     /// From now on an exclusive lock is wanted.

@@ -1,6 +1,7 @@
 -- What a transaction learned of a suite, set.
-use Rattle.std.specs.Prelude.{◌≡◌, ◌<◌, ℕ, Bool, true, false, not, is_some, option_map, Option, Some, None}
+use Rattle.std.specs.Prelude.{◌≡◌, ◌<◌, ℕ, Bool, true, false, not, ◌||◌, is_some, option_map, Option, Some, None}
 use Rattle.suite_content.specs.declared.content.Content.{Content}
+use Rattle.suite_prefix.specs.LockModes.{serves}
 use Rattle.rep_core.specs.Store.{is_used_up}
 use Rattle.weak_cache.specs.Entries.{max_sites}
 use Rattle.weak_cache.specs.Cache.{Limited}
@@ -22,15 +23,15 @@ kept_by other = None
 abbrev pub learned : Learned → Limited → Suites → Gathered
 learned just_learned cache suites = record { suites = learned_suites just_learned suites; cache = shelved cache (kept_by just_learned) }
 
--- a suite had no quorum
-abbrev pub is_fresh : Option Suite → Bool
-is_fresh (Some suite) = not (is_some suite.first)
-is_fresh None = true
+-- a suite had no quorum, or gets one in its mode or a stronger one
+abbrev pub goes_on : Option Suite → Bool
+goes_on (Some suite) = not (is_some suite.first) || serves suite.collector.mode suite.mode
+goes_on None = true
 
 -- more is known by it, and nothing else than before
 abbrev pub adds : Learned → Suites → Bool
 adds Nothing suites = true
-adds (Quorum number pending) suites = is_fresh (suite_of suites number)
+adds (Quorum number pending) suites = goes_on (suite_of suites number)
 adds (Given fetched) suites = takes_in (suite_of suites fetched.suite) fetched.content
 
 -- what the cache is to keep is of one of its sites, and its prefix not used up
