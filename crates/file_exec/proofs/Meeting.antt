@@ -7,19 +7,18 @@ use Rattle.std.specs.Ordering.{nat_cmp}
 use Rattle.std.proofs.lemmas.Bool.{eqb-true}
 use Rattle.std.proofs.lemmas.Bool.Decides.{nat_tests}
 use Rattle.std.proofs.lemmas.Cmp.{nat_cmp_total}
-use Rattle.sorted_map.specs.Laws.{get-insert, get-replace}
-use Rattle.sorted_map.specs.SortedMap.{insert, replace}
+use Rattle.sorted_map.specs.Laws.{get-replace}
+use Rattle.sorted_map.specs.SortedMap.{replace}
 use Rattle.suite_content.specs.Contents.{empty_content}
 use Rattle.suite_prefix.specs.declared.lock_mode.LockMode.{LockMode}
 use Rattle.suite_prefix.specs.declared.lock_mode.LockMode.TheVariants.{Shared, Exclusive}
-use Rattle.suite_prefix.specs.LockModes.{serves, stronger}
+use Rattle.suite_prefix.specs.LockModes.{serves}
 use Rattle.file_ops.specs.Rows.{Row, with_content}
 use Rattle.file_exec.specs.KnownSuites.{KnownSuite}
-use Rattle.file_exec.specs.declared.need.Need.TheVariants.{Hold, Know}
+use Rattle.file_exec.specs.declared.need.Need.TheVariants.{Know}
 use Rattle.file_exec.specs.Following.{head}
-use Rattle.file_exec.specs.Known.{Known, known_of, held_by, opened, is_held, is_opened}
-use Rattle.file_exec.specs.Laws.{IsMore, IsMoreAt, MoreKnown, IsStep, HoldingMeets, FitsRow, OpeningMeets}
-use Rattle.file_exec.specs.Prefixes.{row_of_prefix}
+use Rattle.file_exec.specs.Known.{Known, known_of, opened, is_opened}
+use Rattle.file_exec.specs.Laws.{IsMore, IsMoreAt, MoreKnown, IsStep, FitsRow, OpeningMeets}
 
 -- nothing was changed
 is_more_itself : (known : Option KnownSuite) → IsMoreAt known known
@@ -41,9 +40,6 @@ replaced known suite before after q was =
     at true is = ap (option_map (λ _. after)) (sym (ap (known_of known) (eqb-true suite q is)) ∙ was)
     at false is = refl
 
-inserted : (known : Known) (suite : ℕ) (after : KnownSuite) (q : ℕ) → known_of (insert nat_cmp known suite after) q ≡ cond (suite == q) (Some after) (known_of known q)
-inserted known suite after q = get-insert nat_cmp_total known suite after q ∙ ap (λ b. cond b (Some after) (known_of known q)) (unsigned_tied suite q)
-
 more_at : (known more : Known) (suite : ℕ) (after : KnownSuite) → ((q : ℕ) → known_of more q ≡ cond (suite == q) (Some after) (known_of known q)) → IsMoreAt (known_of known suite) (Some after) → MoreKnown known more
 more_at known more suite after changed is_more q = subst (IsMoreAt (known_of known q)) (sym (changed q)) (of (suite == q) refl)
   where
@@ -58,40 +54,6 @@ found_at : (known more : Known) (suite : ℕ) (after : KnownSuite) → ((q : ℕ
 found_at known more suite after changed = changed suite ∙ ap (λ b. cond b (Some after) (known_of known suite)) (itself suite)
 
 -- ---- the laws
-
-serves_stronger : (before mode : LockMode) → serves (stronger before mode) before ≡ true
-serves_stronger Shared Shared = refl
-serves_stronger Shared Exclusive = refl
-serves_stronger Exclusive mode = refl
-
-serves_wanted : (before mode : LockMode) → serves (stronger before mode) mode ≡ true
-serves_wanted Shared Shared = refl
-serves_wanted Shared Exclusive = refl
-serves_wanted Exclusive mode = refl
-
-pub holding_meets : HoldingMeets
-holding_meets known suite mode prefix = of (known_of known suite) refl
-  where
-    raised : KnownSuite → KnownSuite
-    raised held = record held { mode = stronger held.mode mode }
-
-    new : KnownSuite
-    new = record { mode = mode; row = row_of_prefix prefix; opened = false }
-
-    serves_itself : (mode : LockMode) → serves mode mode ≡ true
-    serves_itself Shared = refl
-    serves_itself Exclusive = refl
-
-    step : (held : Option KnownSuite) (more : Known) (after : KnownSuite) → known_of known suite ≡ held → ((q : ℕ) → known_of more q ≡ cond (suite == q) (Some after) (known_of known q)) → IsMoreAt held (Some after) → serves after.mode mode ≡ true → IsStep known more (Hold suite mode)
-    step held more after was changed is_more serves = record {
-      more_known = more_at known more suite after changed (subst (λ held. IsMoreAt held (Some after)) (sym was) is_more);
-      met = ap (is_held mode) (found_at known more suite after changed) ∙ serves;
-    }
-
-    of : (held : Option KnownSuite) → known_of known suite ≡ held → IsStep known (held_by held known suite mode prefix) (Hold suite mode)
-    of (Some held) was = step (Some held) (replace nat_cmp known suite (raised held)) (raised held) was (λ q. replaced known suite held (raised held) q was)
-        (record { mode = serves_stronger held.mode mode; head = refl; opened = λ is. is; content = λ _. refl }) (serves_wanted held.mode mode)
-    of None was = step None (insert nat_cmp known suite new) new was (inserted known suite new) tt (serves_itself mode)
 
 pub opening_meets : OpeningMeets
 opening_meets known suite held content was closed fits =

@@ -3,7 +3,7 @@ use Rattle.std.specs.Prelude.{◌≡◌, ℕ, Bool, true, false, not, List, [], 
 use Rattle.std.specs.List.{list_all}
 use Rattle.std.specs.Option.{option_map_or}
 use Rattle.std.specs.Ordering.{nat_cmp}
-use Rattle.sorted_map.specs.SortedMap.{get, insert, replace}
+use Rattle.sorted_map.specs.SortedMap.{get, replace}
 use Rattle.acl_core.specs.Identity.{Identity}
 use Rattle.file_ops.specs.declared.answer.Answer.{Answer}
 use Rattle.file_ops.specs.declared.operation.Op.{Op}
@@ -14,10 +14,8 @@ use Rattle.file_ops.specs.Transactions as plain
 use Rattle.file_ops.specs.Transactions.{Played}
 use Rattle.suite_prefix.specs.declared.lock_mode.LockMode.{LockMode}
 use Rattle.suite_prefix.specs.declared.lock_mode.LockMode.TheVariants.{Exclusive}
-use Rattle.suite_prefix.specs.LockModes.{serves, stronger}
-use Rattle.suite_prefix.specs.declared.copies.Prefix.{Prefix}
+use Rattle.suite_prefix.specs.LockModes.{serves}
 use Rattle.suite_content.specs.declared.content.Content.{Content}
-use Rattle.file_exec.specs.Prefixes.{row_of_prefix}
 use Rattle.file_exec.specs.KnownSuites.{KnownSuite}
 use Rattle.file_exec.specs.declared.edit_log.Edit.{Edit}
 use Rattle.file_exec.specs.Courses.{Course}
@@ -37,15 +35,6 @@ known_of known suite = get nat_cmp known suite
 pub record Knowledge : Type 0 where
   pub service : Service
   pub suites : Known
-
--- A suite is held in a mode, or in the stronger one of this and its mode before. Of a suite that was not held the prefix is known
--- from now on; a suite that was keeps what was known of it first.
-abbrev pub held_by : Option KnownSuite → Known → ℕ → LockMode → Prefix → Known
-held_by (Some held) known suite mode prefix = replace nat_cmp known suite (record held { mode = stronger held.mode mode })
-held_by None known suite mode prefix = insert nat_cmp known suite (record { mode = mode; row = row_of_prefix prefix; opened = false })
-
-abbrev pub held_suite : Known → ℕ → LockMode → Prefix → Known
-held_suite known suite mode prefix = held_by (known_of known suite) known suite mode prefix
 
 -- a content that is known; where there is no row, there is none
 abbrev pub opened : KnownSuite → Content → KnownSuite

@@ -2,8 +2,6 @@
 use Rattle.std.specs.Prelude.{◌≡◌, ℕ, ◌<◌, ◌⊎◌, true, false, not, if◌then◌else◌, List, [], length, filter, Option, Some, None, option_map, is_some, Result, Ok}
 use Rattle.std.specs.Ordering.{nat_cmp}
 use Rattle.sorted_map.specs.SortedMap.{get}
-use Rattle.suite_prefix.specs.declared.copies.Prefix.{Prefix}
-use Rattle.suite_prefix.specs.declared.lock_mode.LockMode.{LockMode}
 use Rattle.suite_prefix.specs.LockModes.{serves}
 use Rattle.suite_content.specs.Contents.{kind_of}
 use Rattle.suite_content.specs.declared.content.Content.{Content}
@@ -19,12 +17,12 @@ use Rattle.file_ops.specs.Transactions as plain
 use Rattle.file_exec.specs.declared.changes.Change.{Change}
 use Rattle.file_exec.specs.KnownSuites.{KnownSuite}
 use Rattle.file_exec.specs.declared.need.Need.{Need}
-use Rattle.file_exec.specs.declared.need.Need.TheVariants.{Hold, Know}
+use Rattle.file_exec.specs.declared.need.Need.TheVariants.{Know}
 use Rattle.file_exec.specs.declared.executor.Outcome.TheVariants as outcome
 use Rattle.suite_prefix.specs.declared.lock_mode.LockMode.TheVariants.{Exclusive}
 use Rattle.file_exec.specs.Changes.{touches, change_of, changes_of, answered}
 use Rattle.file_exec.specs.Following.{Edits, Ended, head, content_in, needs, with_edits}
-use Rattle.file_exec.specs.Known.{Known, known_of, known_rows, is_held, held_suite, opened_suite, is_met, Needs, Done, exec_of, AgreesWith, on_table}
+use Rattle.file_exec.specs.Known.{Known, known_of, known_rows, is_held, opened_suite, is_met, Needs, Done, exec_of, AgreesWith, on_table}
 use Rattle.file_exec.specs.Operations.{transaction}
 
 -- With every table that agrees with what is known: where the executor is done, the table's own transaction ends so, rows included.
@@ -122,15 +120,10 @@ AMetNeedIsProgress =
 
 -- ---- the caller's steps
 
--- to hold a suite meets the need, and tells more
+-- a need is met, and more is known
 pub record IsStep (less more : Known) (need : Need) : Type 0 where
   pub more_known : MoreKnown less more
   pub met : is_met more need ≡ true
-
-abbrev pub HoldingMeets : Type 0
-HoldingMeets =
-    (known : Known) (suite : ℕ) (mode : LockMode) (prefix : Prefix)
-    → IsStep known (held_suite known suite mode prefix) (Hold suite mode)
 
 -- to open a suite that is held and was not opened meets the need, and tells more, where the content is of the row's kind
 abbrev pub FitsRow : Option Row → Content → Type 0

@@ -2,7 +2,7 @@
 
 ghost use Rattle.file_exec.specs.Known.{GoesAsOnTheTable, IsTheTransaction, SetsWhatIsHeld, NeedsWhatIsUnmet};
 ghost use Rattle.file_exec.specs.Laws.{DoneIsTheTables, ChangesBySuite, ChangesAreHeld, UnsetVotesStay, ChangesLeadOn, MoreKnownChangesNothing};
-ghost use Rattle.file_exec.specs.Laws.{AMetNeedIsProgress, HoldingMeets, OpeningMeets};
+ghost use Rattle.file_exec.specs.Laws.{AMetNeedIsProgress, OpeningMeets};
 ghost use Rattle.file_exec.specs.Reaching.{UnbegunIsReached, ReachedStays, TakingTellsMore};
 ghost use Rattle.file_exec.specs.Runs.{ExecRuns};
 
@@ -68,11 +68,6 @@ pub fn more_known_changes_nothing()
 /// nothing.
 pub fn a_met_need_is_progress()
     ensures { AMetNeedIsProgress }
-{}
-
-/// A law: to hold a suite meets the need, and tells more. It does nothing.
-pub fn holding_meets()
-    ensures { HoldingMeets }
 {}
 
 /// A law: to open a suite meets the need, and tells more. It does nothing.

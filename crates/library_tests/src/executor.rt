@@ -13,9 +13,8 @@ use crate::outcomes::{answers_words, refusal_words};
 use file_exec::{
     Change, Known, KnownSuite, Need, Outcome, Progress, a_met_need_is_progress, changes_are_held,
     changes_by_suite, changes_lead_on, done_is_the_tables, exec, exec_runs, goes_as_on_the_table,
-    holding_meets, is_the_transaction, more_known_changes_nothing, needs_what_is_unmet,
-    opening_meets, reached_stays, sets_what_is_held, taking_tells_more, unbegun_is_reached,
-    unset_votes_stay,
+    is_the_transaction, more_known_changes_nothing, needs_what_is_unmet, opening_meets,
+    reached_stays, sets_what_is_held, taking_tells_more, unbegun_is_reached, unset_votes_stay,
 };
 use file_ops::Service;
 use sorted_map::RoomyMap;
@@ -362,6 +361,5 @@ fn the_laws_are_called(_rt: HostRuntime) {
     changes_lead_on();
     more_known_changes_nothing();
     a_met_need_is_progress();
-    holding_meets();
     opening_meets();
 }
