@@ -27,6 +27,7 @@ use std::alloc::Global;
 /// Reads the words after the program's name: `table`, `play`, `serve --agents N`, `acl [NAME]...`, or a call for help. A word
 /// that begins with a hyphen and has more is an option, until `--`, and no option is known but help and that of
 /// `serve`, whose number may also stand behind `=` in the same word.
+#[inline(never)]
 pub fn read_words<'a>(alloc: Global, words: &'a [&'a str]) -> Result<Request<'a>, ArgsError>
     ensures { Answers (asked_by (map (λ w. w.now) words.entry.now)) result }
 {
