@@ -13,12 +13,14 @@
 
 mod lines;
 mod number;
+mod numbers;
 mod parts;
 mod phrases;
 mod words;
 
 pub use lines::Lines;
 pub use number::{push_number, read_number};
+pub use numbers::Numbers;
 pub use parts::Parts;
 pub use phrases::Phrases;
 pub use words::Words;

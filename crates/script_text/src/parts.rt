@@ -48,7 +48,7 @@ impl<'a> Iterator for Parts<'a> {
 }
 
 /// The first part of a word, and what is left after its separator.
-fn first_part(word: &[u8], separator: u8) -> (&[u8], Option<&[u8]>)
+pub(crate) fn first_part(word: &[u8], separator: u8) -> (&[u8], Option<&[u8]>)
     ensures { slice_split (λ byte. byte == separator) word.now ≡ result.0.now ∷ parts_left separator result.1 }
 {
     match first_separator(word, separator) {

@@ -15,7 +15,7 @@ use acl_core::{Caller, Lists, MAX_GROUPS, Mode};
 use acl_text::{Names, read_acl};
 use file_ops::Init;
 use hex::FromHexError;
-use script_text::{Parts, Words, read_number};
+use script_text::{Numbers, Words, read_number};
 use std::alloc::Global;
 use suite_content::FileBytes;
 
@@ -54,11 +54,11 @@ pub fn read_caller(uid: u32, word: &[u8]) -> Result<Caller, LineFault>
 {
     let mut numbers = [0; MAX_NUMBERS];
     let mut count = 0;
-    for part in Parts::new(word, b',') {
+    for number in Numbers::new(word, b',', u32::MAX) {
         if count == MAX_NUMBERS {
             return Err(LineFault::Form);
         }
-        numbers[count] = read_id(part)?;
+        numbers[count] = number.ok_or(LineFault::Form)?;
         count += 1;
     }
     caller_with(uid, &numbers[..count])

@@ -1,5 +1,5 @@
--- The parts of what is left of a word.
-use Rattle.std.specs.Prelude.{ℕ, ◌==◌, List, [], Option, Some, None}
+-- The parts of what is left of a word, and their numbers.
+use Rattle.std.specs.Prelude.{ℕ, ◌==◌, nat_le, nat_lt, ◌&&◌, if◌then◌else◌, List, [], Option, Some, None}
 use Rattle.std.specs.List.{slice_split}
 use denote.Ref.{Bor}
 
@@ -7,3 +7,7 @@ use denote.Ref.{Bor}
 abbrev pub parts_left : ℕ → Option (Bor (List ℕ)) → List (List ℕ)
 parts_left separator None = []
 parts_left separator (Some word) = slice_split (λ byte. byte == separator) word.now
+
+-- what so many digits spelled, where there are some, and it is at most a limit
+abbrev pub number_read : ℕ → ℕ → ℕ → Option ℕ
+number_read digits value limit = if nat_lt 0 digits && nat_le value limit then Some value else None

@@ -4,9 +4,9 @@ use Rattle.suite_script.specs.Words.{ids_in}
 use Rattle.suite_script.proofs.Ids.{ids_after}
 use Rattle.suite_script.proofs.word.read_caller.Given as goal
 
-abbrev pub invariant-loop-part : goal.invariant-loop-part
-invariant-loop-part l = record {
+abbrev pub invariant-loop-number : goal.invariant-loop-number
+invariant-loop-number l = record {
   places : length l.numbers ≡ 33;
   few : l.count ≤ 33;
-  read : ids_after (take l.count l.numbers) l.part-iterator ≡ ids_in (slice_split (λ (byte : ℕ). eqb byte 44) l.word);
+  read : ids_after (take l.count l.numbers) l.number-iterator ≡ ids_in (slice_split (λ (byte : ℕ). eqb byte 44) l.word);
 }

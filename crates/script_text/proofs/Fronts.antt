@@ -1,0 +1,46 @@
+-- Numbers between separators, read from the left.
+use Rattle.std.proofs.Common.{◌≡◌, ℕ, ◌+◌, ◌-◌, ◌*◌, ◌<◌, true, false, cond, eqb, ltb, List, [], ◌∷◌, Option, length, map, drop, get_or, ◌∙◌, ap, sym, inl, inr, arith}
+use Rattle.std.specs.List.{slice_split, onto_first}
+use Rattle.std.specs.Char.{is_ascii_digit}
+use Rattle.std.proofs.lemmas.Bool.{cases_Bool, ltb-false, lt-ltb}
+use Rattle.std.proofs.lemmas.List.{drop_more}
+use Rattle.std.proofs.lemmas.List.Splits.{slice_split-cons_no, length-slice_split}
+use Rattle.script_text.specs.Numbers.{number_up_to}
+use Rattle.script_text.proofs.Values.{number_from, number_of_some, one_digit}
+
+-- the numbers of parts, where so many digits of the first were read already, and have this value
+abbrev pub numbers_from : ℕ → ℕ → ℕ → List (List ℕ) → List (Option ℕ)
+numbers_from digits value limit [] = []
+numbers_from digits value limit (part ∷ parts) = cond (ltb 0 digits) (number_from value limit part) (number_up_to limit part) ∷ map (number_up_to limit) parts
+
+-- a part that begins with a byte is read from its value on
+begun : (digits value limit byte : ℕ) (part : List ℕ) (parts : List (List ℕ)) → (digits ≡ 0 → value ≡ 0) → numbers_from digits value limit ((byte ∷ part) ∷ parts) ≡ number_from value limit (byte ∷ part) ∷ map (number_up_to limit) parts
+begun digits value limit byte part parts none =
+    elim (cases_Bool (ltb 0 digits)) [
+      | inl some ↦ ap (λ b. cond b (number_from value limit (byte ∷ part)) (number_up_to limit (byte ∷ part)) ∷ map (number_up_to limit) parts) some
+      | inr zero ↦
+          let low = ltb-false 0 digits zero in
+          let is : value ≡ 0 = none (omega (arith, low)) in
+          ap (λ b. cond b (number_from value limit (byte ∷ part)) (number_up_to limit (byte ∷ part)) ∷ map (number_up_to limit) parts) zero
+          ∙ ap (λ n. n ∷ map (number_up_to limit) parts) (number_of_some limit (byte ∷ part) (omega arith) ∙ ap (λ v. number_from v limit (byte ∷ part)) (sym is))
+    ]
+
+-- a digit more
+digit_first : (digits value limit byte : ℕ) (parts : List (List ℕ)) → 0 < length parts → (digits ≡ 0 → value ≡ 0) → is_ascii_digit byte ≡ true → numbers_from digits value limit (onto_first byte parts) ≡ numbers_from (digits + 1) (10 * value + (byte - 48)) limit parts
+digit_first digits value limit byte [] some none digit = absurd (omega arith)
+digit_first digits value limit byte (part ∷ parts) some none digit =
+    let more : ltb 0 (digits + 1) ≡ true = lt-ltb 0 (digits + 1) (omega arith) in
+    let next = 10 * value + (byte - 48) in
+    begun digits value limit byte part parts none
+    ∙ ap (λ n. n ∷ map (number_up_to limit) parts) (one_digit value limit byte part digit)
+    ∙ sym (ap (λ b. cond b (number_from next limit part) (number_up_to limit part) ∷ map (number_up_to limit) parts) more)
+
+module _ (separator value limit place : ℕ) (word : List ℕ) (inside : place < length word) where
+  at_byte : eqb (get_or word place 0) separator ≡ false → slice_split (λ b. eqb b separator) (drop place word) ≡ onto_first (get_or word place 0) (slice_split (λ b. eqb b separator) (drop (place + 1) word))
+  at_byte other = ap (slice_split (λ b. eqb b separator)) (drop_more word place 0 inside) ∙ slice_split-cons_no (λ b. eqb b separator) (get_or word place 0) (drop (place + 1) word) other
+
+  pub digit_read : eqb (get_or word place 0) separator ≡ false → (place ≡ 0 → value ≡ 0) → is_ascii_digit (get_or word place 0) ≡ true → numbers_from place value limit (slice_split (λ b. eqb b separator) (drop place word)) ≡ numbers_from (place + 1) (10 * value + (get_or word place 0 - 48)) limit (slice_split (λ b. eqb b separator) (drop (place + 1) word))
+  digit_read other none digit =
+      let many = length-slice_split (λ (b : ℕ). eqb b separator) (drop (place + 1) word) in
+      ap (numbers_from place value limit) (at_byte other)
+      ∙ digit_first place value limit (get_or word place 0) (slice_split (λ b. eqb b separator) (drop (place + 1) word)) (omega (arith, many)) none digit
