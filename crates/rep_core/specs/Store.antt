@@ -1,5 +1,5 @@
 -- Stored copies, and intentions: what a prepared transaction leaves of a suite once it is decided.
-use Rattle.std.specs.Prelude.{◌≡◌, ℕ, ◌+◌, ◌-◌, ◌^◌, ◌==◌, nat_lt, nat_le, Bool, IsTrue, true, false, ◌&&◌, ◌||◌, not, if◌then◌else◌, List, [], ◌∷◌, length, filter, count_by, unwrap_or, is_some, Option, Some, None}
+use Rattle.std.specs.Prelude.{◌≡◌, ℕ, ◌+◌, ◌-◌, ◌^◌, ◌==◌, nat_lt, nat_le, Bool, IsTrue, true, false, ◌&&◌, ◌||◌, not, if◌then◌else◌, List, [], ◌∷◌, length, filter, count_by, unwrap_or, is_some, IfSome, Option, Some, None}
 use Rattle.std.specs.List.{list_any}
 use Rattle.std.specs.Ordering.{nat_cmp}
 use Rattle.sorted_map.specs.SortedMap.{IsOrdered, get, insert}
@@ -10,7 +10,9 @@ use Rattle.suite_prefix.specs.declared.copies.PrefixKind.{PrefixKind}
 use Rattle.suite_prefix.specs.declared.copies.PrefixKind.TheVariants.{Absent, File, Folder}
 use Rattle.suite_prefix.specs.declared.copies.Prefix.{Prefix}
 use Rattle.suite_prefix.specs.declared.copies.Replica.{Replica}
+use Rattle.suite_prefix.specs.Bytes.{bytes_in}
 use Rattle.suite_prefix.specs.Copies.{held_by}
+use Rattle.suite_prefix.specs.Forms.{CanHold}
 use Rattle.suite_prefix.specs.Tests.{is_valid_prefix, is_valid_copy, is_absent}
 use Rattle.suite_prefix.specs.Absent.{absent_copy}
 use Rattle.suite_prefix.specs.LockModes.{is_exclusive}
@@ -127,6 +129,14 @@ form_of store suite = get nat_cmp store.forms suite
 
 abbrev pub has_copy : Store → ℕ → Bool
 has_copy store suite = is_some (get nat_cmp store.copies suite)
+
+-- these are the bytes of the copy of a suite, where there is one, in the form that it is written in
+abbrev pub IsWrittenAs : Store → ℕ → List ℕ → Type 0
+IsWrittenAs store suite bytes = IfSome (form_of store suite) (λ form. bytes ≡ bytes_in form (copy_of store suite))
+
+-- the form that the copy of a suite is written in, where there is one, can hold its prefix
+abbrev pub IsHeldInForm : Store → ℕ → Type 0
+IsHeldInForm store suite = IfSome (form_of store suite) (λ form. CanHold form (copy_of store suite).prefix)
 
 -- how many suites have a copy or an intention: those with a copy, and those with an intention and no copy
 abbrev pub suites_with : Store → ℕ

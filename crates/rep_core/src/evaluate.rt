@@ -111,7 +111,8 @@ impl ServerState {
         ensures reply { OnOk result (reply.new ≡ service.poll_reply (state_of self.old) t suite mode) }
         ensures same { state_of self.new ≡ state_of self.old }
         ensures change { IfOk result (λ change. change ≡ stepping.unless (locking.in_the_way t suite mode (state_of self.old).locks)) }
-        ensures room { IfOk result (λ change. change ≡ Asked → (0 < self.new.locks.room) × (locking.in_the_way t suite mode (state_of self.new).locks ≡ None)) }
+        ensures room { IfOk result (λ change. change ≡ Asked → 0 < self.new.locks.room) }
+        ensures free { IfOk result (λ change. change ≡ Asked → locking.in_the_way t suite mode (state_of self.new).locks ≡ None) }
         ensures bare { IsTrue (serving.is_bare (service.poll_reply (state_of self.old) t suite mode)) → IsOk result }
     {
         match self.locks.in_the_way(t, suite, mode) {
@@ -169,7 +170,7 @@ impl ServerState {
         ensures same { state_of self.new ≡ state_of self.old }
         ensures change { IfOk result (λ made. applied made (Request.Prepare t parts.now) (state_of self.old) ≡ after_prepare (state_of self.old) t parts.now) }
         ensures room { IfOk result (λ change. stepping.HasRoom change (Request.Prepare t parts.now) (stepping.roomed_of self.new)) }
-        ensures full { (result ≡ Err Full) ↔ IsTrue (prepares (state_of self.old) t parts.now && store.overfills t (state_of self.old).store parts.now) }
+        ensures full { let old = state_of self.old in (result ≡ Err Full) ↔ IsTrue (prepares old t parts.now && store.overfills t old.store parts.now) }
         ensures bare { IsTrue (serving.is_bare (service.prepare_reply (state_of self.old) t parts.now)) → result ≢ Err Memory }
     {
         if self.stands_prepared(t, parts) {

@@ -1,12 +1,10 @@
 //! The maps of copies and of intentions, changed in the room that there is.
 
-ghost use Rattle.std.specs.Prelude.{◌≡◌, ℕ, ◌≤◌, ◌<◌, ◌+◌, length, IfSome, Some};
+ghost use Rattle.std.specs.Prelude.{◌≡◌, ◌≤◌, ◌<◌, ◌+◌, length, IfSome};
 ghost use Rattle.std.specs.Ordering.{nat_cmp};
 ghost use Rattle.sorted_map.specs.SortedMap.{IsOrdered, get, insert, remove};
-ghost use Rattle.rep_core.specs.code.Planning.{Leaves, copies_in, forms_in, intentions_in, with_all};
-ghost use Rattle.rep_core.specs.declared.intention.Planned as planning;
+ghost use Rattle.rep_core.specs.code.Planning.{AreAmong, Installs, Leaves, copies_in, forms_in, intentions_in, with_all};
 ghost use Rattle.rep_core.specs.Store as store;
-ghost use Rattle.vote_core.specs.Quorums.{Configuration};
 
 use crate::intention::Planned;
 use sorted_map::RoomyMap;
@@ -44,7 +42,7 @@ pub(crate) fn install(
 )
     requires room { length intentions.old.pairs ≤ copies.old.room }
     requires leaves { Leaves (copies_in copies.old.pairs) intentions.old.pairs }
-    ensures copies { (c0 : Configuration) → copies_in copies.new.pairs ≡ store.with_copies c0 t (intentions_in intentions.old.pairs) (copies_in copies.old.pairs) }
+    ensures copies { Installs t intentions.old.pairs copies.old.pairs copies.new.pairs }
     ensures forms { forms_in copies.new.pairs ≡ store.with_forms t (intentions_in intentions.old.pairs) (forms_in copies.old.pairs) }
     ensures others { intentions_in intentions.new.pairs ≡ store.without_intentions t (intentions_in intentions.old.pairs) }
     ensures leaves { Leaves (copies_in copies.new.pairs) intentions.new.pairs }
@@ -82,7 +80,7 @@ fn install_at(
 /// Drops the intentions of a transaction.
 pub(crate) fn forget(intentions: &mut RoomyMap<u64, Planned>, t: u64)
     ensures others { intentions_in intentions.new.pairs ≡ store.without_intentions t (intentions_in intentions.old.pairs) }
-    ensures kept { (suite : ℕ) (planned : planning.Planned) → get nat_cmp intentions.new.pairs suite ≡ Some planned → get nat_cmp intentions.old.pairs suite ≡ Some planned }
+    ensures kept { AreAmong intentions.new.pairs intentions.old.pairs }
     ensures fewer { length intentions.new.pairs ≤ length intentions.old.pairs }
     ensures rising { IsOrdered nat_cmp intentions.new.pairs }
 {

@@ -1,9 +1,7 @@
 //! A server.
 
 ghost use Rattle.std.specs.Prelude.{◌≡◌, ◌≢◌, ◌↔◌, IfOk, IfSome, OnOk, OnErr, IsTrue, Err, is_some};
-ghost use Rattle.suite_prefix.specs.Bytes.{bytes_in};
 ghost use Rattle.suite_prefix.specs.Copies.{IsCopy};
-ghost use Rattle.suite_prefix.specs.Forms.{CanHold};
 ghost use Rattle.rep_core.specs.declared.stamped.Lack.TheVariants.{Full, Memory};
 ghost use Rattle.rep_core.specs.Fits.{fits};
 ghost use Rattle.rep_core.specs.Evaluated.{IsStep};
@@ -141,8 +139,8 @@ impl Server {
     pub fn stored(&self, suite: u64) -> Option<&[u8]>
         ensures stored { is_some result ≡ store.has_copy self.now.state.store suite }
         ensures formed { is_some result ≡ is_some (store.form_of self.now.state.store suite) }
-        ensures bytes { IfSome result (λ bytes. IfSome (store.form_of self.now.state.store suite) (λ form. bytes.now ≡ bytes_in form (store.copy_of self.now.state.store suite))) }
-        ensures held { IfSome result (λ bytes. IfSome (store.form_of self.now.state.store suite) (λ form. CanHold form (store.copy_of self.now.state.store suite).prefix)) }
+        ensures bytes { IfSome result (λ bytes. store.IsWrittenAs self.now.state.store suite bytes.now) }
+        ensures held { IfSome result (λ bytes. store.IsHeldInForm self.now.state.store suite) }
         ensures valid { IfSome result (λ bytes. IsCopy (store.copy_of self.now.state.store suite)) }
     {
         self.held.store.record(suite)

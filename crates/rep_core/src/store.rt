@@ -5,9 +5,7 @@ ghost use Rattle.std.specs.List.{list_any, list_all};
 ghost use Rattle.std.specs.Option.{option_copied};
 ghost use Rattle.std.specs.Ordering.{nat_cmp};
 ghost use Rattle.sorted_map.specs.SortedMap.{IsOrdered, get};
-ghost use Rattle.suite_prefix.specs.Bytes.{bytes_in};
 ghost use Rattle.suite_prefix.specs.Copies.{IsCopy};
-ghost use Rattle.suite_prefix.specs.Forms.{CanHold};
 ghost use Rattle.suite_prefix.specs.SettingsRules.{form_of_root};
 ghost use Rattle.suite_prefix.specs.TestsExact.{CopyFits};
 ghost use Rattle.vote_core.specs.Quorums.{Configuration};
@@ -60,7 +58,8 @@ impl Model for Store {
 
     ghost view = { storing_of };
 
-    ghost invariant = { λ fields. (fields.absent ≡ absent_prefix fields.absent.votes) × (length fields.intentions.pairs ≤ fields.copies.room) × IsSound (store_of fields) × Leaves (copies_in fields.copies.pairs) fields.intentions.pairs };
+    ghost invariant = { λ fields. (fields.absent ≡ absent_prefix fields.absent.votes) × (length fields.intentions.pairs ≤ fields.copies.room)
+        × IsSound (store_of fields) × Leaves (copies_in fields.copies.pairs) fields.intentions.pairs };
 }
 
 impl Store {
@@ -386,8 +385,8 @@ impl Store {
     pub(crate) fn record(&self, suite: u64) -> Option<&[u8]>
         ensures stored { is_some result ≡ store.has_copy self.now.store suite }
         ensures formed { is_some result ≡ is_some (store.form_of self.now.store suite) }
-        ensures bytes { IfSome result (λ bytes. IfSome (store.form_of self.now.store suite) (λ form. bytes.now ≡ bytes_in form (store.copy_of self.now.store suite))) }
-        ensures held { IfSome result (λ bytes. IfSome (store.form_of self.now.store suite) (λ form. CanHold form (store.copy_of self.now.store suite).prefix)) }
+        ensures bytes { IfSome result (λ bytes. store.IsWrittenAs self.now.store suite bytes.now) }
+        ensures held { IfSome result (λ bytes. store.IsHeldInForm self.now.store suite) }
         ensures valid { IfSome result (λ bytes. IsCopy (store.copy_of self.now.store suite)) }
     {
         match self.stored(suite) {

@@ -118,7 +118,7 @@ fn reserve_at(maps: &mut Vec<RoomyMap<u64, Verdict>>, agent: usize) -> Result<()
 /// Keeps a verdict in the map of its agent, in which there is room.
 fn insert_at(maps: &mut Vec<RoomyMap<u64, Verdict>>, t: u64, verdict: Verdict)
     requires { 0 < by_agent.room_for t (by_agent.rooms_of maps.old.items) }
-    ensures here { by_agent.pairs_at maps.new.items (by_agent.agent_of t) ≡ insert nat_cmp (by_agent.pairs_at maps.old.items (by_agent.agent_of t)) t verdict }
+    ensures here { let own = by_agent.agent_of t in by_agent.pairs_at maps.new.items own ≡ insert nat_cmp (by_agent.pairs_at maps.old.items own) t verdict }
     ensures apart { (k : ℕ) → k ≢ by_agent.agent_of t → by_agent.pairs_at maps.new.items k ≡ by_agent.pairs_at maps.old.items k }
 {
     let agent = agent_of(t);

@@ -12,7 +12,7 @@ use Rattle.rep_core.specs.declared.request.Take.{Take}
 use Rattle.rep_core.specs.declared.request.Take.TheVariants as take
 use Rattle.rep_core.specs.declared.request.Part.{Part}
 use Rattle.rep_core.specs.Intentions.{Intention}
-use Rattle.rep_core.specs.Store.{copy_in, left_by, is_keep}
+use Rattle.rep_core.specs.Store.{copy_in, left_by, is_keep, with_copies}
 
 -- stored copies, and their forms
 abbrev pub copies_in : List (ℕ × Kept) → List (ℕ × Replica)
@@ -44,6 +44,14 @@ abbrev pub is_whole : Take → Bool
 is_whole take.Keep = false
 is_whole (take.Prefix prefix) = false
 is_whole (take.Whole replica) = true
+
+-- each of these is among the others
+abbrev pub AreAmong : List (ℕ × Planned) → List (ℕ × Planned) → Type 0
+AreAmong pairs others = (suite : ℕ) (planned : Planned) → get nat_cmp pairs suite ≡ Some planned → get nat_cmp others suite ≡ Some planned
+
+-- copies after the intentions of a transaction were made copies, whatever the votes of what was never made
+abbrev pub Installs : ℕ → List (ℕ × Planned) → List (ℕ × Kept) → List (ℕ × Kept) → Type 0
+Installs t intentions before after = (c0 : Configuration) → copies_in after ≡ with_copies c0 t (intentions_in intentions) (copies_in before)
 
 -- what is kept of the parts of a Prepare
 abbrev pub planned_of : Configuration → List (ℕ × Replica) → ℕ → List Part → List (ℕ × Planned)
