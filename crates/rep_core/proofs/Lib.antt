@@ -33,3 +33,4 @@ mod Places
 mod RisingParts
 mod SuiteHolders
 mod SettledLocks
+mod Listing

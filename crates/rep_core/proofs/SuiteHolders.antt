@@ -153,7 +153,7 @@ module _ (ls : List Lock) (hs : List Holder) (held : AreHeld ls hs) where
 
 -- ---- who holds some locks, taken out
 
-own_flip : (u z : ℕ) (l : Lock) → ((u == l.t) && (z == l.suite)) ≡ is_own u z l
+pub own_flip : (u z : ℕ) (l : Lock) → ((u == l.t) && (z == l.suite)) ≡ is_own u z l
 own_flip u z l = grind (arith, nat_tests)
 
 twice : {X : Type 0} (a b : Bool) (g : Option X) → cond a None (cond b None g) ≡ cond (b || a) None g

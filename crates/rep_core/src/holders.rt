@@ -1,12 +1,17 @@
-//! Who holds locks on a suite: pairs of a suite and a transaction, in this order.
+//! Who holds locks on a suite: pairs of a suite and a transaction, in this order. Nobody is listed while the locks are few,
+//! and can be looked through; from then on all are, until no lock is left.
 
-ghost use Rattle.std.specs.Prelude.{◌≡◌, ◌+◌, filter, find, nat_lt, not, option_map};
-ghost use Rattle.sorted_map.specs.SortedMap.{IsOrdered};
+ghost use Rattle.std.specs.Prelude.{◌≡◌, ◌≢◌, ◌+◌, ◌<◌, ◌≤◌, [], length, filter, find, nat_lt, not, option_map, OnOk};
+ghost use Rattle.sorted_map.specs.SortedMap.{IsOrdered, insert};
 ghost use Rattle.rep_core.specs.code.Holders as holding;
-ghost use Rattle.rep_core.specs.code.Holders.{holder_cmp, is_other, told_other, other_in, without, without_one};
+ghost use Rattle.rep_core.specs.code.Holders.{holder_cmp, is_other, told_other, other_in, listed_or, spare, with_holders, without, without_one};
 
 use crate::lock::Lock;
 use sorted_map::RoomyMap;
+use std::alloc::AllocError;
+
+/// So many locks at most are looked through, with nobody listed.
+const FEW: usize = 64;
 
 /// The least transaction but this one that holds a lock on a suite: the first on the suite, or the one behind it.
 pub(crate) fn first_other(holders: &[((u64, u64), ())], t: u64, suite: u64) -> Option<u64>
@@ -64,6 +69,61 @@ fn is_on_less(holder: &((u64, u64), ()), suite: u64) -> bool
     ensures { result ≡ nat_lt holder.now.0.0 suite }
 {
     holder.0.0 < suite
+}
+
+/// Makes room for who holds one more lock than these.
+pub(crate) fn make_room(
+    holders: &mut RoomyMap<(u64, u64), ()>,
+    locks: &[Lock],
+) -> Result<(), AllocError>
+    ensures ok { OnOk result (0 < spare locks.now holders.new.pairs holders.new.room) }
+    ensures pairs { holders.new.pairs ≡ holders.old.pairs }
+{
+    let unlisted = if holders.is_empty() { locks.len() } else { 0 };
+    holders.reserve(unlisted + 1)
+}
+
+/// Lists who holds a lock that is set beside these, unless they are few and nobody is listed.
+#[inline(always)]
+pub(crate) fn hold(holders: &mut RoomyMap<(u64, u64), ()>, locks: &[Lock], t: u64, suite: u64)
+    requires { 0 < spare locks.now holders.old.pairs holders.old.room }
+    ensures { holders.new.pairs ≢ [] → holders.new.pairs ≡ insert holder_cmp (listed_or locks.now holders.old.pairs) (suite, t) tt }
+{
+    if holders.is_empty() && locks.len() < FEW {
+        return;
+    }
+    hold_listed(holders, locks, t, suite);
+}
+
+/// Lists who holds a lock that is set beside these, with all others.
+fn hold_listed(holders: &mut RoomyMap<(u64, u64), ()>, locks: &[Lock], t: u64, suite: u64)
+    requires { 0 < spare locks.now holders.old.pairs holders.old.room }
+    ensures { holders.new.pairs ≡ insert holder_cmp (listed_or locks.now holders.old.pairs) (suite, t) tt }
+{
+    list(holders, locks);
+    holders.insert_in_room((suite, t), ());
+}
+
+/// Lists who holds these locks, where nobody is listed.
+fn list(holders: &mut RoomyMap<(u64, u64), ()>, locks: &[Lock])
+    requires { 0 < spare locks.now holders.old.pairs holders.old.room }
+    ensures pairs { holders.new.pairs ≡ listed_or locks.now holders.old.pairs }
+    ensures room { 0 < holders.new.room }
+{
+    if holders.is_empty() {
+        hold_all(holders, locks);
+    }
+}
+
+/// Lists who holds these locks.
+fn hold_all(holders: &mut RoomyMap<(u64, u64), ()>, locks: &[Lock])
+    requires { length locks.now ≤ holders.old.room }
+    ensures pairs { holders.new.pairs ≡ with_holders locks.now holders.old.pairs }
+    ensures room { holders.old.room ≤ holders.new.room + length locks.now }
+{
+    for lock in locks {
+        holders.insert_in_room((lock.suite, lock.t), ());
+    }
 }
 
 /// Takes out who holds these locks.

@@ -10,7 +10,7 @@ ghost use Rattle.rep_core.specs.declared.lock.Lock.{Lock};
 ghost use Rattle.rep_core.specs.code.Holders.{AreHeld, if_conflict};
 ghost use Rattle.rep_core.specs.code.Ranges.{IsRangeOf, IsRunOf, IsPlaceOf};
 
-use crate::holders::{first_other, forget_all};
+use crate::holders::{first_other, forget_all, hold, make_room};
 use crate::lock::Lock;
 use crate::request::Part;
 use crate::settled::{all_prepared, forget_unsettled, still_settled};
@@ -22,8 +22,8 @@ use suite_prefix::LockMode;
 /// So many locks are looked at from the end before those before them are halved.
 const NEAR: usize = 8;
 
-/// The locks of a server by transaction, and beside them by suite who holds them. An exclusive one stands alone on its
-/// suite. It shows how many new ones it takes without memory. The first `settled` locks are prepared: a crash looks at the
+/// The locks of a server by transaction, and beside them by suite who holds them, once they are more than a few. An
+/// exclusive one stands alone on its suite. It shows how many new ones it takes without memory. The first `settled` locks are prepared: a crash looks at the
 /// others only.
 #[derive(Drop)]
 pub(crate) struct LockTable {
@@ -36,13 +36,16 @@ impl Model for LockTable {
     ghost use Rattle.std.specs.Prelude.{◌-◌, min, IsTrue};
     ghost use Rattle.std.specs.Vec.{vec_len, vec_capacity};
     ghost use Rattle.rep_core.specs.code.Holding.{Locking};
-    ghost use Rattle.rep_core.specs.code.Holders.{AreHeld, are_settled};
+    ghost use Rattle.rep_core.specs.code.Holders.{AreListed, are_settled, spare};
 
     ghost Value = { Locking };
 
-    ghost view = { λ table. record { locks = table.locks.items; room = min (vec_capacity table.locks - vec_len table.locks) table.holders.room } };
+    ghost view = { λ table. record {
+      locks = table.locks.items;
+      room = min (vec_capacity table.locks - vec_len table.locks) (spare table.locks.items table.holders.pairs table.holders.room);
+    } };
 
-    ghost invariant = { λ table. AreHeld table.locks.items table.holders.pairs × IsTrue (are_settled table.settled table.locks.items) };
+    ghost invariant = { λ table. AreListed table.locks.items table.holders.pairs × IsTrue (are_settled table.settled table.locks.items) };
 }
 
 impl LockTable {
@@ -84,7 +87,7 @@ impl LockTable {
         ensures ok { OnOk result (0 < self.new.room) }
         ensures locks { self.new.locks ≡ self.old.locks }
     {
-        self.holders.reserve(1)?;
+        make_room(&mut self.holders, &self.locks)?;
         self.locks.reserve(1)
     }
 
@@ -93,7 +96,11 @@ impl LockTable {
     pub(crate) fn in_the_way(&self, t: u64, suite: u64, mode: LockMode) -> Option<Lock>
         ensures { result ≡ locking.in_the_way t suite mode self.now.locks }
     {
-        in_the_way(&self.locks, self.holders.as_slice(), t, suite, mode)
+        if self.holders.is_empty() {
+            first_in_the_way(&self.locks, t, suite, mode)
+        } else {
+            in_the_way(&self.locks, self.holders.as_slice(), t, suite, mode)
+        }
     }
 
     /// Sets a lock, for which there is room and nothing in the way, or makes the transaction's own one stronger.
@@ -104,8 +111,8 @@ impl LockTable {
         ensures { self.new.locks ≡ locking.locked t suite mode self.old.locks }
     {
         let settled = still_settled(&self.locks, self.settled, t, suite);
+        hold(&mut self.holders, &self.locks, t, suite);
         set_lock(&mut self.locks, t, suite, mode);
-        self.holders.insert_in_room((suite, t), ());
         self.settled = settled;
     }
 
@@ -148,6 +155,18 @@ impl LockTable {
             self.holders.remove(&(suite, t));
         }
     }
+}
+
+/// The first lock that stands in the way of a lock in this mode.
+fn first_in_the_way(locks: &[Lock], t: u64, suite: u64, mode: LockMode) -> Option<Lock>
+    ensures { result ≡ locking.in_the_way t suite mode locks.now }
+{
+    for lock in locks {
+        if conflicts(t, suite, mode, lock) {
+            return Some(*lock);
+        }
+    }
+    None
 }
 
 /// The lock of the least transaction that stands in the way of a lock in this mode.

@@ -1,8 +1,8 @@
 -- Who holds locks on a suite, in the order of suites and, on one suite, of transactions.
-use Rattle.std.specs.Prelude.{◌≡◌, ℕ, ◌==◌, ◌&&◌, not, Bool, true, false, IsTrue, List, [], ◌∷◌, Option, Some, None, is_some, if◌then◌else◌, zero, suc}
+use Rattle.std.specs.Prelude.{◌≡◌, ◌≢◌, ℕ, ◌-◌, length, ◌==◌, ◌&&◌, not, Bool, true, false, IsTrue, List, [], ◌∷◌, Option, Some, None, is_some, if◌then◌else◌, zero, suc}
 use Rattle.std.specs.declared.cmp.Ordering.{Ordering}
 use Rattle.std.specs.Ordering.{nat_cmp, ordering_then}
-use Rattle.sorted_map.specs.SortedMap.{IsOrdered, get, remove}
+use Rattle.sorted_map.specs.SortedMap.{IsOrdered, get, insert, remove}
 use Rattle.suite_prefix.specs.declared.lock_mode.LockMode.{LockMode}
 use Rattle.rep_core.specs.declared.lock.Lock.{Lock}
 use Rattle.rep_core.specs.Consistency.{IsAlone}
@@ -21,6 +21,27 @@ pub record AreHeld (locks : List Lock) (holders : List Holder) : Type 0 where
   pub alone : IsAlone locks
   pub ordered : IsOrdered holder_cmp holders
   pub same : (t suite : ℕ) → is_some (get holder_cmp holders (suite, t)) ≡ has_lock t suite locks
+
+-- nobody is listed, or all who hold the locks
+pub record AreListed (locks : List Lock) (holders : List Holder) : Type 0 where
+  pub rising : IsTrue (rise locks)
+  pub alone : IsAlone locks
+  pub held : holders ≢ [] → AreHeld locks holders
+
+-- with who holds these locks
+abbrev pub with_holders : List Lock → List Holder → List Holder
+with_holders [] holders = holders
+with_holders (lock ∷ locks) holders = with_holders locks (insert holder_cmp holders (lock.suite, lock.t) tt)
+
+-- those that are listed, or else who holds these locks
+abbrev pub listed_or : List Lock → List Holder → List Holder
+listed_or locks [] = with_holders locks []
+listed_or locks (holder ∷ holders) = holder ∷ holders
+
+-- for how many new ones there is room, once those of these locks are listed
+abbrev pub spare : List Lock → List Holder → ℕ → ℕ
+spare locks [] room = room - length locks
+spare locks (holder ∷ holders) room = room
 
 -- another transaction on the suite
 abbrev pub is_other : ℕ → ℕ → Holder → Bool

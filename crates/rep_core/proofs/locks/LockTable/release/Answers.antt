@@ -2,10 +2,11 @@ use Rattle.std.proofs.Common.{◌≡◌, ◌≤◌, ap, sym, subst, ◌∙◌, a
 use Rattle.std.specs.List.{slice_range}
 use Rattle.rep_core.specs.Locks.{released}
 use Rattle.rep_core.specs.code.Holding.{Locking}
-use Rattle.rep_core.specs.code.Holders.{AreHeld, are_settled, without}
+use Rattle.rep_core.specs.code.Holders.{AreListed, are_settled, without}
 use Rattle.rep_core.specs.code.Ranges.{IsRangeOf}
 use Rattle.rep_core.proofs.Ranges.{released_in}
 use Rattle.rep_core.proofs.SettledLocks.{settled_front}
+use Rattle.rep_core.proofs.Listing.{listed_by, nobody_without}
 use Rattle.rep_core.proofs.SuiteHolders.{held_released}
 use Rattle.rep_core.proofs.locks.LockTable.release.Goals as goal
 
@@ -20,9 +21,11 @@ invariant_of-self c =
     let is = subst (λ l. IsRangeOf t l range.0 range.1) c.deref.ensures.value c.range_of-start.ensures in
     let gone : c.forget_all.new.holders.pairs ≡ without (slice_range locks range.0 range.1) holders = c.forget_all.ensures ∙ ap (λ l. without (slice_range l range.0 range.1) holders) c.deref-2.ensures.value in
     let left : c.release.new.locks.items ≡ released t locks = c.release.ensures ∙ sym (released_in t locks range.0 range.1 is) in
+    let mine = slice_range locks range.0 range.1 in
+    let listed = listed_by (without mine) (nobody_without mine) (λ hs held. held_released t locks hs held range.0 range.1 is) holders c.self.invariant.0 in
     let front : less ≤ range.0 = omega (arith, c.min-self-inside.ensures) in
     let fewer : less ≤ settled = omega (arith, c.min-self-inside.ensures) in (
-      subst (λ l. AreHeld l c.forget_all.new.holders.pairs) (sym left) (subst (AreHeld (released t locks)) (sym gone) (held_released t locks holders c.self.invariant.0 range.0 range.1 is)),
+      subst (λ l. AreListed l c.forget_all.new.holders.pairs) (sym left) (subst (AreListed (released t locks)) (sym gone) listed),
       ap (are_settled less) c.release.ensures ∙ settled_front less range.0 settled locks (drop range.1 locks) front fewer c.self.invariant.1,
     )
 

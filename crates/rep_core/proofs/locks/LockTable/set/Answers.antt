@@ -1,8 +1,9 @@
 use Rattle.std.proofs.Common.{ap, sym, subst, ◌∙◌}
+use Rattle.sorted_map.specs.SortedMap.{insert}
 use Rattle.rep_core.specs.code.Holding.{Locking}
 use Rattle.rep_core.specs.Locks.{in_the_way, locked}
-use Rattle.rep_core.specs.code.Holders.{AreHeld, are_settled}
-use Rattle.rep_core.proofs.SuiteHolders.{held_locked}
+use Rattle.rep_core.specs.code.Holders.{AreListed, holder_cmp, are_settled, listed_or}
+use Rattle.rep_core.proofs.Listing.{listed_locked}
 use Rattle.rep_core.proofs.locks.LockTable.set.Goals as goal
 
 pub invariant_of-self : goal.invariant_of-self
@@ -11,9 +12,10 @@ invariant_of-self c =
     let suite = c.args.suite in
     let mode = c.args.mode in
     let locks = c.self.inside.locks.items in
+    let holders = c.self.inside.holders.pairs in
     let settled = c.still_settled-settled.result in
     let free = ap (λ (table : Locking). in_the_way t suite mode table.locks) c.self.view_is ∙ c.requires.free in
-    let held = held_locked locks c.self.inside.holders.pairs c.self.invariant.0 t suite mode free in (
-      subst (λ l. AreHeld l c.insert_in_room.new.self.pairs) (sym c.set_lock.ensures) (subst (AreHeld (locked t suite mode locks)) (sym c.insert_in_room.ensures.pairs) held),
+    let listed = listed_locked locks holders c.hold.new.holders.pairs t suite mode free c.self.invariant.0 (λ some. c.hold.ensures some ∙ ap (λ l. insert holder_cmp (listed_or l holders) (suite, t) tt) c.deref-2.ensures.value) in (
+      subst (λ l. AreListed l c.hold.new.holders.pairs) (sym c.set_lock.ensures) listed,
       ap (are_settled settled) (c.set_lock.ensures ∙ ap (locked t suite mode) (sym c.deref.ensures.value)) ∙ c.still_settled-settled.ensures mode,
     )
