@@ -1,14 +1,14 @@
 //! Scripts as text: lines, words, phrases and numbers. A script is bytes.
 //!
 //! **Promises.** The iterators give exactly what is left of a text, in order: `Lines` its lines, `Words` the words
-//! of a line, `Parts` what stands between separators. `Phrases` gives the words between semicolons. None of them
-//! takes memory. `read_number` gives the number that a word of digits spells, up to a limit (`number_up_to`);
-//! `push_number` writes one.
+//! of a line, `Parts` what stands between separators, `Numbers` the numbers that such parts spell. `Phrases` gives
+//! the words between semicolons. None of them takes memory. `read_number` gives the number that a word of digits
+//! spells, up to a limit (`number_up_to`); `push_number` writes one.
 //!
 //! **The caller owes** that `Phrases::next_phrase` is called once the phrase has no word left.
 //!
-//! **Files**: `lines`, `words`, `parts`, `phrases`, `number`. **Definitions** (`specs/`): `Words`, `Phrases`,
-//! `Numbers`; what a line is, std says.
+//! **Files**: `lines`, `words`, `parts`, `phrases`, `number`, `numbers`. **Definitions** (`specs/`): `Words`,
+//! `Phrases`, `Numbers`; what a line is, std says.
 #![tactic(auto)]
 
 mod lines;
