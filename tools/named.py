@@ -1,12 +1,14 @@
 #!/usr/bin/env python3
 """Looks whether what the documents name is there.
 
-Of all that README.md, CONTRIBUTING.md and docs/ have in backquotes, these have to be found: a name with an underscore,
+Of all that README.md, CONTRIBUTING.md, docs/ and the pages of crates (the lines //! of src/lib.rt or src/main.rt) have in
+backquotes, these have to be found: a name with an underscore,
 somewhere in crates/, tools/, tests/, bench/ or examples/ (also as that of a file there); `Type::name`, both in one file of
 some crate's src/; the name of a source file, in any folder; and a path that ends in one, at the top, in docs/ or in a crate.
 A heading that is named behind a document, as README.md, "Scripts", has to stand there, and so has one that a link goes
-to. The counts of lines in tables of definitions have to be right. What is not found is told, and the status is 1. It takes
-a second, and the gate begins with it.
+to. The counts of lines in tables of definitions have to be right. A crate's page is at most 60 lines and 120 characters
+wide, and names each module and each file of specs/. What is not found is told, and the status is 1. It takes a second, and
+the gate begins with it.
 """
 import glob, os, re, sys
 
@@ -24,6 +26,10 @@ REFERENCE = re.compile(r'([\w/-]+\.md)`?, ("[^"]+"(?:(?: and|,) "[^"]+")*)')
 COUNTED = re.compile(r"\| (\d+) \| `([\w/]+\.antt)` \|")
 NO_LINE = re.compile(r" *(--|(pub )?use |$)")
 LINK = re.compile(r"\]\(([\w./-]*)#([\w-]+)\)")
+# The page of a crate, its modules, and files of definitions that it need not name.
+MOST_LINES, WIDEST = 60, 120
+MODULE = re.compile(r"^(?:pub )?mod (\w+);", re.M)
+UNNAMED = {"Lib.antt", "code.antt"}
 
 
 def content(path):
@@ -44,9 +50,20 @@ def documents():
     return [*(os.path.join(TOP, name) for name in ("README.md", "CONTRIBUTING.md")), *below]
 
 
+def pages():
+    """The files that have the pages of crates at their heads."""
+    return sorted(path for name in ("lib.rt", "main.rt") for path in glob.glob(os.path.join(TOP, "crates", "*", "src", name)))
+
+
+def lines_of(path):
+    """The lines of a document, or of a page."""
+    lines = content(path).split("\n")
+    return [line[4:] for line in lines if line.startswith("//!")] if path.endswith(".rt") else lines
+
+
 def quoted(path):
     """What a document has in backquotes, with its line."""
-    for number, line in enumerate(content(path).split("\n"), 1):
+    for number, line in enumerate(lines_of(path), 1):
         for text in QUOTED.findall(line):
             yield number, text
 
@@ -75,7 +92,7 @@ def anchor(heading):
 
 def headings_named(path):
     """The headings that a document names, each with its line and whether it is there."""
-    for number, line in enumerate(content(path).split("\n"), 1):
+    for number, line in enumerate(lines_of(path), 1):
         for other, named in REFERENCE.findall(line):
             places = [os.path.join(above, other) for above in (TOP, os.path.join(TOP, "docs"))]
             there = [heading for place in places for heading in headings(place)]
@@ -83,6 +100,21 @@ def headings_named(path):
         for other, title in LINK.findall(line):
             there = headings(os.path.join(os.path.dirname(path), other) if other else path)
             yield number, f"{other}#{title}", title in map(anchor, there)
+
+
+def page_faults(path):
+    """What is wrong with the page of a crate."""
+    page = lines_of(path)
+    if len(page) > MOST_LINES:
+        yield f"the page has {len(page)} lines"
+    if any(len(line) + 4 > WIDEST for line in page):
+        yield "the page has a line that is too long"
+    told = {word for _, text in quoted(path) for word in re.findall(r"\w+", text)}
+    crate = os.path.dirname(os.path.dirname(path))
+    specs = [os.path.basename(file) for file in sorted(glob.glob(os.path.join(crate, "specs", "*.antt")))]
+    for name in [*MODULE.findall(content(path)), *(file[:-len(".antt")] for file in specs if file not in UNNAMED)]:
+        if name not in told:
+            yield f"the page does not name `{name}`"
 
 
 def counts_told(path):
@@ -104,7 +136,7 @@ def main():
         if "/src/" in path:
             members.append(words)
     lost = 0
-    for path in documents():
+    for path in [*documents(), *pages()]:
         for number, text in quoted(path):
             if not is_there(text, known, members):
                 lost += 1
@@ -116,6 +148,10 @@ def main():
         for number, what in counts_told(path):
             lost += 1
             print(f"{os.path.relpath(path, TOP)}:{number}: {what}")
+    for path in pages():
+        for what in page_faults(path):
+            lost += 1
+            print(f"{os.path.relpath(path, TOP)}: {what}")
     return 1 if lost else 0
 
 
