@@ -28,6 +28,7 @@ NO_LINE = re.compile(r" *(--|(pub )?use |$)")
 LINK = re.compile(r"\]\(([\w./-]*)#([\w-]+)\)")
 # The page of a crate, its modules, and files of definitions that it need not name.
 MOST_LINES, WIDEST = 60, 120
+PAGE = re.compile(r"^//!.*$", re.M)
 MODULE = re.compile(r"^(?:pub )?mod (\w+);", re.M)
 UNNAMED = {"Lib.antt", "code.antt"}
 
@@ -129,16 +130,18 @@ def counts_told(path):
 
 
 def main():
-    known, members = set(), []
+    known, members, bare = set(), [], []
     for path in files():
-        words = set(re.findall(r"\w+", content(path)))
+        text = content(path)
+        words = set(re.findall(r"\w+", PAGE.sub("", text)))
         known |= words | {os.path.basename(path)} | set(re.findall(r"\w+", os.path.relpath(path, TOP)))
         if "/src/" in path:
-            members.append(words)
+            members.append(set(re.findall(r"\w+", text)))
+            bare.append(words)
     lost = 0
     for path in [*documents(), *pages()]:
         for number, text in quoted(path):
-            if not is_there(text, known, members):
+            if not is_there(text, known, bare if path.endswith(".rt") else members):
                 lost += 1
                 print(f"{os.path.relpath(path, TOP)}:{number}: there is no `{text}`")
         for number, named, is_known in headings_named(path):
