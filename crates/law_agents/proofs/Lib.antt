@@ -16,4 +16,5 @@ pub mod Same
 pub mod Fetched
 pub mod Endings
 pub mod Quorate
+pub mod RunJobs
 pub mod RunBounds

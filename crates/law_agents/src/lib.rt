@@ -137,9 +137,10 @@ pub fn same_told_same_asked()
     ensures { SameToldSameAsked }
 {}
 
-/// A law: of every run, whatever its events: each job that ended took, by the very count that its outcome tells, no more steps
-/// than its agent had exchanges in it; so a transaction that asks `n` servers and names `k` suites ended within
-/// `k*(2n + 1) + 2n + 1` steps, and a sweep to which `m` locks were listed within `1 + 2m`. It does nothing.
+/// A law: of every run, whatever its events: each job that ended had begun in one of them, and what it was told from then on, in
+/// the run, is all by which it ended. By the very count that its outcome tells it took as many steps as its agent had exchanges
+/// in it; so a transaction that asks `n` servers and names `k` suites ended within `k*(2n + 1) + 2n + 1` steps, and a sweep to
+/// which `m` locks were listed within `1 + 2m`. It does nothing.
 pub fn runs_end_in_time()
     ensures { RunsEndInTime }
 {}

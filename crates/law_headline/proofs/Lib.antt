@@ -13,5 +13,6 @@ pub mod Conclusions
 pub mod Unbroken
 pub mod Stood
 pub mod Asked
+pub mod Nothing
 pub mod Promised
 pub mod Worked

@@ -1,7 +1,6 @@
 -- What a world promises, from the laws of its run.
-use Rattle.std.proofs.Common.{◌≡◌, List, [], ◌∷◌, ◌++◌, sym, ap, ◌∙◌}
-use Rattle.vote_core.specs.Validity.{IsValid}
-use Rattle.suite_prefix.specs.SettingsRules.{Opening, IsAccepted}
+use Rattle.std.proofs.Common.{List, [], ◌∷◌, ◌++◌, sym, ap, ◌∙◌}
+use Rattle.suite_prefix.specs.SettingsRules.{Opening}
 use Rattle.txn_core.specs.Agents.{fixed_of}
 use Rattle.run_core.specs.declared.event.Event.{Event}
 use Rattle.run_core.specs.Worlds.{opening}
@@ -11,7 +10,8 @@ use Rattle.run_core.proofs.Appending.{after-append}
 use Rattle.law_runs.proofs.Conclusions.{decided_once, decisions_are_the_records}
 use Rattle.law_headline.specs.Premises.{CanBe, VotesAreValid}
 use Rattle.law_headline.proofs.Asked.{are_as_begun}
-use Rattle.law_headline.specs.Promises.{IsPromised, IsRunOf, OpensARun, PlaysOn, Promises}
+use Rattle.law_headline.specs.Promises.{IsPromised, OpensARun, PlaysOn, Promises}
+use Rattle.law_headline.proofs.Nothing.{not_decided_change_nothing}
 use Rattle.law_headline.proofs.Conclusions.{answers_are_the_tables, audit_is_the_denials, answered_before, revocations_are_met, rows_have_versions}
 
 -- ---- events that can be, and those of them that came first
@@ -41,13 +41,14 @@ goes_on opened events later world so valid is = record {
 -- ---- what is promised
 
 pub promised : (given : Opening) (events : List Event) → CanBe given events → IsPromised given events
-promised given events can = record {
+promised given events can = let versions = rows_have_versions given events can in record {
   answers = answers_are_the_tables given events can;
   begun = are_as_begun given can.accepted events;
   in_order = answered_before given events can;
   changes = revocations_are_met given events can;
-  versions = rows_have_versions given events can;
+  versions = versions;
   once = decided_once given can.accepted events;
+  nothing = λ t absent. not_decided_change_nothing given events versions t can absent;
   recorded = decisions_are_the_records given can.accepted events;
   audits = (audit_is_the_denials given events can).1;
   audit = (audit_is_the_denials given events can).0;

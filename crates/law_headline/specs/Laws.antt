@@ -1,5 +1,5 @@
 -- The laws of this crate: what holds of every run that there can be, whatever the order of its events.
-use Rattle.std.specs.Prelude.{◌≡◌, ◌⊎◌, ℕ, Bool, true, ◌&&◌, List, ◌∷◌, ◌++◌, Some}
+use Rattle.std.specs.Prelude.{◌≡◌, ◌⊎◌, ℕ, Bool, true, ◌&&◌, List, ◌∷◌, ◌++◌, Contains, Some}
 use Rattle.std.specs.List.{list_any}
 use Rattle.suite_prefix.specs.SettingsRules.{Opening}
 use Rattle.suite_prefix.specs.declared.copies.Prefix.{Prefix}
@@ -13,19 +13,23 @@ use Rattle.rep_core.specs.Locks.{is_own}
 use Rattle.file_ops.specs.Rows as rows
 use Rattle.file_ops.specs.Rows.{row_of}
 use Rattle.txn_core.specs.Suites.{ReadPoint, Suite, suite_of}
+use Rattle.txn_core.specs.declared.ending.Cause.{Cause}
+use Rattle.txn_core.specs.declared.ending.Ending.TheVariants.{Undecided}
 use Rattle.txn_core.specs.declared.job.Job.{Job}
 use Rattle.txn_core.specs.Doing.{Fixed, TransactionRun, Running}
 use Rattle.txn_core.specs.Agents as agents
 use Rattle.txn_core.specs.Agents.{Agent, fixed_of, is_idle, begin, after_all}
 use Rattle.run_core.specs.declared.event.Event.{Event}
 use Rattle.run_core.specs.declared.event.Event.TheVariants.{Step}
+use Rattle.run_core.specs.declared.done.EndedJob.{EndedJob}
 use Rattle.run_core.specs.declared.done.Served.{Served}
 use Rattle.run_core.specs.Worlds.{audit_of, step}
 use Rattle.run_core.specs.Runs.{run}
 use Rattle.run_core.specs.Decisions.{Decided, decided, decisions}
 use Rattle.run_core.specs.TableOfRun as table
 use Rattle.run_core.specs.TableOfRun.{table_of}
-use Rattle.law_runs.specs.Claims.{denials_at}
+use Rattle.law_runs.specs.Numbers.{number_of}
+use Rattle.law_runs.specs.Claims.{ended, IsNotDecided, denials_at}
 use Rattle.law_runs.specs.Answers.{all_denials}
 use Rattle.law_run_quorums.specs.Firsts.{FirstFrom}
 use Rattle.law_run_machine.specs.Machines.{servers_of, machine_of}
@@ -35,6 +39,7 @@ use Rattle.law_server_moves.specs.Laws.{beginning}
 use Rattle.law_one_table.specs.Tables.{row_shown, register}
 use Rattle.law_one_table.specs.Versions.{HaveVersions}
 use Rattle.law_headline.specs.Premises.{CanBe}
+use Rattle.law_headline.specs.Nothing.{ChangedNothing}
 use Rattle.law_headline.specs.Promises.{AreAsBegun, StandInOrder, MeetsChanges}
 
 -- ---- one table
@@ -103,6 +108,20 @@ RowsHaveVersions = (given : Opening) (events : List Event) → CanBe given event
 -- Each row of the table is what the register of its suite's machine holds.
 abbrev pub RowsAreTheRegisters : Type 0
 RowsAreTheRegisters = (given : Opening) (events : List Event) → CanBe given events → (z : ℕ) → row_of (table_of given events).rows z ≡ row_shown (register given z events)
+
+-- ---- what is not decided
+
+-- A transaction that is not decided so far changed nothing so far, whatever versions the rows have.
+abbrev pub NotDecidedChangeNothing : Type 0
+NotDecidedChangeNothing =
+    (given : Opening) (events : List Event) (versions : HaveVersions given events) (t : ℕ) → CanBe given events
+    → IsNotDecided (decisions given events) t → ChangedNothing given versions.at events t
+
+-- So one whose job ended undecided changed nothing, and changes nothing however the run goes on.
+abbrev pub UndecidedChangeNothing : Type 0
+UndecidedChangeNothing =
+    (given : Opening) (events later : List Event) (versions : HaveVersions given (events ++ later)) (job : EndedJob) (cause : Cause) → CanBe given (events ++ later)
+    → Contains (ended given events) job → job.ending ≡ Undecided cause → ChangedNothing given versions.at (events ++ later) (number_of job)
 
 -- ---- agents
 

@@ -1,4 +1,5 @@
 pub mod Premises
+pub mod Nothing
 pub mod Promises
 pub mod Laws
 pub mod Worked

@@ -22,9 +22,10 @@ use Rattle.run_core.specs.TableOfRun.{played_on, table_after_all, table_of, Answ
 use Rattle.run_core.specs.Opened.{Opened}
 use Rattle.law_runs.specs.Numbers.{number_of, was_begun, begins_at}
 use Rattle.law_runs.specs.Answers.{all_denials}
-use Rattle.law_runs.specs.Claims.{ended, IsDecidedOnce, AreTheRecords, denials_at, StandsBefore}
+use Rattle.law_runs.specs.Claims.{ended, IsDecidedOnce, IsNotDecided, AreTheRecords, denials_at, StandsBefore}
 use Rattle.law_one_table.specs.Versions.{HaveVersions}
 use Rattle.law_headline.specs.Premises.{CanBe, VotesAreValid}
+use Rattle.law_headline.specs.Nothing.{ChangedNothing}
 
 -- A transaction was begun with this number, for this caller, and with these operations.
 pub record WasBegun (given : Opening) (events : List Event) (t : ℕ) (caller : Identity) (ops : List Op) : Type 0 where
@@ -79,6 +80,8 @@ pub record IsPromised (given : Opening) (events : List Event) : Type 0 where
   pub versions : HaveVersions given events
   -- each transaction is decided once at most: as its job ended, where that was answered or refused, and never, where it ended undecided
   pub once : IsDecidedOnce given events
+  -- and one that is not decided changed nothing
+  pub nothing : (t : ℕ) → IsNotDecided (decisions given events) t → ChangedNothing given versions.at events t
   -- each stands in its home's record, and what a server has recorded as answered or refused is one of them
   pub recorded : AreTheRecords given events
   -- each server's audit is the denials of the decisions whose home it is, and the table's audit is all denials

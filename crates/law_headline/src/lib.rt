@@ -22,7 +22,7 @@
 mod promises;
 mod witnesses;
 
-ghost use Rattle.law_headline.specs.Laws.{AnswersAreTheTables, AuditIsTheDenials, AnsweredBefore, RevocationsAreMet, LocksStand, RowsHaveVersions, RowsAreTheRegisters, KnowledgeWas, AgentsKeepSides, FirstsAreGiven};
+ghost use Rattle.law_headline.specs.Laws.{AnswersAreTheTables, AuditIsTheDenials, AnsweredBefore, RevocationsAreMet, LocksStand, RowsHaveVersions, RowsAreTheRegisters, NotDecidedChangeNothing, UndecidedChangeNothing, KnowledgeWas, AgentsKeepSides, FirstsAreGiven};
 
 pub use promises::{
     all_votes_are_valid, decided_as_begun, job_is_valid, opens_a_run, plays_on, promise,
@@ -69,6 +69,18 @@ pub fn rows_have_versions()
 /// A law: each row of that table is what the register of its suite's machine holds. It does nothing.
 pub fn rows_are_the_registers()
     ensures { RowsAreTheRegisters }
+{}
+
+/// A law: a transaction that is not decided so far changed nothing: the table is the one without its decision, what is in
+/// effect is in effect without its intentions, and all that is in effect, or in a cache, is of the table without it. It does
+/// nothing.
+pub fn not_decided_change_nothing()
+    ensures { NotDecidedChangeNothing }
+{}
+
+/// A law: so one that ended undecided changed nothing, and changes nothing however the run goes on. It does nothing.
+pub fn undecided_change_nothing()
+    ensures { UndecidedChangeNothing }
 {}
 
 /// A law: a cache may be old, but what is in it was once so; and so of all that a transaction knows. It does nothing.
