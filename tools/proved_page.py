@@ -1,20 +1,22 @@
 #!/usr/bin/env python3
-"""Writes the table of public functions in docs/PROVED.md, from the sources, and holds the other names there against them.
+"""Writes the two tables of docs/PROVED.md that come from the sources, and holds the names above them against these.
 
-    tools/proved_page.py           writes the table (between the two marks)
+    tools/proved_page.py           writes the tables (each between its two marks)
     tools/proved_page.py --check   writes nothing; tells what differs, with status 1
 
-The table has the public functions that have a contract, crate by crate in the order of crates.txt: those of public types
-and traits (`Type::name`, the names of one type together), and those that stand alone, each with the names of its clauses. Of
-the table above it, which says in words what is proved, each name in the last column has to be in the crate of its row, and
-each law (a public function of a file laws.rt, or of a crate whose name begins with law_) has to be named there.
-./suites --test runs --check.
+Both tables go crate by crate in the order of crates.txt. The first has the laws, each with its lines `///`. A law is a public
+function that has a contract and does nothing: one whose lines begin "A law", one of a file laws.rt, or one of a crate whose
+name begins with law_. The second has the other public functions that have a contract: those of public types and traits
+(`Type::name`, the names of one type together), and those that stand alone, each with the names of its clauses. Of the table
+above them, which says in words what is proved, each name in the last column has to be in the crate of its row. A law without
+lines is a fault. ./suites --test runs --check.
 """
 import difflib, glob, os, re, sys
 
 TOP = os.path.realpath(os.path.join(os.path.dirname(os.path.abspath(__file__)), ".."))
 PAGE = os.path.join(TOP, "docs", "PROVED.md")
-BEGIN, END = "<!-- public functions: written by tools/proved_page.py -->", "<!-- end of public functions -->"
+LAWS = "<!-- laws: written by tools/proved_page.py -->", "<!-- end of laws -->"
+FUNCTIONS = "<!-- public functions: written by tools/proved_page.py -->", "<!-- end of public functions -->"
 BLOCK = re.compile(r"(?:pub )?(?:unsafe )?(impl|trait)\b")
 FUNCTION = re.compile(r"(pub )?(?:const |unsafe )*fn (\w+)")
 CLAUSE = re.compile(r"ensures(?:\*)? (\w+) \{")
@@ -48,8 +50,8 @@ def type_of(line):
 
 
 def functions(path):
-    """The functions of a file: the type (or ""), whether that is by a trait, the name, whether it is public, and its clauses."""
-    of, by_trait, found, open_ = "", False, [], None
+    """The functions of a file: the type (or ""), whether that is by a trait, the name, whether it is public, its clauses and its lines ///."""
+    of, by_trait, found, open_, said = "", False, [], None, []
     for line in content(path).split("\n"):
         begins = FUNCTION.match(line.strip())
         if BLOCK.match(line):
@@ -57,8 +59,12 @@ def functions(path):
         elif line.startswith("}"):
             of, by_trait, open_ = "", False, None
         elif begins and not line.strip().startswith("//"):
-            open_ = [of, by_trait, begins[2], bool(begins[1]), []]
+            open_ = [of, by_trait, begins[2], bool(begins[1]), [], " ".join(said)]
             found.append(open_)
+        if line.strip().startswith("///"):
+            said.append(line.strip()[3:].strip())
+        elif not line.strip().startswith("#["):
+            said = []
         if open_ and not line.strip().startswith("//"):
             open_[4].extend(CLAUSE.findall(line))
             if "ensures {" in line or "ensures* {" in line:
@@ -69,25 +75,27 @@ def functions(path):
 
 
 def public(crate):
-    """The public functions of a crate that have a contract: (type or "", name, clauses)."""
+    """The public functions of a crate that have a contract: (type or "", name, clauses, whether it is a law, lines ///)."""
     names, modules = shown(crate)
     for path in sorted(glob.glob(os.path.join(TOP, "crates", crate, "src", "**", "*.rt"), recursive=True)):
         module = os.path.relpath(path, os.path.join(TOP, "crates", crate, "src")).split(os.sep)[0].removesuffix(".rt")
-        for of, by_trait, name, is_public, clauses in functions(path):
+        for of, by_trait, name, is_public, clauses, said in functions(path):
             if clauses and is_public and not by_trait and ((of or name) in names or module in modules or module == "lib"):
-                yield of, name, [clause for clause in clauses if clause]
+                is_law = said.startswith("A law") or not of and (crate.startswith("law_") or os.path.basename(path) == "laws.rt")
+                yield of, name, [clause for clause in clauses if clause], is_law, said
 
 
 def told(name, clauses):
     return f"`{name}`" + (f" ({', '.join(clauses)})" if clauses else "")
 
 
-def table():
+def table_of_functions():
     lines = ["| Crate | Public functions, with the names of their clauses |", "|---|---|"]
     for crate in crates():
         found, cells = {}, []
-        for of, name, clauses in public(crate):
-            found.setdefault(of, []).append((name, clauses))
+        for of, name, clauses, is_law, _ in public(crate):
+            if not is_law:
+                found.setdefault(of, []).append((name, clauses))
         for of, those in sorted(found.items(), key=lambda item: (item[0] == "", item[0])):
             first, *more = sorted(those)
             cells.append(", ".join([told(f"{of}::{first[0]}" if of else first[0], first[1]), *(told(*one) for one in more)]))
@@ -96,37 +104,56 @@ def table():
     return "\n".join(lines)
 
 
+def laws():
+    """The laws: crate, name, and what its lines say of it."""
+    for crate in crates():
+        for of, name, _, is_law, said in public(crate):
+            if is_law:
+                said = re.sub(r"\[(`[^`]+`)\]", r"\1", said.removeprefix("A law: ").removesuffix("It does nothing.")).replace("`crate::", "`").strip()
+                yield crate, f"{of}::{name}" if of else name, said[:1].upper() + said[1:]
+
+
+def table_of_laws():
+    lines, last = ["| Crate | Law | Says |", "|---|---|---|"], ""
+    for crate, name, said in laws():
+        begins = f"`{crate}` " if crate != last else ""
+        lines.append(f"| {begins}| `{name}` | {said} |")
+        last = crate
+    return "\n".join(lines)
+
+
 def faults(text):
-    """The names of the table in words that are not in their crate, and the laws that it does not name."""
+    """The names of the table in words that are not in their crate, and the laws that say nothing."""
     crate, named, words = "", {}, {}
     for line in text.split("\n"):
         cells = line.strip("| ").split(" | ") if line.startswith("|") else []
-        if len(cells) == 3 or line.startswith("| |"):
-            crate = re.sub(r"\W", "", cells[0]) if not line.startswith("| |") else crate
+        if len(cells) == 3:
+            crate = re.sub(r"\W", "", cells[0])
             named.setdefault(crate, set()).update(re.findall(r"\w+", " ".join(re.findall(r"`([^`]+)`", cells[-1]))))
     for name in crates():
         texts = [content(path) for part in ("src", "specs") for end in ("rt", "antt") for path in
                  glob.glob(os.path.join(TOP, "crates", name, part, "**", f"*.{end}"), recursive=True)]
         words[name] = {word for one in texts for word in re.findall(r"\w+", one)}
     for name in crates():
-        others = set().union(*words.values())
-        for word in sorted(named.get(name, set()) - (words[name] if not name.startswith("law_") else others)):
+        for word in sorted(named.get(name, set()) - words[name]):
             yield f"{name}: its rows name {word}, which is not in the crate"
-        paths = glob.glob(os.path.join(TOP, "crates", name, "src", "*.rt"))
-        laws = [path for path in paths if name.startswith("law_") or os.path.basename(path) == "laws.rt"]
-        for law in sorted({law for path in laws for of, _, law, is_public, clauses in functions(path) if is_public and not of and clauses}):
-            if law not in named.get(name, set()):
-                yield f"{name}: no row names the law {law}"
+    yield from (f"{crate}: the law {name} has no lines ///" for crate, name, said in laws() if not said)
+
+
+def written(text, marks, table):
+    """The page with a table between its marks, and what stands before them."""
+    before, _, rest = text.partition(marks[0])
+    return f"{before}{marks[0]}\n\n{table}\n\n{marks[1]}{rest.partition(marks[1])[2]}", before
 
 
 def main():
     text = content(PAGE)
-    if BEGIN not in text or END not in text:
-        print("docs/PROVED.md has no marks for the table of public functions")
+    if any(mark not in text for mark in (*LAWS, *FUNCTIONS)):
+        print("docs/PROVED.md has no marks for its two tables")
         return 1
-    before, _, rest = text.partition(BEGIN)
-    after = rest.partition(END)[2]
-    new, wrong = f"{before}{BEGIN}\n\n{table()}\n\n{END}{after}", list(faults(before))
+    new, before = written(text, LAWS, table_of_laws())
+    new, _ = written(new, FUNCTIONS, table_of_functions())
+    wrong = list(faults(before))
     print(*wrong, sep="\n", end="\n" if wrong else "")
     if "--check" not in sys.argv[1:]:
         with open(PAGE, "w", encoding="utf-8") as file:
