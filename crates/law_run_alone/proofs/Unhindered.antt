@@ -74,7 +74,7 @@ locking_valid : (other : Option Lock) (copy : Replica) → IsValid copy.prefix.v
 locking_valid None copy valid = valid
 locking_valid (Some other) copy valid = tt
 
-up_valid : (st : State) → ((suite : ℕ) → IsValid (copy_of st.store suite).prefix.votes) → (asked : Request) → TellsValid (reply_up st asked)
+pub up_valid : (st : State) → ((suite : ℕ) → IsValid (copy_of st.store suite).prefix.votes) → (asked : Request) → TellsValid (reply_up st asked)
 up_valid st valid (request.Poll t suite mode) = locking_valid (in_the_way t suite mode st.locks) (copy_of st.store suite) (valid suite)
 up_valid st valid (request.Upgrade t suite) =
     elim (has_lock t suite st.locks) as (λ b. TellsValid (cond b (locking_reply (in_the_way t suite Exclusive st.locks) (copy_of st.store suite)) reply.Lost)) [

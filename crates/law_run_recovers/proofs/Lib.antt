@@ -48,4 +48,5 @@ pub mod Freed
 pub mod Leaves
 pub mod Tries
 pub mod Again
+pub mod InTime
 pub mod Promised

@@ -26,6 +26,7 @@
 mod promises;
 
 ghost use Rattle.law_run_recovers.specs.Laws.{EndsAreByVotes, EndsInTime, MetDemandsAreRows, DecidedWhereVotesAre, HomesGoRound, OneOfThemIsDecided, DecidedHadVotesUp};
+ghost use Rattle.law_run_recovers.specs.InTime.{RunsEndByTheBounds};
 ghost use Rattle.law_run_recovers.specs.Sweeping.{SweepsLeaveDoubts, SweepsKeepEffects, OnlyDoubtsAreLeft, NoLockIsLeft, AllIsStored, TakenAwayAreNeverDecided};
 ghost use Rattle.law_run_recovers.specs.Worked.{SomeRunsRecover};
 
@@ -42,6 +43,13 @@ pub fn ends_are_by_votes()
 /// nothing.
 pub fn ends_in_time()
     ensures { EndsInTime }
+{}
+
+/// A law: of every run that there can be, whatever its events: the votes that a job met which ended in it are valid, so each
+/// transaction ended within `k*(2n + 1) + 2n + 1` of its own steps, by the count that its outcome tells, and each sweep within
+/// `1 + 2m`. It does nothing.
+pub fn runs_end_by_the_bounds()
+    ensures { RunsEndByTheBounds }
 {}
 
 /// A law: a transaction that begins where no server that is up has a lock, that nobody hinders, and that is decided, had its
