@@ -27,7 +27,7 @@ use Rattle.txn_core.specs.declared.learned.Learned.{Learned}
 use Rattle.txn_core.specs.declared.learned.Learned.TheVariants.{Quorum, Content as Given}
 use Rattle.txn_core.specs.declared.pending_quorum.PendingQuorum.{PendingQuorum}
 use Rattle.txn_core.specs.declared.cache_after.Fetched.{Fetched}
-use Rattle.txn_core.specs.declared.response.Response.TheVariants.{Lacked}
+use Rattle.txn_core.specs.declared.response.Response.TheVariants.{Lacked, Replied}
 use Rattle.txn_core.specs.Agents.{left as begun}
 use Rattle.txn_core.specs.Doing.{Fixed, TransactionRun, Granted, Phase, Running, After, GoesOn, Ends}
 use Rattle.txn_core.specs.Suites.{ReadPoint, Suite, Suites, suite_of, with_suite}
@@ -42,6 +42,7 @@ use Rattle.txn_core.specs.code.NextPhases.{gather_again}
 use Rattle.txn_core.specs.code.Steps.{Becomes, taken}
 use Rattle.txn_core.specs.code.Unused.{HasUnused}
 use Rattle.txn_core.proofs.InPlace.{at_lost, at_asks, at_short, at_quorum, held_at, settled_at, sound_at, settles_there, settles_lost}
+use Rattle.txn_core.proofs.Replies.{server_of}
 use Rattle.txn_core.proofs.Reaching.{IsLate, gives_up, goes_gather, goes_unless, late, reached_asks, reached_at, reached_short}
 
 module _ (before mid : TransactionRun) (number server : ℕ) (said : Reply) where
@@ -288,6 +289,19 @@ module _ (txn_run : TransactionRun) (cache : Cache) (lack : Lack) (fixed : Fixed
   pub lack_of_none : (asked : Option (ℕ × Request)) → None ≡ option_map (λ (asked : ℕ × Request). asked.0) asked → GoesBy (taken fixed txn_run cache asked (Lacked lack)) On txn_run cache
   lack_of_none (Some asked) none = absurd (none-some asked.0 none)
   lack_of_none None none = (refl, (refl, refl))
+
+-- where nothing is asked, nothing comes of a reply
+pub nothing_asked : (resources : Resources) (txn_run : TransactionRun) (said : Reply) → HasUnused resources.cache.entries → IsReachedBy resources.fixed_parts txn_run resources.progress
+    → server_of (request_of (fixed_by resources) txn_run) ≡ None → IsStep resources (replied resources txn_run said) On txn_run resources
+nothing_asked resources txn_run said unused reached none = record {
+  steps = of (request_of (fixed_by resources) txn_run) none;
+  keeps = record { fixed_parts = refl; limits = refl; unused = unused };
+  reached = reached;
+}
+  where
+    of : (asked : Option (ℕ × Request)) → server_of asked ≡ None → GoesBy (taken (fixed_by resources) txn_run resources.cache.entries asked (Replied said)) On txn_run resources.cache.entries
+    of (Some asked) none = absurd (none-some asked.0 (sym none))
+    of None none = (refl, (refl, refl))
 
 -- ---- a content
 

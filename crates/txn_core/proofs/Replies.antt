@@ -1,6 +1,6 @@
 -- What comes of a reply, phase by phase.
 use Rattle.std.proofs.Common.{◌≡◌, ℕ, true, List, [], ◌∷◌, drop, Option, Some, None, refl, sym, ap, ◌∙◌, subst}
-use Rattle.std.specs.Prelude.{option_map}
+use Rattle.std.specs.Prelude.{option_map, slice_get}
 use Rattle.std.proofs.lemmas.Option.{same_Some}
 use Rattle.rep_core.specs.declared.request.Request.{Request}
 use Rattle.rep_core.specs.declared.request.Request.TheVariants as request
@@ -25,6 +25,19 @@ use Rattle.txn_core.proofs.Unused.{fits_shows_unused}
 
 abbrev pub server_of : Option (ℕ × Request) → Option ℕ
 server_of asked = option_map (λ (asked : ℕ × Request). asked.0) asked
+
+-- the server that is asked in a phase
+pub asked_at : (fixed : Fixed) (txn_run : TransactionRun) (phase : Phase) (found : Option ℕ) → txn_run.phase ≡ phase → found ≡ server_of (request_in fixed txn_run.task txn_run.suites phase) → server_of (request_of fixed txn_run) ≡ found
+asked_at fixed txn_run phase found is same = ap (λ phase. server_of (request_in fixed txn_run.task txn_run.suites phase)) is ∙ sym same
+
+-- the first of the servers that prepare, and of those that are told
+pub preparing_asks : (fixed : Fixed) (txn_run : TransactionRun) (servers : List ℕ) (outcome : Outcome) (server : ℕ) → txn_run.phase ≡ Preparing servers outcome → slice_get servers 0 ≡ Some server → server_of (request_of fixed txn_run) ≡ Some server
+preparing_asks fixed txn_run [] outcome server is first = cc
+preparing_asks fixed txn_run (now ∷ left) outcome server is first = asked_at fixed txn_run (Preparing (now ∷ left) outcome) (Some server) is (sym first)
+
+pub finishing_asks : (fixed : Fixed) (txn_run : TransactionRun) (servers : List ℕ) (verdict : Verdict) (ending : Ending) (server : ℕ) → txn_run.phase ≡ Finishing servers verdict ending → slice_get servers 0 ≡ Some server → server_of (request_of fixed txn_run) ≡ Some server
+finishing_asks fixed txn_run [] verdict ending server is first = cc
+finishing_asks fixed txn_run (now ∷ left) verdict ending server is first = asked_at fixed txn_run (Finishing (now ∷ left) verdict ending) (Some server) is (sym first)
 
 -- a suite that asks a server
 pub record Asks (task : Task) (suites : Suites) (number server : ℕ) : Type 0 where
@@ -91,6 +104,12 @@ module _ (fixed : Fixed) (txn_run : TransactionRun) (cache : Cache) (number serv
 
 -- ---- as the code goes about them
 
+-- the home decides
+pub replied_decided : (fixed : Fixed) (txn_run : TransactionRun) (cache : Cache) (said : Reply) (outcome : Outcome) → txn_run.phase ≡ Deciding outcome → taken fixed txn_run cache (request_of fixed txn_run) (Replied said) ≡ decided txn_run.task cache txn_run.suites said
+replied_decided fixed txn_run cache said outcome is =
+    ap (λ asked. taken fixed txn_run cache asked (Replied said)) (ap (request_in fixed txn_run.task txn_run.suites) is)
+    ∙ ap (λ phase. after_reply fixed txn_run.task cache txn_run.suites phase (home_of fixed.service txn_run.task.t) (request.Decide txn_run.task.t (decision_of txn_run.task outcome)) said) is
+
 module _ (fixed : Fixed) (txn_run : TransactionRun) (cache : Cache) (server : ℕ) (said : Reply) (asked : server_of (request_of fixed txn_run) ≡ Some server) where
   asked_in_phase : (phase : Phase) → txn_run.phase ≡ phase → server_of (request_in fixed txn_run.task txn_run.suites phase) ≡ Some server
   asked_in_phase phase is = ap (λ phase. server_of (request_in fixed txn_run.task txn_run.suites phase)) (sym is) ∙ asked
@@ -129,12 +148,6 @@ module _ (fixed : Fixed) (txn_run : TransactionRun) (cache : Cache) (server : �
   replied_given number is =
       ap (λ asked. taken fixed txn_run cache asked (Replied said)) (ap (request_in fixed txn_run.task txn_run.suites) is ∙ asks_content number (suite_of txn_run.suites number) (asked_in_phase (Fetching number) is))
       ∙ ap (λ phase. after_reply fixed txn_run.task cache txn_run.suites phase server (request.Fetch txn_run.task.t number) said) is
-
-  -- the home decides
-  pub replied_decided : (outcome : Outcome) → txn_run.phase ≡ Deciding outcome → taken fixed txn_run cache (request_of fixed txn_run) (Replied said) ≡ decided txn_run.task cache txn_run.suites said
-  replied_decided outcome is =
-      ap (λ asked. taken fixed txn_run cache asked (Replied said)) (ap (request_in fixed txn_run.task txn_run.suites) is)
-      ∙ ap (λ phase. after_reply fixed txn_run.task cache txn_run.suites phase (home_of fixed.service txn_run.task.t) (request.Decide txn_run.task.t (decision_of txn_run.task outcome)) said) is
 
   -- a reply to a Prepare, and to a Finish
   pub preparing_ok : (servers : List ℕ) (outcome : Outcome) (result : Option Ending) (after : TransactionRun) → txn_run.phase ≡ Preparing servers outcome

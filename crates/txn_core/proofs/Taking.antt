@@ -1,12 +1,11 @@
 -- An agent that takes a response, as its code goes about it.
 use Rattle.std.proofs.Common.{◌≡◌, ℕ, Option, Some, None, refl, sym, ap, ◌∙◌}
-use Rattle.std.specs.Prelude.{option_map}
 use Rattle.std.specs.Option.{option_or}
 use Rattle.rep_core.specs.declared.request.Request.{Request}
 use Rattle.weak_cache.specs.Entries.{Cache}
 use Rattle.txn_core.specs.declared.ending.Ending.{Ending}
 use Rattle.txn_core.specs.declared.response.Response.{Response}
-use Rattle.txn_core.specs.Agents.{Agent, Taken, left, end_of, take_in, take, next_in, next_of}
+use Rattle.txn_core.specs.Agents.{Agent, Taken, left, end_of, take_in, take, next_in}
 use Rattle.txn_core.specs.Doing.{Fixed, TransactionRun, SweepRun, Doing, Running, RunningSweep, After, GoesOn, Ends}
 use Rattle.txn_core.specs.code.SweepRunFields.{Comes}
 use Rattle.txn_core.specs.Standing.{Standing, left_by}
@@ -83,16 +82,6 @@ module _ (fixed : Fixed) (state : Agent) (response : Response) (ending : Option 
 pub over_none : (ending : Option Ending) → option_or ending None ≡ ending
 over_none (Some how) = refl
 over_none None = refl
-
--- an agent that asks nothing takes nothing
-pub takes_nothing : (fixed : Fixed) (state : Agent) (response : Response) → option_map (λ (asked : ℕ × Request). asked.0) (next_of fixed state) ≡ None → take fixed state response ≡ record { agent = state; ending = None }
-takes_nothing fixed state response none = of state.doing (next_of fixed state) none
-  where
-    of : (doing : Option Doing) (asked : Option (ℕ × Request)) → option_map (λ (asked : ℕ × Request). asked.0) asked ≡ None → take_in fixed state response doing asked ≡ record { agent = state; ending = None }
-    of None None none = refl
-    of (Some (Running running)) None none = refl
-    of (Some (RunningSweep sweep_run)) None none = refl
-    of doing (Some asked) none = cc
 
 -- what was taken, told of the agent after it
 pub tells_by : (now was : Standing) (response : Response) (ending : Option Ending) (cache : Cache) (doing : Option Doing) → was ≡ now → Took was.fixed was.state response ending cache doing

@@ -63,11 +63,11 @@ module _ (fixed : Fixed) (txn_run : TransactionRun) (server : ℕ) (said : Reply
       let same : request_of fixed txn_run ≡ fetched_for txn_run.task number (suite_of txn_run.suites number) = ap (request_in fixed txn_run.task txn_run.suites) is in
       ap (λ what. by_taking what (Replied said)) same ∙ fetched_wants number (suite_of txn_run.suites number) (ap server_of (sym same) ∙ asked) given
 
-  -- the home decides
-  pub deciding_wants : (outcome : Outcome) (result : Result Flow AllocError) → txn_run.phase ≡ Deciding outcome → IfErr result (λ _. is_answered (verdict_in said verdict.Aborted) ≡ true)
-      → IfErr result (λ _. by_taking (request_of fixed txn_run) (Replied said) ≡ true)
-  deciding_wants outcome (Ok ending) is answered = tt
-  deciding_wants outcome (Err why) is answered = ap (λ phase. by_taking (request_in fixed txn_run.task txn_run.suites phase) (Replied said)) is ∙ answered
+-- the home decides
+pub deciding_wants : (fixed : Fixed) (txn_run : TransactionRun) (said : Reply) (outcome : Outcome) (result : Result Flow AllocError) → txn_run.phase ≡ Deciding outcome → IfErr result (λ _. is_answered (verdict_in said verdict.Aborted) ≡ true)
+    → IfErr result (λ _. by_taking (request_of fixed txn_run) (Replied said) ≡ true)
+deciding_wants fixed txn_run said outcome (Ok ending) is answered = tt
+deciding_wants fixed txn_run said outcome (Err why) is answered = ap (λ phase. by_taking (request_in fixed txn_run.task txn_run.suites phase) (Replied said)) is ∙ answered
 
 -- ---- an agent
 

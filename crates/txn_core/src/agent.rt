@@ -8,8 +8,8 @@ ghost use Rattle.txn_core.specs.Agents as agents;
 ghost use Rattle.txn_core.specs.Standing.{FitsAsked, response_of};
 ghost use Rattle.txn_core.specs.Wanting as wanting;
 ghost use Rattle.txn_core.specs.code.Asking.{Asks, Wants, fixed_on};
-ghost use Rattle.txn_core.specs.code.Goings.{begun, ending_of};
-ghost use Rattle.txn_core.specs.code.Telling.{Tells};
+ghost use Rattle.txn_core.specs.code.Goings.{ending_of};
+ghost use Rattle.txn_core.specs.code.Telling.{Tells, carrying_out};
 ghost use Rattle.txn_core.specs.declared.job.Job.TheVariants.{Sweep};
 ghost use Rattle.txn_core.specs.declared.response.Response.TheVariants.{Replied, Lacked};
 
@@ -144,7 +144,7 @@ impl Agent {
     /// A transaction starts.
     fn carry_out(&mut self, task: Task) -> Result<(), AllocError>
         requires { agents.is_idle self.old.state.doing ≡ true }
-        ensures ok { OnOk result (self.new ≡ record self.old { state = (agents.with_step self.old.state (begun self.old.fixed task self.old.state.cache)).agent }) }
+        ensures ok { OnOk result (self.new ≡ carrying_out task self.old) }
         ensures err { OnErr result (self.new ≡ self.old) }
     {
         let txn_run = TransactionRun::begin(&mut self.resources, task)?;
@@ -202,11 +202,8 @@ impl Agent {
         ensures err { OnErr result ((self.new ≡ self.old) × (ended.new ≡ ended.old)) }
         ensures memory { IfErr result (λ _. IsTrue (wanting.by_taking (agents.next_of self.old.fixed self.old.state) (response_of came.entry))) }
     {
-        let Some(server) = self.asked() else {
-            return Ok(());
-        };
         match came {
-            Ok(said) => self.hear(server, said, ended),
+            Ok(said) => self.hear(said, ended),
             Err(lack) => {
                 self.lack(lack, ended);
                 Ok(())
@@ -217,20 +214,14 @@ impl Agent {
     /// The server that it asks next replied. The ending of its job, where that is at its end, is put into a
     /// place, which else keeps what it has.
     #[inline(always)]
-    fn hear(
-        &mut self,
-        server: u8,
-        said: &Reply,
-        ended: &mut Option<Ending>,
-    ) -> Result<(), AllocError>
-        requires asked { option_map (λ asked. asked.0) (agents.next_of self.old.fixed self.old.state) ≡ Some server }
+    fn hear(&mut self, said: &Reply, ended: &mut Option<Ending>) -> Result<(), AllocError>
         requires fits { FitsAsked (agents.next_of self.old.fixed self.old.state) (Replied said.now) }
         ensures ok { OnOk result (ended.new ≡ option_or (agents.take self.old.fixed self.old.state (Replied said.now)).ending ended.old) }
         ensures new { OnOk result (self.new ≡ record self.old { state = (agents.take self.old.fixed self.old.state (Replied said.now)).agent }) }
         ensures err { OnErr result ((self.new ≡ self.old) × (ended.new ≡ ended.old)) }
         ensures memory { IfErr result (λ _. IsTrue (wanting.by_taking (agents.next_of self.old.fixed self.old.state) (Replied said.now))) }
     {
-        if let Flow::Ended(ending) = self.on_reply(server, said)? {
+        if let Flow::Ended(ending) = self.on_reply(said)? {
             self.doing = None;
             *ended = Some(ending);
         }
@@ -238,15 +229,14 @@ impl Agent {
     }
 
     /// The server that it asks next replied.
-    fn on_reply(&mut self, server: u8, said: &Reply) -> Result<Flow, AllocError>
-        requires asked { option_map (λ asked. asked.0) (agents.next_of self.old.fixed self.old.state) ≡ Some server }
+    fn on_reply(&mut self, said: &Reply) -> Result<Flow, AllocError>
         requires fits { FitsAsked (agents.next_of self.old.fixed self.old.state) (Replied said.now) }
         ensures ok { IfOk result (λ flow. Tells self.old (Replied said.now) (ending_of flow) self.new) }
         ensures err { OnErr result (self.new ≡ self.old) }
         ensures memory { IfErr result (λ _. IsTrue (wanting.by_taking (agents.next_of self.old.fixed self.old.state) (Replied said.now))) }
     {
         match &mut self.doing {
-            Some(Doing::Running(txn_run)) => txn_run.on_reply(&mut self.resources, server, said),
+            Some(Doing::Running(txn_run)) => txn_run.on_reply(&mut self.resources, said),
             Some(Doing::RunningSweep(sweep_run)) => {
                 sweep_run.on_reply(self.resources.alloc, &self.resources.fixed_parts, said)
             }

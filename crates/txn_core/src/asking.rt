@@ -64,7 +64,7 @@ impl TransactionRun {
     }
 
     /// The server that a suite asks.
-    fn asked_for(&self, number: u64) -> Option<u8>
+    pub(crate) fn asked_for(&self, number: u64) -> Option<u8>
         ensures { result ≡ option_map (λ asked. asked.0) (txn_run.asked_for self.now.task number (suite_of self.now.suites number)) }
     {
         match self.suites.get(&number)?.next() {
@@ -74,7 +74,7 @@ impl TransactionRun {
     }
 
     /// The server at which the first quorum of a suite found its content.
-    fn fetched_from(&self, number: u64) -> Option<u8>
+    pub(crate) fn fetched_from(&self, number: u64) -> Option<u8>
         ensures { result ≡ option_map (λ asked. asked.0) (txn_run.fetched_for self.now.task number (suite_of self.now.suites number)) }
     {
         let first = self.suites.get(&number)?.first()?;

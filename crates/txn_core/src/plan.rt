@@ -4,7 +4,7 @@ ghost use Rattle.std.specs.Prelude.{◌≡◌, IfOk, OnOk, option_map};
 ghost use Rattle.std.specs.Option.{option_copied};
 ghost use Rattle.std.specs.Ordering.{nat_cmp};
 ghost use Rattle.sorted_map.specs.SortedMap.{IsOrdered};
-ghost use Rattle.txn_core.specs.code.Planning.{IsPlanFor, IsPlayedFor, IsReachedWith, all_seen, fixed_at};
+ghost use Rattle.txn_core.specs.code.Planning.{IsPlanFor, IsPlayedFor, IsReachedWith, all_seen, fixed_at, new_at};
 ghost use Rattle.txn_core.specs.code.Plans as spec;
 ghost use Rattle.txn_core.specs.Suites.{suite_of};
 ghost use Rattle.txn_core.specs.Transactions.{free_content, start_from};
@@ -147,7 +147,7 @@ impl<'a> Execution<'a> {
         outcome: &Outcome,
     ) -> Result<Option<Suite>, AllocError>
         requires { HasUnused (spec.entries_on cache_after) }
-        ensures { IfOk result (λ it. it ≡ spec.new_for (fixed_at self.entry cache_after.entry) self.entry.task.now (all_seen cache_after.entry after.entry) outcome.now) }
+        ensures { IfOk result (λ new. new ≡ new_at self.entry cache_after.entry after.entry outcome.now) }
     {
         let Outcome::Need(Need::Hold(number, mode)) = outcome else {
             return Ok(None);

@@ -87,11 +87,9 @@ impl TransactionRun {
     pub(crate) fn on_reply(
         &mut self,
         resources: &mut Resources,
-        server: u8,
         said: &Reply,
     ) -> Result<Flow, AllocError>
         requires ready { IsReady resources.old self.old }
-        requires asked { option_map (λ asked. asked.0) (txn_run.request_of (fixed_by resources.old) self.old) ≡ Some server }
         requires fits { FitsAsked (txn_run.request_of (fixed_by resources.old) self.old) (Replied said.now) }
         ensures ok { IfOk result (λ flow. GoesBy (replied resources.old self.old said.now) flow self.new resources.new.cache.entries) }
         ensures err { OnErr result (IsUntouched resources.old self.old self.new resources.new) }
@@ -99,7 +97,7 @@ impl TransactionRun {
         ensures reached { IsReachedBy resources.new.fixed_parts self.new resources.new.progress }
         ensures memory { IfErr result (λ _. IsTrue (wanting.by_taking (txn_run.request_of (fixed_by resources.old) self.old) (Replied said.now))) }
     {
-        let flow = self.on_reply_by_phase(resources, server, said)?;
+        let flow = self.on_reply_by_phase(resources, said)?;
         resources.let_go_after(&flow);
         Ok(flow)
     }
@@ -108,11 +106,9 @@ impl TransactionRun {
     fn on_reply_by_phase(
         &mut self,
         resources: &mut Resources,
-        server: u8,
         said: &Reply,
     ) -> Result<Flow, AllocError>
         requires ready { IsReady resources.old self.old }
-        requires asked { option_map (λ asked. asked.0) (txn_run.request_of (fixed_by resources.old) self.old) ≡ Some server }
         requires fits { FitsAsked (txn_run.request_of (fixed_by resources.old) self.old) (Replied said.now) }
         ensures ok { IfOk result (λ flow. IsStep resources.old (replied resources.old self.old said.now) flow self.new resources.new) }
         ensures err { OnErr result (IsUntouched resources.old self.old self.new resources.new) }
@@ -121,19 +117,34 @@ impl TransactionRun {
         match &self.phase {
             Phase::Gathering(number) => {
                 let number = *number;
-                self.on_held(resources, number, server, said)
+                match self.asked_for(number) {
+                    Some(server) => self.on_held(resources, number, server, said),
+                    None => Ok(Flow::On),
+                }
             }
             Phase::Fetching(number) => {
                 let number = *number;
-                self.on_given(resources, number, server, said)
+                match self.fetched_from(number) {
+                    Some(server) => self.on_given(resources, number, server, said),
+                    None => Ok(Flow::On),
+                }
             }
             Phase::Widening { number, .. } => {
                 let number = *number;
-                self.on_widened(number, server, said)
+                match self.asked_for(number) {
+                    Some(server) => self.on_widened(number, server, said),
+                    None => Ok(Flow::On),
+                }
             }
-            Phase::Preparing(..) => Ok(self.on_prepared(server, said)),
+            Phase::Preparing(servers, _) => match servers.first() {
+                Some(server) => Ok(self.on_prepared(server, said)),
+                None => Ok(Flow::On),
+            },
             Phase::Deciding(_) => self.on_verdict(said),
-            Phase::Finishing(..) => Ok(self.on_told()),
+            Phase::Finishing(servers, ..) => match servers.first() {
+                Some(_) => Ok(self.on_told()),
+                None => Ok(Flow::On),
+            },
         }
     }
 

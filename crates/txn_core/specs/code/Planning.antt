@@ -1,5 +1,5 @@
 -- What an execution plans on: the suites as they are seen, and the cache as it will be.
-use Rattle.std.specs.Prelude.{ℕ, List}
+use Rattle.std.specs.Prelude.{ℕ, List, Option}
 use Rattle.suite_content.specs.declared.content.Content.{Content}
 use Rattle.file_exec.specs.Reaching.{Reached}
 use Rattle.file_exec.specs.declared.executor.Outcome.{Outcome as Executed}
@@ -11,10 +11,10 @@ use Rattle.txn_core.specs.declared.suites_after.SuitesAfter.{SuitesAfter}
 use Rattle.txn_core.specs.declared.next_phase.NextPhase.{NextPhase}
 use Rattle.txn_core.specs.declared.cache_after.CacheAfter.{CacheAfter}
 use Rattle.txn_core.specs.Doing.{Fixed}
-use Rattle.txn_core.specs.Suites.{Suites}
+use Rattle.txn_core.specs.Suites.{Suite, Suites}
 use Rattle.txn_core.specs.Transactions.{Gathered, Step, execute}
 use Rattle.txn_core.specs.code.Learning.{learned}
-use Rattle.txn_core.specs.code.Plans.{IsPlanOf, IsPlayed, fixed_in, opened_all, seen_on}
+use Rattle.txn_core.specs.code.Plans.{IsPlanOf, IsPlayed, fixed_in, new_for, opened_all, seen_on}
 use Rattle.txn_core.specs.code.Reaching.{IsReachedIn}
 use Rattle.txn_core.specs.code.Seeing.{seen_in}
 use Rattle.txn_core.specs.code.NextPhases.{follow}
@@ -30,6 +30,10 @@ IsPlanFor execution cache_after after plan = IsPlanOf (fixed_at execution cache_
 
 abbrev pub IsPlayedFor : Execution → CacheAfter → SuitesAfter → List (ℕ × Content) → Executed → Type 0
 IsPlayedFor execution cache_after after list outcome = IsPlayed (fixed_at execution cache_after) execution.task.now (all_seen cache_after after) list outcome
+
+-- the suite that an outcome needs, where it was not asked for yet
+abbrev pub new_at : Execution → CacheAfter → SuitesAfter → Executed → Option Suite
+new_at execution cache_after after outcome = new_for (fixed_at execution cache_after) execution.task.now (all_seen cache_after after) outcome
 
 -- it came so far on them, with the contents that were to be had without asking
 abbrev pub IsReachedWith : Execution → CacheAfter → SuitesAfter → List (ℕ × Content) → Reached → Type 0

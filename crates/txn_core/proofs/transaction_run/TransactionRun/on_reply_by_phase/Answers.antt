@@ -1,4 +1,4 @@
-use Rattle.std.proofs.Common.{◌≡◌, ◌∷◌, ap, sym, subst, ◌∙◌, drop}
+use Rattle.std.proofs.Common.{◌≡◌, ◌∷◌, Some, ap, sym, subst, ◌∙◌, drop}
 use Rattle.std.specs.Prelude.{IfOk}
 use Rattle.std.proofs.lemmas.Result.{IfOk-weaker}
 use Rattle.txn_core.specs.code.TransactionRunFields.{phase_of}
@@ -7,8 +7,8 @@ use Rattle.txn_core.specs.Doing.{Phase, Gathering, Fetching, Widening, Preparing
 use Rattle.txn_core.specs.Transactions.{Step, to_widen}
 use Rattle.txn_core.specs.code.Reaching.{IsReachedIn, IsReachedAt}
 use Rattle.txn_core.proofs.Handling.{late_step, untouched_on}
-use Rattle.txn_core.proofs.Replies.{replied_held, replied_given, replied_widened, replied_decided, preparing_ok, finishing_ok, gathering_shown, widening_shown}
-use Rattle.txn_core.proofs.Wanting.{gathering_wants, fetching_wants, widening_wants, deciding_wants}
+use Rattle.txn_core.proofs.Replies.{asked_at, finishing_asks, preparing_asks, replied_held, replied_widened, replied_decided, preparing_ok, finishing_ok, gathering_shown, widening_shown}
+use Rattle.txn_core.proofs.Wanting.{deciding_wants}
 use Rattle.txn_core.proofs.transaction_run.TransactionRun.on_reply_by_phase.Goals as goal
 
 pub on_held-requires-clause-reached : goal.on_held-requires-clause-reached
@@ -23,21 +23,17 @@ on_held-requires-clause-shown c =
     let now = c.args.self.now in
     let resources = c.args.resources.now in
     let is : now.phase ≡ Gathering c.in-Gathering.number = ap (λ (txn_run : TransactionRun). txn_run.phase) (sym c.self.view_is) ∙ ap phase_of c.in-Gathering.is in
-    gathering_shown (fixed_by resources) now resources.cache.entries c.args.server c.args.said.now c.requires.asked c.in-Gathering.number is c.requires.fits
+    let asked = asked_at (fixed_by resources) now (Gathering c.in-Gathering.number) (Some c.in-Some.server) is (sym c.in-Some.is ∙ c.asked_for.ensures) in
+    gathering_shown (fixed_by resources) now resources.cache.entries c.in-Some.server c.args.said.now asked c.in-Gathering.number is c.requires.fits
 
-pub returns-in-Gathering-clause-ok : goal.returns-in-Gathering-clause-ok
-returns-in-Gathering-clause-ok c =
+pub returns-in-Some-clause-ok : goal.returns-in-Some-clause-ok
+returns-in-Some-clause-ok c =
     let now = c.args.self.now in
     let resources = c.args.resources.now in
     let is : now.phase ≡ Gathering c.in-Gathering.number = ap (λ (txn_run : TransactionRun). txn_run.phase) (sym c.self.view_is) ∙ ap phase_of c.in-Gathering.is in
+    let asked = asked_at (fixed_by resources) now (Gathering c.in-Gathering.number) (Some c.in-Some.server) is (sym c.in-Some.is ∙ c.asked_for.ensures) in
     let Goes : Step → Type 0 = λ step. IfOk c.on_held.result (λ flow. IsStep resources step flow c.on_held.new.self c.on_held.new.resources) in
-    subst Goes (sym (replied_held (fixed_by resources) now resources.cache.entries c.args.server c.args.said.now c.requires.asked c.in-Gathering.number is)) c.on_held.ensures.ok
-
-pub returns-in-Gathering-clause-memory : goal.returns-in-Gathering-clause-memory
-returns-in-Gathering-clause-memory c =
-    let now = c.args.self.now in
-    let is : now.phase ≡ Gathering c.in-Gathering.number = ap (λ (txn_run : TransactionRun). txn_run.phase) (sym c.self.view_is) ∙ ap phase_of c.in-Gathering.is in
-    gathering_wants (fixed_by c.args.resources.now) now c.args.server c.args.said.now c.in-Gathering.number c.on_held.result is c.requires.asked c.on_held.ensures.memory
+    subst Goes (sym (replied_held (fixed_by resources) now resources.cache.entries c.in-Some.server c.args.said.now asked c.in-Gathering.number is)) c.on_held.ensures.ok
 
 pub on_given-requires-clause-reached : goal.on_given-requires-clause-reached
 on_given-requires-clause-reached c =
@@ -46,60 +42,44 @@ on_given-requires-clause-reached c =
     let is : now.phase ≡ Fetching c.in-Fetching.number = ap (λ (txn_run : TransactionRun). txn_run.phase) (sym c.self.view_is) ∙ ap phase_of c.in-Fetching.is in
     subst (λ (phase : Phase). IsReachedAt phase (IsReachedIn resources.fixed_parts now.task now.suites resources.progress)) is c.requires.ready.reached
 
-pub returns-in-Fetching-clause-ok : goal.returns-in-Fetching-clause-ok
-returns-in-Fetching-clause-ok c =
-    let now = c.args.self.now in
-    let resources = c.args.resources.now in
-    let is : now.phase ≡ Fetching c.in-Fetching.number = ap (λ (txn_run : TransactionRun). txn_run.phase) (sym c.self.view_is) ∙ ap phase_of c.in-Fetching.is in
-    let Goes : Step → Type 0 = λ step. IfOk c.on_given.result (λ flow. IsStep resources step flow c.on_given.new.self c.on_given.new.resources) in
-    subst Goes (sym (replied_given (fixed_by resources) now resources.cache.entries c.args.server c.args.said.now c.requires.asked c.in-Fetching.number is)) c.on_given.ensures.ok
-
-pub returns-in-Fetching-clause-memory : goal.returns-in-Fetching-clause-memory
-returns-in-Fetching-clause-memory c =
-    let now = c.args.self.now in
-    let is : now.phase ≡ Fetching c.in-Fetching.number = ap (λ (txn_run : TransactionRun). txn_run.phase) (sym c.self.view_is) ∙ ap phase_of c.in-Fetching.is in
-    fetching_wants (fixed_by c.args.resources.now) now c.args.server c.args.said.now c.in-Fetching.number c.on_given.result is c.requires.asked c.on_given.ensures.memory
-
 pub on_widened-requires : goal.on_widened-requires
 on_widened-requires c =
     let now = c.args.self.now in
     let resources = c.args.resources.now in
     let at = c.in-Widening in
     let left = to_widen (drop at.after at.granted.changes) in
+    let server = c.in-Some-asked_for.server in
     let is : now.phase ≡ Widening (at.number ∷ left) at.granted = ap (λ (txn_run : TransactionRun). txn_run.phase) (sym c.self.view_is) ∙ ap phase_of at.is in
-    record { shown = widening_shown (fixed_by resources) now resources.cache.entries c.args.server c.args.said.now c.requires.asked at.number left at.granted is c.requires.fits }
+    let asked = asked_at (fixed_by resources) now (Widening (at.number ∷ left) at.granted) (Some server) is (sym c.in-Some-asked_for.is ∙ c.asked_for-in-Widening.ensures) in
+    record { shown = widening_shown (fixed_by resources) now resources.cache.entries server c.args.said.now asked at.number left at.granted is c.requires.fits }
 
-pub returns-in-Widening-clause-ok : goal.returns-in-Widening-clause-ok
-returns-in-Widening-clause-ok c =
+pub returns-in-Some-asked_for-clause-ok : goal.returns-in-Some-asked_for-clause-ok
+returns-in-Some-asked_for-clause-ok c =
     let now = c.args.self.now in
     let resources = c.args.resources.now in
     let entries = resources.cache.entries in
     let at = c.in-Widening in
     let left = to_widen (drop at.after at.granted.changes) in
+    let server = c.in-Some-asked_for.server in
     let is : now.phase ≡ Widening (at.number ∷ left) at.granted = ap (λ (txn_run : TransactionRun). txn_run.phase) (sym c.self.view_is) ∙ ap phase_of at.is in
-    let same = replied_widened (fixed_by resources) now entries c.args.server c.args.said.now c.requires.asked at.number left at.granted is in
+    let asked = asked_at (fixed_by resources) now (Widening (at.number ∷ left) at.granted) (Some server) is (sym c.in-Some-asked_for.is ∙ c.asked_for-in-Widening.ensures) in
+    let same = replied_widened (fixed_by resources) now entries server c.args.said.now asked at.number left at.granted is in
     IfOk-weaker c.on_widened.result _ _
     (λ flow steps.
     let Goes : Step → Type 0 = λ step. GoesBy step flow c.on_widened.new.self entries in
     late_step resources c.requires.ready.unused now c.args.said.now (Widening (at.number ∷ left) at.granted) flow c.on_widened.new.self is tt (subst Goes (sym same) (steps left at.granted entries is)))
     c.on_widened.ensures.ok
 
-pub returns-in-Widening-clause-memory : goal.returns-in-Widening-clause-memory
-returns-in-Widening-clause-memory c =
-    let now = c.args.self.now in
-    let at = c.in-Widening in
-    let left = to_widen (drop at.after at.granted.changes) in
-    let is : now.phase ≡ Widening (at.number ∷ left) at.granted = ap (λ (txn_run : TransactionRun). txn_run.phase) (sym c.self.view_is) ∙ ap phase_of at.is in
-    widening_wants (fixed_by c.args.resources.now) now c.args.server c.args.said.now at.number left at.granted c.on_widened.result is c.requires.asked c.on_widened.ensures.memory
-
-pub returns-in-Preparing-clause-ok : goal.returns-in-Preparing-clause-ok
-returns-in-Preparing-clause-ok c =
+pub returns-in-Some-first-clause-ok : goal.returns-in-Some-first-clause-ok
+returns-in-Some-first-clause-ok c =
     let now = c.args.self.now in
     let resources = c.args.resources.now in
     let at = c.in-Preparing in
-    let is : now.phase ≡ Preparing at.field-0 at.field-1 = ap (λ (txn_run : TransactionRun). txn_run.phase) (sym c.self.view_is) ∙ ap phase_of at.is in
-    late_step resources c.requires.ready.unused now c.args.said.now (Preparing at.field-0 at.field-1) c.on_prepared.result c.on_prepared.new.self is tt
-    (preparing_ok (fixed_by resources) now resources.cache.entries c.args.server c.args.said.now c.requires.asked at.field-0 at.field-1 (ending_of c.on_prepared.result) c.on_prepared.new.self is c.on_prepared.ensures)
+    let server = c.in-Some-first.server in
+    let is : now.phase ≡ Preparing at.servers at.field-1 = ap (λ (txn_run : TransactionRun). txn_run.phase) (sym c.self.view_is) ∙ ap phase_of at.is in
+    let asked = preparing_asks (fixed_by resources) now at.servers at.field-1 server is (sym c.first.ensures ∙ c.in-Some-first.is) in
+    late_step resources c.requires.ready.unused now c.args.said.now (Preparing at.servers at.field-1) c.on_prepared.result c.on_prepared.new.self is tt
+    (preparing_ok (fixed_by resources) now resources.cache.entries server c.args.said.now asked at.servers at.field-1 (ending_of c.on_prepared.result) c.on_prepared.new.self is c.on_prepared.ensures)
 
 pub returns-in-Deciding-clause-ok : goal.returns-in-Deciding-clause-ok
 returns-in-Deciding-clause-ok c =
@@ -108,7 +88,7 @@ returns-in-Deciding-clause-ok c =
     let entries = resources.cache.entries in
     let outcome = c.in-Deciding.field-0 in
     let is : now.phase ≡ Deciding outcome = ap (λ (txn_run : TransactionRun). txn_run.phase) (sym c.self.view_is) ∙ ap phase_of c.in-Deciding.is in
-    let same = replied_decided (fixed_by resources) now entries c.args.server c.args.said.now c.requires.asked outcome is in
+    let same = replied_decided (fixed_by resources) now entries c.args.said.now outcome is in
     IfOk-weaker c.on_verdict.result _ _
     (λ flow steps.
     let Goes : Step → Type 0 = λ step. GoesBy step flow c.on_verdict.new.self entries in
@@ -119,19 +99,18 @@ pub returns-in-Deciding-clause-memory : goal.returns-in-Deciding-clause-memory
 returns-in-Deciding-clause-memory c =
     let now = c.args.self.now in
     let is : now.phase ≡ Deciding c.in-Deciding.field-0 = ap (λ (txn_run : TransactionRun). txn_run.phase) (sym c.self.view_is) ∙ ap phase_of c.in-Deciding.is in
-    deciding_wants (fixed_by c.args.resources.now) now c.args.server c.args.said.now c.in-Deciding.field-0 c.on_verdict.result is c.on_verdict.ensures.memory
-
-pub returns-in-Finishing-clause-ok : goal.returns-in-Finishing-clause-ok
-returns-in-Finishing-clause-ok c =
-    let now = c.args.self.now in
-    let resources = c.args.resources.now in
-    let at = c.in-Finishing in
-    let is : now.phase ≡ Finishing at.field-0 at.field-1 at.field-2 = ap (λ (txn_run : TransactionRun). txn_run.phase) (sym c.self.view_is) ∙ ap phase_of at.is in
-    late_step resources c.requires.ready.unused now c.args.said.now (Finishing at.field-0 at.field-1 at.field-2) c.on_told.result c.on_told.new.self is tt
-    (finishing_ok (fixed_by resources) now resources.cache.entries c.args.server c.args.said.now c.requires.asked at.field-0 at.field-1 at.field-2 (ending_of c.on_told.result) c.on_told.new.self is c.on_told.ensures)
-
-pub returns-in-Widening-clause-err : goal.returns-in-Widening-clause-err
-returns-in-Widening-clause-err c = untouched_on c.args.resources.now c.args.self.now c.on_widened.new.self c.on_widened.result c.on_widened.ensures.err c.requires.ready.reached
+    deciding_wants (fixed_by c.args.resources.now) now c.args.said.now c.in-Deciding.field-0 c.on_verdict.result is c.on_verdict.ensures.memory
 
 pub returns-in-Deciding-clause-err : goal.returns-in-Deciding-clause-err
 returns-in-Deciding-clause-err c = untouched_on c.args.resources.now c.args.self.now c.on_verdict.new.self c.on_verdict.result c.on_verdict.ensures.err c.requires.ready.reached
+
+pub returns-in-Some-first-2-clause-ok : goal.returns-in-Some-first-2-clause-ok
+returns-in-Some-first-2-clause-ok c =
+    let now = c.args.self.now in
+    let resources = c.args.resources.now in
+    let at = c.in-Finishing in
+    let server = c.in-Some-first-2.field-0 in
+    let is : now.phase ≡ Finishing at.servers at.field-1 at.field-2 = ap (λ (txn_run : TransactionRun). txn_run.phase) (sym c.self.view_is) ∙ ap phase_of at.is in
+    let asked = finishing_asks (fixed_by resources) now at.servers at.field-1 at.field-2 server is (sym c.first-in-Finishing.ensures ∙ c.in-Some-first-2.is) in
+    late_step resources c.requires.ready.unused now c.args.said.now (Finishing at.servers at.field-1 at.field-2) c.on_told.result c.on_told.new.self is tt
+    (finishing_ok (fixed_by resources) now resources.cache.entries server c.args.said.now asked at.servers at.field-1 at.field-2 (ending_of c.on_told.result) c.on_told.new.self is c.on_told.ensures)
