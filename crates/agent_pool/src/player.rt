@@ -38,11 +38,13 @@ impl Model for Player {
 
 impl Player {
     /// An agent of this number that began no job yet, in a service that opens with these settings.
-    pub fn new(alloc: Global, number: u8, settings: &Settings) -> Result<Player, AllocError>
-        requires { number < 64 }
+    fn new(alloc: Global, number: u8, settings: &Settings) -> Result<Player, AllocError>
+        requires { number < settings.now.agents }
         ensures { IfOk result (λ player. player ≡ first_player settings.now number) }
     {
-        let agent = Agent::new(alloc, number, settings)?;
+        let Some(agent) = Agent::new(alloc, number, settings)? else {
+            unreachable!();
+        };
         Ok(Player {
             number,
             agent,

@@ -35,10 +35,12 @@ impl Model for Seat {
 impl Seat {
     /// An agent of this number, as a service opens.
     pub(crate) fn new(alloc: Global, index: u8, settings: &Settings) -> Result<Seat, AllocError>
-        requires { index < 64 }
+        requires { index < settings.now.agents }
         ensures { IfOk result (λ seat. seat ≡ seats.opening settings.now index) }
     {
-        let agent = Agent::new(alloc, index, settings)?;
+        let Some(agent) = Agent::new(alloc, index, settings)? else {
+            unreachable!();
+        };
         Ok(Seat {
             agent,
             stamp: 0,

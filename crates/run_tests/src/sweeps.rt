@@ -107,7 +107,8 @@ static TALK: &str = "
 fn sweeping(rt: &(impl Abort + AllocGlobal)) -> Agent {
     let one = votes(rt, 3, &[(0, 1)], 1, 1);
     let settings = settings_of(rt, one, 2, (0, 0), ServerSet::empty());
-    let mut agent = had(rt, Agent::new(rt.alloc(), 0, &settings));
+    let made = had(rt, Agent::new(rt.alloc(), 0, &settings));
+    let mut agent = made.expect(rt, "agent 0");
     had(rt, agent.begin(&Job::Sweep { server: 1 }));
     agent
 }

@@ -1,6 +1,6 @@
 //! An agent.
 
-ghost use Rattle.std.specs.Prelude.{◌≡◌, ◌<◌, ◌≤◌, IfOk, IfErr, IfNone, OnOk, OnErr, IsTrue, Some, option_map, true};
+ghost use Rattle.std.specs.Prelude.{◌≡◌, ◌<◌, ◌≤◌, IfOk, IfErr, IfNone, IfSome, OnOk, OnErr, IsTrue, Some, is_some, nat_lt, option_map, true};
 ghost use Rattle.std.specs.Option.{option_or};
 ghost use Rattle.weak_cache.specs.Cache.{Limits};
 ghost use Rattle.txn_core.specs.code.AgentFields.{doing_of};
@@ -64,11 +64,15 @@ impl Model for Agent {
 }
 
 impl Agent {
-    /// An agent that began no job yet, in a service that opens with these settings.
-    pub fn new(alloc: Global, index: u8, settings: &Settings) -> Result<Agent, AllocError>
-        requires { index < 64 }
-        ensures { IfOk result (λ agent. agent ≡ record { fixed = agents.fixed_of settings.now; state = agents.opening index }) }
+    /// The agent of this index in a service that opens with these settings, which began no job yet; none, where
+    /// the settings have no such agent.
+    pub fn new(alloc: Global, index: u8, settings: &Settings) -> Result<Option<Agent>, AllocError>
+        ensures there { IfOk result (λ made. is_some made ≡ nat_lt index settings.now.agents) }
+        ensures agent { IfOk result (λ made. IfSome made (λ agent. agent ≡ record { fixed = agents.fixed_of settings.now; state = agents.opening index })) }
     {
+        if usize::from(index) >= settings.agents() {
+            return Ok(None);
+        }
         let service = Service {
             servers: settings.servers(),
             c0: *settings.c0(),
@@ -76,7 +80,7 @@ impl Agent {
         let fixed_parts = FixedParts::new(alloc, service)?;
         let cache = WeakCache::new(alloc, settings.budget(), settings.quota(), settings.slots())?;
         let progress = Progress::new(alloc);
-        Ok(Agent {
+        Ok(Some(Agent {
             index,
             count: 0,
             resources: Resources {
@@ -86,7 +90,7 @@ impl Agent {
                 progress,
             },
             doing: None,
-        })
+        }))
     }
 
     /// Begins a job. Where it does a job already, where the job has no sense (there is no such site, or no
