@@ -20,6 +20,7 @@ use Rattle.law_run_recovers.proofs.Ends.{ends_are_by_votes}
 use Rattle.law_run_recovers.proofs.Free.{no_lock_is_left}
 use Rattle.law_run_recovers.proofs.HadVotes.{decided_had_votes_up}
 use Rattle.law_run_recovers.proofs.Homes.{homes_go_round}
+use Rattle.law_run_recovers.proofs.InTime.{runs_end_by_the_bounds}
 use Rattle.law_run_recovers.proofs.Rounds.{only_doubts_are_left}
 use Rattle.law_run_recovers.proofs.Rows.{met_demands_are_rows}
 use Rattle.law_run_recovers.proofs.Stored.{all_is_stored}
@@ -48,6 +49,7 @@ available sites given events can = record {
   same = endings_are_one;
   caches = undisturbed_endings_are_one;
   jobs = jobs_end;
+  bounds = runs_end_by_the_bounds given events can;
   sites = sites;
 }
 

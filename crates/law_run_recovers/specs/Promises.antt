@@ -10,6 +10,7 @@ use Rattle.law_run_alone.specs.Alone.{one_at_a_time}
 use Rattle.law_run_alone.specs.Endings.{EndAsTheTable, EndingsAreOne, UndisturbedEndingsAreOne}
 use Rattle.law_run_alone.specs.Undisturbed.{NothingIsInTheWayAt, UndisturbedAreDecidedAt}
 use Rattle.law_run_recovers.specs.Laws.{EndsAreByVotesAt, EndsInTimeAt, MetDemandsAreRowsAt, DecidedWhereVotesAreAt, HomesGoRoundOf, OneOfThemIsDecidedAt, DecidedHadVotesUpAt}
+use Rattle.law_run_recovers.specs.InTime.{RunsEndByTheBoundsAt}
 use Rattle.law_run_recovers.specs.Sweeping.{SweepsLeaveDoubtsAt, SweepsKeepEffectsAt, OnlyDoubtsAreLeftAt, NoLockIsLeftAt, AllIsStoredAt, TakenAwayAreNeverDecidedAt}
 
 -- after these events of a run
@@ -54,6 +55,8 @@ pub record IsAvailable (given : Opening) (events : List Event) : Type 0 where
   pub caches : UndisturbedEndingsAreOne
   -- an agent that has a job asks, and its job is at an end within a bound on its own steps
   pub jobs : JobsEnd
+  -- and each that ended in these events kept to these bounds, by the count that it told
+  pub bounds : RunsEndByTheBoundsAt given events
   -- nothing is kept for sites that are not there, and events without sense change nothing
   pub sites : RunsKeepToSites
 
