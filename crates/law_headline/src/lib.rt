@@ -5,8 +5,9 @@
 //! all votes of a program are by their type.
 //!
 //! **Promises.** `answers_are_the_tables`, `audit_is_the_denials`, `answered_before_decided_before`,
-//! `revocations_are_met`, `locks_stand`, `rows_have_versions`, `rows_are_the_registers`, `knowledge_was`. Together
-//! they are one record, `IsPromised`. `promise` promises it of a world: of each list of events that made it, at
+//! `revocations_are_met`, `locks_stand`, `rows_have_versions`, `rows_are_the_registers`, `knowledge_was`; and what is
+//! not decided changed nothing (`not_decided_change_nothing`, `undecided_change_nothing`). Together they are one
+//! record, `IsPromised`. `promise` promises it of a world: of each list of events that made it, at
 //! each moment. What is decided was begun (`decided_as_begun`). The premises of the crates below are laws here:
 //! `agents_keep_sides`, `firsts_are_given`. Runs in which all this says something: `src/witnesses.rt`.
 //!
@@ -14,7 +15,8 @@
 //! plays and counts its events has that: `opens_a_run`, `plays_on`, and valid votes by `all_votes_are_valid`.
 //! `crates/run_tests/src/promises.rt` does it.
 //!
-//! **Files**: `lib`, `promises`, `witnesses`. **Definitions** (`specs/`): `Premises`, `Laws`, `Promises`, `Worked`.
+//! **Files**: `lib`, `promises`, `witnesses`. **Definitions** (`specs/`): `Premises`, `Nothing`, `Promises`, `Laws`,
+//! `Worked`.
 //! What goes from event to event: `proofs/Together.antt`, `Keeping.antt`; what is owed at a decision: `Owing.antt`;
 //! that operations leave what they do not set: `Fair.antt`.
 #![tactic(auto)]

@@ -13,14 +13,15 @@
 //!   (`homes_go_round`, `one_of_them_is_decided`).
 //! - Sweeps leave only locks in doubt, change no copy in effect, and with all servers up leave none
 //!   (`sweeps_leave_doubts`, `sweeps_keep_effects`, `only_doubts_are_left`, `no_lock_is_left`, `all_is_stored`).
+//! - Each job that ended in a run took steps within its bound, with no premise (`runs_end_by_the_bounds`).
 //! - A transaction whose lock was taken away is never decided (`taken_away_are_never_decided`).
 //! - `promise` lends all this of a world. In `some_runs_recover` it says something.
 //!
 //! **The caller owes** to `promise` a world that some events made of accepted settings (`IsOfRun`).
 //!
-//! **Files**: `lib`, `promises`. **Definitions** (`specs/`): `Standing`, `Alone`, `Demands`, `Laws`, `Sweeping`,
-//! `Promises`, `Worked`. The proofs follow a transaction over its agent's steps (`proofs/Ends.antt`, `Stands.antt`,
-//! `Asking.antt`) and a sweep by its list (`Sweeps.antt`, `Swept.antt`, `Rounds.antt`).
+//! **Files**: `lib`, `promises`. **Definitions** (`specs/`): `Standing`, `Alone`, `Demands`, `InTime`, `Laws`,
+//! `Sweeping`, `Promises`, `Worked`. The proofs follow a transaction over its agent's steps (`proofs/Ends.antt`,
+//! `Stands.antt`, `Asking.antt`) and a sweep by its list (`Sweeps.antt`, `Swept.antt`, `Rounds.antt`).
 #![tactic(auto)]
 
 mod promises;

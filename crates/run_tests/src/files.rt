@@ -1,6 +1,6 @@
 //! Files that agent 0 makes, and that all agents write and list.
 
-use crate::certified::certified;
+use crate::certified::reported;
 use crate::crew::{Crew, closed, comes_to, jobs, opened, others, work};
 use crate::ends::ended_so;
 use crate::fixtures::{push, settings};
@@ -132,10 +132,24 @@ fn falsified(rt: &(impl Abort + AllocGlobal), told: Histories) -> Histories {
     Histories::from_vec(all)
 }
 
+/// Holds the last line of the program, and its exit status, against what is wanted.
+fn reports(
+    rt: &(impl Abort + AllocGlobal),
+    settings: &Settings,
+    told: &(Histories, Transcripts),
+    want: (u8, &str),
+) {
+    let (status, writer) = reported(rt, settings, told, 192);
+    let (wanted, line) = want;
+    assert!(rt; status == wanted && writer.bytes() == line.as_bytes(), "{line}: {status}");
+}
+
 #[test]
 fn a_falsified_reply_is_found_out(rt: HostRuntime) {
     let settings = settings(&rt, 4);
-    let (histories, transcripts) = files(&rt, &settings);
-    let histories = falsified(&rt, histories);
-    assert!(&rt; certified(&rt, &settings, &histories, &transcripts).is_none());
+    let told = files(&rt, &settings);
+    reports(&rt, &settings, &told, (0, "certified 192 steps\n"));
+    let (histories, transcripts) = told;
+    let told = (falsified(&rt, histories), transcripts);
+    reports(&rt, &settings, &told, (5, "mismatch\n"));
 }
