@@ -47,7 +47,8 @@ pub(crate) struct Letters {
 
 /// One byte more of permissions: each letter once at most, in any order, and three hyphens at most.
 fn with_byte(letters: Letters, byte: u8) -> Option<Letters>
-    ensures { (front : List ℕ) → IsReadOf letters front → let all = front ++ byte ∷ [] in MatchOption result (are_permissions all ≡ false) (λ next. IsReadOf next all) }
+    ensures { (front : List ℕ) → IsReadOf letters front → let all = front ++ byte ∷ [] in
+        MatchOption result (are_permissions all ≡ false) (λ next. IsReadOf next all) }
 {
     match byte {
         b'r' if !letters.reads => Some(Letters {
