@@ -2,7 +2,7 @@
 """bench/left.py [PROGRAM [OTHER]]
 
 Locks that are left behind: 16,000, 32,000 and 64,000 rounds of `play`, in each of which an agent prepares and decides a
-`list /` at a server that then falls down, so that its lock stays there; and at the end one sweep of them all. Prints the
+`list /` at a server that then crashes, so that its lock stays there; and at the end one sweep of them all. Prints the
 processor seconds (the least of three runs) and the growth, and the same of OTHER, a program of the same service, where that is named,
 and the ratio to it. A poll, a Finish and a crash do not look at locks that have nothing to do with them: so the growth
 is 2, and the ratio does not rise with the rounds.

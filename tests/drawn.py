@@ -200,7 +200,7 @@ def chosen(judge):
     own = drawn(two, "--agent", "1")
     judge.holds(own.requests() == [one for one in every if one[0] == "agent 1"], "--agent 1")
     judge.holds(("agent 1", "forgets its cache of site 0") in own.said(), "forget of an agent is not drawn")
-    judge.holds({("server 1", "falls down"), ("server 1", "comes up")} <= set(own.said()), "servers are left out for an agent", own.said())
+    judge.holds({("server 1", "crashes"), ("server 1", "restarts")} <= set(own.said()), "servers are left out for an agent", own.said())
     part = drawn(two, "--agent", "1", "--from", "2", "--to", "4").requests()
     judge.holds(part == own.requests()[1:4], "--agent 1 --from 2 --to 4")
     judge.holds(drawn(two, "--suite", "/d/f").requests() == drawn(two, "--suite", "2").requests() != [], "a path and its number")

@@ -1,7 +1,7 @@
 #!/usr/bin/env python3
 """tests/lies.py [CASES [SEED]]
 
-Has jobs carried out by agents in threads, as `serve` does, with servers that fall down and caches that are forgotten on
+Has jobs carried out by agents in threads, as `serve` does, with servers that crash and caches that are forgotten on
 the way, and tells lies about what servers served and what agents did: a hundred thousand seeded cases (CASES another
 number) over several scripts, each with one lie or two, of 27 kinds. A lie may leave a run that could have been, so its kind
 is no verdict: each case is judged by `certify`, and by tests/judging.py, which has `trace` play what the case tells and

@@ -5,10 +5,10 @@ Compares what `./suites votes` tells with what `play` answers. The program is th
 where nothing is proved), or the one that is named.
 
 - The three examples of Gifford's paper have the chances that stand there.
-- Of votes of up to eight servers every set of servers falls down, and a file with these votes is read and written as often
+- Of votes of up to eight servers every set of servers crashes, and a file with these votes is read and written as often
   in a row as there are servers, so that each of them is the home once. From which of it ended U1 and U5 all that is told
   is found anew: how many may be lost, the least sets, both chances.
-- Of votes of up to 32 servers the sets that are told fall down, and then all but one server of each; and as many servers,
+- Of votes of up to 32 servers the sets that are told crash, and then all but one server of each; and as many servers,
   any of them, as are told that may be lost.
 - Faulty words are told with the codes that `table` and `play` tell.
 - Of scripts those votes are told that are in effect at their end (this wants the program of `./suites trace`).

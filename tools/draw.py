@@ -149,7 +149,7 @@ def head_of(words):
     if kind == "forget":
         return f"agent {int(words[1])}", f"forgets its cache of site {int(words[2])}"
     if kind in trace.OF_SERVERS:
-        return f"server {int(words[1])}", {"crash": "falls down", "return": "comes up"}[kind]
+        return f"server {int(words[1])}", {"crash": "crashes", "return": "restarts"}[kind]
     return None
 
 

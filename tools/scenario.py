@@ -2,7 +2,7 @@
 """tools/scenario.py SEED [LINES]
 
 Writes a random script of `suites play`: users who make, read, write, list, drop and guard files and folders, with servers
-that fall down and come up, agents that stop in the middle of a job, sweeps, forgotten caches, and votes that are moved.
+that crash and restart, agents that stop in the middle of a job, sweeps, forgotten caches, and votes that are moved.
 The same SEED gives the same script. LINES is about how many events it has (default 120).
 """
 import argparse

@@ -90,7 +90,7 @@ abbrev pub has_lock_after : Opening → List Event → ℕ → ℕ → LockMode 
 has_lock_after given events t suite mode server = list_any (λ lock. is_own t suite lock && serves lock.mode mode) (servers_of given (run given events) server).locks
 
 -- Where a transaction is decided, each lock that it was told of has stood after every event since, in the mode of which it was told or a stronger one,
--- whatever fell down and whoever swept.
+-- whatever crashed and whoever swept.
 abbrev pub LocksStand : Type 0
 LocksStand =
     (given : Opening) (events : List Event) (event : Event) (later : List Event) (number : ℕ) (one : Decided) (suite : ℕ) (mode : LockMode) (server : ℕ) → CanBe given (events ++ event ∷ later)

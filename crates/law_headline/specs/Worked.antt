@@ -125,7 +125,7 @@ move_a = op a (action.SetVotes new_votes) ∷ []
 abbrev pub made : List Event
 made = Begin 0 (Transaction owner 0 make_a) ∷ so_many 10 0
 
--- The votes of a file are moved to other servers. Two of the old ones fall down, so that no path can be walked; once one is back, the file is read
+-- The votes of a file are moved to other servers. Two of the old ones crash, so that no path can be walked; once one is back, the file is read
 -- where its votes are.
 abbrev pub moved : List Event
 moved =
@@ -167,7 +167,7 @@ before_poll = made ++ Begin 0 (Transaction owner 0 rewrite_a) ∷ so_many 3 0
 abbrev pub before_upgrade : List Event
 before_upgrade = before_poll ++ so_many 3 0
 
--- then the other server's Upgrade and two Prepares; and the first server falls down, and is back
+-- then the other server's Upgrade and two Prepares; and the first server crashes, and is back
 abbrev pub upgraded : List Event
 upgraded = before_upgrade ++ Step 0 ∷ so_many 3 0 ++ Crash 0 ∷ Return 0 ∷ []
 

@@ -28,7 +28,7 @@ all_up world = list_all (λ (st : State). st.up) world.servers
 abbrev pub no_locks : World → Bool
 no_locks world = list_all (λ (st : State). length st.locks == 0) world.servers
 
--- no server falls down in these events
+-- no server crashes in these events
 abbrev pub is_crash : Event → Bool
 is_crash (Crash server) = true
 is_crash event = false
@@ -54,7 +54,7 @@ NothingIsInTheWay = (given : Opening) → IsAccepted given → (events : List Ev
 
 -- ---- nothing disturbs it
 
--- what disturbs: a server falls down; or what an agent asks is not served, since the server is full or memory is wanting
+-- what disturbs: a server crashes; or what an agent asks is not served, since the server is full or memory is wanting
 abbrev pub disturbs : Opening → World → Event → Bool
 disturbs given world (Crash server) = true
 disturbs given world (Step agent) = not (has_no_job (actor_at world agent)) && not (is_some (step (fixed_of given) world (Step agent)).done.served)

@@ -41,7 +41,7 @@ undisturbed =
     ++ Begin 0 (Transaction owner 0 close_a) ∷ so_many 13 0
     ++ Begin 1 (Transaction other 0 read_a) ∷ so_many 11 1
 
--- A file is made, and a server falls down and comes back. Then the file is read.
+-- A file is made, and a server crashes and comes back. Then the file is read.
 abbrev pub mended : List Event
 mended = Begin 0 (Transaction owner 0 make_a) ∷ so_many 10 0 ++ Crash 0 ∷ Return 0 ∷ []
 
@@ -60,7 +60,7 @@ the_endings =
     ∷ (64, Ok (answer.Set ∷ []))
     ∷ (129, Err denial) ∷ []
 
--- A transaction that nothing disturbs, though a server fell down before it began.
+-- A transaction that nothing disturbs, though a server crashed before it began.
 pub record IsUndisturbed : Type 0 where
   pub can : CanBe two_agents (mended ++ reads ∷ so_many 11 1)
   pub begins : begins_job two_agents (run two_agents mended) reads ≡ Some (1, Transaction other 0 read_a)

@@ -8,7 +8,7 @@ use Rattle.run_core.specs.Worlds.{World, actor_at, has_no_job, step}
 use Rattle.law_run_alone.specs.Alone.{begins_job}
 
 -- What hinders an agent: it begins another job, or forgets; as it has a job, a step of it is not served, or it is told that it is not served; another agent
--- that has a job takes a step; or a server is told to fall down or to come up. That others begin, forget, or are told that they are not served, hinders
+-- that has a job takes a step; or a server is told to crash or to restart. That others begin, forget, or are told that they are not served, hinders
 -- nobody, nor does an event of an agent without a job.
 abbrev pub hinders : Opening → ℕ → World → Event → Bool
 hinders given agent world (Begin other job) = (other == agent) && is_some (begins_job given world (Begin other job))

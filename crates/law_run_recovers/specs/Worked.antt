@@ -64,7 +64,7 @@ pub record AreNotFound : Type 0 where
   pub so_it_ends : endings_in two_of_six (away ++ Begin 1 (Transaction other 0 read_a) ∷ so_many 8 1) ≡
       (0, Answered (answer.Made 1 ∷ [])) ∷ (64, Answered (answer.Set ∷ [])) ∷ (1, Undecided (Unavailable 1 1 2)) ∷ []
 
--- The same, but for server 0, which is down too when the votes are moved, while servers 1 and 2 get to know of it; and then servers 2 and 4 fall down.
+-- The same, but for server 0, which is down too when the votes are moved, while servers 1 and 2 get to know of it; and then servers 2 and 4 crash.
 -- So server 3 tells of the first three, of which one is up; and that one tells of server 5.
 abbrev pub led_twice : List Event
 led_twice =
@@ -104,7 +104,7 @@ pub record FewerToWrite : Type 0 where
 
 -- ---- votes and home are missing
 
--- One server is enough to read, and all three to write. Server 1 falls down: it is the home of the other agent's first transaction.
+-- One server is enough to read, and all three to write. Server 1 crashes: it is the home of the other agent's first transaction.
 abbrev pub home_down : List Event
 home_down = Begin 0 (Transaction owner 0 make_a) ∷ so_many 14 0 ++ Crash 1 ∷ []
 
@@ -140,7 +140,7 @@ pub record IsSweptAway : Type 0 where
   pub then_read : endings_in two_agents (swept ++ reads) ≡
       (0, Answered (answer.Made 1 ∷ answer.Wrote ∷ [])) ∷ (1, Swept 0 1 0) ∷ (65, Swept 0 1 0) ∷ (129, Swept 0 0 0) ∷ (193, Answered (answer.Read (104 ∷ 105 ∷ []) ∷ [])) ∷ []
 
--- ---- a server falls down that has locks
+-- ---- a server crashes that has locks
 
 -- one of the two servers, which keeps the prepared locks; the other is swept
 abbrev pub left_behind : List Event
@@ -154,7 +154,7 @@ pub record IsInNoWay : Type 0 where
   pub is_read : endings_in two_agents (left_behind ++ Begin 1 (Transaction other 0 read_a) ∷ so_many 13 1) ≡
       (0, Answered (answer.Made 1 ∷ answer.Wrote ∷ [])) ∷ (1, Swept 0 1 0) ∷ (65, Answered (answer.Read (104 ∷ 105 ∷ []) ∷ [])) ∷ []
 
--- ---- a home falls down
+-- ---- a home crashes
 
 -- the home of that write, which is one of the two servers
 abbrev pub in_the_dark : List Event

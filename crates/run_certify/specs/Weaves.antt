@@ -36,7 +36,7 @@ past_stamp (entry ∷ entries) = past_stamp entries
 abbrev pub transcript_of : List (List Entry) → ℕ → List Entry
 transcript_of transcripts agent = slice_index_or transcripts agent []
 
--- the operator asks a server to fall down, or to come up
+-- the operator asks a server to crash, or to restart
 abbrev pub operated : ℕ → Request → List Event
 operated server request.Crash = Crash server ∷ []
 operated server request.Return = Return server ∷ []

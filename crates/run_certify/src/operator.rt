@@ -7,7 +7,7 @@ use rep_core::Request;
 use run_core::Event;
 
 /// The event that an item of the operator's is of. There is none where it asked for something else than that the
-/// server falls down or comes up, or where the server's number is above those that servers have.
+/// server crashes or restarts, or where the server's number is above those that servers have.
 pub(crate) fn operator_event(server: usize, request: &Request) -> Option<Event>
     ensures { MatchOption result ((256 ≤ server) ⊎ (operated server request.now ≡ [])) (λ event. operated server request.now ≡ event ∷ []) }
 {

@@ -24,7 +24,7 @@ can_forget site None = false
 
 -- Whether an event has sense: an agent that is there and idle begins a job that it may begin; one that asks a server that is there takes a step;
 -- one that asks is told that it is not served; an agent that is there forgets a site that is there; a server that is there, and whose stamps are
--- not used up, falls down or comes up.
+-- not used up, crashes or restarts.
 abbrev pub has_sense : Fixed → World → Event → Bool
 has_sense fixed world (Begin agent job) = can_begin fixed job (actor_at world agent)
 has_sense fixed world (Step agent) = asks_one world (asked_by fixed (actor_at world agent))

@@ -10,9 +10,9 @@ pub enum Event {
     Begin { agent: u8, job: Job },
     /// An agent's request is served, and the agent takes the reply.
     Step { agent: u8 },
-    /// A server falls down.
+    /// A server crashes.
     Crash { server: u8 },
-    /// A server comes up again.
+    /// A server restarts.
     Return { server: u8 },
     /// An agent forgets what its cache keeps for a site.
     Forget { agent: u8, site: u8 },

@@ -11,9 +11,9 @@ use rep_core::{Request, Stamped};
 /// What the operator asks of a server.
 #[derive(Clone, Copy)]
 pub(crate) enum Order {
-    /// To fall down.
+    /// To crash.
     Crash,
-    /// To come up again.
+    /// To restart.
     Return,
 }
 

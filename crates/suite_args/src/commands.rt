@@ -102,8 +102,8 @@ These stand first and in this order. Names may follow, and then what happens:
   sweep A S                             agent A begins to end what others have left at server S
   step A [N]                            one step of agent A, or N
   run A                                 steps of agent A until it has no job
-  crash S                               server S falls down
-  return S                              server S comes up again
+  crash S                               server S crashes
+  return S                              server S restarts
   forget A SITE                         agent A forgets what its cache has for a site
   audit S                               the denials that server S recorded are printed
 
