@@ -141,7 +141,10 @@ fn reports(
 ) {
     let (status, writer) = reported(rt, settings, told, 192);
     let (wanted, line) = want;
-    assert!(rt; status == wanted && writer.bytes() == line.as_bytes(), "{line}: {status}");
+    assert!(rt;
+        status == wanted && writer.bytes() == line.as_bytes(),
+        "{line}: {status}"
+    );
 }
 
 #[test]
