@@ -4,7 +4,7 @@
 # Runs one built test of a crate (`rt test` builds them, to crates/CRATE/out/CRATE_tests) with its first, its second, ..
 # allocation refused, until none is left to refuse: it has to pass, since what memory was refused to is called again, or to
 # stop for what it lacks itself. Then the same, where every allocation from that one on is refused: then a test stops for
-# want of memory, or passes where it wants none, and a call that answers otherwise than it should is still told. Prints how
+# lack of memory, or passes where it wants none, and a call that answers otherwise than it should is still told. Prints how
 # many were refused; status 1 where a test stopped for anything else. As
 #
 #     tests/refuse-in-test.sh run_tests locks::the_replies_are_the_servers

@@ -3,7 +3,7 @@
 #     awk -v agents=N -v status=0|4 -v reach=one|all -f tests/served.awk SCRIPT KNOWN GIVEN
 #
 # KNOWN is an output with ample memory. Of status 0 all lines have to be there, of status 4 those of GIVEN are the first ones.
-# A job may end as a job of the same words does in KNOWN, or undecided, since memory was wanting (U7) or another job was in
+# A job may end as a job of the same words does in KNOWN, or undecided, because memory ran out (U7) or another job was in
 # the way (U2, U3, U4). Where something was not made, a job may not find it (F4), and a list be shorter; where a job ended
 # otherwise, or agents work at once, a read gives what any job writes, and a sweep finds locks. What is certified are the steps
 # of all jobs, less those that were not served: at most one where one allocation is refused, none with ample memory (`sure`).

@@ -79,7 +79,7 @@ class Scenario:
         self.say("begin", agent, uid, groups, self.dice.choice([0, 0, 0, 3]), " ; ".join(self.operation() for _ in range(count)))
 
     def heal(self):
-        """All servers come up, and what was left behind is swept."""
+        """All servers restart, and what was left behind is swept."""
         for server in sorted(self.down):
             self.say("return", server)
         self.down.clear()

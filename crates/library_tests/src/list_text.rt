@@ -22,7 +22,7 @@ fn known(rt: &(impl Abort + AllocGlobal)) -> Names {
     names
 }
 
-/// Reads lists, and once more where memory was refused: it is never told otherwise than as want of memory.
+/// Reads lists, and once more where memory was refused: it is never told otherwise than as out of memory.
 fn read(rt: &(impl Abort + AllocGlobal), text: &[u8]) -> Result<Lists, TextFault> {
     let names = known(rt);
     match read_acl(rt.alloc(), text, &names) {

@@ -81,7 +81,7 @@ Exit status:
   0  done
   2  a fault in the command line
   3  a fault in the text or the script
-  4  want of memory
+  4  out of memory
   5  what the agents and servers did is no run (of `serve` alone)
   6  a failed read or write, or input above 16 MiB
 ";

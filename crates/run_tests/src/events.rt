@@ -76,7 +76,7 @@ pub(crate) fn job(rt: &(impl Abort + AllocGlobal), text: &str) -> Job {
 }
 
 /// An event by its words: `begin A JOB`, `step A`, `crash S`, `return S`, `forget A SITE`, `full A`, and `lack A`, which
-/// is told that memory is wanting.
+/// is told that memory ran out.
 pub(crate) fn event(rt: &(impl Abort + AllocGlobal), line: &str) -> Event {
     let (word, rest) = line.split_once(' ').expect(rt, "an event");
     let (at, rest) = rest.split_once(' ').unwrap_or((rest, ""));

@@ -13,7 +13,7 @@ use run_core::{Event, World};
 use std::alloc::Global;
 use suite_prefix::Settings;
 
-/// A world on which these events were played, unless memory was wanting: it promises what holds of their run, and lends
+/// A world on which these events were played, unless memory ran out: it promises what holds of their run, and lends
 /// what is available.
 fn promised(alloc: Global, settings: &Settings, events: &[Event]) -> Option<World>
     ensures { (world : Opened) → result ≡ Some world → Promises world × Lends world }

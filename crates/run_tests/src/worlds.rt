@@ -188,7 +188,7 @@ fn events_without_sense(rt: HostRuntime) {
     run(&rt, SENSELESS);
 }
 
-/// A request is not served for want of memory: before the decision that ends a transaction, and after it changes
+/// A request is not served, because memory ran out: before the decision that ends a transaction, and after it changes
 /// nothing. So it is where a server is full.
 static LACKS: &str = "
 begin 0 file /a; write /a hi

@@ -87,7 +87,7 @@ word_fault_line place = codes "fault word " ++ decimal place ++ line_feed
 abbrev pub command_line_fault : List ℕ
 command_line_fault = codes "fault command line" ++ line_feed
 
--- the line of want of memory
+-- the line that says that memory ran out
 abbrev pub memory_line : List ℕ
 memory_line = codes "fault memory" ++ line_feed
 

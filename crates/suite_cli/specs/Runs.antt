@@ -98,7 +98,7 @@ abbrev pub Finishes : List ℕ → ℕ → ℕ → Option (List ℕ) → Option 
 Finishes text status result before after failures failures_after =
     ((result ≡ status) × Adds before text after) ⊎ ((result ≡ no_stream) × (failures_after ≡ one_more failures))
 
--- want of memory was said, or a write failed
+-- it was said that memory ran out, or a write failed
 abbrev pub SaysMemory : Option (List ℕ) → Option (List ℕ) → ℕ → ℕ → Type 0
 SaysMemory before after failures failures_after = Adds before memory_line after ⊎ (failures_after ≡ one_more failures)
 

@@ -94,7 +94,7 @@ pub(crate) fn finish<O: ByteOut>(writer: &mut O, text: &[u8], status: u8) -> u8
     }
 }
 
-/// Writes `fault memory`, where that can be written, and answers the exit status for want of memory, 4.
+/// Writes `fault memory`, where that can be written, and answers the exit status where memory ran out, 4.
 pub fn lack_memory<O: ByteOut>(writer: &mut O) -> u8
     ensures status { result ≡ no_memory }
     ensures says { SaysMemory (O.written writer.old) (O.written writer.new)

@@ -43,7 +43,7 @@ of_text fault = error.List fault
 
 -- ---- what is written
 
--- want of memory was said, with its status
+-- it was said that memory ran out, with its status
 abbrev pub Lacks : ℕ → Option (List ℕ) → Option (List ℕ) → ℕ → ℕ → Type 0
 Lacks status before after failures failures_after = (status ≡ no_memory) × SaysMemory before after failures failures_after
 
