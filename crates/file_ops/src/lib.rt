@@ -52,4 +52,4 @@ pub use path::PathText;
 pub use refusal::{ApplyError, Denial, Refusal, Why};
 pub use service::Service;
 pub use table::Table;
-pub use walk::last_name;
+pub use walk::{ROOT, last_name};

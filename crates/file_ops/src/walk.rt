@@ -19,7 +19,7 @@ use sorted_map::RoomyMap;
 use suite_content::Name;
 
 /// The number of the root folder.
-pub(crate) const ROOT: u64 = 0;
+pub const ROOT: u64 = 0;
 
 /// A suite with its row.
 #[derive(Clone, Copy)]
