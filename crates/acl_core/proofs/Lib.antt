@@ -13,3 +13,4 @@ pub mod Reordered
 pub mod Inheriting
 pub mod ListsEquality
 pub mod OneEntry
+pub mod Ends

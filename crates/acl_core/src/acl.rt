@@ -6,7 +6,7 @@ ghost use Rattle.acl_core.specs.InOrder.{in_order};
 ghost use Rattle.acl_core.specs.Modes.{minimal_list};
 ghost use Rattle.acl_core.specs.Creation.{cut_to, inherited, limit_of};
 
-use crate::check::has_entry;
+use crate::check::mask_of;
 use crate::entry::{Entry, Tag};
 use crate::fault::AclError;
 use crate::mode::Mode;
@@ -144,7 +144,7 @@ impl Acl {
         ensures list { IfOk result (λ acl. acl ≡ inherited self.now mode) }
         ensures acl { IfOk result IsAcl }
     {
-        let masked = has_entry(&self.entries, Tag::Mask);
+        let masked = mask_of(&self.entries).is_some();
         let entries = all_cut(alloc, &self.entries, masked, mode)?;
         let entries = ArcSlice::from_vec(entries)?;
         Ok(Acl { entries })

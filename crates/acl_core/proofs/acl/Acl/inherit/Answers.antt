@@ -1,8 +1,12 @@
-use Rattle.std.proofs.Common.{◌≡◌, ◌∙◌, ap, map, subst, sym}
+use Rattle.std.proofs.Common.{◌≡◌, ◌∙◌, ap, map, subst, sym, true}
+use Rattle.std.specs.List.{list_any}
 use Rattle.std.specs.Arc.{arc_slice_items}
 use Rattle.acl_core.specs.declared.entry.Entry.{Entry}
 use Rattle.acl_core.specs.AccessLists.{IsAcl}
 use Rattle.acl_core.specs.Creation.{cut_to, has_mask, inherited, limit_of}
+use Rattle.acl_core.specs.declared.entry.Tag.TheVariants.{Mask}
+use Rattle.acl_core.specs.Tags.{same_tag}
+use Rattle.acl_core.proofs.OneEntry.{any_kept, some_of}
 use Rattle.acl_core.proofs.Inheriting.{inherited_acl}
 use Rattle.acl_core.proofs.acl.Acl.inherit.Goals as goal
 
@@ -10,7 +14,9 @@ value : (c : goal.In_ok-entries-2) → arc_slice_items c.in_ok-entries-2.entries
 value c =
     let list = c.args.self.now in
     let shown : arc_slice_items c.self.inside.entries ≡ list = c.self.view_is in
-    let masked : c.has_entry-masked.result ≡ has_mask list = c.has_entry-masked.ensures ∙ ap has_mask (c.deref.ensures.value ∙ shown) in
+    let masked : c.is_some-masked.result ≡ has_mask list =
+    c.is_some-masked.ensures ∙ some_of c.mask_of.result ∙ ap (list_any (λ (e : Entry). true)) (sym c.mask_of.ensures)
+    ∙ sym (any_kept (λ e. same_tag e.tag Mask) c.deref.result.now) ∙ ap has_mask (c.deref.ensures.value ∙ shown) in
     c.in_ok-entries-2.ensures
     ∙ c.in_ok-entries.ensures
     ∙ ap (λ m. map (λ (e : Entry). cut_to (limit_of m c.args.mode e.tag) e) c.deref-2.result.now) masked

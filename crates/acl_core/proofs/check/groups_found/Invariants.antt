@@ -1,0 +1,14 @@
+use Rattle.std.proofs.Common.{◌≡◌, filter, find, length}
+use Rattle.acl_core.specs.declared.entry.Entry.{Entry}
+use Rattle.acl_core.specs.Checks.{matches}
+use Rattle.acl_core.specs.Checks.Case.{OfGroups}
+use Rattle.acl_core.proofs.check.groups_found.Given as goal
+
+abbrev pub invariant-loop-rest : goal.invariant-loop-rest
+invariant-loop-rest l = record {
+  found : find (λ (e : Entry). matches OfGroups 0 l.group l.caller e.tag) l.rest ≡ find (λ (e : Entry). matches OfGroups 0 l.group l.caller e.tag) l.fn.entries;
+  kept : filter (λ (e : Entry). matches OfGroups 0 l.group l.caller e.tag) l.rest ≡ filter (λ (e : Entry). matches OfGroups 0 l.group l.caller e.tag) l.fn.entries;
+}
+
+abbrev pub decreases-loop-rest : goal.decreases-loop-rest
+decreases-loop-rest l = length l.rest
