@@ -15,7 +15,7 @@ use Rattle.acl_core.proofs.acl.Acl.from_vec.Goals as goal
 same_fault : (entries sorted seen : List Entry) → IsSortedCopy entries sorted → seen ≡ sorted → first_fault seen ≡ first_fault entries
 same_fault entries sorted seen copy is = ap first_fault is ∙ first_fault_permutation entries sorted copy.moved
 
--- want of memory is no fault of the entries
+-- being out of memory is no fault of the entries
 memory_alone : {T : Type 0} (result : Result T AclError) → IsErrAnd result (λ e. e ≡ Memory) → fault_in result ≡ None
 memory_alone {T} (Ok list) said = refl
 memory_alone {T} (Err e) said = ap (λ e. fault_in {T = T} (Err e)) said
