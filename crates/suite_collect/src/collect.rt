@@ -286,6 +286,7 @@ impl Collect {
     }
 
     /// What is due once this is told, and the votes that are had then.
+    #[inline(always)]
     fn tally_after(&self, last: Saying<'_>) -> Tally
         requires { last.server < MAX_SERVERS }
         ensures value { tally_in result ≡ tally_of (spec.tell (told_of last.entry) self.now.collector) }
@@ -303,6 +304,7 @@ impl Collect {
 
     /// The votes that are had once this is told, where these votes count then. All are counted only where
     /// others counted before.
+    #[inline(always)]
     fn got_after(&self, last: Saying<'_>, votes: &Votes) -> u32
         requires server { last.server < MAX_SERVERS }
         requires votes { votes.now ≡ spec.counted (spec.tell (told_of last) self.now.collector) }
