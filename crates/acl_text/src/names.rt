@@ -1,6 +1,6 @@
 //! Names of users and groups, each with its number.
 
-ghost use Rattle.std.specs.Prelude.{◌≡◌, [], ◌∷◌, ◌++◌, OnOk, OnErr};
+ghost use Rattle.std.specs.Prelude.{◌≡◌, ◌↔◌, [], ◌∷◌, ◌++◌, IsTrue, OnOk, OnErr};
 ghost use Rattle.acl_text.specs.Tables.{Tables, is_name, number_in, name_fault, fault_in};
 ghost use Rattle.acl_text.specs.declared.names.NameError.TheVariants.{Memory};
 
@@ -71,6 +71,12 @@ impl NameTable {
         NameTable {
             numbers: IndexMap::with_hasher(alloc, keys),
         }
+    }
+
+    fn is_empty(&self) -> bool
+        ensures { IsTrue result ↔ (self.now ≡ []) }
+    {
+        self.numbers.is_empty()
     }
 
     /// The number of a name.
@@ -154,6 +160,15 @@ impl Names {
             users: NameTable::new(alloc, keys),
             groups: NameTable::new(alloc, keys),
             alloc,
+        }
+    }
+
+    /// Where no name stands yet, those that come are found as after [`Names::keyed_by`]; else nothing changes.
+    pub fn key_by(&mut self, text: &[u8])
+        ensures { self.new ≡ self.old }
+    {
+        if self.users.is_empty() && self.groups.is_empty() {
+            *self = Names::keyed_by(self.alloc, text);
         }
     }
 

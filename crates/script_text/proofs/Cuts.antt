@@ -1,13 +1,14 @@
 -- Cutting off the first line and the first word.
-use Rattle.std.proofs.Common.{◌≡◌, ℕ, zero, suc, ◌+◌, ◌-◌, ◌<◌, ◌≤◌, Bool, true, cond, eqb, ltb, not, List, [], ◌∷◌, Some, None, length, take, drop, filter, get_or, Option, refl, ◌∙◌, ap, sym, inl, inr, arith}
+use Rattle.std.proofs.Common.{◌≡◌, ℕ, zero, suc, ◌+◌, ◌-◌, ◌<◌, ◌≤◌, ◌++◌, Bool, true, cond, eqb, ltb, not, List, [], ◌∷◌, Some, None, length, take, drop, filter, get_or, Option, refl, ◌∙◌, ap, sym, inl, inr, arith, length-append}
 use Rattle.std.specs.List.{slice_split, position, position_or_len, before_first, after_first}
 use Rattle.std.specs.Str.Lines.{lines, lines_of_parts, strip_carriage_return}
-use Rattle.std.proofs.lemmas.List.{drop_all, drop_more, take_all, length-drop, length-take-le}
+use Rattle.std.proofs.lemmas.List.{drop_all, drop_more, take_all, take-append-drop, length-drop, length-take-le}
 use Rattle.std.proofs.lemmas.List.Splits.{slice_split-cons_yes, slice_split_first, slice_split_none, length-slice_split}
-use Rattle.std.proofs.lemmas.List.Sums.{fails_before_first, passes_at_first, position_or_len_is}
-use Rattle.std.proofs.lemmas.Bool.{cases_Bool, both_ways, false_from_ne_true, le-ltb, ltb-true, ltb-false, lt-ltb, ne_eqb}
+use Rattle.std.proofs.lemmas.List.Folds.{prefix_len-append}
+use Rattle.std.proofs.lemmas.List.Sums.{fails_before_first, passes_at_first, position_or_len_is, prefix_len-le-length}
+use Rattle.std.proofs.lemmas.Bool.{cases_Bool, both_ways, false_from_ne_true, le-ltb, ltb-true, ltb-false, lt-ltb, eq-eqb, ne_eqb}
 use Rattle.std.proofs.Math.Numerals.{one-add}
-use Rattle.memchr.specs.Find.{IsFirstByte, is_byte}
+use Rattle.memchr.specs.Find.{IsFirstByte}
 use Rattle.script_text.specs.Words.{words, is_blank, BeginsWithWord}
 
 -- a place that is found is the first, and in the list
@@ -144,14 +145,63 @@ parts-cut separator word end found =
     slice_split_first (λ b. eqb b separator) word 0 inside
     ∙ ap (λ n. take n word ∷ slice_split (λ b. eqb b separator) (drop (n + 1) word)) place.0
 
--- what a search for a byte finds is its first place
-pub first_at : (byte : ℕ) (text : List ℕ) (found : Option ℕ) → IsFirstByte (is_byte byte) text found → found ≡ position (λ b. eqb b byte) text
-first_at byte text (Some place) found =
+-- what a search for bytes that pass a test finds is the first of them
+pub first_at : (p : ℕ → Bool) (text : List ℕ) (found : Option ℕ) → IsFirstByte p text found → found ≡ position p text
+first_at p text (Some place) found =
     let inside : place < length text = omega (arith, found.0.high) in
-    let same : position_or_len (λ b. eqb b byte) text ≡ place =
-    position_or_len_is (λ (b : ℕ). eqb b byte) text place 0 (omega arith) (λ k before. false_from_ne_true (eqb (get_or text k 0) byte) (found.0.before k (omega arith) before)) (λ less. found.1) in
+    let same : position_or_len p text ≡ place =
+    position_or_len_is p text place 0 (omega arith) (λ k before. false_from_ne_true (p (get_or text k 0)) (found.0.before k (omega arith) before)) (λ less. found.1) in
     sym (ap (λ n. cond (ltb n (length text)) (Some n) None) same ∙ ap (λ b. cond b (Some place) None) (lt-ltb place (length text) inside))
-first_at byte text None none =
-    let same : position_or_len (λ b. eqb b byte) text ≡ length text =
-    position_or_len_is (λ (b : ℕ). eqb b byte) text (length text) 0 (omega arith) (λ k before. false_from_ne_true (eqb (get_or text k 0) byte) (none k (omega arith) before)) (λ less. absurd (omega arith)) in
+first_at p text None none =
+    let same : position_or_len p text ≡ length text =
+    position_or_len_is p text (length text) 0 (omega arith) (λ k before. false_from_ne_true (p (get_or text k 0)) (none k (omega arith) before)) (λ less. absurd (omega arith)) in
     sym (ap (λ n. cond (ltb n (length text)) (Some n) None) same ∙ ap (λ b. cond b (Some (length text)) None) (le-ltb (length text) (length text) (omega arith)))
+
+-- a place that is found before the rest is found in all
+near_in_all : (p : ℕ → Bool) (near rest : List ℕ) (i : ℕ) → Some i ≡ position p near → Some i ≡ position p (near ++ rest)
+near_in_all p near rest i found =
+    let place = found_at p near i found in
+    let here : position_or_len p (near ++ rest) ≡ i =
+    prefix_len-append (λ b. not (p b)) near rest
+    ∙ ap (λ test. cond test (length near + position_or_len p rest) (position_or_len p near)) (ne_eqb (position_or_len p near) (length near) (λ end. let inside = place.1 in let same = place.0 in omega (arith, end, same, inside)))
+    ∙ place.0 in
+    let inside : i < length (near ++ rest) = let low = place.1 in omega (arith, low, length-append near rest) in
+    sym (ap (λ n. cond (ltb n (length (near ++ rest))) (Some n) None) here ∙ ap (λ b. cond b (Some i) None) (lt-ltb i (length (near ++ rest)) inside))
+
+-- where none is found before the rest, all is searched as the rest is
+far_place : (p : ℕ → Bool) (near rest : List ℕ) → None ≡ position p near → position_or_len p (near ++ rest) ≡ length near + position_or_len p rest
+far_place p near rest none =
+    let far = none_at p near none in
+    let low = prefix_len-le-length (λ b. not (p b)) near in
+    let end : position_or_len p near ≡ length near = omega (arith, far, low) in
+    prefix_len-append (λ b. not (p b)) near rest
+    ∙ ap (λ test. cond test (length near + position_or_len p rest) (position_or_len p near)) (eq-eqb (position_or_len p near) (length near) end)
+
+far_in_all : (p : ℕ → Bool) (near rest : List ℕ) (i : ℕ) → None ≡ position p near → Some i ≡ position p rest → Some (length near + i) ≡ position p (near ++ rest)
+far_in_all p near rest i none found =
+    let place = found_at p rest i found in
+    let here : position_or_len p (near ++ rest) ≡ length near + i = far_place p near rest none ∙ ap (λ n. length near + n) place.0 in
+    let inside : length near + i < length (near ++ rest) = let low = place.1 in omega (arith, low, length-append near rest) in
+    sym (ap (λ n. cond (ltb n (length (near ++ rest))) (Some n) None) here ∙ ap (λ b. cond b (Some (length near + i)) None) (lt-ltb (length near + i) (length (near ++ rest)) inside))
+
+nowhere_in_all : (p : ℕ → Bool) (near rest : List ℕ) → None ≡ position p near → None ≡ position p rest → None ≡ position p (near ++ rest)
+nowhere_in_all p near rest none also =
+    let far = none_at p rest also in
+    let here = far_place p near rest none in
+    sym (ap (λ b. cond b (Some (position_or_len p (near ++ rest))) None) (le-ltb (position_or_len p (near ++ rest)) (length (near ++ rest)) (omega (arith, here, far, length-append near rest))))
+
+-- the same of a text that is searched in two steps, of which the first looks through so many bytes
+pub position-near : (p : ℕ → Bool) (n i : ℕ) (text : List ℕ) → Some i ≡ position p (take n text) → Some i ≡ position p text
+position-near p n i text found = near_in_all p (take n text) (drop n text) i found ∙ ap (position p) (take-append-drop n text)
+
+pub position-far : (p : ℕ → Bool) (n i : ℕ) (text : List ℕ) → None ≡ position p (take n text) → Some i ≡ position p (take (length text - n) (drop n text)) → Some (n + i) ≡ position p text
+position-far p n i text none found =
+    let rest : Some i ≡ position p (drop n text) = found ∙ ap (position p) (rest_of text n) in
+    let inside : n ≤ length text = let low = (found_at p (drop n text) i rest).1 in omega (arith, low, length-drop n text) in
+    ap (λ m. Some (m + i)) (sym (length-take-le n text inside))
+    ∙ far_in_all p (take n text) (drop n text) i none rest
+    ∙ ap (position p) (take-append-drop n text)
+
+pub position-nowhere : (p : ℕ → Bool) (n : ℕ) (text : List ℕ) → None ≡ position p (take n text) → None ≡ position p (take (length text - n) (drop n text)) → None ≡ position p text
+position-nowhere p n text none also =
+    nowhere_in_all p (take n text) (drop n text) none (also ∙ ap (position p) (rest_of text n)) ∙ ap (position p) (take-append-drop n text)

@@ -61,5 +61,5 @@ impl<'a> Phrases<'a> {
 fn is_semicolon(word: &[u8]) -> bool
     ensures { result ≡ is_semicolon word.now }
 {
-    word == b";".as_slice()
+    matches!(word, [b';'])
 }

@@ -5,7 +5,11 @@ ghost use Rattle.std.specs.Iterator.{YieldsFirstRef, item_count};
 ghost use Rattle.std.specs.List.{position};
 ghost use Rattle.script_text.specs.Words.{words, is_blank, BeginsWithWord};
 
+use memchr::memchr2;
 use std::marker::Model;
+
+/// Most words end within so many bytes.
+const NEAR: usize = 16;
 
 /// What is left of a line, as its words. Words stand between spaces and tabs.
 #[derive(Drop)]
@@ -68,10 +72,11 @@ pub(crate) fn split_word(line: &[u8]) -> Option<(&[u8], &[u8])>
     }
 }
 
+/// Whether a byte parts words. Of most bytes the first comparison tells.
 fn is_blank(byte: u8) -> bool
     ensures { result ≡ is_blank byte }
 {
-    byte == b' ' || byte == b'\t'
+    byte <= b' ' && matches!(byte, b' ' | b'\t')
 }
 
 /// The line from its first byte that is not blank on.
@@ -97,10 +102,29 @@ fn first_word(line: &[u8]) -> (&[u8], &[u8])
     }
 }
 
+/// Where the first blank stands: byte by byte where most words end, by a search of the rest after that.
 fn first_blank(line: &[u8]) -> Option<usize>
     ensures { result ≡ position is_blank line.now }
 {
-    line.iter().position(|byte| is_blank(*byte))
+    let near = line.len().min(NEAR);
+    match near_blank(&line[..near]) {
+        Some(place) => Some(place),
+        None => Some(near + far_blank(&line[near..])?),
+    }
+}
+
+fn near_blank(near: &[u8]) -> Option<usize>
+    ensures { result ≡ position is_blank near.now }
+{
+    near.iter().position(|byte| is_blank(*byte))
+}
+
+// A call, so that the search for the end of a short word stays small enough to stand where it is wanted.
+#[inline(never)]
+fn far_blank(rest: &[u8]) -> Option<usize>
+    ensures { result ≡ position is_blank rest.now }
+{
+    memchr2(b' ', b'\t', rest)
 }
 
 fn first_other(line: &[u8]) -> Option<usize>
