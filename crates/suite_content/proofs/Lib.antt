@@ -1,4 +1,5 @@
 mod ByteOrder
 mod Lists
 mod Fronts
+mod Places
 pub mod Numbered

@@ -1,8 +1,10 @@
 -- Lists of names.
-use Rattle.std.specs.Prelude.{◌≡◌, ℕ, false, ◌&&◌, List, [], ◌∷◌, length, Option, Some, None, is_some}
-use Rattle.std.specs.List.{list_all, zip}
+use Rattle.std.specs.Prelude.{◌≡◌, ℕ, false, ◌&&◌, ◌-◌, ◌≤◌, List, [], ◌∷◌, ◌++◌, length, take, drop, codes, Option, Some, None, is_some}
+use Rattle.std.specs.List.{list_all, zip, flat_map}
 use Rattle.std.specs.Str.{bytes_eq}
-use Rattle.std.proofs.Common.{refl, ap, arith}
+use Rattle.std.proofs.Common.{get_or, refl, ap, ◌∙◌, arith}
+use Rattle.std.proofs.lemmas.List.{take_all}
+use Rattle.suite_content.specs.Written.{with_commas}
 use Rattle.suite_content.specs.Folders.{names_in, same_names}
 
 -- a folder without names
@@ -20,3 +22,18 @@ same_names-one_by_one [] [] same = refl
 same_names-one_by_one [] (e ∷ es) same = absurd (omega arith)
 same_names-one_by_one (e ∷ es) [] same = absurd (omega arith)
 same_names-one_by_one (d ∷ ds) (e ∷ es) same = ap (λ rest. bytes_eq d.0 e.0 && rest) (same_names-one_by_one ds es (omega arith))
+
+-- the names of a folder behind commas
+behind_commas : (folder : List (List ℕ × ℕ)) → flat_map (λ entry. codes "," ++ entry.0) folder ≡ flat_map (λ next. codes "," ++ next) (names_in folder)
+behind_commas [] = refl
+behind_commas (e ∷ es) = ap (λ rest. (codes "," ++ e.0) ++ rest) (behind_commas es)
+
+-- the first name, and behind it the others
+pub first_and_others : (folder : List (List ℕ × ℕ)) (first : List ℕ × ℕ) → 1 ≤ length folder → first ≡ get_or folder 0 first
+    → first.0 ++ flat_map (λ entry. codes "," ++ entry.0) (take (length folder - 1) (drop 1 folder)) ≡ with_commas (names_in folder)
+first_and_others [] first some is = absurd (omega arith)
+first_and_others (e ∷ es) first some is =
+    let others : take (length (e ∷ es) - 1) es ≡ es = take_all (length (e ∷ es) - 1) es (omega arith) in
+    ap (λ (es : List (List ℕ × ℕ)). first.0 ++ flat_map (λ entry. codes "," ++ entry.0) es) others
+    ∙ ap (λ (entry : List ℕ × ℕ). entry.0 ++ flat_map (λ entry. codes "," ++ entry.0) es) is
+    ∙ ap (λ rest. e.0 ++ rest) (behind_commas es)

@@ -3,4 +3,5 @@ pub mod Names
 pub mod Folders
 pub mod FolderLaws
 pub mod Contents
+pub mod Written
 pub mod code

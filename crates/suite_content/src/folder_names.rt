@@ -1,10 +1,13 @@
 //! What a folder holds.
 
-ghost use Rattle.std.specs.Prelude.{◌≡◌, ◌≤◌, ◌↔◌, [], length, None, IsOk, OnOk, OnErr, IfOk, IsTrue};
+ghost use Rattle.std.specs.Prelude.{◌≡◌, ◌≤◌, ◌++◌, ◌↔◌, [], length, None, IsOk, OnOk, OnErr, IfOk, IsTrue};
 ghost use Rattle.std.specs.Arc.{arc_value};
+ghost use Rattle.std.specs.List.{flat_map};
 ghost use Rattle.suite_content.specs.Limits.{max_names};
 ghost use Rattle.suite_content.specs.Folders.{IsFolder, number_of, with_name, without_name, names_in};
+ghost use Rattle.suite_content.specs.Written.{numbered_bytes};
 
+use crate::gathering::append_numbered;
 use crate::name::Name;
 use crate::name_list::NameList;
 use sorted_map::RoomyMap;
@@ -181,6 +184,13 @@ impl FolderNames {
             None => Ok(None),
             Some(names) => take_name(names, name),
         }
+    }
+
+    /// Writes the names, each with its length before it, and behind it its number, whose highest byte comes first.
+    pub fn append(&self, out: &mut Vec<u8>) -> Result<(), AllocError>
+        ensures { OnOk result (out.new.items ≡ out.old.items ++ flat_map numbered_bytes self.now) }
+    {
+        append_numbered(self.as_slice(), out)
     }
 
     /// The names alone, which the list shares.

@@ -9,13 +9,14 @@
 //! **The caller owes** the bytes of a name to `Name::known`. The limits (65,536 bytes, 1,024 names) are asked by
 //! `is_too_long` and `is_full`; the types do not keep them.
 //!
-//! **Files**: `name`, `file_bytes`, `folder_names`, `name_list`, `content`. **Definitions** (`specs/`): `Limits`,
-//! `Names`, `Folders`, `Contents`; `FolderLaws` has laws for proofs above.
+//! **Files**: `name`, `file_bytes`, `folder_names`, `name_list`, `gathering`, `content`. **Definitions**
+//! (`specs/`): `Limits`, `Names`, `Folders`, `Contents`, `Written`; `FolderLaws` has laws for proofs above.
 #![tactic(auto)]
 
 mod content;
 mod file_bytes;
 mod folder_names;
+mod gathering;
 mod name;
 mod name_list;
 

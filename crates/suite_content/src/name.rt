@@ -1,12 +1,12 @@
 //! Names in a folder.
 
-ghost use Rattle.std.specs.Prelude.{◌≡◌, ◌++◌, ◌∷◌, ◌↔◌, OnOk, ◌⊎◌, ◌≤◌, All, IsSome, IfSome, IsTrue, codes, length, drop, min};
-ghost use Rattle.std.specs.Int.{w64, to_be_bytes};
+ghost use Rattle.std.specs.Prelude.{◌≡◌, ◌+◌, ◌++◌, ◌↔◌, OnOk, ◌⊎◌, ◌≤◌, All, IsSome, IfSome, IsTrue, codes, length, take, drop, min};
 ghost use Rattle.std.specs.Ordering.{nat_cmp};
 ghost use Rattle.std.specs.Cmp.Lexicographic.{slice_cmp};
 ghost use Rattle.suite_content.specs.Names.{IsName, is_name_byte};
 ghost use Rattle.suite_content.specs.code.Fronts.{front};
 
+use crate::gathering::GATHERED;
 use std::alloc::AllocError;
 use std::cmp::Ordering;
 use std::fmt;
@@ -15,9 +15,6 @@ use std::marker::Model;
 
 /// The most bytes of a name.
 pub const MAX_NAME: usize = 64;
-
-/// The most bytes that a name takes where it is written with its length and a number.
-const NUMBERED: usize = 1 + MAX_NAME + 8;
 
 /// So many bytes of two names are compared at once, as numbers.
 const FRONT: usize = 8;
@@ -66,8 +63,12 @@ impl PartialEq for Name {
 
     ghost laws = { partial_equiv_from_equiv nat_list_eq_equiv };
 
+    /// Behind a name stand zeros, so all places are compared: so many at once that it takes fewer steps than to compare
+    /// as many as there are bytes.
     fn eq(&self, other: &Name) -> bool {
-        self.as_bytes() == other.as_bytes()
+        let as_long = self.count == other.count;
+        let as_wide = self.array == other.array;
+        as_long & as_wide
     }
 }
 
@@ -145,23 +146,8 @@ impl Name {
         &self.array[..self.count as usize]
     }
 
-    /// Writes how many bytes it has, its bytes, and a number, whose highest byte comes first. Its place is copied
-    /// whole and what is too much is cut off, which is faster than to copy as many bytes as there are.
-    pub fn put(&self, number: u64, out: &mut Vec<u8>) -> Result<(), AllocError>
-        ensures { OnOk result (out.new.items ≡ out.old.items ++ (length self.now ∷ self.now ++ to_be_bytes w64 number)) }
-    {
-        let end = usize::from(self.count) + 1;
-        let mut written = [0; NUMBERED];
-        written[0] = self.count;
-        written[1..1 + MAX_NAME].copy_from_slice(&self.array);
-        written[end..end + 8].copy_from_slice(&number.to_be_bytes());
-        let all = out.len() + end + 8;
-        out.extend_from_slice(&written)?;
-        out.truncate(all);
-        Ok(())
-    }
-
-    /// Writes its bytes. Its place is copied whole, as in `put`.
+    /// Writes its bytes. Its place is copied whole and what is too much is cut off, which is faster than to copy as many
+    /// bytes as there are.
     pub fn append(&self, out: &mut Vec<u8>) -> Result<(), AllocError>
         ensures { OnOk result (out.new.items ≡ out.old.items ++ self.now) }
     {
@@ -169,6 +155,17 @@ impl Name {
         out.extend_from_slice(&self.array)?;
         out.truncate(all);
         Ok(())
+    }
+
+    /// Puts its bytes at a place of a buffer, and answers where they end. Its place is copied whole, as in `append`.
+    pub(crate) fn put_at(&self, at: usize, buffer: &mut [u8; GATHERED]) -> usize
+        requires { at + 64 ≤ 1024 }
+        ensures end { result ≡ at + length self.now }
+        ensures bytes { take result buffer.new ≡ take at buffer.old ++ self.now }
+        ensures is_name { IsName self.now }
+    {
+        buffer[at..at + MAX_NAME].copy_from_slice(&self.array);
+        at + usize::from(self.count)
     }
 
     /// Its first eight bytes as one number, with zeros behind a shorter name.

@@ -1,10 +1,12 @@
 //! A folder's names alone.
 
-ghost use Rattle.std.specs.Prelude.{◌≡◌, ◌↔◌, [], length, IsTrue};
+ghost use Rattle.std.specs.Prelude.{◌≡◌, ◌++◌, ◌↔◌, [], length, IsTrue, OnOk};
 ghost use Rattle.std.specs.List.{list_all, zip};
 ghost use Rattle.std.specs.Str.{bytes_eq};
+ghost use Rattle.suite_content.specs.Written.{with_commas};
 
 use crate::folder_names::FolderNames;
+use crate::gathering::append_behind_commas;
 use crate::name::Name;
 use std::alloc::AllocError;
 use std::marker::Model;
@@ -78,6 +80,17 @@ impl NameList {
         ensures { IsTrue result ↔ (self.now ≡ []) }
     {
         self.folder.is_empty()
+    }
+
+    /// Writes the names, with a comma between each two.
+    pub fn append(&self, out: &mut Vec<u8>) -> Result<(), AllocError>
+        ensures { OnOk result (out.new.items ≡ out.old.items ++ with_commas self.now) }
+    {
+        let [first, more @ ..] = self.folder.as_slice() else {
+            return Ok(());
+        };
+        first.0.append(out)?;
+        append_behind_commas(more, out)
     }
 
     /// The names one by one, in byte order.

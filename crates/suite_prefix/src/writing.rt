@@ -2,9 +2,8 @@
 
 ghost use Rattle.std.specs.Prelude.{◌≡◌, ◌++◌, ◌*◌, ◌<◌, ◌≤◌, length, OnOk, IfOk};
 ghost use Rattle.suite_content.specs.Limits.{max_names};
-ghost use Rattle.std.specs.List.{flat_map};
 ghost use Rattle.suite_prefix.specs.Copies.{IsCopy, IsContent};
-ghost use Rattle.suite_prefix.specs.Bytes.{NoneBeginsAnother, bytes_in, bytes_of, prefix_bytes, identity_bytes, list_bytes, lists_bytes, entry_bytes, votes_bytes, representative_bytes, content_bytes, name_bytes, kind_code, tag_code};
+ghost use Rattle.suite_prefix.specs.Bytes.{NoneBeginsAnother, bytes_in, bytes_of, prefix_bytes, identity_bytes, list_bytes, lists_bytes, entry_bytes, votes_bytes, representative_bytes, content_bytes, kind_code, tag_code};
 ghost use Rattle.acl_core.specs.Tags.{qualifier};
 ghost use Rattle.suite_prefix.specs.TwoLists.{default_entries};
 
@@ -13,7 +12,7 @@ use crate::forms::Form;
 use acl_core::{Acl, Entry, Lists, Tag};
 use bitflags::Flags;
 use std::alloc::{AllocError, Global};
-use suite_content::{Content, MAX_NAME, Name};
+use suite_content::{Content, Name};
 use vote_core::Votes;
 
 /// The bytes of a valid copy, in the form that is written.
@@ -52,14 +51,14 @@ pub(crate) fn room_for_prefix(prefix: &Prefix) -> usize {
         .saturating_add(33)
 }
 
-/// As many bytes as a content takes, and behind names room for what is written of one and cut off.
+/// As many bytes as a content takes.
 fn room_for(content: &Content) -> usize
     requires { IsContent content.now }
     ensures { result ≤ 131072 }
 {
     match content {
         Content::Bytes(bytes) => 4 + bytes.len(),
-        Content::Names(names) => 2 + room_for_names(names.as_slice()) + MAX_NAME,
+        Content::Names(names) => 2 + room_for_names(names.as_slice()),
     }
 }
 
@@ -187,17 +186,8 @@ fn put_content(out: &mut Vec<u8>, content: &Content) -> Result<(), AllocError>
         }
         Content::Names(names) => {
             out.extend_from_slice(&(names.len() as u16).to_be_bytes())?;
-            put_names(out, names.as_slice())?;
+            names.append(out)?;
         }
-    }
-    Ok(())
-}
-
-fn put_names(out: &mut Vec<u8>, names: &[(Name, u64)]) -> Result<(), AllocError>
-    ensures { OnOk result (out.new.items ≡ out.old.items ++ flat_map name_bytes names.now) }
-{
-    for (name, suite) in names {
-        name.put(*suite, out)?;
     }
     Ok(())
 }

@@ -100,16 +100,10 @@ fn push_bytes(alloc: Global, text: &mut Vec<u8>, bytes: &FileBytes) -> Result<()
 fn push_names(text: &mut Vec<u8>, names: &NameList) -> Result<(), AllocError>
     ensures { OnOk result (text.new.items ≡ text.old.items ++ names_text names.now) }
 {
-    let mut names = names.iter();
-    let Some(first) = names.next() else {
+    if names.is_empty() {
         return text.extend_from_slice(b"-");
-    };
-    first.append(text)?;
-    for name in names {
-        text.push(b',')?;
-        name.append(text)?;
     }
-    Ok(())
+    names.append(text)
 }
 
 fn push_why(text: &mut Vec<u8>, op: u8, why: Why) -> Result<(), AllocError>
