@@ -25,7 +25,7 @@ abbrev pub name_fault : List (List ℕ × ℕ) → List ℕ → Option NameError
 name_fault table name =
     if not (is_name name) then Some BadName else if is_some (number_in table name) then Some NameTwice else None
 
--- the fault that an answer names; an answer without one is success, or want of memory
+-- the fault that an answer names; an answer without one is success, or says that memory ran out
 abbrev pub fault_in : {T : Type 0} → Result T NameError → Option NameError
 fault_in (Ok done) = None
 fault_in (Err BadName) = Some BadName

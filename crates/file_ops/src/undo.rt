@@ -1,7 +1,7 @@
 //! What an operation changes, with how that is undone.
 //!
 //! A list of operations is taken back at its first refusal, undo by undo, the last one first. No
-//! undo may fail for want of memory: contents, lists, votes and rows are exchanged back, a name
+//! undo may run out of memory: contents, lists, votes and rows are exchanged back, a name
 //! that was put is taken out, and a name that was taken out finds its place in the folder still free.
 
 ghost use Rattle.std.specs.Prelude.{◌≡◌, None, Some, IfOk, OnOk, OnErr};

@@ -22,7 +22,7 @@ parsed help found faults r meets right answers = cc
 parsed topic found faults r meets right answers = cc
 parsed nothing found faults r meets right answers = let bad : are_mistakes [] ≡ true = subst (λ (k : Kinds). are_mistakes k ≡ true) right meets in cc
 
--- want of memory answers anything
+-- being out of memory answers anything
 no_room : (agents : Option ℕ) → AnswersServe agents (Err Memory)
 no_room (Some number) = tt
 no_room None = tt

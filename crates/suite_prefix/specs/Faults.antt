@@ -76,7 +76,7 @@ pub record IsOfValidCopy (bytes : List ℕ) : Type 0 where
   pub valid : IsCopy copy
   pub has_them : AreBytesOf copy bytes
 
--- why nothing is read: a fault, or want of memory alone
+-- why nothing is read: a fault, or being out of memory alone
 abbrev pub Explains : List ℕ → DecodeError → Type 0
 Explains bytes (errors.Fault fault) = IsShapeFault bytes fault
 Explains bytes errors.Memory = IsOfValidCopy bytes

@@ -86,7 +86,7 @@ pub record IsWhole (shape : Shape) (rest : List ℕ) : Type 0 where
   pub copy : SpellsCopy shape
   pub ended : rest ≡ []
 
--- why a shape is not made a copy: a fault, or want of memory alone
+-- why a shape is not made a copy: a fault, or being out of memory alone
 abbrev pub Refuses : Shape → List ℕ → DecodeError → Type 0
 Refuses shape rest (errors.Fault fault) = IsFaultOf shape rest fault
 Refuses shape rest errors.Memory = IsWhole shape rest
