@@ -1,9 +1,11 @@
 -- How far a transaction came, and how it goes on from there.
 use Rattle.std.proofs.Common.{◌≡◌, ℕ, ◌+◌, ◌<◌, ◌≤◌, Bool, true, false, Option, Some, None, List, [], ◌∷◌, ◌++◌, length, get_or, take, drop, Result, Ok, Err, arith, refl, sym, ap, subst, ◌∙◌}
-use Rattle.std.specs.Prelude.{not, ◌&&◌}
+use Rattle.std.specs.Prelude.{cond, not, ◌&&◌}
 use Rattle.std.proofs.lemmas.List.{take-append-drop, take_more, drop_more, length-take}
 use Rattle.acl_core.specs.Identity.{Identity}
 use Rattle.suite_content.specs.Contents.{kind_of}
+use Rattle.suite_content.specs.Folders.{same_names}
+use Rattle.suite_content.specs.code.Equality.{same_names_decides}
 use Rattle.suite_content.specs.declared.content.Kind.{Kind}
 use Rattle.suite_content.specs.declared.content.Kind.TheVariants.{File, Folder}
 use Rattle.file_ops.specs.declared.answer.Answer.{Answer}
@@ -21,6 +23,8 @@ use Rattle.file_exec.specs.Operations.{operation, play, walk}
 use Rattle.file_exec.specs.Reaching.{Reached, Leads, walked, walked_next, IsReached, UnbegunIsReached, ReachedStays, is_of_kind, fits_row, takes, TakingTellsMore}
 use Rattle.file_exec.specs.Runs.{run, then_run}
 use Rattle.file_exec.specs.code.Steps.{Runs}
+use Rattle.file_exec.specs.code.Ways.{LeadsTo, only_reads, from_root, point_after}
+use Rattle.file_exec.specs.declared.progress.WalkPoint.{WalkPoint}
 use Rattle.file_exec.proofs.Meeting.{opening_meets}
 use Rattle.file_exec.proofs.More.{done_stays}
 use Rattle.file_exec.proofs.Playing.{named, run_at_place, parts, one_more, begins, begun_first}
@@ -103,16 +107,31 @@ module _ (service : Service) (known : Known) (t : ℕ) (caller : Identity) (ops 
     pub comes_on : (depth suite : ℕ) → Leads known reached.edits caller (walked op) depth suite → IsReached service known t caller ops (record reached { depth = depth; suite = suite })
     comes_on depth suite leads = record { done = is.done; led = subst (λ left. Leads known reached.edits caller (walked_next left) depth suite) (sym next_is) leads }
 
-    -- or be done
-    pub done_too : (answer : Answer) (after : Edits) → Runs (λ answer. answer) (Ok answer) known reached.edits after (operation service t reached.at caller op)
-        → IsReached service known t caller ops (record { at = reached.at + 1; answers = reached.answers ++ answer ∷ []; edits = after; suite = root; depth = 0 })
-    done_too answer after gave = record {
+    -- or be done, and the walk of the one after it led to a suite
+    pub done_too : (answer : Answer) (after : Edits) (point : WalkPoint) → Runs (λ answer. answer) (Ok answer) known reached.edits after (operation service t reached.at caller op)
+        → LeadsTo known after caller (walked_next (drop (reached.at + 1) ops)) point
+        → IsReached service known t caller ops (record { at = reached.at + 1; answers = reached.answers ++ answer ∷ []; edits = after; suite = point.suite; depth = point.depth })
+    done_too answer after point gave leads = record {
       done = ap (λ ops. run known [] (play service [] t 0 caller ops)) (take_more ops reached.at op below ∙ ap (λ op. take reached.at ops ++ op ∷ []) (sym is_op))
           ∙ parts known service t caller [] [] 0 reached.at (take reached.at ops) (op ∷ []) (grind (arith, length-take))
           ∙ ap (then_run known (λ answers. play service answers t reached.at caller (op ∷ []))) is.done
           ∙ one_more known service t caller reached.edits after reached.answers reached.at op [] answer gave;
-      led = refl;
+      led = leads;
     }
+
+-- ---- an operation that sets nothing leaves its walk to the next one
+
+module _ (known : Known) (caller : Identity) (before after : Edits) (op : Op) (point : WalkPoint) (unset : only_reads op.action ≡ true → after ≡ before) (leads : LeadsTo known before caller (walked op) point) where
+  pub leads_after : (later : List Op) → LeadsTo known after caller (walked_next later) (point_after point op later)
+  leads_after [] = refl
+  leads_after (next ∷ later) = of (only_reads op.action) (same_names (walked op) (walked next)) refl refl
+    where
+      of : (reads alike : Bool) → only_reads op.action ≡ reads → same_names (walked op) (walked next) ≡ alike → LeadsTo known after caller (walked next) (cond (reads && alike) point from_root)
+      of true true reads alike =
+          subst (λ edits. LeadsTo known edits caller (walked next) point) (sym (unset reads))
+          (subst (λ names. LeadsTo known before caller names point) ((same_names_decides (walked op) (walked next)).0 alike) leads)
+      of true false reads alike = refl
+      of false alike reads is = refl
 
 -- ---- memory is asked for only once the first operation gave something
 

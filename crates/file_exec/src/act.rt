@@ -12,7 +12,7 @@ ghost use Rattle.file_exec.specs.Known.{is_held, known_of};
 ghost use Rattle.file_exec.specs.Operations.{bytes_read, names_listed, list_shown, votes_shown, bytes_written, list_set, dropped};
 ghost use Rattle.file_exec.specs.code.Steps.{Answers, Runs, Sees, set_both, unused};
 ghost use Rattle.file_exec.specs.code.Acting.{Acts, LeadsFor, operation_at, votes_set_for, made_for, name_edit, row_edit, row_for};
-ghost use Rattle.file_exec.specs.code.Ways.{LeadsTo};
+ghost use Rattle.file_exec.specs.code.Ways.{LeadsTo, only_reads};
 ghost use Rattle.file_exec.specs.Reaching.{folders_in, walked};
 
 use crate::edit_log::{Edit, EditLog};
@@ -406,6 +406,7 @@ pub(crate) fn operate(
     requires point { LeadsFor transaction log.old (walked op.now) point.old }
     ensures answer { Acts result transaction.entry log.old log.new (operation_at transaction.entry at op.now) }
     ensures kept { OnErr result (log.new ≡ log.old) }
+    ensures read { only_reads op.now.action ≡ true → log.new ≡ log.old }
     ensures point { LeadsFor transaction.entry log.old (walked op.now) point.new }
 {
     let names = op.path.names().ok_or(Why::BadPath)?;

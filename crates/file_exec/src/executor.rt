@@ -16,7 +16,7 @@ use crate::changes::Changes;
 use crate::known::Known;
 use crate::laws::unbegun_is_reached;
 use crate::need::Need;
-use crate::progress::{Progress, Stage, WalkPoint};
+use crate::progress::{Progress, Stage};
 use crate::stop::Stop;
 use acl_core::Caller;
 use file_ops::{Answers, MAX_OPERATIONS, Op, Refusal, Why};
@@ -99,14 +99,18 @@ fn play_on(
         let at = stage.at;
         let op = &ops[usize::from(at)];
         match operate(transaction, &mut stage.log, at, op, &mut stage.point) {
-            Ok(answer) => stage.answers.push(answer)?,
+            Ok(answer) => {
+                // Room for all the answers is taken at once.
+                stage.answers.reserve(ops.len() - usize::from(at))?;
+                stage.answers.push(answer)?;
+            }
             Err(stop) => {
                 let outcome = end(at, stop)?;
                 return Ok(Some(outcome));
             }
         }
         stage.at = at + 1;
-        stage.point = WalkPoint::new();
+        stage.point = stage.point.after(op, &ops[usize::from(at) + 1..]);
     }
     Ok(None)
 }

@@ -1,17 +1,16 @@
 //! How far a transaction came on what was known.
 
 ghost use Rattle.std.specs.Prelude.{◌≡◌};
-ghost use Rattle.file_exec.specs.Reaching.{unbegun};
-ghost use Rattle.file_exec.specs.code.Ways.{reached_of};
+ghost use Rattle.file_ops.specs.Operations.{last_name};
+ghost use Rattle.file_exec.specs.Reaching.{unbegun, folders_in, walked};
+ghost use Rattle.file_exec.specs.code.Ways.{reached_of, only_reads, point_after};
 
 use crate::edit_log::EditLog;
-use file_ops::Answer;
+use file_ops::{Action, Answer, Op, ROOT, last_name};
 use std::alloc::Global;
 use std::marker::Model;
 use std::mem;
-
-/// The number of the root folder.
-const ROOT: u64 = 0;
+use suite_content::Name;
 
 /// How far the walk of an operation came: to this suite, by so many names.
 #[derive(Clone, Copy)]
@@ -30,6 +29,50 @@ impl WalkPoint {
             suite: ROOT,
             depth: 0,
         }
+    }
+
+    /// Where the walk of the next operation begins, after an operation whose walk came so far. One that sets
+    /// nothing leaves its walk to the next one, if that walks along the same names.
+    pub(crate) fn after(self, op: &Op, later: &[Op]) -> WalkPoint
+        ensures { result ≡ point_after self op.now later.now }
+    {
+        match later.first() {
+            Some(next) if only_reads(&op.action) && walked(op) == walked(next) => self,
+            _ => WalkPoint::new(),
+        }
+    }
+}
+
+/// Whether it sets nothing.
+fn only_reads(action: &Action) -> bool
+    ensures { result ≡ only_reads action.now }
+{
+    matches!(
+        action,
+        Action::Read | Action::List | Action::GetAcl | Action::GetVotes
+    )
+}
+
+/// The names that an operation walks along: where a name is made or dropped, those of the folder.
+fn walked(op: &Op) -> &[Name]
+    ensures { result.now ≡ walked op.now }
+{
+    let Some(names) = op.path.names() else {
+        return &[];
+    };
+    match op.action {
+        Action::Make(_, _, _) | Action::Drop => folders_in(names),
+        _ => names,
+    }
+}
+
+/// The names before the last one; `/` has none.
+fn folders_in(names: &[Name]) -> &[Name]
+    ensures { result.now ≡ folders_in (last_name names.now) }
+{
+    match last_name(names) {
+        Ok((_, folders)) => folders,
+        Err(_) => &[],
     }
 }
 

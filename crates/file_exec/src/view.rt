@@ -126,6 +126,7 @@ impl<'a, 'k> View<'a, 'k> {
     }
 
     /// A suite with its row, which is to be held in this mode.
+    #[inline(always)]
     fn held(self, suite: u64, mode: LockMode) -> Result<Place<'a>, Stop>
         ensures place { Sees seen_place result self.entry (held suite mode) }
         ensures suite { IfOk result (λ place. place.suite ≡ suite) }

@@ -1,12 +1,14 @@
-use Rattle.std.proofs.Common.{◌≡◌, ◌+◌, ◌<◌, ◌∷◌, length, get_or, drop, Result, Ok, Err, ap, subst, ◌∙◌}
+use Rattle.std.proofs.Common.{◌≡◌, ◌+◌, ◌<◌, ◌∷◌, length, get_or, drop, Result, Ok, Err, ap, sym, subst, ◌∙◌}
 use Rattle.std.specs.Prelude.{IfOk, OnErr}
+use Rattle.std.proofs.lemmas.List.{take_rest}
 use Rattle.file_exec.specs.Changes.{answered}
 use Rattle.file_exec.specs.Known.{is_given}
 use Rattle.file_exec.specs.Operations.{operation, play}
 use Rattle.file_exec.specs.Runs.{run}
-use Rattle.file_exec.specs.code.Ways.{reached_of}
+use Rattle.file_exec.specs.Reaching.{walked_next}
+use Rattle.file_exec.specs.code.Ways.{LeadsTo, point_after, reached_of}
 use Rattle.file_exec.proofs.Playing.{one_ends, ends_given}
-use Rattle.file_exec.proofs.Reaching.{plays_next, done_too, given_first}
+use Rattle.file_exec.proofs.Reaching.{plays_next, done_too, leads_after, given_first}
 use Rattle.file_exec.proofs.executor.play_on.Goals as goal
 
 on_err : {A E P : Type 0} (result : Result A E) → P → OnErr result P
@@ -21,10 +23,17 @@ from_ok : {A E : Type 0} (P : A → Type 0) (result : Result A E) (x : A) → re
 from_ok P (Ok other) x is holds = let same : other ≡ x = cc in subst P same holds
 from_ok P (Err e) x is holds = cc
 
+pub returns-in_err-reserve-in-Ok-clause-first : goal.returns-in_err-reserve-in-Ok-clause-first
+returns-in_err-reserve-in-Ok-clause-first c =
+    let known = c.args.transaction.known.now in
+    on_err c.from_residual.result
+    (given_first known.service known.suites c.args.transaction.t c.args.transaction.caller.now c.args.ops.now (reached_of c.loop-at.stage) c.loop-at.invariant c.index-ops-from.result (subst (λ at. at < length c.args.ops.now) c.from.ensures c.loop-at-test.true) (c.index-ops-from.is ∙ ap (λ at. get_or c.args.ops.now at c.index-ops-from.result) c.from-in-loop-at.ensures)
+    (ap is_given c.in-Ok.ensures.answer.told))
+
 pub returns-in_err-push-in-Ok-clause-first : goal.returns-in_err-push-in-Ok-clause-first
 returns-in_err-push-in-Ok-clause-first c =
     let known = c.args.transaction.known.now in
-    on_err c.from_residual.result
+    on_err c.from_residual-in_err-push-in-Ok.result
     (given_first known.service known.suites c.args.transaction.t c.args.transaction.caller.now c.args.ops.now (reached_of c.loop-at.stage) c.loop-at.invariant c.index-ops-from.result (subst (λ at. at < length c.args.ops.now) c.from.ensures c.loop-at-test.true) (c.index-ops-from.is ∙ ap (λ at. get_or c.args.ops.now at c.index-ops-from.result) c.from-in-loop-at.ensures)
     (ap is_given c.in-Ok.ensures.answer.told))
 
@@ -46,5 +55,12 @@ returns-in-Err-clause-ends c =
 pub loop-at-preserved : goal.loop-at-preserved
 loop-at-preserved c =
     let known = c.args.transaction.known.now in
-    rw (c.in_ok-push-in-Ok.ensures.items, c.new-stage.ensures.suite, c.new-stage.ensures.depth)
-    (done_too known.service known.suites c.args.transaction.t c.args.transaction.caller.now c.args.ops.now (reached_of c.loop-at.stage) c.loop-at.invariant c.index-ops-from.result (subst (λ at. at < length c.args.ops.now) c.from.ensures c.loop-at-test.true) (c.index-ops-from.is ∙ ap (λ at. get_or c.args.ops.now at c.index-ops-from.result) c.from-in-loop-at.ensures) c.in-Ok.answer c.operate.new.log c.in-Ok.ensures.answer)
+    let caller = c.args.transaction.caller.now in
+    let op = c.index-ops-from.result in
+    let begins = c.after-stage.ensures
+    ∙ ap (point_after c.operate.new.point op) (take_rest c.args.ops.now (c.from-in-loop-at-2.result + 1))
+    ∙ ap (λ at. point_after c.operate.new.point op (drop (at + 1) c.args.ops.now)) c.from-in-loop-at-2.ensures in
+    let leads = subst (λ point. LeadsTo known.suites c.operate.new.log caller (walked_next (drop (c.loop-at.stage.at + 1) c.args.ops.now)) point) (sym begins)
+    (leads_after known.suites caller c.loop-at.stage.log c.operate.new.log op c.operate.new.point c.in-Ok.ensures.read c.in-Ok.ensures.point (drop (c.loop-at.stage.at + 1) c.args.ops.now)) in
+    rw (c.in_ok-push-in-Ok.ensures.items, c.reserve.ensures.items)
+    (done_too known.service known.suites c.args.transaction.t caller c.args.ops.now (reached_of c.loop-at.stage) c.loop-at.invariant op (subst (λ at. at < length c.args.ops.now) c.from.ensures c.loop-at-test.true) (c.index-ops-from.is ∙ ap (λ at. get_or c.args.ops.now at op) c.from-in-loop-at.ensures) c.in-Ok.answer c.operate.new.log c.after-stage.result c.in-Ok.ensures.answer leads)
