@@ -34,3 +34,4 @@ mod RisingParts
 mod SuiteHolders
 mod SettledLocks
 mod Listing
+pub mod ClosedTables

@@ -1,4 +1,4 @@
--- Which requests may want memory to be made once more. The others take none.
+-- Which requests may need memory to be made once more. The others take none.
 use Rattle.std.specs.Prelude.{Bool, true, false}
 use Rattle.rep_core.specs.declared.request.Decision.{Decision}
 use Rattle.rep_core.specs.declared.request.Decision.TheVariants as decision

@@ -1,6 +1,6 @@
 //! What a server would answer and do, found and made room for before anything is changed.
 
-ghost use Rattle.std.specs.Prelude.{◌≡◌, ◌≢◌, ◌↔◌, ◌&&◌, ◌==◌, ◌<◌, false, true, is_some, IfOk, IsOk, OnOk, IsTrue, Err, None};
+ghost use Rattle.std.specs.Prelude.{◌≡◌, ◌≢◌, ◌↔◌, ◌&&◌, ◌==◌, ◌<◌, false, true, is_some, IfOk, OnOk, IsTrue, Err, None};
 ghost use Rattle.std.specs.List.{list_all, list_any};
 ghost use Rattle.suite_prefix.specs.declared.lock_mode.LockMode.TheVariants.{Exclusive};
 ghost use Rattle.rep_core.specs.declared.stamped.Lack.TheVariants.{Full, Memory};
@@ -82,13 +82,13 @@ impl ServerState {
         ensures bare { IsTrue (serving.is_bare (service.reply_up (state_of self.old) request.now)) → result ≢ Err Memory }
     {
         match request {
-            Request::Poll { t, suite, mode } => Ok(self.fill_lock(*t, *suite, *mode, reply)?),
-            Request::Upgrade { t, suite } => Ok(self.fill_upgrade(*t, *suite, reply)?),
-            Request::Fetch { t, suite } => Ok(self.fill_fetch(*t, *suite, reply)?),
+            Request::Poll { t, suite, mode } => self.fill_lock(*t, *suite, *mode, reply),
+            Request::Upgrade { t, suite } => self.fill_upgrade(*t, *suite, reply),
+            Request::Fetch { t, suite } => self.fill_fetch(*t, *suite, reply),
             Request::Prepare { t, parts } => self.fill_parts(*t, parts.as_slice(), reply),
-            Request::Decide { t, decision } => Ok(self.fill_decision(*t, decision, reply)?),
-            Request::Resolve { t } => Ok(self.fill_record(*t, Verdict::Aborted, reply)?),
-            Request::Locks => Ok(self.fill_list(reply)?),
+            Request::Decide { t, decision } => self.fill_decision(*t, decision, reply),
+            Request::Resolve { t } => self.fill_record(*t, Verdict::Aborted, reply),
+            Request::Locks => self.fill_list(reply),
             Request::Finish { .. } | Request::Break { .. } | Request::Crash => {
                 *reply = Reply::Done;
                 Ok(Change::Asked)
@@ -107,13 +107,14 @@ impl ServerState {
         suite: u64,
         mode: LockMode,
         reply: &mut Reply,
-    ) -> Result<Change, AllocError>
+    ) -> Result<Change, Lack>
         ensures reply { OnOk result (reply.new ≡ service.poll_reply (state_of self.old) t suite mode) }
         ensures same { state_of self.new ≡ state_of self.old }
         ensures change { IfOk result (λ change. change ≡ stepping.unless (locking.in_the_way t suite mode (state_of self.old).locks)) }
         ensures room { IfOk result (λ change. change ≡ Asked → 0 < self.new.locks.room) }
         ensures free { IfOk result (λ change. change ≡ Asked → locking.in_the_way t suite mode (state_of self.new).locks ≡ None) }
-        ensures bare { IsTrue (serving.is_bare (service.poll_reply (state_of self.old) t suite mode)) → IsOk result }
+        ensures full { result ≢ Err Full }
+        ensures bare { IsTrue (serving.is_bare (service.poll_reply (state_of self.old) t suite mode)) → result ≢ Err Memory }
     {
         match self.locks.in_the_way(t, suite, mode) {
             Some(other) => {
@@ -133,12 +134,13 @@ impl ServerState {
     }
 
     /// To make a lock exclusive.
-    fn fill_upgrade(&mut self, t: u64, suite: u64, reply: &mut Reply) -> Result<Change, AllocError>
+    fn fill_upgrade(&mut self, t: u64, suite: u64, reply: &mut Reply) -> Result<Change, Lack>
         ensures reply { OnOk result (reply.new ≡ service.upgrade_reply (state_of self.old) t suite) }
         ensures same { state_of self.new ≡ state_of self.old }
         ensures change { IfOk result (λ change. applied change (Request.Upgrade t suite) (state_of self.old) ≡ after_upgrade (state_of self.old) t suite) }
         ensures room { IfOk result (λ change. stepping.HasRoom change (Request.Upgrade t suite) (stepping.roomed_of self.new)) }
-        ensures bare { IsTrue (serving.is_bare (service.upgrade_reply (state_of self.old) t suite)) → IsOk result }
+        ensures full { result ≢ Err Full }
+        ensures bare { IsTrue (serving.is_bare (service.upgrade_reply (state_of self.old) t suite)) → result ≢ Err Memory }
     {
         if locks::has_lock(self.locks.as_slice(), t, suite) {
             self.fill_lock(t, suite, LockMode::Exclusive, reply)
@@ -149,11 +151,12 @@ impl ServerState {
     }
 
     /// To tell a content.
-    fn fill_fetch(&mut self, t: u64, suite: u64, reply: &mut Reply) -> Result<Change, AllocError>
+    fn fill_fetch(&mut self, t: u64, suite: u64, reply: &mut Reply) -> Result<Change, Lack>
         ensures reply { OnOk result (reply.new ≡ service.fetch_reply (state_of self.old) t suite) }
         ensures same { state_of self.new ≡ state_of self.old }
         ensures change { IfOk result (λ change. change ≡ Change.Nothing) }
-        ensures bare { IsTrue (serving.is_bare (service.fetch_reply (state_of self.old) t suite)) → IsOk result }
+        ensures full { result ≢ Err Full }
+        ensures bare { IsTrue (serving.is_bare (service.fetch_reply (state_of self.old) t suite)) → result ≢ Err Memory }
     {
         if locks::has_lock(self.locks.as_slice(), t, suite) {
             self.store.keep_content(suite)?;
@@ -195,12 +198,13 @@ impl ServerState {
         t: u64,
         decision: &Decision,
         reply: &mut Reply,
-    ) -> Result<Change, AllocError>
+    ) -> Result<Change, Lack>
         ensures reply { OnOk result (reply.new ≡ Reply.Verdict (service.recorded (record_of (state_of self.old) t) (service.verdict_of decision.now))) }
         ensures same { state_of self.new ≡ state_of self.old }
         ensures change { IfOk result (λ change. change ≡ stepping.unrecorded (record_of (state_of self.old) t) (service.verdict_of decision.now)) }
         ensures room { IfOk result (λ change. record_of (state_of self.old) t ≡ None → 0 < room_for t self.new.verdicts.rooms) }
         ensures audit { OnOk result (is_some (service.audit_of t decision.now) ≡ true → vec_len self.new.audit < vec_capacity self.new.audit) }
+        ensures full { result ≢ Err Full }
     {
         if audit_of(t, decision).is_some() {
             self.audit.reserve(1)?;
@@ -209,17 +213,13 @@ impl ServerState {
     }
 
     /// To record a verdict, where no record stands.
-    fn fill_record(
-        &mut self,
-        t: u64,
-        verdict: Verdict,
-        reply: &mut Reply,
-    ) -> Result<Change, AllocError>
+    fn fill_record(&mut self, t: u64, verdict: Verdict, reply: &mut Reply) -> Result<Change, Lack>
         ensures reply { OnOk result (reply.new ≡ Reply.Verdict (service.recorded (record_of (state_of self.old) t) verdict)) }
         ensures same { state_of self.new ≡ state_of self.old }
         ensures change { IfOk result (λ change. change ≡ stepping.unrecorded (record_of (state_of self.old) t) verdict) }
         ensures room { OnOk result (record_of (state_of self.old) t ≡ None → 0 < room_for t self.new.verdicts.rooms) }
         ensures audit { self.new.audit ≡ self.old.audit }
+        ensures full { result ≢ Err Full }
     {
         if let Some(standing) = self.verdicts.get(t) {
             *reply = Reply::Verdict(standing.clone()?);
@@ -231,9 +231,10 @@ impl ServerState {
     }
 
     /// To tell the locks.
-    fn fill_list(&self, reply: &mut Reply) -> Result<Change, AllocError>
+    fn fill_list(&self, reply: &mut Reply) -> Result<Change, Lack>
         ensures reply { OnOk result (reply.new ≡ Reply.Locked (state_of self.now).locks) }
         ensures change { IfOk result (λ change. change ≡ Change.Nothing) }
+        ensures full { result ≢ Err Full }
     {
         let locks = Vec::from_slice(self.alloc, self.locks.as_slice())?;
         *reply = Reply::Locked(LockList::from_vec(locks)?);
@@ -263,6 +264,7 @@ impl ServerState {
 }
 
 /// Of a server that is down.
+#[inline(always)]
 fn fill_down(request: &Request, reply: &mut Reply) -> Change
     ensures reply { reply.new ≡ service.reply_down request.now }
     ensures change { (st : State) → stepping.applied result request.now st ≡ service.after_down st request.now }

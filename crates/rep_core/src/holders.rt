@@ -1,7 +1,7 @@
-//! Who holds locks on a suite: pairs of a suite and a transaction, in this order. Nobody is listed while the locks are few,
-//! and can be looked through; from then on all are, until no lock is left.
+//! Who holds locks on a suite: pairs of a suite and a transaction, in this order. Nobody is listed while the locks are
+//! few, and can be looked through; from then on all are, until no lock is left or a sweep lets go of many.
 
-ghost use Rattle.std.specs.Prelude.{◌≡◌, ◌≢◌, ◌+◌, ◌<◌, ◌≤◌, [], length, filter, find, nat_lt, not, option_map, OnOk};
+ghost use Rattle.std.specs.Prelude.{◌≡◌, ◌≢◌, ◌+◌, ◌<◌, ◌≤◌, [], length, filter, find, nat_lt, not, option_map, slice_range, OnOk};
 ghost use Rattle.sorted_map.specs.SortedMap.{IsOrdered, insert};
 ghost use Rattle.rep_core.specs.code.Holders as holding;
 ghost use Rattle.rep_core.specs.code.Holders.{holder_cmp, is_other, told_other, other_in, listed_or, spare, with_holders, without, without_one};
@@ -12,6 +12,10 @@ use std::alloc::AllocError;
 
 /// So many locks at most are looked through, with nobody listed.
 const FEW: usize = 64;
+
+/// Of more locks than these nobody is listed any more once the first transaction lets its own go: mostly a sweep lets
+/// one transaction go after the other.
+const MANY: usize = 1_024;
 
 /// The least transaction but this one that holds a lock on a suite: the first on the suite, or the one behind it.
 pub(crate) fn first_other(holders: &[((u64, u64), ())], t: u64, suite: u64) -> Option<u64>
@@ -83,13 +87,19 @@ pub(crate) fn make_room(
     holders.reserve(unlisted + 1)
 }
 
-/// Lists who holds a lock that is set beside these, unless they are few and nobody is listed.
+/// Lists who holds a lock that is set beside these, unless nobody is listed and they are few, or few were set since.
 #[inline(always)]
-pub(crate) fn hold(holders: &mut RoomyMap<(u64, u64), ()>, locks: &[Lock], t: u64, suite: u64)
+pub(crate) fn hold(
+    holders: &mut RoomyMap<(u64, u64), ()>,
+    locks: &[Lock],
+    sets: usize,
+    t: u64,
+    suite: u64,
+)
     requires { 0 < spare locks.now holders.old.pairs holders.old.room }
     ensures { holders.new.pairs ≢ [] → holders.new.pairs ≡ insert holder_cmp (listed_or locks.now holders.old.pairs) (suite, t) tt }
 {
-    if holders.is_empty() && locks.len() < FEW {
+    if holders.is_empty() && (locks.len() < FEW || sets < FEW) {
         return;
     }
     hold_listed(holders, locks, t, suite);
@@ -126,8 +136,29 @@ fn hold_all(holders: &mut RoomyMap<(u64, u64), ()>, locks: &[Lock])
     }
 }
 
+/// Takes out who holds the locks between two places, or all, where those are the first of many. Then none were set
+/// since.
+pub(crate) fn forget(
+    holders: &mut RoomyMap<(u64, u64), ()>,
+    sets: &mut usize,
+    locks: &[Lock],
+    start: usize,
+    end: usize,
+)
+    requires order { start ≤ end }
+    requires within { end ≤ length locks.now }
+    ensures { holders.new.pairs ≢ [] → holders.new.pairs ≡ without (slice_range locks.now start end) holders.old.pairs }
+{
+    if start == 0 && end > 0 && locks.len() > MANY {
+        holders.retain(|_holder| false);
+        *sets = 0;
+        return;
+    }
+    forget_all(holders, &locks[start..end]);
+}
+
 /// Takes out who holds these locks.
-pub(crate) fn forget_all(holders: &mut RoomyMap<(u64, u64), ()>, locks: &[Lock])
+fn forget_all(holders: &mut RoomyMap<(u64, u64), ()>, locks: &[Lock])
     ensures { holders.new.pairs ≡ without locks.now holders.old.pairs }
 {
     for lock in locks {

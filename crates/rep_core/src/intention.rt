@@ -3,7 +3,8 @@
 use std::alloc::AllocError;
 use suite_prefix::StoredCopy;
 
-/// What a prepared transaction leaves of a suite once it is decided, and whether it takes a whole copy. The bytes are shared by clones.
+/// What a prepared transaction leaves of a suite once it is decided, and whether it takes a whole copy. The bytes are
+/// shared by clones.
 #[derive(Drop)]
 pub(crate) struct Planned {
     pub(crate) t: u64,

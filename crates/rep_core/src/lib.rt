@@ -38,13 +38,14 @@
 //! `settled` save searches through them.
 //!
 //! **Files**: `lock`, `request`, `reply`, `stamped`, `takes`, `fitting`, `intention`, `store`, `maps`, `copying`,
-//! `holders`, `settled`, `locks`, `verdicts`, `step`, `server_state`, `evaluate`, `server`, `effect`, `types_fit`,
-//! `laws`.
+//! `holders`, `settled`, `closing`, `preparing`, `locks`, `verdicts`, `step`, `server_state`, `evaluate`, `server`,
+//! `effect`, `types_fit`, `laws`.
 //!
 //! **Definitions** (`specs/`): `Locks`, `Intentions`, `Store`, `State`, `Service`, `Serving`, `Fits`, `Roomed`,
 //! `Evaluated`, `Wanting`; of the laws `Consistency`, `Steps`, `ValidCopies`, `Laws`.
 #![tactic(auto)]
 
+mod closing;
 mod copying;
 mod effect;
 mod evaluate;
@@ -55,6 +56,7 @@ mod laws;
 mod lock;
 mod locks;
 mod maps;
+mod preparing;
 mod reply;
 mod request;
 mod server;

@@ -2,7 +2,7 @@
 //! one transaction, of their suites.
 
 ghost use Rattle.std.specs.Prelude.{◌≡◌, ◌≤◌, ◌<◌, [], None, length, IsTrue, IfOk, OnOk, find, filter, get_or, count_by, not, nat_lt, ◌==◌, ◌&&◌, ◌||◌, is_some, insert};
-ghost use Rattle.std.specs.List.{list_any, list_all, remove_range};
+ghost use Rattle.std.specs.List.{list_any, list_all};
 ghost use Rattle.std.specs.Vec.{vec_len, vec_capacity};
 ghost use Rattle.suite_prefix.specs.LockModes.{serves};
 ghost use Rattle.rep_core.specs.Locks as locking;
@@ -10,8 +10,10 @@ ghost use Rattle.rep_core.specs.declared.lock.Lock.{Lock};
 ghost use Rattle.rep_core.specs.code.Holders.{AreHeld, if_conflict};
 ghost use Rattle.rep_core.specs.code.Ranges.{IsRangeOf, IsRunOf, IsPlaceOf};
 
-use crate::holders::{first_other, forget_all, hold, make_room};
+use crate::closing::{close, release};
+use crate::holders::{first_other, forget, hold, make_room};
 use crate::lock::Lock;
+use crate::preparing::prepare;
 use crate::request::Part;
 use crate::settled::{all_prepared, forget_unsettled, still_settled};
 use sorted_map::RoomyMap;
@@ -23,17 +25,22 @@ use suite_prefix::LockMode;
 const NEAR: usize = 8;
 
 /// The locks of a server by transaction, and beside them by suite who holds them, once they are more than a few. An
-/// exclusive one stands alone on its suite. It shows how many new ones it takes without memory. The first `settled` locks are prepared: a crash looks at the
-/// others only.
+/// exclusive one stands alone on its suite. It shows how many new ones it takes without memory.
+///
+/// The first `gone` in the vector were let go: their places are closed when the others are changed. The first `settled`
+/// of the others are prepared: a crash looks at those behind them only. So many locks as `sets` tells were set since
+/// nobody was listed any more.
 #[derive(Drop)]
 pub(crate) struct LockTable {
     locks: Vec<Lock>,
+    gone: usize,
     holders: RoomyMap<(u64, u64), ()>,
+    sets: usize,
     settled: usize,
 }
 
 impl Model for LockTable {
-    ghost use Rattle.std.specs.Prelude.{◌-◌, min, IsTrue};
+    ghost use Rattle.std.specs.Prelude.{◌-◌, ◌≤◌, min, drop, length, IsTrue};
     ghost use Rattle.std.specs.Vec.{vec_len, vec_capacity};
     ghost use Rattle.rep_core.specs.code.Holding.{Locking};
     ghost use Rattle.rep_core.specs.code.Holders.{AreListed, are_settled, spare};
@@ -41,11 +48,12 @@ impl Model for LockTable {
     ghost Value = { Locking };
 
     ghost view = { λ table. record {
-      locks = table.locks.items;
-      room = min (vec_capacity table.locks - vec_len table.locks) (spare table.locks.items table.holders.pairs table.holders.room);
+      locks = drop table.gone table.locks.items;
+      room = min (vec_capacity table.locks - vec_len table.locks) (spare (drop table.gone table.locks.items) table.holders.pairs table.holders.room);
     } };
 
-    ghost invariant = { λ table. AreListed table.locks.items table.holders.pairs × IsTrue (are_settled table.settled table.locks.items) };
+    ghost invariant = { λ table. (table.gone ≤ length table.locks.items) × AreListed (drop table.gone table.locks.items) table.holders.pairs
+        × IsTrue (are_settled table.settled (drop table.gone table.locks.items)) };
 }
 
 impl LockTable {
@@ -55,7 +63,9 @@ impl LockTable {
     {
         LockTable {
             locks: Vec::new(alloc),
+            gone: 0,
             holders: RoomyMap::new(alloc),
+            sets: 0,
             settled: 0,
         }
     }
@@ -66,11 +76,12 @@ impl LockTable {
     {
         let locks = Vec::from_slice(*self.locks.allocator(), &self.locks)?;
         let holders = self.holders.clone()?;
-        let settled = self.settled;
         Ok(LockTable {
             locks,
+            gone: self.gone,
             holders,
-            settled,
+            sets: self.sets,
+            settled: self.settled,
         })
     }
 
@@ -79,7 +90,7 @@ impl LockTable {
         ensures locks { result.now ≡ self.now.locks }
         ensures rising { IsTrue (locking.rise result.now) }
     {
-        &self.locks
+        &self.locks[self.gone..]
     }
 
     /// Makes room for a new lock.
@@ -87,7 +98,7 @@ impl LockTable {
         ensures ok { OnOk result (0 < self.new.room) }
         ensures locks { self.new.locks ≡ self.old.locks }
     {
-        make_room(&mut self.holders, &self.locks)?;
+        make_room(&mut self.holders, &self.locks[self.gone..])?;
         self.locks.reserve(1)
     }
 
@@ -97,9 +108,9 @@ impl LockTable {
         ensures { result ≡ locking.in_the_way t suite mode self.now.locks }
     {
         if self.holders.is_empty() {
-            first_in_the_way(&self.locks, t, suite, mode)
+            first_in_the_way(self.as_slice(), t, suite, mode)
         } else {
-            in_the_way(&self.locks, self.holders.as_slice(), t, suite, mode)
+            in_the_way(self.as_slice(), self.holders.as_slice(), t, suite, mode)
         }
     }
 
@@ -110,8 +121,10 @@ impl LockTable {
         requires free { locking.in_the_way t suite mode self.old.locks ≡ None }
         ensures { self.new.locks ≡ locking.locked t suite mode self.old.locks }
     {
+        close(&mut self.locks, &mut self.gone);
         let settled = still_settled(&self.locks, self.settled, t, suite);
-        hold(&mut self.holders, &self.locks, t, suite);
+        self.sets = self.sets.saturating_add(1);
+        hold(&mut self.holders, &self.locks, self.sets, t, suite);
         set_lock(&mut self.locks, t, suite, mode);
         self.settled = settled;
     }
@@ -121,6 +134,7 @@ impl LockTable {
     pub(crate) fn prepare(&mut self, t: u64, parts: &[Part])
         ensures { self.new.locks ≡ locking.with_prepared t parts.now self.old.locks }
     {
+        close(&mut self.locks, &mut self.gone);
         prepare(&mut self.locks, t, parts);
     }
 
@@ -128,6 +142,7 @@ impl LockTable {
     pub(crate) fn keep_prepared(&mut self)
         ensures { self.new.locks ≡ locking.prepared_locks self.old.locks }
     {
+        close(&mut self.locks, &mut self.gone);
         if !all_prepared(&self.locks, self.settled) {
             forget_unsettled(&mut self.holders, &self.locks, self.settled);
             self.locks.retain(|lock| lock.prepared);
@@ -140,9 +155,10 @@ impl LockTable {
     pub(crate) fn release(&mut self, t: u64)
         ensures { self.new.locks ≡ locking.released t self.old.locks }
     {
-        let (start, end) = range_of(&self.locks, t);
-        forget_all(&mut self.holders, &self.locks[start..end]);
-        release(&mut self.locks, start, end);
+        let locks = &self.locks[self.gone..];
+        let (start, end) = range_of(locks, t);
+        forget(&mut self.holders, &mut self.sets, locks, start, end);
+        release(&mut self.locks, &mut self.gone, start, end);
         self.settled = self.settled.min(start);
     }
 
@@ -150,6 +166,7 @@ impl LockTable {
     pub(crate) fn break_lock(&mut self, t: u64, suite: u64)
         ensures { self.new.locks ≡ locking.broken t suite self.old.locks }
     {
+        close(&mut self.locks, &mut self.gone);
         break_lock(&mut self.locks, t, suite);
         if !has_lock(&self.locks, t, suite) {
             self.holders.remove(&(suite, t));
@@ -252,7 +269,7 @@ fn any_prepared(locks: &[Lock]) -> bool
 }
 
 /// Where a transaction's locks stand: the place of the first, and the place behind the last.
-fn range_of(locks: &[Lock], t: u64) -> (usize, usize)
+pub(crate) fn range_of(locks: &[Lock], t: u64) -> (usize, usize)
     requires { IsTrue (locking.rise locks.now) }
     ensures { IsRangeOf t locks.now result.0 result.1 }
 {
@@ -421,60 +438,6 @@ fn raised_lock(t: u64, suite: u64, mode: LockMode, lock: Lock) -> Lock
     } else {
         lock
     }
-}
-
-/// Makes the transaction's locks on the parts' suites prepared.
-fn prepare(locks: &mut [Lock], t: u64, parts: &[Part])
-    requires { IsTrue (locking.rise locks.old) }
-    ensures { locks.new ≡ locking.with_prepared t parts.now locks.old }
-{
-    let (start, end) = range_of(locks, t);
-    prepare_each(&mut locks[start..end], t, parts);
-}
-
-fn prepare_each(locks: &mut [Lock], t: u64, parts: &[Part])
-    ensures { locks.new ≡ locking.with_prepared t parts.now locks.old }
-{
-    for (i, lock) in locks.iter_mut().enumerate() {
-        prepare_lock(lock, t, parts, i);
-    }
-}
-
-/// Makes a lock prepared where its suite is among the parts: at this place, mostly.
-fn prepare_lock(lock: &mut Lock, t: u64, parts: &[Part], place: usize)
-    ensures { lock.new ≡ locking.prepared_lock t parts.now lock.old }
-{
-    if lock.t == t && (is_named_at(parts, place, lock.suite) || is_named(parts, lock.suite)) {
-        lock.prepared = true;
-    }
-}
-
-/// Whether the part at a place names a suite.
-fn is_named_at(parts: &[Part], place: usize, suite: u64) -> bool
-    ensures { IsTrue result → IsTrue (list_any (λ part. part.suite == suite) parts.now) }
-{
-    if place < parts.len() {
-        parts[place].suite == suite
-    } else {
-        false
-    }
-}
-
-fn is_named(parts: &[Part], suite: u64) -> bool
-    ensures { result ≡ list_any (λ part. part.suite == suite) parts.now }
-{
-    parts.iter().any(|part| part.suite == suite)
-}
-
-/// Lets the locks between two places go.
-fn release(locks: &mut Vec<Lock>, start: usize, end: usize)
-    requires order { start ≤ end }
-    requires within { end ≤ length locks.old.items }
-    ensures { locks.new.items ≡ remove_range locks.old.items start end }
-{
-    let left = start + (locks.len() - end);
-    locks.copy_within(end.., start);
-    locks.truncate(left);
 }
 
 /// Lets a lock go that is not prepared.

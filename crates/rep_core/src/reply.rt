@@ -24,7 +24,7 @@ impl Clone for Verdict {
 
     ghost is_clone = { λ verdict copy. copy ≡ verdict };
 
-    /// The same verdict. Only to share answers it may want memory.
+    /// The same verdict. Only to share answers it may need memory.
     fn clone(&self) -> Result<Verdict, AllocError>
         ensures ok { IfOk result (λ copy. copy ≡ self.now) }
         ensures memory { IfErr result (λ _. IsTrue (is_answered self.now)) }

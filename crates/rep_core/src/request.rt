@@ -181,7 +181,7 @@ impl Clone for Decision {
 
     ghost is_clone = { λ decision copy. copy ≡ decision };
 
-    /// The same decision. Only to share answers it may want memory.
+    /// The same decision. Only to share answers it may need memory.
     fn clone(&self) -> Result<Decision, AllocError>
         ensures ok { IfOk result (λ copy. copy ≡ self.now) }
         ensures memory { IfErr result (λ _. IsTrue (records_answers self.now)) }
@@ -245,9 +245,9 @@ pub enum Request {
     Break { t: u64, suite: u64 },
     /// To list the locks.
     Locks,
-    /// To fall down.
+    /// To crash.
     Crash,
-    /// To come up again.
+    /// To restart.
     Return,
 }
 
@@ -257,7 +257,7 @@ impl Clone for Request {
 
     ghost is_clone = { λ request copy. copy ≡ request };
 
-    /// The same request. Only the list of a Prepare may want memory, and answers.
+    /// The same request. Only the list of a Prepare may need memory, and answers.
     fn clone(&self) -> Result<Request, AllocError>
         ensures ok { IfOk result (λ copy. copy ≡ self.now) }
         ensures memory { IfErr result (λ _. IsTrue (by_request self.now)) }

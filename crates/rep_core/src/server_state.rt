@@ -79,9 +79,8 @@ impl ServerState {
         requires { stepping.HasRoom step.change request.now.value (stepping.roomed_of self.old) }
         ensures { state_of self.new ≡ record (stepping.applied step.change request.now.value (state_of self.old)) { stamp = step.stamp } }
     {
-        let Step { stamp, change } = step;
-        self.stamp = stamp;
-        match change {
+        self.stamp = step.stamp;
+        match step.change {
             Change::Nothing => {}
             Change::Asked => self.change(&request.value),
             Change::Intentions(intentions) => self.prepare(&request.value, intentions),
@@ -141,7 +140,7 @@ impl ServerState {
         self.locks.release(t);
     }
 
-    /// Falls down: all but the prepared locks are let go.
+    /// Crashes: all but the prepared locks are let go.
     fn crash(&mut self)
         ensures { state_of self.new ≡ service.after_crash (state_of self.old) }
     {

@@ -1,4 +1,5 @@
-//! Locks of which the first so many are prepared: those that stood at the last crash, and that the next one need not look at.
+//! Locks of which the first so many are prepared: those that stood at the last crash, and that the next one need not
+//! look at.
 
 ghost use Rattle.std.specs.Prelude.{◌≡◌, ◌≤◌, length, drop, filter, not, IsTrue};
 ghost use Rattle.std.specs.List.{list_all};

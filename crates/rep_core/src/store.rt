@@ -22,6 +22,7 @@ use crate::maps::{forget, install, keep_all, keep_content, keep_head};
 use crate::reply::Reply;
 use crate::request::{Part, Take};
 use crate::takes::{any_holds_last, is_keep, is_whole, may_become, take_nothing};
+use file_ops::ROOT;
 use sorted_map::RoomyMap;
 use std::alloc::{AllocError, Global};
 use std::marker::Model;
@@ -31,9 +32,6 @@ use vote_core::Votes;
 
 /// The most suites that a server has a copy or an intention of.
 pub const MAX_SUITES: usize = 4_096;
-
-/// The number of the root folder.
-const ROOT: u64 = 0;
 
 /// The copies and the intentions of a server, by suite, with room for the copies that the intentions
 /// will be; and the prefix of what was never made. It shows how many more intentions it takes without

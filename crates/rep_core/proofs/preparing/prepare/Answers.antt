@@ -1,6 +1,6 @@
 use Rattle.std.proofs.Common.{◌-◌, ap, sym, ◌∙◌}
 use Rattle.rep_core.proofs.Ranges.{with_prepared_in}
-use Rattle.rep_core.proofs.locks.prepare.Goals as goal
+use Rattle.rep_core.proofs.preparing.prepare.Goals as goal
 use borrow.Rule.Slice.PartMut.{put_mid}
 
 pub returns : goal.returns

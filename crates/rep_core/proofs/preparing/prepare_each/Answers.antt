@@ -2,7 +2,7 @@ use Rattle.std.proofs.Common.{◌<◌, length, arith}
 use Rattle.std.proofs.lemmas.List.Edits.{map_over_more}
 use Rattle.std.proofs.lemmas.List.{get_or_default}
 use Rattle.rep_core.specs.Locks.{prepared_lock}
-use Rattle.rep_core.proofs.locks.prepare_each.Goals as goal
+use Rattle.rep_core.proofs.preparing.prepare_each.Goals as goal
 
 pub loop-i-preserved : goal.loop-i-preserved
 loop-i-preserved c =
