@@ -155,7 +155,7 @@ impl Collect {
     }
 
     /// Takes the reply to what was asked next. It is told what the reply says, but for a lock with which there
-    /// is a quorum: nothing changes yet. Only a lock that is held may want memory.
+    /// is a quorum: nothing changes yet. Only a lock that is held may run out of memory.
     pub fn take(&mut self, reply: &Reply) -> Result<Hearing, AllocError>
         ensures ok { IfOk result (λ hearing. Hears hearing self.old reply.now self.new) }
         ensures err { OnErr result (self.new ≡ self.old) }
@@ -329,7 +329,7 @@ impl Collect {
     }
 
     /// Puts what is told behind what was told before, and what is due and had then. Only a prefix that is newer
-    /// than all others wants memory: a copy of it is kept.
+    /// than all others needs memory: a copy of it is kept.
     #[inline(always)]
     fn put(&mut self, last: Saying<'_>, tally: Tally) -> Result<(), AllocError>
         requires server { last.server < MAX_SERVERS }
