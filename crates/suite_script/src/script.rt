@@ -18,6 +18,7 @@ use std::marker::Model;
 /// What is left of a script: its lines, and the names that are known.
 #[derive(Drop)]
 pub struct ScriptReader<'a> {
+    text: &'a [u8],
     left: Lines<'a>,
     number: u64,
     known: Names,
@@ -82,9 +83,10 @@ impl<'a> ScriptReader<'a> {
         ensures few { length result.lines ≤ length text.now }
     {
         ScriptReader {
+            text,
             left: Lines::new(text),
             number: 1,
-            known: Names::keyed_by(alloc, text),
+            known: Names::new(alloc),
             has_begun: false,
         }
     }
@@ -215,6 +217,8 @@ impl<'a> ScriptReader<'a> {
             self.has_begun = true;
             Ok(Some(own))
         } else {
+            // Most scripts name nobody, and need no keys. No names can be fitted to keys that come from all of the text.
+            self.known.key_by(self.text);
             read_name::<L>(self.has_begun, &mut self.known, first, &mut words).map_err(
                 |error| error.at(number),
             )?;
