@@ -36,10 +36,6 @@ adds_both (Some before) now after first later one two =
 pub wrote_nothing : (told : Option (List ℕ)) (whole : List ℕ) → WroteSoFar told whole whole told
 wrote_nothing told whole = record { front = []; cut = refl; added = adds_nothing told }
 
--- all is
-pub wrote_whole : (told now : Option (List ℕ)) (whole : List ℕ) → Adds told whole now → WroteSoFar told whole [] now
-wrote_whole told now whole added = record { front = whole; cut = append-nil whole; added = added }
-
 -- moving what is gathered changes nothing in the whole
 pub wrote_moved : (told now after : Option (List ℕ)) (whole gathered left rest : List ℕ) → WroteSoFar told whole (gathered ++ rest) now → WroteSoFar now gathered left after → WroteSoFar told whole (left ++ rest) after
 wrote_moved told now after whole gathered left rest so moved = record {

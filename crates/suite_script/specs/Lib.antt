@@ -10,3 +10,4 @@ pub mod Texts
 pub mod Outputs
 pub mod Gathering
 pub mod code
+pub mod Playing

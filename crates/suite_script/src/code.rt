@@ -1,17 +1,26 @@
 //! The lines that faults print.
 
-ghost use Rattle.std.specs.Prelude.{◌≡◌, ◌++◌, OnOk};
+ghost use Rattle.std.specs.Prelude.{◌≡◌, ◌++◌, IfOk, OnOk};
 ghost use Rattle.suite_script.specs.Faults.{code_of, fault_line, item_code, list_code, settings_code, text_code, votes_code};
 
 use crate::fault::{LineFault, ScriptFault};
 use acl_core::AclFault;
 use acl_text::TextFault;
 use script_text::push_number;
-use std::alloc::AllocError;
+use std::alloc::{AllocError, Global};
 use suite_prefix::SettingsFault;
 use vote_core::VotesFault;
 
 /// The line of a faulty script.
+pub fn fault_text(alloc: Global, fault: ScriptFault) -> Result<Vec<u8>, AllocError>
+    ensures { IfOk result (λ line. line.items ≡ fault_line fault) }
+{
+    let mut line = Vec::new(alloc);
+    push_fault(&mut line, fault)?;
+    Ok(line)
+}
+
+/// Adds the line of a faulty script.
 pub fn push_fault(text: &mut Vec<u8>, fault: ScriptFault) -> Result<(), AllocError>
     ensures { OnOk result (text.new.items ≡ text.old.items ++ fault_line fault) }
 {

@@ -5,10 +5,11 @@
 //! (`Language`).
 //!
 //! **Promises.** `ScriptReader` gives the lines one by one, each with the names that are known there, or the first
-//! fault (`specs/Scripts.antt`). `ScriptReader::look_ahead` says whether the lines that are left have a fault, so
-//! that output can be written before the end. Words say what the definitions say (`read_operations`, `read_votes`,
-//! `read_caller`), and outcomes and faults print as these say (`push_answered`, `push_refused`, `push_votes`,
-//! `push_fault`). Text is gathered and written in pieces (`write_if_full`).
+//! fault (`specs/Scripts.antt`). `play_lines` plays them as they are read, on what the command plays them on
+//! (`Stage`), and looks through those that are left for a fault before it writes. Words say what the definitions
+//! say (`read_operations`, `read_votes`, `read_caller`), and outcomes and faults print as these say
+//! (`push_answered`, `push_refused`, `push_votes`, `fault_text`). Text is gathered and written in pieces
+//! (`write_if_full`).
 //!
 //! The forms of lines, votes, lists and operations are in the `--help` of each command and in README.md, "Scripts";
 //! `docs/FAULTS.md` has the faults. A line of no such form, or with an agent, server or site that is not there, is
@@ -16,14 +17,14 @@
 //! collects 0 to 65535, else it is S1. Votes that are not valid are V1 to V7, in `vote_core`'s order. `step A N`
 //! goes up to 1,000,000. `setacl` sets both lists.
 //!
-//! **The caller owes** a text below 2^62 bytes to `ScriptReader::new`, and to `look_ahead` that the header was
-//! read.
+//! **The caller owes** a text below 2^62 bytes to `ScriptReader::new`, to `look_ahead` that the header was read, and
+//! to `play_lines` fewer than 2^60 lines.
 //!
 //! **Files**: `fault`, `play_error`, `word`, `votes`, `operation`, `names`, `line`, `language`, `script`, `header`,
-//! `root`, `code`, `outcome`, `gathered`.
+//! `root`, `code`, `outcome`, `gathered`, `stage`.
 //!
-//! **Definitions** (`specs/`): `Words`, `Lists`, `Votes`, `Operations`, `Faults`, `Scripts`, `Texts`, `Outputs`;
-//! for the readings of the code `Readings`, `Progress`, `Gathering`.
+//! **Definitions** (`specs/`): `Words`, `Lists`, `Votes`, `Operations`, `Faults`, `Scripts`, `Texts`, `Outputs`,
+//! `Playing`; for the readings of the code `Readings`, `Progress`, `Gathering`.
 #![tactic(auto)]
 
 mod code;
@@ -38,10 +39,11 @@ mod outcome;
 mod play_error;
 mod root;
 mod script;
+mod stage;
 mod votes;
 mod word;
 
-pub use code::{push_fault, push_text_code};
+pub use code::{fault_text, push_fault, push_text_code};
 pub use fault::{LineError, LineFault, ScriptError, ScriptFault};
 pub use gathered::{KEPT, write_gathered, write_if_full};
 pub use header::read_root;
@@ -52,5 +54,6 @@ pub use outcome::{push_answered, push_denial, push_refused};
 pub use play_error::PlayError;
 pub use root::Root;
 pub use script::ScriptReader;
+pub use stage::{Stage, play_lines};
 pub use votes::{push_votes, read_votes};
 pub use word::{at_end, next_word, read_caller, read_id};
