@@ -32,8 +32,8 @@ use Rattle.txn_core.specs.Agents.{left as begun}
 use Rattle.txn_core.specs.Doing.{Fixed, TransactionRun, Granted, Phase, Running, After, GoesOn, Ends}
 use Rattle.txn_core.specs.Suites.{ReadPoint, Suite, Suites, suite_of, with_suite}
 use Rattle.txn_core.specs.Transactions.{Step, after_lack, execute, fetched, gather_by, give_up, given_in, keep_content, request_of, widen_all}
-use Rattle.txn_core.specs.code.Goings.{GoesBy, IsStep, IsUntouched, Keeps, fixed_by, given, held, replied, widened}
-use Rattle.txn_core.specs.code.Hearing.{CompletesAt, Hearing, HearsAt, IsSettled, IsSound, SettlesAt, heard_at, on_hearing}
+use Rattle.txn_core.specs.code.Goings.{GoesBy, IsStep, IsUntouched, IsWidenedBy, IsWidenedFrom, Keeps, fixed_by, given, held, held_from, held_where_asked, replied, widened}
+use Rattle.txn_core.specs.code.Hearing.{CompletesAt, Hearing, HearsAt, IsSettled, IsSound, SettlesAt, asks_in, heard_at, on_hearing}
 use Rattle.txn_core.specs.code.Learning.{content_kept, learned}
 use Rattle.txn_core.specs.code.Plans.{kept_of, shelved}
 use Rattle.txn_core.specs.code.Reaching.{IsReachedBy, IsReachedIn}
@@ -161,6 +161,27 @@ module _ (resources : Resources) (before mid : TransactionRun) (number server : 
 
     pub quorum_step : (flow : Flow) (after : TransactionRun) (left : Resources) → IsStep resources (held (fixed_by resources) mid resources.cache.entries number server said) flow after left → IsStep resources held' flow after left
     quorum_step flow after left is = subst (λ (txn_run : TransactionRun). IsStep resources (held (fixed_by resources) txn_run resources.cache.entries number server said) flow after left) quorum_same is
+
+-- whom a suite asks
+module _ (before : TransactionRun) (number server : ℕ) (said : Reply) (asks : Some server ≡ asks_in before number) where
+  pub from_asked : (resources : Resources) (flow : Flow) (after : TransactionRun) (left : Resources)
+      → IsStep resources (held (fixed_by resources) before resources.cache.entries number server said) flow after left → IsStep resources (held_where_asked resources before number said) flow after left
+  from_asked resources flow after left is = subst (λ (found : Option ℕ). IsStep resources (held_from (fixed_by resources) before resources.cache.entries number found said) flow after left) asks is
+
+  pub widened_asked : (flow : Flow) (after : TransactionRun) → IsWidenedBy before number server said flow after → IsWidenedFrom (asks_in before number) before number said flow after
+  widened_asked flow after is = subst (λ (found : Option ℕ). IsWidenedFrom found before number said flow after) asks is
+
+-- where it asks nobody, nothing comes of it
+module _ (before after : TransactionRun) (number : ℕ) (said : Reply) (none : None ≡ asks_in before number) (same : after ≡ before) where
+  pub held_unasked : (resources : Resources) → HasUnused resources.cache.entries → IsReachedIn resources.fixed_parts before.task before.suites resources.progress
+      → IsStep resources (held_where_asked resources before number said) On after resources
+  held_unasked resources unused reached =
+      subst (λ (found : Option ℕ). IsStep resources (held_from (fixed_by resources) before resources.cache.entries number found said) On after resources) none
+      (subst (λ (txn_run : TransactionRun). IsStep resources (held_from (fixed_by resources) before resources.cache.entries number None said) On txn_run resources) (sym same)
+      (record { steps = (refl, (refl, refl)); keeps = record { fixed_parts = refl; limits = refl; unused = unused }; reached = reached_at before.phase (IsReachedIn resources.fixed_parts before.task before.suites resources.progress) reached }))
+
+  pub widened_unasked : IsWidenedFrom (asks_in before number) before number said On after
+  widened_unasked = subst (λ (found : Option ℕ). IsWidenedFrom found before number said On after) none (refl, same)
 
 -- the transaction is executed then
 module _ (resources : Resources) (txn_run : TransactionRun) (number server : ℕ) (said : Reply) where

@@ -1,26 +1,31 @@
 -- A suite hears a reply in its place, among the others of its transaction.
 use Rattle.std.proofs.Common.{◌≡◌, ℕ, true, Option, Some, None, Result, Ok, Err, refl, sym, ap, subst, ◌∙◌}
-use Rattle.std.specs.Prelude.{IfOk, OnErr}
+use Rattle.std.specs.Prelude.{option_map, IfOk, OnErr}
 use Rattle.std.specs.Ordering.{nat_cmp}
 use Rattle.std.specs.declared.alloc.AllocError.{AllocError}
 use Rattle.std.proofs.lemmas.Cmp.{nat_cmp_total}
 use Rattle.rep_core.specs.declared.reply.Reply.{Reply}
 use Rattle.rep_core.specs.declared.reply.Reply.TheVariants as reply
 use Rattle.rep_core.specs.Fits.{is_held}
+use Rattle.rep_core.specs.declared.request.Request.{Request}
 use Rattle.sorted_map.specs.SortedMap.{IsOrdered, replace}
 use Rattle.sorted_map.specs.Edits.{replace_same}
 use Rattle.suite_collect.specs.Answering as collector
-use Rattle.suite_collect.specs.Answering.{IsTold, shows_lock}
-use Rattle.suite_collect.specs.Collecting.{Collector, Collecting, next}
+use Rattle.suite_collect.specs.Answering.{Comes, IsTold, asked_in, shows_lock}
+use Rattle.suite_collect.specs.Collecting.{Collector, Collecting, Next, Current, Ask, Short as Falls, next}
+use Rattle.suite_collect.specs.declared.coming.Asked.{Asked}
+use Rattle.suite_collect.specs.declared.coming.Coming.{Coming}
+use Rattle.suite_collect.specs.declared.coming.Coming.TheVariants as coming
 use Rattle.suite_collect.specs.declared.told.Told.{Told}
 use Rattle.suite_collect.specs.declared.hearing.Hearing.{Hearing as Heard}
 use Rattle.suite_collect.specs.declared.hearing.Hearing.TheVariants.{Lost, Asks, Short, Quorum}
 use Rattle.txn_core.specs.declared.pending_quorum.PendingQuorum.{PendingQuorum}
 use Rattle.txn_core.specs.Doing.{TransactionRun}
 use Rattle.txn_core.specs.code.Hearing as hearing
-use Rattle.txn_core.specs.code.Hearing.{heard, heard_at, CompletesAt, Hears, HearsIn, HearsAt, FallsShort, IsSettled, IsSound, SettlesAt}
+use Rattle.txn_core.specs.code.Hearing.{asks_in, heard, heard_at, CompletesAt, Hears, HearsIn, HearsAt, FallsShort, IsSettled, IsSound, SettlesAt}
 use Rattle.txn_core.specs.code.Seeing.{settled_with}
 use Rattle.txn_core.specs.Suites.{Suite, Suites, suite_of, with_suite}
+use Rattle.txn_core.specs.Transactions.{asked_by, asked_for}
 use Rattle.txn_core.specs.code.Unused.{SawUnused, shows_unused}
 use Rattle.txn_core.proofs.Carried.{set_there}
 use Rattle.txn_core.proofs.Heard.{hears_lost, hears_asks, hears_short, hears_quorum}
@@ -105,6 +110,21 @@ module _ (before after : TransactionRun) (held : Suites) (number : ℕ) (suite n
   pub left_err : (result : Result Heard AllocError) → OnErr result (new ≡ suite) → OnErr result (after ≡ before)
   left_err (Ok what) is = tt
   left_err (Err why) is = left_there before after held number suite new same there is put
+
+-- whom a suite asks
+module _ (before : TransactionRun) (held : Suites) (number : ℕ) (suite : Suite) (same : held ≡ before.suites) (there : Some suite ≡ suite_of held number) where
+  asks_by : (next' : Next) → next suite.collector ≡ next' → option_map (λ (asked : ℕ × Request). asked.0) (asked_by before.task number next') ≡ asks_in before number
+  asks_by next' is =
+      ap (λ next. option_map (λ (asked : ℕ × Request). asked.0) (asked_by before.task number next)) (sym is)
+      ∙ ap (λ found. option_map (λ (asked : ℕ × Request). asked.0) (asked_for before.task number found)) (there ∙ ap (λ held. suite_of held number) same)
+
+  pub asks_there : (server : ℕ) (asked : Asked) → Comes (coming.Ask server asked) (next suite.collector) → Some server ≡ asks_in before number
+  asks_there server asked comes = asks_by (Ask server (asked_in asked)) comes
+
+  pub asks_nobody : (coming' : Coming) → ((server : ℕ) (asked : Asked) → coming' ≡ coming.Ask server asked → ⊥) → Comes coming' (next suite.collector) → None ≡ asks_in before number
+  asks_nobody coming.Current other comes = asks_by (Current comes.0 comes.1 comes.2) comes.3
+  asks_nobody (coming.Short got needed busy) other comes = asks_by (Falls got needed busy) comes
+  asks_nobody (coming.Ask server asked) other comes = absurd (other server asked refl)
 
 -- and what came of it
 module _ (before after : TransactionRun) (number : ℕ) (said : Reply) where

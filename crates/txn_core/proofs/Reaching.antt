@@ -52,7 +52,7 @@ use Rattle.txn_core.specs.declared.learned.Learned.TheVariants.{Nothing, Quorum,
 use Rattle.txn_core.specs.declared.ending.Flow.{Flow as Going}
 use Rattle.txn_core.specs.declared.ending.Flow.TheVariants.{On, Ended}
 use Rattle.txn_core.specs.declared.pending_quorum.PendingQuorum.{PendingQuorum}
-use Rattle.txn_core.specs.code.Reaching.{IsReachedIn, IsReachedAt, IsReachedBy, IsReachedIf, IsReachedUnless, kept_after}
+use Rattle.txn_core.specs.code.Reaching.{IsReachedIn, IsReachedOn, IsReachedAt, IsReachedBy, IsReachedIf, IsReachedUnless, kept_after}
 use Rattle.txn_core.specs.code.NextPhases.{gather_again, follow}
 use Rattle.txn_core.specs.code.Steps.{Becomes, taken}
 use Rattle.txn_core.specs.code.Plans.{takes_in, new_unless, new_for, raised_at, with_asked_at, with_asked, opened_all, carried_out, shelved, IsPlanOf}
@@ -326,9 +326,6 @@ reached_learned service reached task suites (Given fetched) ordered may is =
     reached_given service reached task suites (learned_suites (Given fetched) suites) fetched.suite fetched.content ordered may refl is
 
 -- ---- by an execution
-
-abbrev pub IsReachedOn : Knowledge → Task → Reached → Type 0
-IsReachedOn known task reached = IsReached known.service known.suites task.t task.caller task.ops reached
 
 pub reached_opened : (known more : Knowledge) (task : Task) (reached : Reached) (number : ℕ) (content : Content) → more.service ≡ known.service → more.suites ≡ opened_suite known.suites number content
     → takes (exec_known.known_of known.suites number) content ≡ true → IsReachedOn known task reached → IsReachedOn more task reached

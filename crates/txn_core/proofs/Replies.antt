@@ -9,10 +9,10 @@ use Rattle.rep_core.specs.declared.reply.Verdict.{Verdict}
 use Rattle.suite_collect.specs.Collecting.{Asked, Next, Current, Ask, Short, next, request_for}
 use Rattle.weak_cache.specs.Entries.{Cache}
 use Rattle.txn_core.specs.declared.response.Response.TheVariants.{Replied}
-use Rattle.txn_core.specs.Doing.{Fixed, Task, Granted, Outcome, Phase, Gathering, Fetching, Widening, Preparing, Deciding, Finishing, TransactionRun, home_of}
-use Rattle.txn_core.specs.code.Goings.{given, held}
+use Rattle.txn_core.specs.Doing.{Fixed, Task, Granted, Outcome, Phase, Gathering, Fetching, Widening, Preparing, Deciding, Finishing, TransactionRun, GoesOn, home_of}
+use Rattle.txn_core.specs.code.Goings.{GoesBy, IsWidenedFrom, ending_of, given, held, held_from}
 use Rattle.txn_core.specs.code.Goings.{widened as widens}
-use Rattle.txn_core.specs.code.Hearing.{heard, heard_at, on_hearing}
+use Rattle.txn_core.specs.code.Hearing.{ShowsUnused, asks_in, heard, heard_at, on_hearing}
 use Rattle.txn_core.specs.Standing.{FitsAsked}
 use Rattle.txn_core.specs.code.Steps.{Steps, taken}
 use Rattle.txn_core.specs.Suites.{ReadPoint, Suite, Suites, suite_of, with_suite}
@@ -20,6 +20,7 @@ use Rattle.txn_core.specs.Transactions.{Step, decided, decision_of, fetched_at, 
 use Rattle.txn_core.specs.code.Unused.{shows_unused}
 use Rattle.txn_core.specs.Writing.{parts_at}
 use Rattle.txn_core.specs.declared.ending.Ending.{Ending}
+use Rattle.txn_core.specs.declared.ending.Flow.{Flow}
 use Rattle.txn_core.proofs.Heard.{hears}
 use Rattle.txn_core.proofs.Unused.{fits_shows_unused}
 
@@ -186,3 +187,40 @@ module _ (fixed : Fixed) (txn_run : TransactionRun) (cache : Cache) (server : �
 
   pub widening_shown : (number : ℕ) (left : List ℕ) (granted : Granted) → txn_run.phase ≡ Widening (number ∷ left) granted → FitsAsked (request_of fixed txn_run) (Replied said) → shows_unused said ≡ true
   widening_shown number left granted is fits = shown_by number (widening number left granted is) (Widening (number ∷ left) granted) is refl fits
+
+-- ---- a suite is answered by the server that it asks; where it asks nobody, nothing comes of it
+
+module _ (fixed : Fixed) (txn_run : TransactionRun) (cache : Cache) (said : Reply) where
+  none_taken : (asked : Option (ℕ × Request)) → server_of asked ≡ None → taken fixed txn_run cache asked (Replied said) ≡ record { cache = cache; after = GoesOn txn_run }
+  none_taken None none = refl
+  none_taken (Some asked) none = cc
+
+  pub replied_where_asked : (number : ℕ) → txn_run.phase ≡ Gathering number
+      → taken fixed txn_run cache (request_of fixed txn_run) (Replied said) ≡ held_from fixed txn_run cache number (asks_in txn_run number) said
+  replied_where_asked number is = of (asks_in txn_run number) (asked_at fixed txn_run (Gathering number) (asks_in txn_run number) is refl)
+    where
+      of : (found : Option ℕ) → server_of (request_of fixed txn_run) ≡ found → taken fixed txn_run cache (request_of fixed txn_run) (Replied said) ≡ held_from fixed txn_run cache number found said
+      of (Some server) asked = replied_held fixed txn_run cache server said asked number is
+      of None asked = none_taken (request_of fixed txn_run) asked
+
+  pub widened_where_asked : (number : ℕ) (left : List ℕ) (granted : Granted) (flow : Flow) (after : TransactionRun) → txn_run.phase ≡ Widening (number ∷ left) granted
+      → IsWidenedFrom (asks_in txn_run number) txn_run number said flow after → GoesBy (taken fixed txn_run cache (request_of fixed txn_run) (Replied said)) flow after cache
+  widened_where_asked number left granted flow after is widened =
+      of (asks_in txn_run number) (asked_at fixed txn_run (Widening (number ∷ left) granted) (asks_in txn_run number) is refl) widened
+    where
+      of : (found : Option ℕ) → server_of (request_of fixed txn_run) ≡ found → IsWidenedFrom found txn_run number said flow after
+          → GoesBy (taken fixed txn_run cache (request_of fixed txn_run) (Replied said)) flow after cache
+      of (Some server) asked widened =
+          let Goes : Step → Type 0 = λ step. GoesBy step flow after cache in
+          subst Goes (sym (replied_widened fixed txn_run cache server said asked number left granted is)) (widened left granted cache is)
+      of None asked widened =
+          let Goes : Step → Type 0 = λ step. GoesBy step flow after cache in
+          subst Goes (sym (none_taken (request_of fixed txn_run) asked)) (refl, (ap ending_of widened.0, widened.1))
+
+  -- what that server says shows no version that is used up
+  pub gathering_shows : (number : ℕ) → txn_run.phase ≡ Gathering number → FitsAsked (request_of fixed txn_run) (Replied said) → ShowsUnused txn_run number said
+  gathering_shows number is fits server asks = gathering_shown fixed txn_run cache server said (asked_at fixed txn_run (Gathering number) (Some server) is (sym asks)) number is fits
+
+  pub widening_shows : (number : ℕ) (left : List ℕ) (granted : Granted) → txn_run.phase ≡ Widening (number ∷ left) granted → FitsAsked (request_of fixed txn_run) (Replied said) → ShowsUnused txn_run number said
+  widening_shows number left granted is fits server asks =
+      widening_shown fixed txn_run cache server said (asked_at fixed txn_run (Widening (number ∷ left) granted) (Some server) is (sym asks)) number left granted is fits

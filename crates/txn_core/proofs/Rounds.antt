@@ -7,18 +7,18 @@ use Rattle.suite_content.specs.declared.content.Content.{Content}
 use Rattle.file_exec.specs.declared.need.Need.TheVariants.{Hold, Know}
 use Rattle.file_exec.specs.declared.executor.Outcome.{Outcome as Executed}
 use Rattle.file_exec.specs.declared.executor.Outcome.TheVariants as exec
-use Rattle.file_exec.specs.Changes.{answered}
-use Rattle.file_exec.specs.Known.{Known, Knowledge, exec_of, opened_suite}
+use Rattle.file_exec.specs.Known.{Known, Knowledge, opened_suite}
 use Rattle.txn_core.specs.Suites.{ReadPoint, Suite, suite_of, known_of}
 use Rattle.txn_core.specs.Doing.{Fixed, Task}
 use Rattle.txn_core.specs.Transactions.{Gathered, heard_on, free_content, open_first, open_suite, opened_with, open_needed, or_all, opened}
+use Rattle.txn_core.specs.code.Planning.{answer_of}
 use Rattle.txn_core.specs.code.Plans.{opened_first, opened_at, opened_by, opened_all, free_first, free_of, to_open, IsPlayed}
 use Rattle.txn_core.proofs.Kept.{keeps_all, free_kept, Keeps}
 use Rattle.txn_core.proofs.Openings.{known_opened}
 
 -- ---- one content
 
-longer : (list : List (ℕ × Content)) (one : ℕ × Content) → length (list ++ one ∷ []) ≡ length list + 1
+pub longer : (list : List (ℕ × Content)) (one : ℕ × Content) → length (list ++ one ∷ []) ≡ length list + 1
 longer [] one = refl
 longer (x ∷ list) one = let rest = longer list one in omega (arith, rest)
 
@@ -104,10 +104,6 @@ pub record IsPlaying (fixed : Fixed) (task : Task) (all : Gathered) (list : List
 pub playing_starts : (fixed : Fixed) (task : Task) (all : Gathered) (known : Knowledge) (list : List (ℕ × Content)) → list ≡ [] → known ≡ record { service = fixed.service; suites = known_of all.suites } → IsPlaying fixed task all list known
 playing_starts fixed task all known list none is =
     subst (λ list. IsPlaying fixed task all list known) (sym none) (record { left = length all.suites; enough = omega arith; goes_on = refl; is_known = is })
-
--- what the executor answers
-abbrev pub answer_of : Task → Knowledge → Executed
-answer_of task known = answered known.suites (exec_of known.service known.suites task.t task.caller task.ops)
 
 module _ (fixed : Fixed) (task : Task) (all : Gathered) (list : List (ℕ × Content)) (known : Knowledge) (playing : IsPlaying fixed task all list known) (heard : Executed) (is : heard ≡ answer_of task known) where
   abbrev some : Gathered

@@ -1,5 +1,5 @@
 -- Where memory may be wanting, phase by phase.
-use Rattle.std.proofs.Common.{◌≡◌, ℕ, true, Option, Some, None, Result, Ok, Err, sym, ap, ◌∙◌}
+use Rattle.std.proofs.Common.{◌≡◌, ℕ, true, false, Option, Some, None, Result, Ok, Err, refl, sym, ap, ◌∙◌}
 use Rattle.std.specs.Prelude.{List, ◌∷◌, is_some, IfErr}
 use Rattle.std.specs.declared.alloc.AllocError.{AllocError}
 use Rattle.rep_core.specs.declared.reply.Reply.{Reply}
@@ -15,7 +15,8 @@ use Rattle.txn_core.specs.Doing.{Fixed, Outcome, Gathering, Fetching, Widening, 
 use Rattle.txn_core.specs.Suites.{ReadPoint, Suite, suite_of}
 use Rattle.txn_core.specs.Transactions.{given_in, verdict_in, asked_by, asked_for, fetched_at, fetched_for, request_in, request_of}
 use Rattle.txn_core.specs.Wanting.{by_reply, by_taking}
-use Rattle.txn_core.proofs.Replies.{server_of, asks_of}
+use Rattle.txn_core.specs.code.Hearing.{asks_in}
+use Rattle.txn_core.proofs.Replies.{server_of, asked_at, asks_of}
 
 -- ---- a reply to what a suite asks
 
@@ -62,6 +63,28 @@ module _ (fixed : Fixed) (txn_run : TransactionRun) (server : ℕ) (said : Reply
   fetching_wants number (Err why) is asked given =
       let same : request_of fixed txn_run ≡ fetched_for txn_run.task number (suite_of txn_run.suites number) = ap (request_in fixed txn_run.task txn_run.suites) is in
       ap (λ what. by_taking what (Replied said)) same ∙ fetched_wants number (suite_of txn_run.suites number) (ap server_of (sym same) ∙ asked) given
+
+unasked_wants : (P : Type 0) (result : Result Flow AllocError) → IfErr result (λ _. false ≡ true) → IfErr result (λ _. P)
+unasked_wants P (Ok flow) some = tt
+unasked_wants P (Err why) some = cc
+
+-- a suite is answered by the server that it asks
+module _ (fixed : Fixed) (txn_run : TransactionRun) (said : Reply) (number : ℕ) (result : Result Flow AllocError) where
+  asked_wants : (server : Option ℕ) → ((server : ℕ) → server_of (request_of fixed txn_run) ≡ Some server → IfErr result (λ _. by_taking (request_of fixed txn_run) (Replied said) ≡ true))
+      → server_of (request_of fixed txn_run) ≡ server → IfErr result (λ _. is_some server ≡ true) → IfErr result (λ _. by_taking (request_of fixed txn_run) (Replied said) ≡ true)
+  asked_wants (Some server) wants asked some = wants server asked
+  asked_wants None wants asked some = unasked_wants (by_taking (request_of fixed txn_run) (Replied said) ≡ true) result some
+
+  pub gathering_wants_asked : txn_run.phase ≡ Gathering number → IfErr result (λ _. is_some (asks_in txn_run number) ≡ true) → IfErr result (λ _. is_held said ≡ true)
+      → IfErr result (λ _. by_taking (request_of fixed txn_run) (Replied said) ≡ true)
+  gathering_wants_asked is some told =
+      asked_wants (asks_in txn_run number) (λ server asked. gathering_wants fixed txn_run server said number result is asked told) (asked_at fixed txn_run (Gathering number) (asks_in txn_run number) is refl) some
+
+  pub widening_wants_asked : (left : List ℕ) (granted : Granted) → txn_run.phase ≡ Widening (number ∷ left) granted → IfErr result (λ _. is_some (asks_in txn_run number) ≡ true) → IfErr result (λ _. is_held said ≡ true)
+      → IfErr result (λ _. by_taking (request_of fixed txn_run) (Replied said) ≡ true)
+  widening_wants_asked left granted is some told =
+      asked_wants (asks_in txn_run number) (λ server asked. widening_wants fixed txn_run server said number left granted result is asked told)
+      (asked_at fixed txn_run (Widening (number ∷ left) granted) (asks_in txn_run number) is refl) some
 
 -- the home decides
 pub deciding_wants : (fixed : Fixed) (txn_run : TransactionRun) (said : Reply) (outcome : Outcome) (result : Result Flow AllocError) → txn_run.phase ≡ Deciding outcome → IfErr result (λ _. is_answered (verdict_in said verdict.Aborted) ≡ true)

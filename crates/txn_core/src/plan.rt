@@ -4,11 +4,11 @@ ghost use Rattle.std.specs.Prelude.{◌≡◌, IfOk, OnOk, option_map};
 ghost use Rattle.std.specs.Option.{option_copied};
 ghost use Rattle.std.specs.Ordering.{nat_cmp};
 ghost use Rattle.sorted_map.specs.SortedMap.{IsOrdered};
-ghost use Rattle.txn_core.specs.code.Planning.{IsPlanFor, IsPlayedFor, IsReachedWith, all_seen, fixed_at, new_at};
+ghost use Rattle.txn_core.specs.code.Planning.{IsPlanFor, IsPlayedFor, IsReachedWith, all_seen, answer_of, fixed_at, new_at};
 ghost use Rattle.txn_core.specs.code.Plans as spec;
 ghost use Rattle.txn_core.specs.Suites.{suite_of};
 ghost use Rattle.txn_core.specs.Transactions.{free_content, start_from};
-ghost use Rattle.txn_core.specs.code.Reaching.{IsReachedIn};
+ghost use Rattle.txn_core.specs.code.Reaching.{IsReachedIn, IsReachedOn};
 ghost use Rattle.txn_core.specs.code.Seeing.{seen_in};
 ghost use Rattle.txn_core.specs.code.Unused.{HasUnused};
 
@@ -18,7 +18,7 @@ use crate::knowing::known_of;
 use crate::read_point::ReadPoint;
 use crate::suites::Suite;
 use crate::suites_after::SuitesAfter;
-use file_exec::{Need, Outcome, Progress, exec};
+use file_exec::{Known, Need, Outcome, Progress, exec};
 use std::alloc::AllocError;
 use suite_content::Content;
 use suite_prefix::SharedPrefix;
@@ -69,18 +69,13 @@ impl<'a> Execution<'a> {
         ensures ordered { OnOk result (IsOrdered nat_cmp after.entry.suites.now.pairs) }
         ensures played { IfOk result (λ played. IsPlayedFor self.entry cache_after.entry after.entry played.0.items played.1) }
     {
-        let task = self.task;
-        task.facts();
         let mut known = known_of(self.alloc, self.fixed_parts, after)?;
         if !after.just_learned.adds_to(after.suites) {
             *progress = Progress::new(self.alloc);
         }
         let mut opened = Vec::new(self.alloc);
-        loop {
-            let outcome = exec(&known, task.t, &task.caller, task.ops.as_slice(), progress)?;
-            if opened.len() == after.len() {
-                return Ok((opened, outcome));
-            }
+        for _ in 0..after.len() {
+            let outcome = self.answer_on(&known, progress)?;
             let Some((number, content)) = self.to_open(after, cache_after, &outcome) else {
                 return Ok((opened, outcome));
             };
@@ -91,6 +86,19 @@ impl<'a> Execution<'a> {
             known.open(number, content);
             opened.push((number, content.clone()?))?;
         }
+        let outcome = self.answer_on(&known, progress)?;
+        Ok((opened, outcome))
+    }
+
+    /// What the executor answers on what is known, from where it came.
+    fn answer_on(self, known: &Known<'_>, progress: &mut Progress) -> Result<Outcome, AllocError>
+        requires { IsReachedOn known.now self.task.now progress.old }
+        ensures answer { IfOk result (λ outcome. outcome ≡ answer_of self.entry.task.now known.now) }
+        ensures reached { IsReachedOn known.now self.entry.task.now progress.new }
+    {
+        let task = self.task;
+        task.facts();
+        exec(known, task.t, &task.caller, task.ops.as_slice(), progress)
     }
 
     /// The content that is needed, where it is to be had without asking.

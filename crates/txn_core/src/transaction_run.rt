@@ -6,16 +6,15 @@ ghost use Rattle.sorted_map.specs.SortedMap.{IsOrdered};
 ghost use Rattle.rep_core.specs.Fits.{is_held};
 ghost use Rattle.weak_cache.specs.Entries.{Cache};
 ghost use Rattle.txn_core.specs.Doing as doing;
-ghost use Rattle.txn_core.specs.code.Goings.{Begins, CompletesBy, GoesBy, IsReady, IsStep, IsUntouched, IsWidenedBy, Keeps, begun, executed, fixed_by, gathers, given_by, held_by, replied};
-ghost use Rattle.txn_core.specs.code.Hearing.{HearsAt, IsSound, SettlesBy};
+ghost use Rattle.txn_core.specs.code.Goings.{Begins, CompletesBy, GoesBy, IsReady, IsStep, IsUntouched, IsWidenedFrom, Keeps, begun, executed, fixed_by, gathers, given_by, held_where_asked, replied};
+ghost use Rattle.txn_core.specs.code.Hearing.{HearsFrom, IsSound, SettlesBy, ShowsUnused, asks_in};
 ghost use Rattle.txn_core.specs.code.Learning.{Fits, IsKeepable, content_kept};
 ghost use Rattle.txn_core.specs.code.Reaching.{IsReachedBy, IsReachedIf, IsReachedIn};
 ghost use Rattle.txn_core.specs.code.NextPhases.{follow};
 ghost use Rattle.txn_core.specs.Standing.{FitsAsked};
-ghost use Rattle.txn_core.specs.Suites as gathering;
 ghost use Rattle.txn_core.specs.Suites.{suite_of};
 ghost use Rattle.txn_core.specs.Transactions as txn_run;
-ghost use Rattle.txn_core.specs.code.Unused.{HasUnused, shows_unused};
+ghost use Rattle.txn_core.specs.code.Unused.{HasUnused};
 ghost use Rattle.txn_core.specs.Wanting as wanting;
 ghost use Rattle.txn_core.specs.declared.response.Response.TheVariants.{Replied};
 
@@ -117,10 +116,7 @@ impl TransactionRun {
         match &self.phase {
             Phase::Gathering(number) => {
                 let number = *number;
-                match self.asked_for(number) {
-                    Some(server) => self.on_held(resources, number, server, said),
-                    None => Ok(Flow::On),
-                }
+                self.on_held(resources, number, said)
             }
             Phase::Fetching(number) => {
                 let number = *number;
@@ -131,10 +127,7 @@ impl TransactionRun {
             }
             Phase::Widening { number, .. } => {
                 let number = *number;
-                match self.asked_for(number) {
-                    Some(server) => self.on_widened(number, server, said),
-                    None => Ok(Flow::On),
-                }
+                self.on_widened(number, said)
             }
             Phase::Preparing(servers, _) => match servers.first() {
                 Some(server) => Ok(self.on_prepared(server, said)),
@@ -148,22 +141,25 @@ impl TransactionRun {
         }
     }
 
-    /// A suite that is gathered hears what a server said.
+    /// A suite that is gathered hears what the server that it asks said.
     fn on_held(
         &mut self,
         resources: &mut Resources,
         number: u64,
-        server: u8,
         said: &Reply,
     ) -> Result<Flow, AllocError>
         requires unused { HasUnused resources.old.cache.entries }
         requires reached { IsReachedIn resources.old.fixed_parts self.old.task self.old.suites resources.old.progress }
-        requires shown { shows_unused said.now ≡ true }
-        ensures ok { IfOk result (λ flow. IsStep resources.old (held_by resources.old self.old number server said.now) flow self.new resources.new) }
+        requires shown { ShowsUnused self.old number said.now }
+        ensures ok { IfOk result (λ flow. IsStep resources.old (held_where_asked resources.old self.old number said.now) flow self.new resources.new) }
         ensures err { OnErr result (IsUntouched resources.old self.old self.new resources.new) }
+        ensures asked { IfErr result (λ _. IsTrue (is_some (asks_in self.old number))) }
         ensures memory { IfErr result (λ _. IsTrue (is_held said.now)) }
     {
-        match self.hear(number, said)? {
+        let Some((server, hearing)) = self.hear(number, said)? else {
+            return Ok(Flow::On);
+        };
+        match hearing {
             Hearing::Lost => Ok(self.give_up(Cause::Lost { server })),
             Hearing::Asks => Ok(Flow::On),
             Hearing::Short => Ok(self.gather(number)),
@@ -171,14 +167,18 @@ impl TransactionRun {
         }
     }
 
-    /// A suite that is widened hears what a server said.
-    fn on_widened(&mut self, number: u64, server: u8, said: &Reply) -> Result<Flow, AllocError>
-        requires shown { shows_unused said.now ≡ true }
-        ensures ok { IfOk result (λ flow. IsWidenedBy self.old number server said.now flow self.new) }
+    /// A suite that is widened hears what the server that it asks said.
+    fn on_widened(&mut self, number: u64, said: &Reply) -> Result<Flow, AllocError>
+        requires shown { ShowsUnused self.old number said.now }
+        ensures ok { IfOk result (λ flow. IsWidenedFrom (asks_in self.old number) self.old number said.now flow self.new) }
         ensures err { OnErr result (self.new ≡ self.old) }
+        ensures asked { IfErr result (λ _. IsTrue (is_some (asks_in self.old number))) }
         ensures memory { IfErr result (λ _. IsTrue (is_held said.now)) }
     {
-        match self.hear(number, said)? {
+        let Some((server, hearing)) = self.hear(number, said)? else {
+            return Ok(Flow::On);
+        };
+        match hearing {
             Hearing::Lost => Ok(self.give_up(Cause::Lost { server })),
             Hearing::Asks => Ok(Flow::On),
             Hearing::Short => Ok(self.gather(number)),
@@ -192,18 +192,25 @@ impl TransactionRun {
         }
     }
 
-    /// A suite hears what a server said. With a quorum it is as it was, and is still to be settled.
-    fn hear(&mut self, number: u64, said: &Reply) -> Result<Hearing, AllocError>
-        requires { shows_unused said.now ≡ true }
-        ensures ok { IfOk result (λ heard. HearsAt (gathering.suite_of self.old.suites number) number heard self.old said.now self.new) }
+    /// A suite hears what the server that it asks said: tells which server, and what comes of it; nothing, where
+    /// it asks nobody. With a quorum it is as it was, and is still to be settled.
+    fn hear(&mut self, number: u64, said: &Reply) -> Result<Option<(u8, Hearing)>, AllocError>
+        requires { ShowsUnused self.old number said.now }
+        ensures from { IfOk result (λ heard. option_map (λ heard. heard.0) heard ≡ asks_in self.old number) }
+        ensures ok { IfOk result (λ heard. HearsFrom heard number self.old said.now self.new) }
         ensures ordered { IsOrdered nat_cmp self.old.suites }
         ensures err { OnErr result (self.new ≡ self.old) }
+        ensures asked { IfErr result (λ _. IsTrue (is_some (asks_in self.old number))) }
         ensures memory { IfErr result (λ _. IsTrue (is_held said.now)) }
     {
         let Some(suite) = self.suites.get_mut(&number) else {
-            return Ok(Hearing::Lost);
+            return Ok(None);
         };
-        suite.hear(said)
+        let Coming::Ask { server, .. } = suite.next() else {
+            return Ok(None);
+        };
+        let hearing = suite.hear(said)?;
+        Ok(Some((server, hearing)))
     }
 
     /// With a lock a suite that is gathered has a quorum, on which the transaction is executed. It is a call of its

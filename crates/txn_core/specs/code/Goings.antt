@@ -13,10 +13,10 @@ use Rattle.txn_core.specs.declared.resources.Resources.{Resources}
 use Rattle.txn_core.specs.declared.learned.Learned.{Learned}
 use Rattle.txn_core.specs.declared.response.Response.TheVariants.{Replied, Lacked}
 use Rattle.txn_core.specs.Agents.{left}
-use Rattle.txn_core.specs.Doing.{Fixed, Task, TransactionRun, Granted, Outcome, Running, Widening, Preparing, Finishing}
+use Rattle.txn_core.specs.Doing.{Fixed, Task, TransactionRun, Granted, Outcome, Running, Widening, Preparing, Finishing, GoesOn}
 use Rattle.txn_core.specs.Suites.{suite_of, with_suite}
 use Rattle.txn_core.specs.Transactions.{Step, execute, fetched, given_in, prepare, prepared, request_of, tell_end, widen_all}
-use Rattle.txn_core.specs.code.Hearing.{CompletesAt, heard_at, on_hearing}
+use Rattle.txn_core.specs.code.Hearing.{CompletesAt, asks_in, heard_at, on_hearing}
 use Rattle.txn_core.specs.code.Learning.{learned}
 use Rattle.txn_core.specs.code.Reaching.{IsReachedBy, IsReachedUnless}
 use Rattle.txn_core.specs.code.NextPhases.{gather_again}
@@ -100,6 +100,14 @@ lacked fixed txn_run cache lack = taken fixed txn_run cache (request_of fixed tx
 abbrev pub held_by : Resources → TransactionRun → ℕ → ℕ → Reply → Step
 held_by resources txn_run number server said = held (fixed_by resources) txn_run resources.cache.entries number server said
 
+-- it was by the server that it asks; where it asks nobody, nothing comes of it
+abbrev pub held_from : Fixed → TransactionRun → Cache → ℕ → Option ℕ → Reply → Step
+held_from fixed txn_run cache number (Some server) said = held fixed txn_run cache number server said
+held_from fixed txn_run cache number None said = record { cache = cache; after = GoesOn txn_run }
+
+abbrev pub held_where_asked : Resources → TransactionRun → ℕ → Reply → Step
+held_where_asked resources txn_run number said = held_from (fixed_by resources) txn_run resources.cache.entries number (asks_in txn_run number) said
+
 abbrev pub given_by : Resources → TransactionRun → ℕ → ℕ → Reply → Step
 given_by resources txn_run number server said = given (fixed_by resources) txn_run resources.cache.entries number server said
 
@@ -128,6 +136,11 @@ WidensOn before flow after =
 abbrev pub IsWidenedBy : TransactionRun → ℕ → ℕ → Reply → Flow → TransactionRun → Type 0
 IsWidenedBy before number server said flow after =
     (left : List ℕ) (granted : Granted) (cache : Cache) → before.phase ≡ Widening (number ∷ left) granted → GoesBy (widened before cache number server left granted said) flow after cache
+
+-- the same by the server that it asks; where it asks nobody, nothing comes of it
+abbrev pub IsWidenedFrom : Option ℕ → TransactionRun → ℕ → Reply → Flow → TransactionRun → Type 0
+IsWidenedFrom (Some server) before number said flow after = IsWidenedBy before number server said flow after
+IsWidenedFrom None before number said flow after = (flow ≡ On) × (after ≡ before)
 
 -- ---- the end, whatever it is
 

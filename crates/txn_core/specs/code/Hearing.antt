@@ -1,23 +1,24 @@
 -- What comes of a reply to what a suite asks.
-use Rattle.std.specs.Prelude.{◌≡◌, ℕ, ◌<◌, List, true, Option, Some, None}
+use Rattle.std.specs.Prelude.{◌≡◌, ℕ, ◌<◌, List, true, option_map, Option, Some, None}
 use Rattle.std.specs.Option.{option_or}
 use Rattle.vote_core.specs.declared.TheConstants.{MAX_SERVERS}
 use Rattle.suite_prefix.specs.declared.copies.Prefix.{Prefix}
 use Rattle.rep_core.specs.Fits.{is_held}
 use Rattle.rep_core.specs.declared.reply.Reply.{Reply}
+use Rattle.rep_core.specs.declared.request.Request.{Request}
 use Rattle.suite_collect.specs.declared.hearing.Hearing.{Hearing as Heard}
 use Rattle.suite_collect.specs.declared.hearing.Hearing.TheVariants as coded
 use Rattle.suite_collect.specs.declared.told.Told.{Told}
 use Rattle.suite_collect.specs.Collecting as collecting
 use Rattle.suite_collect.specs.Collecting.{Next, next, tell, told_by}
 use Rattle.weak_cache.specs.Entries.{Cache}
-use Rattle.txn_core.specs.Suites.{ReadPoint, Suite, Suites, with_suite, settled}
+use Rattle.txn_core.specs.Suites.{ReadPoint, Suite, Suites, suite_of, with_suite, settled}
 use Rattle.txn_core.specs.declared.pending_quorum.PendingQuorum.{PendingQuorum}
 use Rattle.txn_core.specs.declared.ending.Cause.TheVariants as cause
 use Rattle.txn_core.specs.Doing.{Task, Phase, TransactionRun}
 use Rattle.txn_core.specs.code.Seeing.{settled_with}
-use Rattle.txn_core.specs.code.Unused.{says_unused}
-use Rattle.txn_core.specs.Transactions.{Step, on_with, give_up, short_cause}
+use Rattle.txn_core.specs.code.Unused.{says_unused, shows_unused}
+use Rattle.txn_core.specs.Transactions.{Step, asked_for, on_with, give_up, short_cause}
 
 -- the transaction ends; the suite asks on; nobody is left to ask; or it has a quorum, and knows what that gave
 pub data Hearing : Type 0 where
@@ -95,6 +96,19 @@ HearsIn heard number suite before said after = (new : Suite) × Hears heard suit
 abbrev pub HearsAt : Option Suite → ℕ → Heard → TransactionRun → Reply → TransactionRun → Type 0
 HearsAt (Some suite) number heard before said after = HearsIn heard number suite before said after
 HearsAt None number heard before said after = (heard ≡ coded.Lost) × (after ≡ before)
+
+-- the server that a suite asks
+abbrev pub asks_in : TransactionRun → ℕ → Option ℕ
+asks_in txn_run number = option_map (λ (asked : ℕ × Request). asked.0) (asked_for txn_run.task number (suite_of txn_run.suites number))
+
+-- what that server says shows no version that is used up
+abbrev pub ShowsUnused : TransactionRun → ℕ → Reply → Type 0
+ShowsUnused txn_run number said = (server : ℕ) → asks_in txn_run number ≡ Some server → shows_unused said ≡ true
+
+-- a suite heard it; where it asks nobody, nothing changed
+abbrev pub HearsFrom : Option (ℕ × Heard) → ℕ → TransactionRun → Reply → TransactionRun → Type 0
+HearsFrom (Some one) number before said after = HearsAt (suite_of before.suites number) number one.1 before said after
+HearsFrom None number before said after = after ≡ before
 
 -- what the first quorum gives, where there is one once a suite is told, and was none before
 abbrev pub IsFirstAfter : Suite → Told → Option ReadPoint → Type 0

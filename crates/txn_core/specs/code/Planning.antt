@@ -1,6 +1,8 @@
 -- What an execution plans on: the suites as they are seen, and the cache as it will be.
 use Rattle.std.specs.Prelude.{ℕ, List, Option}
 use Rattle.suite_content.specs.declared.content.Content.{Content}
+use Rattle.file_exec.specs.Changes.{answered}
+use Rattle.file_exec.specs.Known.{Knowledge, exec_of}
 use Rattle.file_exec.specs.Reaching.{Reached}
 use Rattle.file_exec.specs.declared.executor.Outcome.{Outcome as Executed}
 use Rattle.weak_cache.specs.Cache.{Limited}
@@ -10,7 +12,7 @@ use Rattle.txn_core.specs.declared.plan.Plan.{Plan}
 use Rattle.txn_core.specs.declared.suites_after.SuitesAfter.{SuitesAfter}
 use Rattle.txn_core.specs.declared.next_phase.NextPhase.{NextPhase}
 use Rattle.txn_core.specs.declared.cache_after.CacheAfter.{CacheAfter}
-use Rattle.txn_core.specs.Doing.{Fixed}
+use Rattle.txn_core.specs.Doing.{Fixed, Task}
 use Rattle.txn_core.specs.Suites.{Suite, Suites}
 use Rattle.txn_core.specs.Transactions.{Gathered, Step, execute}
 use Rattle.txn_core.specs.code.Learning.{learned}
@@ -34,6 +36,10 @@ IsPlayedFor execution cache_after after list outcome = IsPlayed (fixed_at execut
 -- the suite that an outcome needs, where it was not asked for yet
 abbrev pub new_at : Execution → CacheAfter → SuitesAfter → Executed → Option Suite
 new_at execution cache_after after outcome = new_for (fixed_at execution cache_after) execution.task.now (all_seen cache_after after) outcome
+
+-- what the executor answers on what is known of suites
+abbrev pub answer_of : Task → Knowledge → Executed
+answer_of task known = answered known.suites (exec_of known.service known.suites task.t task.caller task.ops)
 
 -- it came so far on them, with the contents that were to be had without asking
 abbrev pub IsReachedWith : Execution → CacheAfter → SuitesAfter → List (ℕ × Content) → Reached → Type 0

@@ -1,6 +1,7 @@
 -- How far the transaction of an agent came on what was known of its suites.
 use Rattle.std.specs.Prelude.{Option, Some, None}
 use Rattle.file_ops.specs.declared.service.Service.{Service}
+use Rattle.file_exec.specs.Known.{Knowledge}
 use Rattle.file_exec.specs.Reaching.{Reached, IsReached, unbegun}
 use Rattle.txn_core.specs.declared.ending.Flow.{Flow}
 use Rattle.txn_core.specs.declared.ending.Flow.TheVariants.{On, Ended}
@@ -9,6 +10,10 @@ use Rattle.txn_core.specs.Suites.{Suites, known_of}
 
 abbrev pub IsReachedIn : Service → Task → Suites → Reached → Type 0
 IsReachedIn service task suites reached = IsReached service (known_of suites) task.t task.caller task.ops reached
+
+-- the same on what is known of suites
+abbrev pub IsReachedOn : Knowledge → Task → Reached → Type 0
+IsReachedOn known task reached = IsReached known.service known.suites task.t task.caller task.ops reached
 
 -- it may be executed again while suites are gathered and contents fetched; later no more
 abbrev pub IsReachedAt : Phase → Type 0 → Type 0

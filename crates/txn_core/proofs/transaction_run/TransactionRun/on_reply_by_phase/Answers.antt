@@ -7,8 +7,8 @@ use Rattle.txn_core.specs.Doing.{Phase, Gathering, Fetching, Widening, Preparing
 use Rattle.txn_core.specs.Transactions.{Step, to_widen}
 use Rattle.txn_core.specs.code.Reaching.{IsReachedIn, IsReachedAt}
 use Rattle.txn_core.proofs.Handling.{late_step, untouched_on}
-use Rattle.txn_core.proofs.Replies.{asked_at, finishing_asks, preparing_asks, replied_held, replied_widened, replied_decided, preparing_ok, finishing_ok, gathering_shown, widening_shown}
-use Rattle.txn_core.proofs.Wanting.{deciding_wants}
+use Rattle.txn_core.proofs.Replies.{finishing_asks, preparing_asks, replied_where_asked, widened_where_asked, replied_decided, preparing_ok, finishing_ok, gathering_shows, widening_shows}
+use Rattle.txn_core.proofs.Wanting.{deciding_wants, gathering_wants_asked, widening_wants_asked}
 use Rattle.txn_core.proofs.transaction_run.TransactionRun.on_reply_by_phase.Goals as goal
 
 pub on_held-requires-clause-reached : goal.on_held-requires-clause-reached
@@ -23,17 +23,21 @@ on_held-requires-clause-shown c =
     let now = c.args.self.now in
     let resources = c.args.resources.now in
     let is : now.phase ≡ Gathering c.in-Gathering.number = ap (λ (txn_run : TransactionRun). txn_run.phase) (sym c.self.view_is) ∙ ap phase_of c.in-Gathering.is in
-    let asked = asked_at (fixed_by resources) now (Gathering c.in-Gathering.number) (Some c.in-Some.server) is (sym c.in-Some.is ∙ c.asked_for.ensures) in
-    gathering_shown (fixed_by resources) now resources.cache.entries c.in-Some.server c.args.said.now asked c.in-Gathering.number is c.requires.fits
+    gathering_shows (fixed_by resources) now resources.cache.entries c.args.said.now c.in-Gathering.number is c.requires.fits
 
-pub returns-in-Some-clause-ok : goal.returns-in-Some-clause-ok
-returns-in-Some-clause-ok c =
+pub returns-in-Gathering-clause-ok : goal.returns-in-Gathering-clause-ok
+returns-in-Gathering-clause-ok c =
     let now = c.args.self.now in
     let resources = c.args.resources.now in
     let is : now.phase ≡ Gathering c.in-Gathering.number = ap (λ (txn_run : TransactionRun). txn_run.phase) (sym c.self.view_is) ∙ ap phase_of c.in-Gathering.is in
-    let asked = asked_at (fixed_by resources) now (Gathering c.in-Gathering.number) (Some c.in-Some.server) is (sym c.in-Some.is ∙ c.asked_for.ensures) in
     let Goes : Step → Type 0 = λ step. IfOk c.on_held.result (λ flow. IsStep resources step flow c.on_held.new.self c.on_held.new.resources) in
-    subst Goes (sym (replied_held (fixed_by resources) now resources.cache.entries c.in-Some.server c.args.said.now asked c.in-Gathering.number is)) c.on_held.ensures.ok
+    subst Goes (sym (replied_where_asked (fixed_by resources) now resources.cache.entries c.args.said.now c.in-Gathering.number is)) c.on_held.ensures.ok
+
+pub returns-in-Gathering-clause-memory : goal.returns-in-Gathering-clause-memory
+returns-in-Gathering-clause-memory c =
+    let now = c.args.self.now in
+    let is : now.phase ≡ Gathering c.in-Gathering.number = ap (λ (txn_run : TransactionRun). txn_run.phase) (sym c.self.view_is) ∙ ap phase_of c.in-Gathering.is in
+    gathering_wants_asked (fixed_by c.args.resources.now) now c.args.said.now c.in-Gathering.number c.on_held.result is c.on_held.ensures.asked c.on_held.ensures.memory
 
 pub on_given-requires-clause-reached : goal.on_given-requires-clause-reached
 on_given-requires-clause-reached c =
@@ -48,27 +52,33 @@ on_widened-requires c =
     let resources = c.args.resources.now in
     let at = c.in-Widening in
     let left = to_widen (drop at.after at.granted.changes) in
-    let server = c.in-Some-asked_for.server in
     let is : now.phase ≡ Widening (at.number ∷ left) at.granted = ap (λ (txn_run : TransactionRun). txn_run.phase) (sym c.self.view_is) ∙ ap phase_of at.is in
-    let asked = asked_at (fixed_by resources) now (Widening (at.number ∷ left) at.granted) (Some server) is (sym c.in-Some-asked_for.is ∙ c.asked_for-in-Widening.ensures) in
-    record { shown = widening_shown (fixed_by resources) now resources.cache.entries server c.args.said.now asked at.number left at.granted is c.requires.fits }
+    record { shown = widening_shows (fixed_by resources) now resources.cache.entries c.args.said.now at.number left at.granted is c.requires.fits }
 
-pub returns-in-Some-asked_for-clause-ok : goal.returns-in-Some-asked_for-clause-ok
-returns-in-Some-asked_for-clause-ok c =
+pub returns-in-Widening-clause-ok : goal.returns-in-Widening-clause-ok
+returns-in-Widening-clause-ok c =
     let now = c.args.self.now in
     let resources = c.args.resources.now in
     let entries = resources.cache.entries in
     let at = c.in-Widening in
     let left = to_widen (drop at.after at.granted.changes) in
-    let server = c.in-Some-asked_for.server in
     let is : now.phase ≡ Widening (at.number ∷ left) at.granted = ap (λ (txn_run : TransactionRun). txn_run.phase) (sym c.self.view_is) ∙ ap phase_of at.is in
-    let asked = asked_at (fixed_by resources) now (Widening (at.number ∷ left) at.granted) (Some server) is (sym c.in-Some-asked_for.is ∙ c.asked_for-in-Widening.ensures) in
-    let same = replied_widened (fixed_by resources) now entries server c.args.said.now asked at.number left at.granted is in
     IfOk-weaker c.on_widened.result _ _
-    (λ flow steps.
-    let Goes : Step → Type 0 = λ step. GoesBy step flow c.on_widened.new.self entries in
-    late_step resources c.requires.ready.unused now c.args.said.now (Widening (at.number ∷ left) at.granted) flow c.on_widened.new.self is tt (subst Goes (sym same) (steps left at.granted entries is)))
+    (λ flow widened.
+    late_step resources c.requires.ready.unused now c.args.said.now (Widening (at.number ∷ left) at.granted) flow c.on_widened.new.self is tt
+    (widened_where_asked (fixed_by resources) now entries c.args.said.now at.number left at.granted flow c.on_widened.new.self is widened))
     c.on_widened.ensures.ok
+
+pub returns-in-Widening-clause-memory : goal.returns-in-Widening-clause-memory
+returns-in-Widening-clause-memory c =
+    let now = c.args.self.now in
+    let at = c.in-Widening in
+    let left = to_widen (drop at.after at.granted.changes) in
+    let is : now.phase ≡ Widening (at.number ∷ left) at.granted = ap (λ (txn_run : TransactionRun). txn_run.phase) (sym c.self.view_is) ∙ ap phase_of at.is in
+    widening_wants_asked (fixed_by c.args.resources.now) now c.args.said.now at.number c.on_widened.result left at.granted is c.on_widened.ensures.asked c.on_widened.ensures.memory
+
+pub returns-in-Widening-clause-err : goal.returns-in-Widening-clause-err
+returns-in-Widening-clause-err c = untouched_on c.args.resources.now c.args.self.now c.on_widened.new.self c.on_widened.result c.on_widened.ensures.err c.requires.ready.reached
 
 pub returns-in-Some-first-clause-ok : goal.returns-in-Some-first-clause-ok
 returns-in-Some-first-clause-ok c =
