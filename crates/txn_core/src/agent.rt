@@ -132,7 +132,7 @@ impl Agent {
             Job::Transaction { caller, site, ops } => {
                 let task = Task {
                     t: 64 * self.count + u64::from(self.index),
-                    caller: *caller,
+                    caller: caller.clone()?,
                     site: *site,
                     ops: ops.clone()?,
                 };

@@ -79,7 +79,7 @@ mod writing;
 
 pub use agent::{Agent, MAX_JOBS};
 pub use ending::{Cause, Ending};
-pub use job::{Job, Ops};
+pub use job::{Job, Ops, SharedCaller};
 pub use laws::{
     a_prepare_rises, all_prepare_first, caches_what_was_fetched, decide_is_sent_once,
     decides_on_quorums, ends_are_caused, ends_in_time, finish_carries_the_verdict, knows_contents,

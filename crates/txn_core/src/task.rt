@@ -3,15 +3,14 @@
 ghost use Rattle.std.specs.Prelude.{◌<◌, ◌^◌};
 ghost use Rattle.weak_cache.specs.Entries.{max_sites};
 
-use crate::job::Ops;
-use acl_core::Caller;
+use crate::job::{Ops, SharedCaller};
 use std::marker::Model;
 
 /// A transaction: its number, its caller, at which site, and what is asked.
 #[derive(Drop)]
 pub(crate) struct Task {
     pub(crate) t: u64,
-    pub(crate) caller: Caller,
+    pub(crate) caller: SharedCaller,
     pub(crate) site: u8,
     pub(crate) ops: Ops,
 }

@@ -11,8 +11,9 @@ use Rattle.txn_core.proofs.execution.Execution.answer_on.Goals as goal
 pub exec-requires-clause-reached : goal.exec-requires-clause-reached
 exec-requires-clause-reached c =
     let known = c.args.known.now in
-    subst (λ ops. IsReached known.service known.suites c.task.inside.t c.task.inside.caller ops c.args.progress.now) (sym c.as_slice.ensures)
-    (subst (λ (task : Task). IsReachedOn known task c.args.progress.now) (sym c.task.view_is) c.requires)
+    subst (λ caller. IsReached known.service known.suites c.task.inside.t caller c.as_slice.result.now c.args.progress.now) (sym c.deref.ensures)
+    (subst (λ ops. IsReached known.service known.suites c.task.inside.t c.task.inside.caller ops c.args.progress.now) (sym c.as_slice.ensures)
+    (subst (λ (task : Task). IsReachedOn known task c.args.progress.now) (sym c.task.view_is) c.requires))
 
 pub returns-clause-answer : goal.returns-clause-answer
 returns-clause-answer c =
@@ -20,6 +21,7 @@ returns-clause-answer c =
     IfOk-weaker c.exec.result _ _
     (λ outcome is.
     is
+    ∙ ap (λ caller. answered known.suites (exec_of known.service known.suites c.task.inside.t caller c.as_slice.result.now)) c.deref.ensures
     ∙ ap (λ ops. answered known.suites (exec_of known.service known.suites c.task.inside.t c.task.inside.caller ops)) c.as_slice.ensures
     ∙ ap (λ (task : Task). answer_of task known) c.task.view_is)
     c.exec.ensures.answer
@@ -28,4 +30,5 @@ pub returns-clause-reached : goal.returns-clause-reached
 returns-clause-reached c =
     let known = c.args.known.now in
     subst (λ (task : Task). IsReachedOn known task c.exec.new.progress) c.task.view_is
-    (subst (λ ops. IsReached known.service known.suites c.task.inside.t c.task.inside.caller ops c.exec.new.progress) c.as_slice.ensures c.exec.ensures.reached)
+    (subst (λ ops. IsReached known.service known.suites c.task.inside.t c.task.inside.caller ops c.exec.new.progress) c.as_slice.ensures
+    (subst (λ caller. IsReached known.service known.suites c.task.inside.t caller c.as_slice.result.now c.exec.new.progress) c.deref.ensures c.exec.ensures.reached))
