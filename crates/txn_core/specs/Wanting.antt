@@ -1,4 +1,4 @@
--- When a call on an agent may want memory. Everywhere else it never answers that memory was refused.
+-- When a call on an agent may run out of memory. Everywhere else it never answers that memory was refused.
 use Rattle.std.specs.Prelude.{ℕ, Bool, false, is_some, Option, Some, None}
 use Rattle.rep_core.specs.declared.request.Request.{Request}
 use Rattle.rep_core.specs.declared.request.Request.TheVariants as request

@@ -48,7 +48,7 @@ abbrev pub run : Fixed → World → ℕ → World
 run fixed world zero = world
 run fixed world (suc more) = run fixed (ask fixed world (next_of fixed world.agent)) more
 
--- what a server is asked by nobody: to fall down, or to come up
+-- what a server is asked by nobody: to crash, or to restart
 abbrev pub disturbed : Request → World → Option State → ℕ → World
 disturbed asked world (Some st) server = record world { servers = with_server world.servers server (after st asked) }
 disturbed asked world None server = world

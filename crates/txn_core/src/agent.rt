@@ -95,7 +95,7 @@ impl Agent {
 
     /// Begins a job. Where it does a job already, where the job has no sense (there is no such site, or no
     /// such server), or where it began too many, nothing changes. An error leaves the agent as it was.
-    /// Only a transaction that begins may want memory.
+    /// Only a transaction that begins may run out of memory.
     pub fn begin(&mut self, job: &Job) -> Result<(), AllocError>
         ensures ok { OnOk result (self.new ≡ record self.old { state = agents.begin self.old.fixed self.old.state job.now }) }
         ensures err { OnErr result (self.new ≡ self.old) }
@@ -165,7 +165,7 @@ impl Agent {
     }
 
     /// Of which server it asks next, and what, which is put into a place of the caller's: nothing is, where
-    /// it is idle. Only the list of a Prepare may want memory, and the answers of a Decide or a Finish.
+    /// it is idle. Only the list of a Prepare may run out of memory, and the answers of a Decide or a Finish.
     #[inline(always)]
     pub fn next(&self, request: &mut Request) -> Result<Option<u8>, AllocError>
         ensures ok { IfOk result (λ server. option_map (λ server. (server, request.new)) server ≡ agents.next_of self.now.fixed self.now.state) }

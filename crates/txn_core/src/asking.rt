@@ -23,7 +23,7 @@ use suite_collect::Coming;
 use vote_core::MAX_SERVERS;
 
 impl TransactionRun {
-    /// Of which server is asked next, and what, which is put into its place. A Prepare wants memory for its
+    /// Of which server is asked next, and what, which is put into its place. A Prepare needs memory for its
     /// list, and a Decide or a Finish at most to copy answers; nothing else does.
     pub(crate) fn ask(
         &self,

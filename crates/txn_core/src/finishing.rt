@@ -76,7 +76,7 @@ impl TransactionRun {
         Flow::On
     }
 
-    /// What the home said. Only to tell answers again it may want memory.
+    /// What the home said. Only to tell answers again it may run out of memory.
     pub(crate) fn on_verdict(&mut self, said: &Reply) -> Result<Flow, AllocError>
         ensures ok { IfOk result (λ flow. (cache : Cache) → GoesBy (txn_run.decided self.old.task cache self.old.suites said.now) flow self.new cache) }
         ensures err { OnErr result (self.new ≡ self.old) }

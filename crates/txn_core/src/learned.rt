@@ -55,7 +55,7 @@ impl Learned {
         }
     }
 
-    /// It is set, of its suite and in the cache. Only a content may want memory: then nothing changes.
+    /// It is set, of its suite and in the cache. Only a content may run out of memory: then nothing changes.
     pub(crate) fn set(
         self,
         suites: &mut RoomyMap<u64, Suite>,

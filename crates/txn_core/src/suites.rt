@@ -129,7 +129,7 @@ impl Suite {
     }
 
     /// Hears the reply to what was asked next. With a lock that gives a quorum nothing changes yet. Only a lock
-    /// that is held may want memory, and nothing has changed then.
+    /// that is held may run out of memory, and nothing has changed then.
     pub(crate) fn hear(&mut self, reply: &Reply) -> Result<Hearing, AllocError>
         requires { shows_unused reply.now ≡ true }
         ensures ok { IfOk result (λ hearing. Hears hearing self.old reply.now self.new) }

@@ -84,7 +84,7 @@ impl SweepRun {
     }
 
     /// Of which server is asked next, and what, which is put into its place. Only to tell answers again it
-    /// may want memory.
+    /// may run out of memory.
     pub(crate) fn ask(
         &self,
         fixed_parts: &FixedParts,
@@ -130,7 +130,7 @@ impl SweepRun {
         Flow::Ended(Ending::Undecided(cause))
     }
 
-    /// The server that was asked next replied. A list of locks and answers may want memory. Where it is refused,
+    /// The server that was asked next replied. A list of locks and answers may run out of memory. Where it is refused,
     /// the run is as it was.
     pub(crate) fn on_reply(
         &mut self,

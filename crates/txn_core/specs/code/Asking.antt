@@ -1,4 +1,4 @@
--- Of which server a call asks what, and where it may want memory for that.
+-- Of which server a call asks what, and where it may run out of memory for that.
 use Rattle.std.specs.Prelude.{◌≡◌, ℕ, IsTrue, option_map, Option}
 use Rattle.file_ops.specs.declared.service.Service.{Service}
 use Rattle.rep_core.specs.declared.request.Request.{Request}
