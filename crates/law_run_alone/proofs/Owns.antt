@@ -47,7 +47,7 @@ pub record Owns (up : ℕ → Bool) (world : World) (t turn : ℕ) : Type 0 wher
   pub mine : IsMine t (doing_at world turn)
   pub servers : (s : ℕ) (st : State) → server_at world s ≡ Some st → IsOwnAt (up s) t st
 
--- An event that leaves it so: no other agent asks anything, its own begins no job, no server falls down, and none comes up that is down.
+-- An event that leaves it so: no other agent asks anything, its own begins no job, no server crashes, and none restarts.
 abbrev pub IsCalm : Opening → (ℕ → Bool) → ℕ → World → Event → Type 0
 IsCalm given up turn world (Begin i job) = i ≡ turn → begins_job given world (Begin i job) ≡ None
 IsCalm given up turn world (Step i) = (actor : Actor) (asked : ℕ × Request) → actor_at world i ≡ Some actor → next_of (fixed_of given) actor.agent ≡ Some asked → i ≡ turn

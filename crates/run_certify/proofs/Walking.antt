@@ -298,7 +298,7 @@ operated_fails was one event of spells none = λ sound total run.
     (from_left fixed was.world (one ∷ []) was.histories was.unused run.later run.left) in
     none sound h.0 h.1
 
--- an item of the operator's is that a server fell down or came up
+-- an item of the operator's is that a server crashed or restarted
 abbrev IsOperated : ItemAt → Type 0
 IsOperated one = one.item.agent ≡ None → (event : Event) × (operated one.server one.item.request.value ≡ event ∷ [])
 

@@ -1,4 +1,4 @@
--- Which events may want memory.
+-- Which events may need memory.
 use Rattle.std.proofs.Common.{◌≡◌, ℕ, ◌<◌, ◌+◌, length, take, get_or, Bool, true, false, List, [], ◌∷◌, ◌++◌, Option, Some, None, IsSome, Result, Ok, Err, refl, ap, ◌∙◌, sym}
 use Rattle.std.specs.Prelude.{is_some, option_map, slice_get, ◌||◌, IfErr}
 use Rattle.std.specs.List.{last_or}
@@ -42,7 +42,7 @@ steps_there fixed servers seats place seat asked all is next wants =
     ∙ ap (by_asking (world_of servers seats) seat.actor) next
     ∙ wants
 
--- what is asked wants memory
+-- what is asked needs memory
 either : (a b : Bool) → a ≡ true → (a || b) ≡ true
 either a b is = ap (λ a. a || b) is
 
@@ -80,7 +80,7 @@ request_wants asked b wants = either (by_request asked) b wants
 
 -- ---- events one after the other
 
--- the next one wants memory
+-- the next one needs memory
 pub stops_before : (given given' : Opening) (world world' : World) (events : List Event) (i done : ℕ) (event : Event)
     → i < length events → given' ≡ given → done ≡ i → world' ≡ after (fixed_of given) world (take i events) → event ≡ get_or events i event
     → by_event (fixed_of given') world' event ≡ true → by_stop (fixed_of given) world events done ≡ true

@@ -1,4 +1,4 @@
--- When an event may want memory. Everywhere else it is played, however little memory there is.
+-- When an event may need memory. Everywhere else it is played, however little memory there is.
 use Rattle.std.specs.Prelude.{ℕ, Bool, false, ◌&&◌, ◌||◌, not, is_some, List, take, slice_get, Option, Some, None}
 use Rattle.std.specs.List.{last_or}
 use Rattle.rep_core.specs.declared.request.Request.{Request}
@@ -58,7 +58,7 @@ abbrev pub by_outcome : Option Done → Bool
 by_outcome (Some done) = is_some done.outcome
 by_outcome None = false
 
--- after so many of them: the next one wants memory, or the last one ended a job, whose outcome is kept
+-- after so many of them: the next one needs memory, or the last one ended a job, whose outcome is kept
 abbrev pub by_stop : Fixed → World → List Event → ℕ → Bool
 by_stop fixed world events done =
     by_next fixed (after fixed world (take done events)) (slice_get events done)

@@ -136,6 +136,7 @@ impl Seat {
     }
 
     /// It took a step more, which its job ended with, where there is an ending.
+    #[inline(always)]
     fn move_on(
         &mut self,
         agent: u8,

@@ -71,7 +71,7 @@ impl World {
     }
 
     /// Plays one event. Where it has no sense nothing comes of it. Where memory runs out nothing has
-    /// changed, and the same event may be played again. Only a transaction that begins may want memory, and
+    /// changed, and the same event may be played again. Only a transaction that begins may need memory, and
     /// a step: to ask for a Prepare or with answers, for what the server keeps or tells where it is not full
     /// (nothing, where it answers Busy, Lost, Done or Down), and for what the agent keeps of the reply.
     pub fn step(&mut self, event: &Event) -> Result<Done, AllocError>
@@ -89,7 +89,7 @@ impl World {
 
     /// Plays one event as `step` does, and tells only how a job ended, if one did: that is put into a place of
     /// the caller's, which else keeps what it has, and what was served is not kept. Where memory runs out nothing
-    /// has changed, and the same event may be played again. It wants memory only where `step` may.
+    /// has changed, and the same event may be played again. It needs memory only where `step` may.
     pub fn advance(&mut self, event: &Event, ended: &mut Option<EndedJob>) -> Result<(), AllocError>
         ensures given { self.new.given ≡ self.old.given }
         ensures world { OnOk result (self.new.world ≡ (worlds.step (fixed_of self.old.given) self.old.world event.now).world) }
@@ -140,7 +140,7 @@ impl World {
     }
 
     /// Plays events, one after the other, and answers how jobs ended. Where memory runs out the world is
-    /// as after the events that are told, and the others may be played next: the first of them wants memory,
+    /// as after the events that are told, and the others may be played next: the first of them needs memory,
     /// or the last that was played ended a job, whose outcome is kept. The outcomes of that call are not
     /// handed out.
     pub fn play(&mut self, events: &[Event]) -> Result<Vec<EndedJob>, Stopped>
