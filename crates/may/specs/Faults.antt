@@ -1,6 +1,5 @@
 -- The faults of a line, their printed codes, and what a reading by the program comes to.
-use Rattle.std.specs.Prelude.{◌≡◌, ℕ, List, [], ◌∷◌, ◌++◌, codes, decimal, Vec, Result, Ok, Err}
-use Rattle.std.specs.declared.alloc.Global.{Global}
+use Rattle.std.specs.Prelude.{◌≡◌, ℕ, List, [], ◌∷◌, ◌++◌, codes, decimal, Result, Ok, Err}
 use Rattle.acl_core.specs.declared.fault.AclFault.{AclFault}
 use Rattle.acl_core.specs.declared.fault.AclFault.TheVariants.{NoUserObj, NoGroupObj, NoOther, TwiceSingle, UserTwice, GroupTwice, MaskMissing, TooMany}
 use Rattle.acl_text.specs.declared.read.TextFault.{TextFault}
@@ -55,12 +54,6 @@ abbrev pub Gives : {A : Type 0} → Result A LineError → Result A LineFault �
 Gives (Ok value) reading = reading ≡ Ok value
 Gives (Err (Faulty fault)) reading = reading ≡ Err fault
 Gives (Err Memory) reading = Unit {0}
-
--- the same of numbers that are gathered
-abbrev pub Gathers : Result (Vec ℕ Global) LineError → Result (List ℕ) LineFault → Type 0
-Gathers (Ok numbers) reading = reading ≡ Ok numbers.items
-Gathers (Err (Faulty fault)) reading = reading ≡ Err fault
-Gathers (Err Memory) reading = Unit {0}
 
 -- a fault of a list's text as one of its line
 abbrev pub line_error_of : TextFault → LineError

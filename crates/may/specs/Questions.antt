@@ -4,15 +4,14 @@ use Rattle.acl_core.specs.Identity.{Identity}
 use Rattle.script_text.specs.Words.{words}
 use Rattle.may.specs.declared.fault.LineFault.{LineFault}
 use Rattle.may.specs.declared.question.Question.{Question}
-use Rattle.may.specs.Words.{Taken, Word, ◌>>=◌, at_end, caller_with, id, ids_in, list_in, wanted_in, word}
+use Rattle.may.specs.Words.{Taken, Word, ◌>>=◌, at_end, caller_in, id, list_in, wanted_in, word}
 
 -- who asks: a user, and between commas its own group and its other groups
 abbrev pub caller : List Word → Result (Taken Identity) LineFault
 caller words = do
   uid ← id words
   next ← word uid.rest
-  ids ← ids_in next.value
-  caller ← caller_with uid.value ids
+  caller ← caller_in uid.value next.value
   Ok (record { value = caller; rest = next.rest })
 
 -- `OWNER GROUP UID GID[,GROUP..] WANTED LIST`

@@ -75,6 +75,12 @@ caller_with uid [] = Err Form
 caller_with uid (gid ∷ groups) =
     if nat_le (length groups) max_groups then Ok (record { uid = uid; gid = gid; groups = groups }) else Err Form
 
+-- a caller of some user: between commas its own group and its other groups
+abbrev pub caller_in : ℕ → Word → Result Identity LineFault
+caller_in uid text = do
+  ids ← ids_in text
+  caller_with uid ids
+
 -- what is wanted: letters of r, w and x, with or without hyphens, as an entry grants it
 abbrev pub letter_r : ℕ
 letter_r = 114

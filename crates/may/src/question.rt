@@ -6,7 +6,7 @@ ghost use Rattle.may.specs.Faults.{Gives};
 ghost use Rattle.may.specs.Questions.{question_in};
 
 use crate::fault::LineError;
-use crate::words::{at_end, caller_with, next_word, read_id, read_ids, read_list, read_wanted};
+use crate::words::{at_end, next_word, read_caller, read_id, read_list, read_wanted};
 use acl_core::{Acl, Caller, Check, Decider, Perms, Tag};
 use acl_text::{append_tag, permission_text};
 use script_text::Words;
@@ -30,8 +30,7 @@ pub(crate) fn read_question(alloc: Global, line: &[u8]) -> Result<Question, Line
     let owner = read_id(next_word(&mut words)?)?;
     let group = read_id(next_word(&mut words)?)?;
     let uid = read_id(next_word(&mut words)?)?;
-    let numbers = read_ids(alloc, next_word(&mut words)?)?;
-    let caller = caller_with(uid, &numbers)?;
+    let caller = read_caller(uid, next_word(&mut words)?)?;
     let wanted = read_wanted(next_word(&mut words)?)?;
     let text = next_word(&mut words)?;
     at_end(&mut words)?;

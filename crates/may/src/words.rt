@@ -2,13 +2,13 @@
 
 ghost use Rattle.std.specs.Prelude.{◌≡◌, ◌∷◌, [], MatchResult};
 ghost use Rattle.std.specs.List.{list_all};
-ghost use Rattle.may.specs.Faults.{Gathers, Gives};
-ghost use Rattle.may.specs.Words.{at_end, caller_with, id_in, ids_in, is_letter, list_in, stands_in, wanted_in};
+ghost use Rattle.may.specs.Faults.{Gives};
+ghost use Rattle.may.specs.Words.{at_end, caller_in, caller_with, id_in, is_letter, list_in, stands_in, wanted_in};
 
 use crate::fault::{LineError, LineFault};
 use acl_core::{Acl, Caller, Entry, Perms, Tag};
 use acl_text::{Names, read_acl};
-use script_text::{Parts, Words, read_number};
+use script_text::{Numbers, Words, read_number};
 use std::alloc::Global;
 
 /// The next word of a line.
@@ -37,20 +37,26 @@ pub(crate) fn read_id(word: &[u8]) -> Result<u32, LineFault>
     Ok(number as u32)
 }
 
-/// The numbers of a word, between commas.
-pub(crate) fn read_ids(alloc: Global, word: &[u8]) -> Result<Vec<u32>, LineError>
-    ensures { Gathers result (ids_in word.now) }
+/// The most numbers of a caller's groups: its own and the others.
+const MAX_NUMBERS: usize = 33;
+
+/// A caller of some user, with the numbers of its groups between commas, its own first.
+pub(crate) fn read_caller(uid: u32, word: &[u8]) -> Result<Caller, LineFault>
+    ensures { result ≡ caller_in uid word.now }
 {
-    let mut ids = Vec::new(alloc);
-    for part in Parts::new(word, b',') {
-        let id = read_id(part)?;
-        ids.push(id)?;
+    let mut numbers = [0; MAX_NUMBERS];
+    let mut count = 0;
+    for number in Numbers::new(word, b',', u32::MAX) {
+        if count == MAX_NUMBERS {
+            return Err(LineFault::Form);
+        }
+        numbers[count] = number.ok_or(LineFault::Form)?;
+        count += 1;
     }
-    Ok(ids)
+    caller_with(uid, &numbers[..count])
 }
 
-/// A caller of some user, with the numbers of its groups, its own first.
-pub(crate) fn caller_with(uid: u32, numbers: &[u32]) -> Result<Caller, LineFault>
+fn caller_with(uid: u32, numbers: &[u32]) -> Result<Caller, LineFault>
     ensures { result ≡ caller_with uid numbers.now }
 {
     match numbers {
