@@ -2,16 +2,15 @@
 
 ghost use Rattle.std.specs.Prelude.{◌≡◌};
 
-use acl_core::Caller;
 use file_ops::{Answers, Refusal};
 use std::marker::Model;
-use txn_core::Ops;
+use txn_core::{Ops, SharedCaller};
 
 /// A transaction that was decided: its number, who asked for what, and the replies or the refusal.
 #[derive(Debug, Drop)]
 pub struct Decision {
     pub t: u64,
-    pub caller: Caller,
+    pub caller: SharedCaller,
     pub ops: Ops,
     pub answer: Result<Answers, Refusal>,
 }

@@ -29,7 +29,7 @@ pub(crate) fn decision_of(
     };
     Ok(Some(Decision {
         t,
-        caller: *caller,
+        caller: caller.clone()?,
         ops: ops.clone()?,
         answer,
     }))

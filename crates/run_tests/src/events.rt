@@ -7,7 +7,7 @@ use rep_core::Lack;
 use run_core::Event;
 use std::process::Abort;
 use suite_content::{FileBytes, Kind};
-use txn_core::{Job, Ops};
+use txn_core::{Job, Ops, SharedCaller};
 
 /// How what is made begins.
 fn mode(rt: &impl Abort, bits: u16) -> Init {
@@ -58,8 +58,9 @@ fn ops(rt: &(impl Abort + AllocGlobal), text: &str) -> Ops {
 
 /// The owner's job of these operations, with the cache of site 0.
 fn transaction(rt: &(impl Abort + AllocGlobal), text: &str) -> Job {
+    let caller = Caller::new(1000, 100, &[]).ok().expect(rt, "a caller");
     Job::Transaction {
-        caller: Caller::new(1000, 100, &[]).ok().expect(rt, "a caller"),
+        caller: again!(rt, SharedCaller::new(rt.alloc(), caller)),
         site: 0,
         ops: ops(rt, text),
     }

@@ -18,7 +18,7 @@ use std::alloc::Global;
 use suite_script::{
     Language, LineError, LineFault, at_end, next_word, read_caller, read_id, read_operations,
 };
-use txn_core::{Job, Ops};
+use txn_core::{Job, Ops, SharedCaller};
 
 /// The last site of an agent.
 const LAST_SITE: u8 = 15;
@@ -123,6 +123,7 @@ pub fn read_transaction(
     let uid = read_id(next_word(&mut words)?)?;
     let caller = read_caller(uid, next_word(&mut words)?)?;
     let site = read_place(next_word(&mut words)?, LAST_SITE)?;
+    let caller = SharedCaller::new(alloc, caller)?;
     let ops = Ops::from_vec(read_operations(alloc, names, words)?)?;
     Ok(Job::Transaction { caller, site, ops })
 }
