@@ -6,21 +6,29 @@
 //!
 //! **Promises.** `read_all` gives all bytes of a stream, or says why not (`IsWhole`, `Explains`). `write_all` adds
 //! a text whole, or fails with one failure more (`Adds`). A system read that a signal broke off is made again.
+//! `finish`, `finish_line` and `lack_memory` end a program: its last line, and its exit status (`specs/Endings.antt`).
 //!
 //! **The caller owes** a limit below 2^62 for `read_all`, and a buffer with room for `read`.
 //!
-//! **Files**: `traits`, `memory` (streams of tests, where a given call can fail), `system`, `reading`, `writing`.
-//! **Definitions** (`specs/`): `Streams`, `Whole`.
+//! **Files**: `traits`, `memory` (streams of tests, where a given call can fail), `system`, `reading`, `writing`,
+//! `ending`, `wanted` (the words of a program that takes none but `--help`). **Definitions** (`specs/`): `Streams`,
+//! `Whole`, `Endings`.
 #![tactic(auto)]
 
+mod ending;
 mod memory;
 mod reading;
 mod system;
 mod traits;
+mod wanted;
 mod writing;
 
+pub use ending::{
+    COMMAND_LINE, DONE, FAULTY, MAX_INPUT, NO_STREAM, finish, finish_line, lack_memory,
+};
 pub use memory::{MemoryIn, MemoryOut};
 pub use reading::{ReadError, read_all};
 pub use system::{SystemIn, SystemOut};
 pub use traits::{ByteIn, ByteOut, ReadFailed, WriteFailed};
+pub use wanted::{Wanted, read_wanted};
 pub use writing::write_all;
