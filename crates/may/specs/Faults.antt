@@ -27,7 +27,7 @@ list_code TooMany = codes "A8"
 abbrev pub item_code : List ℕ → ℕ → List ℕ
 item_code code item = code ++ codes " item " ++ decimal item
 
--- the codes of what can be wrong with a list's text; want of memory is no fault and has none
+-- the codes of what can be wrong with a list's text; out of memory is no fault and has none
 abbrev pub text_code : TextFault → List ℕ
 text_code (text.Syntax item) = item_code (codes "A9") item
 text_code (text.UnknownName item) = item_code (codes "A10") item
