@@ -1,15 +1,14 @@
 //! Scripts of events, played as they are read.
 
-ghost use Rattle.std.specs.Prelude.{◌≡◌, ◌<◌, ◌^◌, ◌++◌, true, length, IfErr, IfOk, OnOk, OnSome};
+ghost use Rattle.std.specs.Prelude.{◌≡◌, ◌<◌, ◌^◌, ◌++◌, length, OnOk};
 ghost use Rattle.suite_play.specs.Outputs.{places_of, play_output};
-ghost use Rattle.suite_play.specs.Playing.{of_event, played, steps};
+ghost use Rattle.suite_play.specs.Playing.{of_event, steps};
 ghost use Rattle.suite_play.specs.Promised.{PlayIsPromised};
 ghost use Rattle.suite_play.specs.Texts.{audit_lines, outcome_text};
-ghost use Rattle.suite_play.specs.code.Playing.{PlaysUpTo, audit_head, in_all, in_all_from};
+ghost use Rattle.suite_play.specs.code.Playing.{audit_head};
 ghost use Rattle.run_core.specs.Worlds.{step};
 ghost use Rattle.txn_core.specs.Agents.{fixed_of};
 ghost use Rattle.suite_script.specs.Gathering.{Plays, Prints};
-ghost use Rattle.suite_script.specs.Outputs.{Finds, StopsWith, is_done};
 
 use crate::command::Command;
 use crate::header::read_header;
@@ -21,29 +20,26 @@ use run_core::{EndedJob, Event, World};
 use script_text::push_number;
 use std::alloc::{AllocError, Global};
 use suite_prefix::Settings;
-use suite_script::{KEPT, PlayError, ScriptError, ScriptReader, write_gathered, write_if_full};
+use suite_script::{PlayError, ScriptReader, Stage, play_lines, write_if_full};
 
-/// How many denials an audit may tell before the rest of a script is looked through.
+/// How many denials an audit may tell that is no long line.
 const FEW: usize = 1_024;
 
 /// Plays a script of events, and writes what it prints; nothing, where it has a fault. What is played is promised: of the
-/// run of its events, at each moment, all that `law_headline::promise` promises of a world. A line is played as it is read: so
-/// nothing is written until the script is known to have no fault, which is at its end, or, where much is printed, once the
-/// rest was looked through. So what is printed and not written is never more than 4 MiB and what two lines print, of which
-/// an audit of more than 1,024 denials is none: it is written in pieces.
+/// run of its events, at each moment, all that `law_headline::promise` promises of a world. A script is played as it is
+/// read (`play_lines`), and an audit of more than 1,024 denials is a long line.
 pub fn play_events<O: ByteOut>(alloc: Global, text: &[u8], writer: &mut O) -> Result<(), PlayError>
     requires { length text.now < 2 ^ 60 }
     ensures plays { Plays result (play_output text.now) (O.written writer.old) (O.written writer.new)
         (O.failed_writes writer.old) (O.failed_writes writer.new) }
     ensures promised { OnOk result (PlayIsPromised text.now) }
 {
-    let mut player = EventPlayer::new(alloc, text)?;
-    if let Some(command) = player.play_first(alloc)? {
-        player.look_ahead(alloc)?;
-        return player.play_rest(alloc, command, writer);
-    }
-    write_gathered(writer, &mut player.printed)?;
-    Ok(())
+    let mut script = ScriptReader::new(alloc, text);
+    let settings = read_header(alloc, &mut script)?;
+    settings.fits();
+    let places = places_of(&settings);
+    let mut world = World::opening(alloc, &settings)?;
+    play_lines(alloc, &mut script, &places, &mut world, writer)
 }
 
 /// The servers and agents of a header.
@@ -56,123 +52,51 @@ pub fn places_of(settings: &Settings) -> Places
     }
 }
 
-/// A script that is being played: what is left of it, which servers and agents it has, its world, and what was printed
-/// and is not written.
-#[derive(Drop)]
-struct EventPlayer<'a> {
-    script: ScriptReader<'a>,
-    places: Places,
-    world: World,
-    printed: Vec<u8>,
-}
+impl Stage<Places> for World {
+    ghost use Rattle.suite_play.specs.code.Playing.{after_line, is_long, line_of};
 
-impl<'a> EventPlayer<'a> {
-    /// A script of which nothing is played yet.
-    fn new(alloc: Global, text: &'a [u8]) -> Result<EventPlayer<'a>, ScriptError>
-        requires { length text.now < 2 ^ 60 }
-        ensures same { IfOk result (λ player. in_all player ≡ play_output text.now) }
-        ensures promised { OnOk result (PlayIsPromised text.now) }
-        ensures err { IfErr result (λ error. StopsWith error (play_output text.now)) }
-    {
-        let mut script = ScriptReader::new(alloc, text);
-        let settings = read_header(alloc, &mut script)?;
-        settings.fits();
-        let world = World::opening(alloc, &settings)?;
-        Ok(EventPlayer {
-            script,
-            places: places_of(&settings),
-            world,
-            printed: Vec::new(alloc),
-        })
-    }
+    ghost line = { line_of };
 
-    /// Plays until much is printed, or an audit would print much, and answers the line that is next, if there is one.
-    fn play_first(&mut self, alloc: Global) -> Result<Option<Command>, ScriptError>
-        ensures plays { PlaysUpTo result (in_all self.old) self.new }
-        ensures begun { IfOk result (λ next. OnSome next (self.new.script.begun ≡ true)) }
-    {
-        loop {
-            let Some(command) = self.script.next_own(alloc, &self.places)? else {
-                return Ok(None);
-            };
-            let tells_much = match &command {
-                Command::Audit { server } => self.world.audit(*server).len() > FEW,
-                _ => false,
-            };
-            if tells_much || self.printed.len() >= KEPT {
-                return Ok(Some(command));
-            }
-            play_command(alloc, &mut self.world, &command, &mut self.printed)?;
+    ghost after = { after_line };
+
+    ghost is_long = { is_long };
+
+    fn is_long(&self, command: &Command) -> bool {
+        match command {
+            Command::Audit { server } => self.audit(*server).len() > FEW,
+            _ => false,
         }
     }
 
-    /// Looks through the lines that are left for the first fault.
-    fn look_ahead(&self, alloc: Global) -> Result<(), ScriptError>
-        requires { self.now.script.begun ≡ true }
-        ensures { Finds result (in_all self.now) }
-    {
-        self.script.look_ahead(alloc, &self.places)
-    }
-
-    /// Plays this line and those that are left, which have no fault, and writes what is printed in pieces.
-    fn play_rest<O: ByteOut>(
+    fn play_line(
         &mut self,
         alloc: Global,
-        first: Command,
-        writer: &mut O,
-    ) -> Result<(), PlayError>
-        requires { is_done (in_all_from first self.old) ≡ true }
-        ensures { Plays result (in_all_from first self.old) (O.written writer.old) (O.written writer.new)
-            (O.failed_writes writer.old) (O.failed_writes writer.new) }
-    {
-        let mut command = first;
-        loop {
-            write_command(alloc, &mut self.world, &command, &mut self.printed, writer)?;
-            match self.script.next_own(alloc, &self.places)? {
-                Some(next) => command = next,
-                None => break,
-            }
+        _number: u64,
+        command: &Command,
+        text: &mut Vec<u8>,
+    ) -> Result<(), AllocError> {
+        match command {
+            Command::Event(event) => push_event(alloc, self, event, text),
+            Command::Steps { agent, count } => push_steps(alloc, self, *agent, *count, text),
+            Command::Run { agent } => push_steps(alloc, self, *agent, u64::MAX, text),
+            Command::Audit { server } => push_audit(*server, self.audit(*server), text),
         }
-        write_gathered(writer, &mut self.printed)?;
+    }
+
+    fn write_line<O: ByteOut>(
+        &mut self,
+        alloc: Global,
+        number: u64,
+        command: &Command,
+        text: &mut Vec<u8>,
+        writer: &mut O,
+    ) -> Result<(), PlayError> {
+        if let Command::Audit { server } = command {
+            return write_audit(*server, self.audit(*server), text, writer);
+        }
+        self.play_line(alloc, number, command, text)?;
+        write_if_full(writer, text)?;
         Ok(())
-    }
-}
-
-/// Plays a line, adds what it prints to the text, and writes that in pieces.
-fn write_command<O: ByteOut>(
-    alloc: Global,
-    world: &mut World,
-    command: &Command,
-    text: &mut Vec<u8>,
-    writer: &mut O,
-) -> Result<(), PlayError>
-    ensures printed { Prints result (text.old.items ++ (played (fixed_of world.old.given) world.old.world command.now).text) text.new.items
-        (O.written writer.old) (O.written writer.new) (O.failed_writes writer.old) (O.failed_writes writer.new) }
-    ensures world { OnOk result (world.new ≡ record world.old { world = (played (fixed_of world.old.given) world.old.world command.now).world }) }
-{
-    if let Command::Audit { server } = command {
-        return write_audit(*server, world.audit(*server), text, writer);
-    }
-    play_command(alloc, world, command, text)?;
-    write_if_full(writer, text)?;
-    Ok(())
-}
-
-/// Plays a line, and adds what it prints to the text.
-fn play_command(
-    alloc: Global,
-    world: &mut World,
-    command: &Command,
-    text: &mut Vec<u8>,
-) -> Result<(), AllocError>
-    ensures printed { OnOk result (text.new.items ≡ text.old.items ++ (played (fixed_of world.old.given) world.old.world command.now).text) }
-    ensures world { OnOk result (world.new ≡ record world.old { world = (played (fixed_of world.old.given) world.old.world command.now).world }) }
-{
-    match command {
-        Command::Event(event) => push_event(alloc, world, event, text),
-        Command::Steps { agent, count } => push_steps(alloc, world, *agent, *count, text),
-        Command::Run { agent } => push_steps(alloc, world, *agent, u64::MAX, text),
-        Command::Audit { server } => push_audit(*server, world.audit(*server), text),
     }
 }
 

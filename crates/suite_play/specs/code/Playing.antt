@@ -1,29 +1,28 @@
--- What a script comes to that is being played on a world.
-use Rattle.std.specs.Prelude.{◌≡◌, ℕ, List, ◌++◌, codes, decimal, Option, Some, None, Result, Ok, Err}
+-- What the lines of a script print on a world, and which of them are written in pieces.
+use Rattle.std.specs.Prelude.{ℕ, Bool, false, nat_lt, List, ◌++◌, codes, decimal, length}
 use Rattle.txn_core.specs.Agents.{fixed_of}
+use Rattle.run_core.specs.Opened.{Opened}
+use Rattle.run_core.specs.Worlds.{audit_of}
 use Rattle.suite_script.specs.Faults.{line_feed}
-use Rattle.suite_script.specs.Gathering.{comes_to}
-use Rattle.suite_script.specs.Outputs.{Output, Done, StopsWith}
-use Rattle.suite_script.specs.Scripts.{owns, with_own}
-use Rattle.suite_script.specs.declared.fault.ScriptError.{ScriptError}
-use Rattle.suite_play.specs.Playing.{all_lines}
-use Rattle.suite_play.specs.code.Kept.{commands}
+use Rattle.suite_play.specs.Playing.{played}
 use Rattle.suite_play.specs.declared.command.Command.{Command}
-use Rattle.suite_play.specs.declared.player.EventPlayer.{EventPlayer}
+use Rattle.suite_play.specs.declared.command.Command.TheVariants.{Audit}
 
--- what was printed, and what the lines that are left print; or the first fault
-abbrev pub in_all : EventPlayer → Output
-in_all player = comes_to player.printed.items (all_lines (fixed_of player.world.given) player.world.world) (owns (commands player.places) player.script)
+-- what a line prints, whatever its number
+abbrev pub line_of : Opened → ℕ → Command → List ℕ
+line_of opened number command = (played (fixed_of opened.given) opened.world command).text
 
--- the same, where a line was read that is next
-abbrev pub in_all_from : Command → EventPlayer → Output
-in_all_from command player = comes_to player.printed.items (all_lines (fixed_of player.world.given) player.world.world) (with_own command (owns (commands player.places) player.script))
+-- the world after it
+abbrev pub after_line : Opened → ℕ → Command → Opened
+after_line opened number command = record opened { world = (played (fixed_of opened.given) opened.world command).world }
 
--- it was played up to a line that is next, and comes to the same; or to its end, and came to what was printed
-abbrev pub PlaysUpTo : Result (Option Command) ScriptError → Output → EventPlayer → Type 0
-PlaysUpTo (Ok (Some command)) output player = in_all_from command player ≡ output
-PlaysUpTo (Ok None) output player = output ≡ Done player.printed.items
-PlaysUpTo (Err error) output player = StopsWith error output
+-- an audit of more denials than these
+abbrev pub few : ℕ
+few = 1024
+
+abbrev pub is_long : Opened → Command → Bool
+is_long opened (Audit server) = nat_lt few (length (audit_of opened.world server))
+is_long opened other = false
 
 -- the line above so many denials of a server
 abbrev pub audit_head : ℕ → ℕ → List ℕ

@@ -1,34 +1,42 @@
-use Rattle.std.proofs.Common.{◌∙◌, Err, subst}
-use Rattle.suite_play.proofs.Playing.{found_from}
-use Rattle.suite_play.specs.Outputs.{play_output}
-use Rattle.suite_play.specs.Playing.{all_lines}
-use Rattle.suite_play.specs.code.Kept.{commands}
+use Rattle.std.proofs.Common.{◌∙◌, Result, Ok, Err, ap, subst, sym}
+use Rattle.std.specs.Prelude.{OnOk}
+use Rattle.suite_play.proofs.Playing.{played_output}
+use Rattle.suite_play.proofs.Promised.{play_promised}
+use Rattle.suite_play.specs.Headers.{header}
+use Rattle.suite_play.specs.Outputs.{language, lines_of, play_output}
 use Rattle.suite_script.proofs.Gathering.{failed, stops}
-use Rattle.suite_script.specs.Outputs.{Output, StopsWith}
+use Rattle.suite_script.proofs.Played.{headed_badly}
+use Rattle.suite_script.specs.Gathering.{Plays}
+use Rattle.suite_script.specs.Outputs.{Output}
 use Rattle.suite_script.specs.Readings.{play_error_of}
-use Rattle.suite_script.specs.Scripts.{owns}
-use Rattle.txn_core.specs.Agents.{fixed_of}
+use Rattle.suite_script.specs.Scripts.{whole}
+use Rattle.suite_script.specs.declared.fault.ScriptError.TheVariants.{Memory}
 use Rattle.suite_play.proofs.player.play_events.Goals as goal
 
-pub returns-in_err-player-clause-plays : goal.returns-in_err-player-clause-plays
-returns-in_err-player-clause-plays g c =
-    let error = c.in_err-player.field-0.0 in
+pub returns-clause-plays : goal.returns-clause-plays
+returns-clause-plays g c =
+    let read = ap header (sym c.new-script.ensures.whole) ∙ c.in_ok-settings.ensures in
+    let plays = rw (c.in_ok-world.ensures, c.places_of-places.ensures) at c.play_lines.ensures in
+    subst (λ (output : Output). Plays c.play_lines.result output (g.O.ByteOut.written c.args.writer.now) (g.O.ByteOut.written c.play_lines.new.writer) (g.O.ByteOut.failed_writes c.args.writer.now) (g.O.ByteOut.failed_writes c.play_lines.new.writer))
+    (played_output c.args.text.now c.in_ok-settings.settings c.read_header.new.script read) plays
+
+on_ok : {A E P : Type 0} (result : Result A E) → P → OnOk result P
+on_ok (Ok given) is = is
+on_ok (Err error) is = tt
+
+pub returns-clause-promised : goal.returns-clause-promised
+returns-clause-promised g c =
+    let read = ap header (sym c.new-script.ensures.whole) ∙ c.in_ok-settings.ensures in
+    on_ok c.play_lines.result (play_promised c.args.text.now c.in_ok-settings.settings c.read_header.new.script read c.fits.ensures.accepted c.fits.ensures.root.votes)
+
+pub returns-in_err-settings-clause-plays : goal.returns-in_err-settings-clause-plays
+returns-in_err-settings-clause-plays g c =
+    let error = c.in_err-settings.field-0.0 in
     rw (failed c.from_residual.result (play_error_of error) c.from_residual.ensures)
-    (stops error (play_output c.args.text.now) (g.O.ByteOut.written c.args.writer.now) (g.O.ByteOut.failed_writes c.args.writer.now) c.in_err-player.ensures.err)
+    (headed_badly language lines_of (header c.new-script.result) (header (whole c.args.text.now)) error c.read_header.new.script (g.O.ByteOut.written c.args.writer.now) (g.O.ByteOut.failed_writes c.args.writer.now)
+    (ap header c.new-script.ensures.whole) c.in_err-settings.ensures)
 
-pub returns-in_err-command-clause-plays : goal.returns-in_err-command-clause-plays
-returns-in_err-command-clause-plays g c =
-    let error = c.in_err-command.field-0.0 in
-    rw (failed c.from_residual-in_err-command.result (play_error_of error) c.from_residual-in_err-command.ensures)
-    (stops error (play_output c.args.text.now) (g.O.ByteOut.written c.args.writer.now) (g.O.ByteOut.failed_writes c.args.writer.now)
-    (subst (λ (output : Output). StopsWith error output) c.in_ok-player.ensures.same c.in_err-command.ensures.plays))
-
-pub returns-in_err-look_ahead-clause-plays : goal.returns-in_err-look_ahead-clause-plays
-returns-in_err-look_ahead-clause-plays g c =
-    let error = c.in_err-look_ahead.field-0.0 in
-    let player = c.play_first.new.self in
-    let plays = rw c.in-Some.is at c.in_ok-command.ensures.plays in
-    let finds = found_from (Err error) player.printed.items (all_lines (fixed_of player.world.given) player.world.world) c.in-Some.command (owns (commands player.places) player.script) c.in_err-look_ahead.ensures in
-    rw (failed c.from_residual-in_err-look_ahead.result (play_error_of error) c.from_residual-in_err-look_ahead.ensures)
-    (stops error (play_output c.args.text.now) (g.O.ByteOut.written c.args.writer.now) (g.O.ByteOut.failed_writes c.args.writer.now)
-    (subst (λ (output : Output). StopsWith error output) (plays ∙ c.in_ok-player.ensures.same) finds))
+pub returns-in_err-world-clause-plays : goal.returns-in_err-world-clause-plays
+returns-in_err-world-clause-plays g c =
+    rw (failed c.from_residual-in_err-world.result (play_error_of Memory) c.from_residual-in_err-world.ensures)
+    (stops Memory (play_output c.args.text.now) (g.O.ByteOut.written c.args.writer.now) (g.O.ByteOut.failed_writes c.args.writer.now) tt)
