@@ -6,6 +6,7 @@ use Rattle.std.proofs.lemmas.Bool.{and_parts, cases_Bool}
 use Rattle.std.proofs.lemmas.Bool.Decides.{nat_tests}
 use Rattle.acl_text.specs.Tables.{Tables}
 use Rattle.script_text.specs.Numbers.{is_number, number_up_to}
+use Rattle.byte_streams.specs.Endings.{Finishes, done}
 use Rattle.suite_args.specs.Answering.{Answers, AnswersServe}
 use Rattle.suite_args.specs.CommandLine.{Asked, acl, agents_of, at_least_one, help, max_agents, nothing, plays, serves, topic}
 use Rattle.suite_args.specs.declared.request.Request.TheVariants.{Acl, Help, Plays, Serve}
@@ -16,7 +17,7 @@ use Rattle.suite_cli.proofs.Ran.{ran_out}
 use Rattle.suite_cli.proofs.Served.{lacked}
 use Rattle.suite_cli.specs.Names.{names_from}
 use Rattle.suite_cli.specs.Outputs.{acl_output, command_line_fault, script_output_of}
-use Rattle.suite_cli.specs.Runs.{Does, Finishes, GivesNames, Helps, IsUnread, LacksMemory, Refuses, Runs, RunsAcl, Serves, ServesBy, Streams, done}
+use Rattle.suite_cli.specs.Runs.{Does, GivesNames, Helps, IsUnread, LacksMemory, Refuses, Runs, RunsAcl, Serves, ServesBy, Streams}
 use Rattle.suite_cli.specs.code.Errors.{Told, of_args}
 use Rattle.suite_cli.specs.declared.command_error.CommandError.{CommandError}
 use Rattle.suite_cli.specs.declared.command_error.CommandError.TheVariants as error

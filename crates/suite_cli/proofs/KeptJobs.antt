@@ -8,10 +8,10 @@ use Rattle.suite_script.specs.Outputs.{script_output}
 use Rattle.suite_script.specs.Scripts.{Headed, Language, script_of}
 use Rattle.suite_script.specs.declared.fault.ScriptFault.{ScriptFault}
 use Rattle.suite_script.specs.declared.root.Root.{Root}
-use Rattle.suite_cli.proofs.Playing.{after_job, line_of}
 use Rattle.suite_cli.specs.Outputs.{lines_of, outcome_line, settings_of, table_lines}
 use Rattle.suite_cli.specs.Scripts.{Job, language}
 use Rattle.suite_cli.specs.code.Kept.{kept_job, kept_jobs}
+use Rattle.suite_cli.specs.code.Playing.{after_job, line_of}
 
 kept_lines : (table : PlainTable) (number : ℕ) (jobs : List Job) → table_lines table number (map kept_job jobs) ≡ table_lines table number jobs
 kept_lines table number [] = refl

@@ -1,36 +1,24 @@
--- Playing a script of transactions line by line.
-use Rattle.std.proofs.Common.{◌≡◌, ℕ, Bool, true, false, List, Option, Ok, Err, ◌∙◌, ap, sym}
-use Rattle.std.proofs.lemmas.Bool.{false≢true}
-use Rattle.file_ops.specs.Rows.{PlainTable}
-use Rattle.file_ops.specs.Transactions.{replies, table_after, transaction}
-use Rattle.suite_script.proofs.Gathering.{broke_off}
-use Rattle.suite_script.specs.Gathering.{Plays, PlaysNext, WroteSoFar}
-use Rattle.suite_script.specs.Outputs.{Output, Done, StopsWith, is_done, text_of}
-use Rattle.suite_script.specs.Readings.{play_error_of}
-use Rattle.suite_script.specs.declared.fault.ScriptError.{ScriptError}
-use Rattle.suite_script.specs.declared.fault.ScriptError.TheVariants as script
-use Rattle.suite_cli.specs.Outputs.{outcome_line}
-use Rattle.suite_cli.specs.Scripts.{Job}
+-- What the lines of a script print, played one after the other on a table.
+use Rattle.std.proofs.Common.{◌≡◌, ◌∙◌, ℕ, ◌+◌, List, [], ◌∷◌, ◌++◌, Ok, codes, refl, ap, sym}
+use Rattle.file_ops.specs.Rows.{PlainTable, opening}
+use Rattle.suite_script.proofs.Playing.{opened_output}
+use Rattle.suite_script.specs.Gathering.{comes_to}
+use Rattle.suite_script.specs.Playing.{prints_from}
+use Rattle.suite_script.specs.Scripts.{Pending, headed, owns, root_in, whole}
+use Rattle.suite_script.specs.declared.root.Root.{Root}
+use Rattle.suite_cli.proofs.KeptJobs.{kept_language, kept_output}
+use Rattle.suite_cli.specs.Outputs.{lines_of, settings_of, table_lines, table_output}
+use Rattle.suite_cli.specs.Scripts.{Job, is_known}
+use Rattle.suite_cli.specs.code.Playing.{after_job, line_of}
 
--- the line of a transaction
-abbrev pub line_of : PlainTable → ℕ → Job → List ℕ
-line_of table number job = outcome_line number (replies (transaction table.service table.rows number job.caller job.ops))
+lines_are : (table : PlainTable) (number : ℕ) (jobs : List Job) → prints_from line_of after_job table number jobs ≡ table_lines table number jobs
+lines_are table number [] = refl
+lines_are table number (job ∷ later) = ap (λ rest. line_of table number job ++ rest) (lines_are (after_job table number job) (number + 1) later)
 
-abbrev pub after_job : PlainTable → ℕ → Job → PlainTable
-after_job table number job = table_after table number job.caller (transaction table.service table.rows number job.caller job.ops)
-
--- ---- a line more, or none
-
-pub same_after : (more : Bool) (before after : Output) (printed : List ℕ) → PlaysNext (Ok more) before after printed → more ≡ true → after ≡ before
-same_after true before after printed plays is = plays
-same_after false before after printed plays is = absurd (false≢true is)
-
-pub came_to : (more : Bool) (before after : Output) (printed : List ℕ) → PlaysNext (Ok more) before after printed → more ≡ false → before ≡ Done printed
-came_to true before after printed plays is = absurd (false≢true (sym is))
-came_to false before after printed plays is = plays
-
--- a script that has no fault was not read to its end
-pub stops_within : (error : ScriptError) (output left : Output) (told now : Option (List ℕ)) (failures failures_now : ℕ) → is_done output ≡ true → is_done left ≡ true
-    → WroteSoFar told (text_of output) (text_of left) now → failures_now ≡ failures → StopsWith error left → Plays (Err (play_error_of error)) output told now failures failures_now
-stops_within (script.Faulty fault) output left told now failures failures_now done left_done so same is = absurd (false≢true (sym (ap is_done is) ∙ left_done))
-stops_within script.Memory output left told now failures failures_now done left_done so same is = (broke_off output told now (text_of left) done so, same)
+-- what a script comes to of which the header was read
+pub played_output : (text : List ℕ) (root : Root) (rest : Pending) → headed is_known (codes "root") root_in (whole text) ≡ Ok (record { value = root; rest = rest })
+    → comes_to [] (prints_from line_of after_job (opening (settings_of root)) 0) (owns (kept_language root) rest) ≡ table_output text
+played_output text root rest read =
+    ap (λ (lines : List Job → List ℕ). comes_to [] lines (owns (kept_language root) rest)) (λ i later. lines_are (opening (settings_of root)) 0 later i)
+    ∙ sym (opened_output kept_language lines_of (headed is_known (codes "root") root_in (whole text)) root rest read)
+    ∙ kept_output (headed is_known (codes "root") root_in (whole text))

@@ -1,5 +1,6 @@
 -- What a command has done that reads its input.
 use Rattle.std.proofs.Common.{◌≡◌, ℕ, ◌≤◌, List, [], length, Option, Some, None, Result, Ok, Err, refl, ◌∙◌, ap, sym, subst, inl, inr}
+use Rattle.byte_streams.specs.Endings.{SaysMemory, TellsLine, done, faulty, max_input, memory_line, no_memory, no_stream}
 use Rattle.byte_streams.specs.Streams.{Adds, one_more}
 use Rattle.byte_streams.specs.Whole.{Explains, IsWhole}
 use Rattle.byte_streams.specs.declared.reading.ReadError.{ReadError}
@@ -10,9 +11,9 @@ use Rattle.suite_script.specs.Gathering.{BrokeOff, Plays}
 use Rattle.suite_script.specs.Outputs.{Output, Done, Faulty}
 use Rattle.suite_script.specs.declared.play_error.PlayError.{PlayError}
 use Rattle.suite_script.specs.declared.play_error.PlayError.TheVariants as play
-use Rattle.suite_cli.specs.Outputs.{memory_line, text_fault_line}
-use Rattle.suite_cli.specs.Runs.{BreaksOff, GivesList, LacksMemory, RunsOn, SaysMemory, Streams, WriteFailed, Writes, done, faulty, max_input, no_memory, no_stream}
-use Rattle.suite_cli.specs.code.Errors.{ComesTo, TellsLine, Told, of_play, of_read}
+use Rattle.suite_cli.specs.Outputs.{text_fault_line}
+use Rattle.suite_cli.specs.Runs.{BreaksOff, GivesList, LacksMemory, RunsOn, Streams, WriteFailed, Writes}
+use Rattle.suite_cli.specs.code.Errors.{ComesTo, Told, of_play, of_read}
 use Rattle.suite_cli.specs.declared.command_error.CommandError.{CommandError}
 use Rattle.suite_cli.specs.declared.command_error.CommandError.TheVariants as error
 

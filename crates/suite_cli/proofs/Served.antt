@@ -1,5 +1,6 @@
 -- What `serve` has done.
 use Rattle.std.proofs.Common.{◌≡◌, ◌∙◌, ap, sym, refl, subst, inl, inr, ℕ, ◌≤◌, List, [], ◌++◌, length, append_assoc, append-nil, Option, Some, None, Result, Ok, Err}
+use Rattle.byte_streams.specs.Endings.{Finishes, SaysMemory, faulty, max_input, memory_line, no_memory}
 use Rattle.byte_streams.specs.Streams.{Adds, one_more}
 use Rattle.byte_streams.specs.Whole.{Explains, IsWhole}
 use Rattle.byte_streams.specs.declared.reading.ReadError.{ReadError}
@@ -8,15 +9,14 @@ use Rattle.file_ops.specs.Steps.{ok_map}
 use Rattle.suite_script.proofs.Gathering.{adds_both}
 use Rattle.suite_script.specs.Faults.{fault_line}
 use Rattle.suite_script.specs.Gathering as gathering
-use Rattle.suite_script.specs.Gathering.{WroteSoFar}
 use Rattle.suite_script.specs.Outputs.{Done}
 use Rattle.suite_script.specs.declared.fault.ScriptFault.{ScriptFault}
 use Rattle.suite_script.specs.declared.fault.ScriptError.{ScriptError}
 use Rattle.suite_script.specs.declared.fault.ScriptError.TheVariants as script
 use Rattle.suite_script.specs.declared.play_error.PlayError.{PlayError}
 use Rattle.suite_script.specs.declared.play_error.PlayError.TheVariants as play
-use Rattle.suite_cli.specs.Outputs.{certified_line, memory_line}
-use Rattle.suite_cli.specs.Runs.{Concludes, Finishes, LacksMemory, Reports, SaysMemory, ServesOn, ServesScript, Streams, Tells, faulty, max_input, no_memory}
+use Rattle.suite_cli.specs.Outputs.{certified_line}
+use Rattle.suite_cli.specs.Runs.{Concludes, LacksMemory, Reports, ServesOn, ServesScript, Streams, Tells}
 use Rattle.suite_cli.specs.code.Errors.{Told, of_play, of_read, of_script}
 use Rattle.suite_serve.specs.Readings.{GivesScript}
 use Rattle.suite_serve.specs.Scripts.{Plan, plan_in}

@@ -87,10 +87,6 @@ word_fault_line place = codes "fault word " ++ decimal place ++ line_feed
 abbrev pub command_line_fault : List ℕ
 command_line_fault = codes "fault command line" ++ line_feed
 
--- the line that says that memory ran out
-abbrev pub memory_line : List ℕ
-memory_line = codes "fault memory" ++ line_feed
-
 -- the line of so many steps that were certified
 abbrev pub certified_line : ℕ → List ℕ
 certified_line steps = codes "certified " ++ decimal steps ++ codes " steps" ++ line_feed

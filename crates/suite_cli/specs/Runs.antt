@@ -1,5 +1,6 @@
 -- What a command that ended has done.
 use Rattle.std.specs.Prelude.{◌≡◌, Bool, true, false, alloc_error, Vec, ℕ, ◌<◌, ◌≤◌, ◌⊎◌, List, ◌++◌, length, Option, Some, None, Result, Ok, Err}
+use Rattle.byte_streams.specs.Endings.{Finishes, SaysMemory, bad_words, done, faulty, max_input, memory_line, no_memory, no_stream}
 use Rattle.byte_streams.specs.Streams.{Adds, one_more}
 use Rattle.run_certify.specs.declared.fault.CertifyFault.{CertifyFault}
 use Rattle.run_certify.specs.declared.fault.CertifyFault.TheVariants as certify
@@ -13,7 +14,7 @@ use Rattle.suite_script.specs.declared.fault.ScriptFault.{ScriptFault}
 use Rattle.suite_serve.specs.Scripts.{Plan, plan_in}
 use Rattle.suite_serve.specs.Served.{Came, IsServed, job_lines}
 use Rattle.suite_serve.specs.code.Kept.{kept_plan}
-use Rattle.suite_cli.specs.Outputs.{acl_output, certified_line, command_line_fault, memory_line, mismatch_line, script_output_of, text_fault_line, word_fault_line}
+use Rattle.suite_cli.specs.Outputs.{acl_output, certified_line, command_line_fault, mismatch_line, script_output_of, text_fault_line, word_fault_line}
 use Rattle.suite_cli.specs.declared.command_error.CommandError.{CommandError}
 use Rattle.suite_cli.specs.declared.command_error.CommandError.TheVariants as error
 use Rattle.std.specs.declared.alloc.AllocError.{AllocError}
@@ -22,28 +23,9 @@ use Rattle.acl_text.specs.declared.names.NameError.{NameError}
 use Rattle.acl_text.specs.declared.names.NameError.TheVariants as name
 use Rattle.acl_text.specs.Tables.{Tables}
 
--- the statuses
-abbrev pub done : ℕ
-done = 0
-
-abbrev pub bad_words : ℕ
-bad_words = 2
-
-abbrev pub faulty : ℕ
-faulty = 3
-
-abbrev pub no_memory : ℕ
-no_memory = 4
-
+-- the status where what was done is no run
 abbrev pub mismatched : ℕ
 mismatched = 5
-
-abbrev pub no_stream : ℕ
-no_stream = 6
-
--- the most bytes of an input; a limit of this project
-abbrev pub max_input : ℕ
-max_input = 16777216
 
 -- all that is written for an output, with its status
 abbrev pub Writes : Output → ℕ → Option (List ℕ) → Option (List ℕ) → Type 0
@@ -92,15 +74,6 @@ RunsOn output streams status (Some input) =
 
 abbrev pub Runs : (List ℕ → Output) → Streams → ℕ → Type 0
 Runs output streams status = RunsOn output streams status streams.input
-
--- a text was written whole, with its status; or a write failed
-abbrev pub Finishes : List ℕ → ℕ → ℕ → Option (List ℕ) → Option (List ℕ) → ℕ → ℕ → Type 0
-Finishes text status result before after failures failures_after =
-    ((result ≡ status) × Adds before text after) ⊎ ((result ≡ no_stream) × (failures_after ≡ one_more failures))
-
--- it was said that memory ran out, or a write failed
-abbrev pub SaysMemory : Option (List ℕ) → Option (List ℕ) → ℕ → ℕ → Type 0
-SaysMemory before after failures failures_after = Adds before memory_line after ⊎ (failures_after ≡ one_more failures)
 
 -- memory ran out, and that was said
 abbrev pub LacksMemory : Streams → ℕ → Type 0

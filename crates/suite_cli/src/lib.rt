@@ -10,7 +10,7 @@
 //!
 //! **The caller owes** nothing.
 //!
-//! **Files**: `command_error`, `telling` (last lines and statuses), `acl`, `job`, `language`, `player`, `table`,
+//! **Files**: `command_error`, `telling` (last lines and statuses), `acl`, `job`, `language`, `table`,
 //! `scripts`, `serve`, `commands`. **Definitions** (`specs/`): `Names`, `Scripts` (of `table`), `Outputs`, `Runs`.
 #![tactic(auto)]
 
@@ -19,13 +19,11 @@ mod command_error;
 mod commands;
 mod job;
 mod language;
-mod player;
 mod scripts;
 mod serve;
 mod table;
 mod telling;
 
-pub use byte_streams::{ByteIn, ByteOut};
+pub use byte_streams::{ByteIn, ByteOut, lack_memory};
 pub use commands::run;
 pub use serve::report;
-pub use telling::lack_memory;

@@ -1,9 +1,8 @@
 -- Why commands end before their work is done, and what is written to tell it.
-use Rattle.std.specs.Prelude.{◌≡◌, ◌⊎◌, ℕ, List, Vec, Option, Result, Ok, Err}
-use Rattle.std.specs.declared.alloc.AllocError.{AllocError}
-use Rattle.std.specs.declared.alloc.Global.{Global}
+use Rattle.std.specs.Prelude.{◌≡◌, ℕ, List, Option, Result, Ok, Err}
 use Rattle.acl_text.specs.declared.read.TextFault.{TextFault}
 use Rattle.acl_text.specs.declared.read.TextFault.TheVariants as text
+use Rattle.byte_streams.specs.Endings.{Finishes, Lacks, TellsLine, bad_words, faulty, no_stream}
 use Rattle.byte_streams.specs.declared.reading.ReadError.{ReadError}
 use Rattle.byte_streams.specs.declared.reading.ReadError.TheVariants as read
 use Rattle.suite_args.specs.declared.request.ArgsError.{ArgsError}
@@ -14,7 +13,6 @@ use Rattle.suite_script.specs.declared.fault.ScriptError.TheVariants as script
 use Rattle.suite_script.specs.declared.play_error.PlayError.{PlayError}
 use Rattle.suite_script.specs.declared.play_error.PlayError.TheVariants as play
 use Rattle.suite_cli.specs.Outputs.{command_line_fault, text_fault_line, word_fault_line}
-use Rattle.suite_cli.specs.Runs.{Finishes, SaysMemory, bad_words, faulty, no_memory, no_stream}
 use Rattle.suite_cli.specs.declared.command_error.CommandError.{CommandError}
 use Rattle.suite_cli.specs.declared.command_error.CommandError.TheVariants as error
 
@@ -42,19 +40,6 @@ of_text text.Memory = error.Memory
 of_text fault = error.List fault
 
 -- ---- what is written
-
--- it was said that memory ran out, with its status
-abbrev pub Lacks : ℕ → Option (List ℕ) → Option (List ℕ) → ℕ → ℕ → Type 0
-Lacks status before after failures failures_after = (status ≡ no_memory) × SaysMemory before after failures failures_after
-
--- a line was written with its status, or a write failed; or there was no memory for the line
-abbrev pub FinishesLine : Result (Vec ℕ Global) AllocError → ℕ → ℕ → Option (List ℕ) → Option (List ℕ) → ℕ → ℕ → Type 0
-FinishesLine (Ok line) status result before after failures failures_after = Finishes line.items status result before after failures failures_after
-FinishesLine (Err error) status result before after failures failures_after = Lacks result before after failures failures_after
-
-abbrev pub TellsLine : List ℕ → ℕ → ℕ → Option (List ℕ) → Option (List ℕ) → ℕ → ℕ → Type 0
-TellsLine line status result before after failures failures_after =
-    Finishes line status result before after failures failures_after ⊎ Lacks result before after failures failures_after
 
 -- an error was told
 abbrev pub Told : CommandError → ℕ → Option (List ℕ) → Option (List ℕ) → ℕ → ℕ → Type 0

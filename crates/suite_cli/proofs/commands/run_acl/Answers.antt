@@ -1,9 +1,9 @@
 use Rattle.std.proofs.Common.{map, refl}
+use Rattle.byte_streams.specs.Endings.{done}
 use Rattle.suite_cli.proofs.Asked.{not_named}
 use Rattle.suite_cli.proofs.Ran.{all_written, not_listed, not_read, not_written, streams_of, writes_text}
 use Rattle.suite_cli.specs.Names.{names_from}
 use Rattle.suite_cli.specs.Outputs.{acl_output}
-use Rattle.suite_cli.specs.Runs.{done}
 use Rattle.suite_cli.specs.code.Errors.{of_read}
 use Rattle.suite_cli.specs.declared.command_error.CommandError.TheVariants.{Stream}
 use Rattle.suite_script.proofs.Gathering.{failed}
