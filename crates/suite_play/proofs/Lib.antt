@@ -1,5 +1,6 @@
 pub mod Idle
 pub mod Ended
+pub mod Left
 pub mod Lines
 pub mod Playing
 pub mod KeptLines

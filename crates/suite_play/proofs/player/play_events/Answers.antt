@@ -1,5 +1,6 @@
-use Rattle.std.proofs.Common.{◌∙◌, Result, Ok, Err, ap, subst, sym}
+use Rattle.std.proofs.Common.{◌≤◌, ◌∙◌, Result, Ok, Err, ap, arith, length, subst, sym}
 use Rattle.std.specs.Prelude.{OnOk}
+use Rattle.suite_play.proofs.Left.{header_left}
 use Rattle.suite_play.proofs.Playing.{played_output}
 use Rattle.suite_play.proofs.Promised.{play_promised}
 use Rattle.suite_play.specs.Headers.{header}
@@ -12,6 +13,13 @@ use Rattle.suite_script.specs.Readings.{play_error_of}
 use Rattle.suite_script.specs.Scripts.{whole}
 use Rattle.suite_script.specs.declared.fault.ScriptError.TheVariants.{Memory}
 use Rattle.suite_play.proofs.player.play_events.Goals as goal
+
+pub play_lines-requires : goal.play_lines-requires
+play_lines-requires g c =
+    let read = ap header (sym c.new-script.ensures.whole) ∙ c.in_ok-settings.ensures in
+    let fewer : length c.read_header.new.script.lines ≤ length (whole c.args.text.now).lines = rw read at (header_left (whole c.args.text.now)) in
+    let few : length (whole c.args.text.now).lines ≤ length c.args.text.now = rw c.new-script.ensures.whole at c.new-script.ensures.few in
+    omega (arith, c.requires, few, fewer)
 
 pub returns-clause-plays : goal.returns-clause-plays
 returns-clause-plays g c =

@@ -6,4 +6,4 @@ use Rattle.suite_play.proofs.player.WorldStagePlaces.write_line.Goals as goal
 -- memory ran out
 pub returns-in_err-play_line : goal.returns-in_err-play_line
 returns-in_err-play_line g c =
-    rw (failed c.from_residual.result Memory c.from_residual.ensures) (prints_nothing _ _ [] _)
+    rw (failed c.from_residual.result Memory c.from_residual.ensures) (record { printed = prints_nothing _ _ [] _; after = tt })
