@@ -8,7 +8,7 @@ ghost use Rattle.txn_core.specs.Standing.{FitsAsked};
 ghost use Rattle.txn_core.specs.Wanting.{by_taking};
 ghost use Rattle.agent_pool.specs.code.Steps.{Hears, told_by};
 
-use run_certify::Entry;
+use run_certify::{Entry, KeptEnd};
 use run_core::EndedJob;
 use server_lock::{Answer, Miss};
 use std::alloc::AllocError;
@@ -86,12 +86,16 @@ pub(crate) fn hear(
     };
     let at = entries.len();
     let steps = (at - begun) as u64;
-    entries.push_reserved(Entry::Ended(EndedJob {
+    let ended = EndedJob {
         agent: number,
         count,
         steps,
         ending,
-    }));
+    };
+    let Ok(kept) = KeptEnd::new(*entries.allocator(), ended) else {
+        return Came::Lacked;
+    };
+    entries.push_reserved(Entry::Ended(kept));
     Came::Ended(Ran { count, at })
 }
 

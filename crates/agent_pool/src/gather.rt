@@ -19,6 +19,7 @@ use crate::outcome::JobOutcome;
 use crate::player::Player;
 use crate::pool::Pool;
 use crate::pool_context::NamedJob;
+use crate::slots::Slots;
 use crate::work::{Done, Halt, Seat, Worked};
 use server_lock::Pass;
 use std::alloc::{AllocError, Global};
@@ -26,8 +27,7 @@ use std::alloc::{AllocError, Global};
 /// Room for what is put together, made before an agent begins: a place for each job, and none filled.
 #[derive(Drop)]
 pub(crate) struct Room {
-    pub(crate) slots: Vec<Option<JobOutcome>>,
-    pub(crate) outcomes: Vec<JobOutcome>,
+    pub(crate) slots: Slots,
     pub(crate) agents: Vec<Player>,
 }
 
@@ -36,27 +36,10 @@ impl Room {
     pub(crate) fn new(alloc: Global, jobs: usize, agents: usize) -> Result<Room, AllocError>
         ensures { IfOk result (HasRoom jobs agents) }
     {
-        let slots = no_outcomes(alloc, jobs)?;
-        let outcomes = Vec::with_capacity(alloc, jobs)?;
+        let slots = Slots::new(alloc, jobs)?;
         let agents = Vec::with_capacity(alloc, agents)?;
-        Ok(Room {
-            slots,
-            outcomes,
-            agents,
-        })
+        Ok(Room { slots, agents })
     }
-}
-
-/// Places without an outcome.
-fn no_outcomes(alloc: Global, count: usize) -> Result<Vec<Option<JobOutcome>>, AllocError>
-    ensures none { IfOk result (λ slots. AreNone slots.items) }
-    ensures many { IfOk result (λ slots. length slots.items ≡ count) }
-{
-    let mut slots = Vec::new(alloc);
-    for _ in 0..count {
-        slots.push(None)?;
-    }
-    Ok(slots)
 }
 
 /// One outcome for each job, the agents, and the passes: those that are left, and then those of the agents. Where there
@@ -76,30 +59,23 @@ pub(crate) fn gather(
     ensures pool { IfOk result (IsGathered jobs.now worked.items passes.items) }
     ensures fault { IfErr result (IsFaultOf jobs.now) }
 {
-    let Room {
-        slots,
-        outcomes,
-        agents,
-    } = room;
-    match outcomes_in(jobs, worked.as_slice(), slots, outcomes) {
+    let Room { slots, agents } = room;
+    match outcomes_in(jobs, worked.as_slice(), slots) {
         Ok(outcomes) => Ok(pool_of(worked, passes, agents, outcomes)),
         Err(fault) => Err(fault),
     }
 }
 
-/// The outcomes of all jobs, put into this room, or the first fault.
+/// The outcomes of all jobs, put into these places, or the first fault.
 fn outcomes_in(
     jobs: &[NamedJob],
     worked: &[Worked],
-    mut slots: Vec<Option<JobOutcome>>,
-    room: Vec<JobOutcome>,
+    mut slots: Slots,
 ) -> Result<Vec<JobOutcome>, PoolFault>
     requires worked { AreWorks jobs.now worked.now }
     requires distinct { AreDistinct (numbers_of (players_of worked.now)) }
-    requires none { AreNone slots.items }
-    requires long { length slots.items ≡ length jobs.now }
-    requires empty { room.items ≡ [] }
-    requires room { length jobs.now ≤ vec_capacity room }
+    requires none { AreNone slots }
+    requires long { length slots ≡ length jobs.now }
     ensures gathers { Gathers jobs.now worked.now result }
     ensures outcomes { IfOk result (λ outcomes. AreGathered jobs.now worked.now outcomes.items) }
 {
@@ -110,7 +86,7 @@ fn outcomes_in(
         return Err(PoolFault::Stranger(place as u64));
     }
     fill(jobs, worked, &mut slots)?;
-    let outcomes = outcomes_of(jobs, slots.as_slice(), room)?;
+    let outcomes = outcomes_of(jobs, slots)?;
     match first_stuck(worked) {
         Some(job) => Err(PoolFault::Double(job)),
         None => Ok(outcomes),
@@ -160,21 +136,17 @@ fn first_stuck(worked: &[Worked]) -> Option<u64>
 }
 
 /// The outcomes of all jobs, at their places.
-fn fill(
-    jobs: &[NamedJob],
-    worked: &[Worked],
-    slots: &mut Vec<Option<JobOutcome>>,
-) -> Result<(), PoolFault>
+fn fill(jobs: &[NamedJob], worked: &[Worked], slots: &mut Slots) -> Result<(), PoolFault>
     requires worked { AreWorks jobs.now worked.now }
     requires distinct { AreDistinct (numbers_of (players_of worked.now)) }
-    requires none { AreNone slots.old.items }
-    requires long { length slots.old.items ≡ length jobs.now }
+    requires none { AreNone slots.old }
+    requires long { length slots.old ≡ length jobs.now }
     ensures filled { OnOk result ((seats : List Seat) → AllZip (IsWorkOf jobs.now) seats worked.now
-        → AllZip (IsFilled (sitting seats) (players_of worked.now)) jobs.now slots.new.items) }
-    ensures apart { OnOk result (AreApartIn slots.new.items) }
-    ensures many { OnOk result (filled_in slots.new.items ≡ done_in worked.now) }
-    ensures long { length slots.new.items ≡ length slots.old.items }
-    ensures seen { OnOk result (AreSeen (places worked.now) slots.new.items) }
+        → AllZip (IsFilled (sitting seats) (players_of worked.now)) jobs.now slots.new) }
+    ensures apart { OnOk result (AreApartIn slots.new) }
+    ensures many { OnOk result (filled_in slots.new ≡ done_in worked.now) }
+    ensures long { length slots.new ≡ length slots.old }
+    ensures seen { OnOk result (AreSeen (places worked.now) slots.new) }
     ensures double { IfErr result (λ fault. (job : ℕ) × (fault ≡ Double job) × IsDouble jobs.now (places worked.now) job) }
 {
     for one in worked {
@@ -186,19 +158,19 @@ fn fill(
 /// What an agent did is put into its places.
 fn place_all(
     jobs: &[NamedJob],
-    slots: &mut Vec<Option<JobOutcome>>,
+    slots: &mut Slots,
     agent: u8,
     done: &[Done],
 ) -> Result<(), PoolFault>
-    requires long { length slots.old.items ≡ length jobs.now }
+    requires long { length slots.old ≡ length jobs.now }
     requires within { AreWithin (length jobs.now) done.now }
     ensures filled { OnOk result ((was players : List Played) (before player : Played) → IsOf was players agent before player
-        → AllDone jobs.now (begins before.entries) player done.now → KeepFilled jobs.now was players slots.old.items slots.new.items) }
-    ensures apart { OnOk result (StayApart agent done.now slots.old.items slots.new.items) }
-    ensures many { OnOk result (filled_in slots.new.items ≡ filled_in slots.old.items + length done.now) }
-    ensures long { length slots.new.items ≡ length slots.old.items }
-    ensures seen { OnOk result ((seen : List ℕ) → AreSeen seen slots.old.items → AreSeen (seen ++ places_by done.now) slots.new.items) }
-    ensures double { IfErr result (λ fault. (seen : List ℕ) → AreSeen seen slots.old.items
+        → AllDone jobs.now (begins before.entries) player done.now → KeepFilled jobs.now was players slots.old slots.new) }
+    ensures apart { OnOk result (StayApart agent done.now slots.old slots.new) }
+    ensures many { OnOk result (filled_in slots.new ≡ filled_in slots.old + length done.now) }
+    ensures long { length slots.new ≡ length slots.old }
+    ensures seen { OnOk result ((seen : List ℕ) → AreSeen seen slots.old → AreSeen (seen ++ places_by done.now) slots.new) }
+    ensures double { IfErr result (λ fault. (seen : List ℕ) → AreSeen seen slots.old
         → (job : ℕ) × (fault ≡ Double job) × IsDouble jobs.now (seen ++ places_by done.now) job) }
 {
     for one in done {
@@ -208,59 +180,48 @@ fn place_all(
 }
 
 /// What an agent did once is put into its place.
-fn place_one(
-    jobs: &[NamedJob],
-    slots: &mut Vec<Option<JobOutcome>>,
-    agent: u8,
-    done: Done,
-) -> Result<(), PoolFault>
-    requires long { length slots.old.items ≡ length jobs.now }
+fn place_one(jobs: &[NamedJob], slots: &mut Slots, agent: u8, done: Done) -> Result<(), PoolFault>
+    requires long { length slots.old ≡ length jobs.now }
     requires within { IsWithin (length jobs.now) done }
     ensures filled { OnOk result ((was players : List Played) (before player : Played) → IsOf was players agent before player
-        → IsDone jobs.now (begins before.entries) player done → KeepFilled jobs.now was players slots.old.items slots.new.items) }
-    ensures put { OnOk result ((job : ℕ) × IsPut slots.old.items done.place
-        (record { job = job; agent = agent; count = done.ran.count; at = done.ran.at }) slots.new.items) }
-    ensures long { length slots.new.items ≡ length slots.old.items }
-    ensures double { IfErr result (λ fault. (job : ℕ) × (fault ≡ Double job) × IsTaken jobs.now slots.old.items done job) }
+        → IsDone jobs.now (begins before.entries) player done → KeepFilled jobs.now was players slots.old slots.new) }
+    ensures put { OnOk result ((job : ℕ) × IsPut slots.old done.place
+        (record { job = job; agent = agent; count = done.ran.count; at = done.ran.at }) slots.new) }
+    ensures long { length slots.new ≡ length slots.old }
+    ensures double { IfErr result (λ fault. (job : ℕ) × (fault ≡ Double job) × IsTaken jobs.now slots.old done job) }
 {
     let place = done.place;
     let named = &jobs[place];
-    let is_taken = slots[place].is_some();
+    let is_taken = slots.is_filled(place);
     if is_taken {
         return Err(PoolFault::Double(named.number));
     }
-    slots[place] = Some(JobOutcome {
+    let outcome = JobOutcome {
         job: named.number,
         agent,
         count: done.ran.count,
         at: done.ran.at,
-    });
+    };
+    slots.put(place, outcome);
     Ok(())
 }
 
-/// The outcomes, where each job has one, put into this room.
-fn outcomes_of(
-    jobs: &[NamedJob],
-    slots: &[Option<JobOutcome>],
-    mut room: Vec<JobOutcome>,
-) -> Result<Vec<JobOutcome>, PoolFault>
-    requires none { room.items ≡ [] }
-    requires room { length jobs.now ≤ vec_capacity room }
-    requires long { length slots.now ≡ length jobs.now }
-    ensures each { IfOk result (λ outcomes. (was players : List Played) → AllZip (IsFilled was players) jobs.now slots.now
+/// The outcomes, where each job has one.
+fn outcomes_of(jobs: &[NamedJob], slots: Slots) -> Result<Vec<JobOutcome>, PoolFault>
+    requires long { length slots ≡ length jobs.now }
+    ensures each { IfOk result (λ outcomes. (was players : List Played) → AllZip (IsFilled was players) jobs.now slots
         → AreOutcomes was players jobs.now outcomes.items) }
-    ensures apart { IfOk result (λ outcomes. AreApartIn slots.now → AreApart outcomes.items) }
-    ensures all { IfOk result (λ outcomes. filled_in slots.now ≡ length jobs.now) }
-    ensures full { IfOk result (λ outcomes. (k : ℕ) → slice_get slots.now k ≢ Some None) }
-    ensures missing { IfErr result (λ fault. (job : ℕ) × (fault ≡ Missing job) × IsEmpty jobs.now slots.now job) }
+    ensures apart { IfOk result (λ outcomes. AreApartIn slots → AreApart outcomes.items) }
+    ensures all { IfOk result (λ outcomes. filled_in slots ≡ length jobs.now) }
+    ensures full { IfOk result (λ outcomes. (k : ℕ) → slice_get slots k ≢ Some None) }
+    ensures missing { IfErr result (λ fault. (job : ℕ) × (fault ≡ Missing job) × IsEmpty jobs.now slots job) }
 {
     for place in 0..jobs.len() {
-        match slots[place] {
-            Some(outcome) => room.push_reserved(outcome),
-            None => return Err(PoolFault::Missing(jobs[place].number)),
+        if !slots.is_filled(place) {
+            return Err(PoolFault::Missing(jobs[place].number));
         }
     }
-    Ok(room)
+    Ok(slots.into_outcomes())
 }
 
 /// A pool of all these, put into this room.

@@ -24,7 +24,7 @@
 //! at the join. An agent that is out of memory goes on taking and runs nothing, so nobody waits for it in vain.
 //!
 //! **Files**: `line` (the channel and its rule), `player`, `outcome`, `fault`, `passes`, `ready`, `pool_context`,
-//! `asking`, `work`, `start`, `gather`, `pool`.
+//! `asking`, `work`, `start`, `slots`, `gather`, `pool`.
 //!
 //! **Definitions** (`specs/`): `Line`, `Transcripts`, `Endings`, `Seats`, `Gathers`, `Pools`.
 #![tactic(auto)]
@@ -39,6 +39,7 @@ mod player;
 mod pool;
 mod pool_context;
 mod ready;
+mod slots;
 mod start;
 mod work;
 
@@ -49,4 +50,6 @@ pub use player::{Player, first_players};
 pub use pool::{Pool, run_pool};
 pub use pool_context::NamedJob;
 pub use ready::are_ready;
-pub use run_certify::{CertifyFault, Decided, Decision, Entry, Transcript, Transcripts, certify};
+pub use run_certify::{
+    CertifyFault, Decided, Decision, Entry, KeptEnd, KeptJob, Transcript, Transcripts, certify,
+};

@@ -8,6 +8,7 @@ ghost use Rattle.agent_pool.specs.Transcripts.{number_of};
 use crate::player::Player;
 use run_certify::Entry;
 use run_core::EndedJob;
+use std::ops::Deref;
 
 /// How a job ended: its number, the agent that carried it out and the count of the agent's jobs before it, and the
 /// place of its end in the agent's transcript.
@@ -41,7 +42,7 @@ pub fn end_at(entries: &[Entry], at: usize) -> Option<&EndedJob>
     ensures { option_map (λ told. told.now) result ≡ end_at entries.now at }
 {
     match entries.get(at) {
-        Some(Entry::Ended(told)) => Some(told),
+        Some(Entry::Ended(told)) => Some(told.deref()),
         _ => None,
     }
 }

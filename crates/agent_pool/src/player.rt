@@ -9,13 +9,13 @@ ghost use Rattle.agent_pool.specs.Transcripts.{first_player, number_of, players_
 use crate::asking::{Came, hear, told_of};
 use crate::pool_context::PoolContext;
 use rep_core::Request;
-use run_certify::{Entry, Transcript};
+use run_certify::{Entry, KeptJob, Transcript};
 use server_lock::{Gate, Pass, Servers};
 use std::alloc::{AllocError, Global};
 use std::marker::Model;
 use std::sync::Wait;
 use suite_prefix::Settings;
-use txn_core::{Agent, Job};
+use txn_core::Agent;
 
 /// An agent, with the transcript of what it did: so many jobs as it began are begun there.
 #[derive(Drop)]
@@ -95,7 +95,7 @@ impl Player {
     }
 
     /// Begins a job, and tells whether it did: it does not where the job has no sense, or where it began too many.
-    pub(crate) fn begin(&mut self, job: &Job) -> Result<bool, AllocError>
+    pub(crate) fn begin(&mut self, job: &KeptJob) -> Result<bool, AllocError>
         ensures fixed { self.new.agent.fixed ≡ self.old.agent.fixed }
         ensures number { number_of self.new ≡ number_of self.old }
         ensures began { IfOk result (λ began. began ≡ agents.begins self.old.agent.fixed self.old.agent.state job.now) }
@@ -115,8 +115,8 @@ impl Player {
         Ok(true)
     }
 
-    /// Asks once, by this pass, and takes what comes of it. Its job was begun at so many entries. What is written
-    /// into the transcript has its room before a server is asked, and nothing of the agent happens under a lock.
+    /// Asks once, by this pass, and takes what comes of it. Its job was begun at so many entries. The transcript has
+    /// room for what is written into it before a server is asked, and nothing of the agent happens under a lock.
     pub(crate) fn step<R: Wait, G: Gate>(
         &mut self,
         rt: &R,

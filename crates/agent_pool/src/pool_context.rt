@@ -1,16 +1,16 @@
 //! What agents work with.
 
 use crate::line::Receiver;
+use run_certify::KeptJob;
 use server_lock::{Gate, Servers};
 use std::alloc::Global;
 use std::sync::atomic::AtomicU64;
-use txn_core::Job;
 
 /// A job, with its number.
 #[derive(Drop)]
 pub struct NamedJob {
     pub number: u64,
-    pub job: Job,
+    pub job: KeptJob,
 }
 
 /// What all threads of a pool work with: memory, the gate, the servers, the jobs that were handed in, the channel

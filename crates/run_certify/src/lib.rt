@@ -38,6 +38,6 @@ mod votes;
 mod walk;
 
 pub use decided::{Decided, Decision};
-pub use entry::{Entry, Transcript, Transcripts};
+pub use entry::{Entry, KeptEnd, KeptJob, Transcript, Transcripts};
 pub use fault::CertifyFault;
 pub use judging::certify;

@@ -90,7 +90,7 @@ fn is_end(entry: &Entry, outcome: &EndedJob) -> bool
     ensures { IsTrue result ↔ (entry.now ≡ Ended outcome.now) }
 {
     match entry {
-        Entry::Ended(told) => told == outcome,
+        Entry::Ended(told) => **told == *outcome,
         _ => false,
     }
 }

@@ -6,7 +6,7 @@
 use crate::asking::{close, started};
 use crate::certified::certified;
 use crate::events::job;
-use crate::fixtures::push;
+use crate::fixtures::{kept_job, push};
 use agent_pool::{
     NamedJob, Player, Pool, PoolFault, Transcripts, are_ready, first_players, run_pool,
 };
@@ -49,7 +49,7 @@ pub(crate) fn jobs(rt: &(impl Abort + AllocGlobal), first: u64, words: &str) -> 
     let mut all = Vec::new(rt.alloc());
     let mut number = first;
     for word in words.split(',') {
-        let job = job(rt, word);
+        let job = kept_job(rt, &job(rt, word));
         push(rt, &mut all, NamedJob { number, job });
         number = number.wrapping_add(1);
     }

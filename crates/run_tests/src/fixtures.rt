@@ -4,10 +4,12 @@
 //! lacks stops it.
 
 use acl_core::{Acl, Lists, Mode};
+use run_certify::{KeptEnd, KeptJob};
 use run_core::{Done, EndedJob, Event, World};
-use std::alloc::AllocError;
+use std::alloc::{AllocError, Global};
 use std::process::Abort;
 use suite_prefix::Settings;
+use txn_core::Job;
 use vote_core::{ServerSet, Votes};
 
 /// Stops the test where two texts differ.
@@ -31,6 +33,20 @@ pub(crate) fn insert<T: Drop>(rt: &impl Abort, list: &mut Vec<T>, at: usize, ite
     again!(rt, list.reserve(1));
     assert!(rt; at <= list.len());
     assert!(rt; list.insert(at, item).is_ok());
+}
+
+/// A job as transcripts keep it.
+pub(crate) fn kept_job(rt: &(impl Abort + AllocGlobal), job: &Job) -> KeptJob {
+    again!(rt, keep(rt.alloc(), job))
+}
+
+fn keep(alloc: Global, job: &Job) -> Result<KeptJob, AllocError> {
+    KeptJob::new(alloc, job.clone()?)
+}
+
+/// How a job ended, as transcripts keep it.
+pub(crate) fn kept_end(rt: &(impl Abort + AllocGlobal), outcome: EndedJob) -> KeptEnd {
+    had(rt, KeptEnd::new(rt.alloc(), outcome))
 }
 
 /// A number of a test's text.

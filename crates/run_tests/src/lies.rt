@@ -1,6 +1,6 @@
 //! Lies about a run, which are found out.
 
-use crate::fixtures::{insert, same, settings};
+use crate::fixtures::{insert, kept_end, kept_job, push, same, settings};
 use crate::test_cluster::{TestCluster, adds, count, judged, opened, play};
 use rep_core::{Lack, Reply, Request, Stamped};
 use run_certify::Entry;
@@ -214,9 +214,11 @@ fn a_last_step_was_not_taken(rt: HostRuntime) {
 }
 
 /// Changes the last entry of an agent, which has to be the end of a job: another number of steps.
-fn miscount(entries: &mut Vec<Entry>) {
-    if let Some(Entry::Ended(outcome)) = entries.last_mut() {
+fn miscount(rt: &(impl Abort + AllocGlobal), entries: &mut Vec<Entry>) {
+    if let Some(Entry::Ended(kept)) = entries.pop() {
+        let mut outcome = kept.into_ended();
         outcome.steps = outcome.steps.wrapping_add(1);
+        push(rt, entries, Entry::Ended(kept_end(rt, outcome)));
     }
 }
 
@@ -234,7 +236,7 @@ fn operate(items: &mut Vec<Item>) {
 }
 
 /// Something that an agent did not do.
-fn invented(which: usize) -> Entry {
+fn invented(rt: &(impl Abort + AllocGlobal), which: usize) -> Entry {
     match which {
         4 => Entry::Asked {
             server: 0,
@@ -245,18 +247,18 @@ fn invented(which: usize) -> Entry {
             server: 0,
             lack: Lack::Memory,
         },
-        _ => Entry::Begun(Job::Sweep { server: 3 }),
+        _ => Entry::Begun(kept_job(rt, &Job::Sweep { server: 3 })),
     }
 }
 
 /// Spoils a run in one way of several.
-fn spoil(rt: &impl Abort, test_cluster: &mut TestCluster, which: usize) {
+fn spoil(rt: &(impl Abort + AllocGlobal), test_cluster: &mut TestCluster, which: usize) {
     match which {
-        0 | 1 => miscount(entries_of(rt, test_cluster, which)),
+        0 | 1 => miscount(rt, entries_of(rt, test_cluster, which)),
         2 => exchange(rt, items_of(rt, test_cluster, 0)),
         3 => operate(items_of(rt, test_cluster, 1)),
-        4 | 5 => adds(rt, test_cluster, 0, invented(which)),
-        _ => adds(rt, test_cluster, 1, invented(which)),
+        4 | 5 => adds(rt, test_cluster, 0, invented(rt, which)),
+        _ => adds(rt, test_cluster, 1, invented(rt, which)),
     }
 }
 

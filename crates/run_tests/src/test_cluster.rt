@@ -4,7 +4,7 @@
 
 use crate::certified::{histories, transcripts, verdict};
 use crate::events::event;
-use crate::fixtures::{opening, push, small, step};
+use crate::fixtures::{kept_end, kept_job, opening, push, small, step};
 use rep_core::{Lack, Stamped};
 use run_certify::{Entry, Transcripts};
 use run_core::{Done, EndedJob, Event, Served, World};
@@ -81,8 +81,8 @@ pub(crate) fn happens(
     let Done { served, outcome } = step(rt, &mut test_cluster.world, &event);
     let told = stamp_of(&served);
     keep(rt, test_cluster, agent, served);
-    put_down(rt, test_cluster, agent, entry_of(event, server, told));
-    put_down(rt, test_cluster, agent, end_of(outcome));
+    put_down(rt, test_cluster, agent, entry_of(rt, &event, server, told));
+    put_down(rt, test_cluster, agent, end_of(rt, outcome));
 }
 
 /// The server that an agent asks next.
@@ -137,12 +137,20 @@ fn item_of(agent: Option<u8>, what: Served) -> Item {
 }
 
 /// What its agent puts down of an event, where that asks this server next and was told this stamp.
-fn entry_of(event: Event, server: u8, told: Option<u64>) -> Option<Entry> {
+fn entry_of(
+    rt: &(impl Abort + AllocGlobal),
+    event: &Event,
+    server: u8,
+    told: Option<u64>,
+) -> Option<Entry> {
     match event {
-        Event::Begin { job, .. } => Some(Entry::Begun(job)),
+        Event::Begin { job, .. } => Some(Entry::Begun(kept_job(rt, job))),
         Event::Step { .. } => Some(asked(server, told)),
-        Event::Lack { lack, .. } => Some(Entry::Lacked { server, lack }),
-        Event::Forget { site, .. } => Some(Entry::Forgot { site }),
+        Event::Lack { lack, .. } => Some(Entry::Lacked {
+            server,
+            lack: *lack,
+        }),
+        Event::Forget { site, .. } => Some(Entry::Forgot { site: *site }),
         Event::Crash { .. } | Event::Return { .. } => None,
     }
 }
@@ -157,9 +165,9 @@ fn asked(server: u8, told: Option<u64>) -> Entry {
     }
 }
 
-fn end_of(outcome: Option<EndedJob>) -> Option<Entry> {
+fn end_of(rt: &(impl Abort + AllocGlobal), outcome: Option<EndedJob>) -> Option<Entry> {
     match outcome {
-        Some(outcome) => Some(Entry::Ended(outcome)),
+        Some(outcome) => Some(Entry::Ended(kept_end(rt, outcome))),
         None => None,
     }
 }

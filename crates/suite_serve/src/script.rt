@@ -1,6 +1,6 @@
 //! A script of jobs, read whole.
 
-ghost use Rattle.std.specs.Prelude.{◌≡◌, ◌<◌, ◌≤◌, ◌+◌, ◌^◌, ◌++◌, ◌∷◌, [], OnOk, length};
+ghost use Rattle.std.specs.Prelude.{◌≡◌, ◌<◌, ◌≤◌, ◌+◌, ◌^◌, ◌++◌, ◌∷◌, [], IfOk, IsTrue, OnOk, length};
 ghost use Rattle.file_ops.specs.Steps.{ok_map};
 ghost use Rattle.suite_script.specs.Scripts.{owns, script_of, whole};
 ghost use Rattle.suite_serve.specs.Readings.{GivesScript};
@@ -11,12 +11,13 @@ ghost use Rattle.suite_serve.specs.code.Reading.{FindsTogether, GivesJobs, first
 use crate::command::Command;
 use crate::header::read_header;
 use crate::language::JobLines;
+use acl_core::Caller;
 use script_text::{Lines, Words};
 use std::alloc::{AllocError, Global};
 use std::marker::Model;
 use suite_prefix::{MAX_AGENTS, Settings};
 use suite_script::{LineFault, ScriptError, ScriptFault, ScriptReader};
-use txn_core::Job;
+use txn_core::{Job, SharedCaller};
 
 /// What a script asks for: the settings of its servers, its jobs, and how many of these stand above `together`.
 #[derive(Drop)]
@@ -177,10 +178,43 @@ fn read_jobs(
     Ok((jobs, alone))
 }
 
-/// Keeps one job more.
+/// Keeps one job more. It shares its caller with the job before it, where both have the same.
 fn keep(jobs: &mut Vec<Job>, job: Job) -> Result<(), AllocError>
     ensures { OnOk result (jobs.new.items ≡ jobs.old.items ++ job ∷ []) }
 {
-    jobs.push(job)?;
+    let kept = match jobs.last() {
+        Some(last) => sharing(job, last)?,
+        None => job,
+    };
+    jobs.push(kept)?;
     Ok(())
+}
+
+/// The same job, which shares its caller with another job that has the same.
+fn sharing(job: Job, other: &Job) -> Result<Job, AllocError>
+    ensures { IfOk result (λ shared. shared ≡ job) }
+{
+    match (job, other) {
+        (Job::Transaction { caller, site, ops }, Job::Transaction { caller: theirs, .. }) => {
+            let caller = shared(caller, theirs)?;
+            Ok(Job::Transaction { caller, site, ops })
+        }
+        (job, _) => Ok(job),
+    }
+}
+
+/// The same caller: the other one, where that is the same.
+fn shared(caller: SharedCaller, other: &SharedCaller) -> Result<SharedCaller, AllocError>
+    ensures { IfOk result (λ kept. kept ≡ caller) }
+{
+    if are_same(&caller, other) {
+        return other.clone();
+    }
+    Ok(caller)
+}
+
+fn are_same(caller: &Caller, other: &Caller) -> bool
+    ensures { IsTrue result → caller.now ≡ other.now }
+{
+    caller.uid() == other.uid() && caller.gid() == other.gid() && caller.groups() == other.groups()
 }

@@ -10,7 +10,7 @@ ghost use Rattle.suite_serve.specs.code.Working.{AreDone, named_from, transcript
 use crate::script::JobScript;
 use crate::served::{Served, items_in};
 use agent_pool::{JobOutcome, NamedJob, Player, Pool, PoolFault, first_players, run_pool};
-use run_certify::{CertifyFault, Transcripts, certify};
+use run_certify::{CertifyFault, KeptJob, Transcripts, certify};
 use server_lock::{Histories, OpenGate, Pass, Servers};
 use std::alloc::{AllocError, Global};
 use std::sync::Wait;
@@ -46,7 +46,7 @@ pub fn serve<R: Threads + Wait + Sync>(
             servers: &servers,
             passes,
         },
-        &jobs,
+        jobs,
         alone,
     )?;
     let Ok(histories) = servers.close(passes) else {
@@ -79,6 +79,7 @@ fn named(alloc: Global, jobs: Vec<Job>) -> Result<Vec<NamedJob>, AllocError>
     let mut all = Vec::with_capacity(alloc, jobs.len())?;
     for job in jobs {
         let number = all.len() as u64;
+        let job = KeptJob::new(alloc, job)?;
         all.push(NamedJob { number, job })?;
     }
     Ok(all)
@@ -99,20 +100,20 @@ pub(crate) struct Worked {
     outcomes: Vec<JobOutcome>,
 }
 
-/// Has the first jobs carried out by agent 0, and then the others by all agents.
+/// Has the first jobs carried out by agent 0, and then the others by all agents. The jobs are let go before more is made.
 fn work<R: Threads + Wait + Sync>(
     rt: &R,
     alloc: Global,
     opened: Opened<'_>,
-    jobs: &[NamedJob],
+    jobs: Vec<NamedJob>,
     alone: usize,
 ) -> Result<Worked, CertifyFault>
     requires { opened.passes.items ≡ passes_of opened.servers.now.agents }
-    ensures { IfOk result (λ worked. AreDone jobs.now alone worked) }
+    ensures { IfOk result (λ worked. AreDone jobs.items alone worked) }
 {
     let Opened { servers, passes } = opened;
     let (first, others) = first_and_others(alloc, servers.settings())?;
-    let (above, below) = jobs.split_at(alone.min(jobs.len()));
+    let (above, below) = jobs.as_slice().split_at(alone.min(jobs.len()));
     let Pool {
         agents,
         passes,
@@ -124,6 +125,7 @@ fn work<R: Threads + Wait + Sync>(
         passes,
         outcomes: after,
     } = judged(run_pool(rt, alloc, &OpenGate, servers, below, agents, passes))?;
+    drop(jobs);
     let outcomes = joined(before, after)?;
     Ok(Worked {
         agents,

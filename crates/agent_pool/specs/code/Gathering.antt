@@ -15,12 +15,10 @@ use Rattle.agent_pool.specs.code.Filled.{AreNone, done_in, passes_of, players_of
 use Rattle.agent_pool.specs.Seats.{AreDistinct}
 use Rattle.agent_pool.specs.code.Starts.{IsWorkOf}
 
--- a place for each job, none filled, and room for the outcomes and the agents
+-- a place for each job, none filled, and room for the agents
 pub record HasRoom (jobs players : ℕ) (room : Room) : Type 0 where
-  pub none : AreNone room.slots.items
-  pub long : length room.slots.items ≡ jobs
-  pub no_outcome : room.outcomes.items ≡ []
-  pub outcomes : jobs ≤ vec_capacity room.outcomes
+  pub none : AreNone room.slots
+  pub long : length room.slots ≡ jobs
   pub no_agent : room.agents.items ≡ []
   pub agents : players ≤ vec_capacity room.agents
 

@@ -43,8 +43,8 @@ Leaves begun old rest new came.Lacked = AreAsks rest
 abbrev pub Takes : Told → Standing → Standing → Option Ending → Type 0
 Takes told old new ending = (new.state ≡ (agents.take old.fixed old.state told.response).agent) × ((agents.take old.fixed old.state told.response).ending ≡ ending)
 
--- What is written down when an agent is told something: how its job ended too, where it did, as it gave it. Where memory was refused to it, it did not take
--- what is written down.
+-- What is written down when an agent is told something: how its job ended too, where it did, as it gave it. Where memory was refused, for
+-- what it takes or for its end, no end is written down.
 abbrev pub HearsOn : ℕ → ℕ → Told → Standing → List Entry → Standing → List Entry → Came → Type 0
 HearsOn number begun told old entries new more (came.Ended ran) =
     (ending : Ending)

@@ -1,4 +1,6 @@
 use Rattle.std.proofs.Common.{◌≡◌, ◌+◌, ◌-◌, ◌++◌, ◌∷◌, [], length, ap, sym, ◌∙◌, append_assoc, arith}
+use Rattle.run_core.specs.declared.done.EndedJob.{EndedJob}
+use Rattle.run_certify.specs.declared.entry.Entry.TheVariants.{Ended}
 use Rattle.txn_core.specs.Agents.{is_idle}
 use Rattle.txn_core.specs.Standing.{Standing}
 use Rattle.agent_pool.specs.code.Steps.{end_entry}
@@ -24,7 +26,8 @@ returns c =
       ap (λ (s : Standing). s.state.count) took ∙ take_count agent.fixed agent.state response,
       (
         ending,
-        c.push_reserved-2.ensures.items ∙ ap (λ es. es ++ end ∷ []) c.push_reserved.ensures.items ∙ append_assoc entries (c.args.told.entry ∷ []) (end ∷ [])
+        c.push_reserved-2.ensures.items ∙ ap (λ (kept : EndedJob). c.push_reserved.new.self.items ++ Ended kept ∷ []) c.in-Ok-new.ensures
+            ∙ ap (λ es. es ++ end ∷ []) c.push_reserved.ensures.items ∙ append_assoc entries (c.args.told.entry ∷ []) (end ∷ [])
             ∙ ap (λ n. entries ++ c.args.told.entry ∷ end_entry c.args.number count n ending ∷ []) steps,
         at,
         (let a = c.saturating_sub-count.ensures in let b = c.count.ensures in omega arith),

@@ -16,12 +16,12 @@ use Rattle.agent_pool.proofs.gather.fill.Goals as goal
 
 pub loop-one-init : goal.loop-one-init
 loop-one-init c = (
-  (λ seats works. none_filled (sitting seats) (players_of c.args.worked.now) c.args.jobs.now c.args.slots.now.items c.requires.none c.requires.long),
-  (λ i j a b ati atj same count. absurd (none_at c.args.slots.now.items c.requires.none i a ati)),
-  (λ i a at. absurd (none_at c.args.slots.now.items c.requires.none i a at)),
-  none_many c.args.slots.now.items c.requires.none,
+  (λ seats works. none_filled (sitting seats) (players_of c.args.worked.now) c.args.jobs.now c.args.slots.now c.requires.none c.requires.long),
+  (λ i j a b ati atj same count. absurd (none_at c.args.slots.now c.requires.none i a ati)),
+  (λ i a at. absurd (none_at c.args.slots.now c.requires.none i a at)),
+  none_many c.args.slots.now c.requires.none,
   refl,
-  seen_none c.args.slots.now.items c.requires.none,
+  seen_none c.args.slots.now c.requires.none,
 )
 
 pub loop-one-preserved : goal.loop-one-preserved
@@ -40,17 +40,17 @@ loop-one-preserved c =
     let n = c.number.result in
     let fresh = subst (λ m. ¬ (Contains (take index ns) m)) (sym num) (is_fresh ns index (number_of w.player) c.requires.distinct here) in
     let lowest = begins at.seat.player.entries in
-    let apart = c.in_ok-place_all.ensures.apart (take index ns) lowest (begins w.player.entries) fresh (subst (λ (ds : List Done). RiseBetween lowest ds (begins w.player.entries)) (sym c.deref.ensures.value) at.work.rise) was.1 (below_none (take index ns) n lowest c.loop-one.slots.items was.2) in (
+    let apart = c.in_ok-place_all.ensures.apart (take index ns) lowest (begins w.player.entries) fresh (subst (λ (ds : List Done). RiseBetween lowest ds (begins w.player.entries)) (sym c.deref.ensures.value) at.work.rise) was.1 (below_none (take index ns) n lowest c.loop-one.slots was.2) in (
       (λ seats works.
           let on = worked_at jobs seats worked index w works low here_is in
           c.in_ok-place_all.ensures.filled (sitting seats) (players_of worked) on.seat.player w.player (is_of jobs seats worked w n on num)
           (subst (λ (ds : List Done). AllDone jobs (begins on.seat.player.entries) w.player ds) (sym c.deref.ensures.value) on.work.done) (was.0 seats works)),
       apart.0,
-      subst (λ l. AreOfThese l c.place_all.new.slots.items) (sym (take_numbers c.args.worked.now index w c.loop-one-test.true (search rules) ∙ ap (λ m. take index ns ++ m ∷ []) (sym num))) (of_more (take index ns) n apart.1.0 c.place_all.new.slots.items apart.1.1),
+      subst (λ l. AreOfThese l c.place_all.new.slots) (sym (take_numbers c.args.worked.now index w c.loop-one-test.true (search rules) ∙ ap (λ m. take index ns ++ m ∷ []) (sym num))) (of_more (take index ns) n apart.1.0 c.place_all.new.slots apart.1.1),
       (let all = c.in_ok-place_all.ensures.many in let done = ap length c.deref.ensures.value in let were = was.3 in let more = more_many worked index w low here_is in omega arith),
       c.in_ok-place_all.ensures.long ∙ was.4,
       (let before = places (take index worked) in
-          subst (λ (ps : List ℕ). AreSeen ps c.place_all.new.slots.items) (ap (λ (ds : List Done). before ++ places_by ds) c.deref.ensures.value ∙ sym (worked_next worked index w low here_is)) (c.in_ok-place_all.ensures.seen before was.5)),
+          subst (λ (ps : List ℕ). AreSeen ps c.place_all.new.slots) (ap (λ (ds : List Done). before ++ places_by ds) c.deref.ensures.value ∙ sym (worked_next worked index w low here_is)) (c.in_ok-place_all.ensures.seen before was.5)),
     )
 
 pub place_all-requires-clause-within : goal.place_all-requires-clause-within
@@ -63,7 +63,7 @@ place_all-requires-clause-within c =
 pub returns-clause-seen : goal.returns-clause-seen
 returns-clause-seen c =
     let past = c.loop-one-test.false in
-    subst (λ (ws : List Worked). AreSeen (places ws) c.loop-one.slots.items) (take_all c.loop-one.one-index c.args.worked.now (omega arith)) c.loop-one.invariant.5
+    subst (λ (ws : List Worked). AreSeen (places ws) c.loop-one.slots) (take_all c.loop-one.one-index c.args.worked.now (omega arith)) c.loop-one.invariant.5
 
 pub returns-clause-many : goal.returns-clause-many
 returns-clause-many c =

@@ -10,9 +10,9 @@ use Rattle.agent_pool.proofs.gather.fill.Given as goal
 
 abbrev pub invariant-loop-one : goal.invariant-loop-one
 invariant-loop-one l =
-    ((seats : List Seat) → AllZip (IsWorkOf l.jobs) seats l.worked → AllZip (IsFilled (sitting seats) (players_of l.worked)) l.jobs l.slots.items)
-    × AreApartIn l.slots.items
-    × AreOfThese (take l.one-index (numbers_of (players_of l.worked))) l.slots.items
-    × (filled_in l.slots.items ≡ done_in (take l.one-index l.worked))
-    × (length l.slots.items ≡ length l.fn.slots.items)
-    × AreSeen (places (take l.one-index l.worked)) l.slots.items
+    ((seats : List Seat) → AllZip (IsWorkOf l.jobs) seats l.worked → AllZip (IsFilled (sitting seats) (players_of l.worked)) l.jobs l.slots)
+    × AreApartIn l.slots
+    × AreOfThese (take l.one-index (numbers_of (players_of l.worked))) l.slots
+    × (filled_in l.slots ≡ done_in (take l.one-index l.worked))
+    × (length l.slots ≡ length l.fn.slots)
+    × AreSeen (places (take l.one-index l.worked)) l.slots

@@ -20,34 +20,31 @@ returns-in_err-outcomes-clause-gathers c =
     let err = c.in_err-outcomes.ensures.missing in
     let memory : lacks_memory c.args.worked.now ≡ false = search rules in
     let strange : first_strange c.args.worked.now ≡ None = search rules in
-    let seen = subst (λ (all : List (Option JobOutcome)). AreSeen (places c.args.worked.now) all) (sym c.as_slice.ensures.value) c.in_ok-fill.ensures.seen in
+    let seen = c.in_ok-fill.ensures.seen in
     tells_missing c.args.jobs.now c.args.worked.now _ _ err.0 c.from_residual-in_err-outcomes.ensures.1 err.1 (record { memory = memory; strange = strange }) seen.once
-    (missing_is c.args.jobs.now c.as_slice.result.now (places c.args.worked.now) err.0 seen err.2)
+    (missing_is c.args.jobs.now c.fill.new.slots (places c.args.worked.now) err.0 seen err.2)
 
 pub returns-in-Some-first_stuck-clause-gathers : goal.returns-in-Some-first_stuck-clause-gathers
 returns-in-Some-first_stuck-clause-gathers c =
     let memory : lacks_memory c.args.worked.now ≡ false = search rules in
     let strange : first_strange c.args.worked.now ≡ None = search rules in
-    let seen = subst (λ (all : List (Option JobOutcome)). AreSeen (places c.args.worked.now) all) (sym c.as_slice.ensures.value) c.in_ok-fill.ensures.seen in
-    let long = ap (λ (all : List (Option JobOutcome)). length all) c.as_slice.ensures.value ∙ c.fill.ensures.long ∙ c.requires.long in
-    (record { memory = memory; strange = strange }, inr (one_each c.args.jobs.now c.as_slice.result.now (places c.args.worked.now) seen long c.in_ok-outcomes.ensures.full, sym c.first_stuck.ensures ∙ c.in-Some-first_stuck.is))
+    let seen = c.in_ok-fill.ensures.seen in
+    let long = c.fill.ensures.long ∙ c.requires.long in
+    (record { memory = memory; strange = strange }, inr (one_each c.args.jobs.now c.fill.new.slots (places c.args.worked.now) seen long c.in_ok-outcomes.ensures.full, sym c.first_stuck.ensures ∙ c.in-Some-first_stuck.is))
 
-pub returns-clause-gathers : goal.returns-clause-gathers
-returns-clause-gathers c =
+pub returns-in-None-clause-gathers : goal.returns-in-None-clause-gathers
+returns-in-None-clause-gathers c =
     let memory : lacks_memory c.args.worked.now ≡ false = search rules in
     let strange : first_strange c.args.worked.now ≡ None = search rules in
     let stuck : first_stuck c.args.worked.now ≡ None = search rules in
-    let seen = subst (λ (all : List (Option JobOutcome)). AreSeen (places c.args.worked.now) all) (sym c.as_slice.ensures.value) c.in_ok-fill.ensures.seen in
-    let long = ap (λ (all : List (Option JobOutcome)). length all) c.as_slice.ensures.value ∙ c.fill.ensures.long ∙ c.requires.long in
-    (record { memory = memory; strange = strange }, one_each c.args.jobs.now c.as_slice.result.now (places c.args.worked.now) seen long c.in_ok-outcomes.ensures.full, stuck)
+    let seen = c.in_ok-fill.ensures.seen in
+    let long = c.fill.ensures.long ∙ c.requires.long in
+    (record { memory = memory; strange = strange }, one_each c.args.jobs.now c.fill.new.slots (places c.args.worked.now) seen long c.in_ok-outcomes.ensures.full, stuck)
 
-pub returns-clause-outcomes : goal.returns-clause-outcomes
-returns-clause-outcomes c =
-    let slots = c.as_slice.ensures.value in
+pub returns-in-None-clause-outcomes : goal.returns-in-None-clause-outcomes
+returns-in-None-clause-outcomes c =
     record {
-      each = λ seats works.
-          let filled = subst (λ (all : List (Option JobOutcome)). AllZip (IsFilled (sitting seats) (players_of c.args.worked.now)) c.args.jobs.now all) (sym slots) (c.in_ok-fill.ensures.filled seats works) in
-          c.in_ok-outcomes.ensures.each (sitting seats) (players_of c.args.worked.now) filled;
-      apart = c.in_ok-outcomes.ensures.apart (subst (λ (all : List (Option JobOutcome)). AreApartIn all) (sym slots) c.in_ok-fill.ensures.apart);
-      once = sym c.in_ok-fill.ensures.many ∙ ap filled_in (sym slots) ∙ c.in_ok-outcomes.ensures.all;
+      each = λ seats works. c.in_ok-outcomes.ensures.each (sitting seats) (players_of c.args.worked.now) (c.in_ok-fill.ensures.filled seats works);
+      apart = c.in_ok-outcomes.ensures.apart c.in_ok-fill.ensures.apart;
+      once = sym c.in_ok-fill.ensures.many ∙ c.in_ok-outcomes.ensures.all;
     }

@@ -16,7 +16,7 @@ loop-one-init c = (
   (λ numbers low high fresh rise apart below. record { low = low; rise = rise; apart = apart; below = below }),
   omega arith,
   refl,
-  (λ seen was. subst (λ (ps : List ℕ). AreSeen ps c.args.slots.now.items) (sym (append-nil seen)) was),
+  (λ seen was. subst (λ (ps : List ℕ). AreSeen ps c.args.slots.now) (sym (append-nil seen)) was),
 )
 
 pub loop-one-preserved : goal.loop-one-preserved
@@ -28,7 +28,7 @@ loop-one-preserved c = (
   (λ numbers low high fresh rise apart below.
       at_next c.args.agent numbers high _ _ _ _ _ c.in_ok-place_one.ensures.put.0 fresh (drop_more c.args.done.now c.loop-one.one-index _ c.loop-one-test.true)
       (c.loop-one.invariant.1 numbers low high fresh rise apart below) c.in_ok-place_one.ensures.put.1),
-  (let more : filled_in c.place_one.new.slots.items ≡ filled_in c.loop-one.slots.items + 1 = put_many _ _ _ _ c.in_ok-place_one.ensures.put.1 in
+  (let more : filled_in c.place_one.new.slots ≡ filled_in c.loop-one.slots + 1 = put_many _ _ _ _ c.in_ok-place_one.ensures.put.1 in
       let were = c.loop-one.invariant.2 in
       omega arith),
   c.in_ok-place_one.ensures.long ∙ c.loop-one.invariant.3,
@@ -44,7 +44,7 @@ returns-clause-many c = let past = c.loop-one-test.false in let few = c.loop-one
 pub returns-clause-seen : goal.returns-clause-seen
 returns-clause-seen c seen was =
     let past = c.loop-one-test.false in
-    subst (λ (ds : List Done). AreSeen (seen ++ places_by ds) c.loop-one.slots.items) (take_all c.loop-one.one-index c.args.done.now (omega arith)) (c.loop-one.invariant.4 seen was)
+    subst (λ (ds : List Done). AreSeen (seen ++ places_by ds) c.loop-one.slots) (take_all c.loop-one.one-index c.args.done.now (omega arith)) (c.loop-one.invariant.4 seen was)
 
 pub returns-clause-apart : goal.returns-clause-apart
 returns-clause-apart c numbers low high fresh rise apart below =
@@ -56,4 +56,4 @@ returns-in_err-place_one-clause-double c =
     passed_on _ _ _ c.from_residual.ensures.1
     (λ seen was.
     let err = c.in_err-place_one.ensures.double in
-    (err.0, err.1, double_next c.args.jobs.now c.loop-one.slots.items seen c.args.done.now c.loop-one.one-index _ err.0 c.loop-one-test.true (search rules) (c.loop-one.invariant.4 seen was) err.2))
+    (err.0, err.1, double_next c.args.jobs.now c.loop-one.slots seen c.args.done.now c.loop-one.one-index _ err.0 c.loop-one-test.true (search rules) (c.loop-one.invariant.4 seen was) err.2))

@@ -12,9 +12,9 @@ use Rattle.agent_pool.proofs.gather.place_all.Given as goal
 abbrev pub invariant-loop-one : goal.invariant-loop-one
 invariant-loop-one l =
     ((was players : List Played) (before player : Played) → IsOf was players l.agent before player → AllDone l.jobs (begins before.entries) player l.done
-    → KeepFilled l.jobs was players l.fn.slots.items l.slots.items)
-    × ((numbers : List ℕ) (low high : ℕ) → ¬ (Contains numbers l.agent) → RiseBetween low l.done high → AreApartIn l.fn.slots.items → AreBelow numbers l.agent low l.fn.slots.items
-    → At l.agent numbers high (drop l.one-index l.done) l.slots.items)
-    × (filled_in l.slots.items ≡ filled_in l.fn.slots.items + l.one-index)
-    × (length l.slots.items ≡ length l.fn.slots.items)
-    × ((seen : List ℕ) → AreSeen seen l.fn.slots.items → AreSeen (seen ++ places_by (take l.one-index l.done)) l.slots.items)
+    → KeepFilled l.jobs was players l.fn.slots l.slots)
+    × ((numbers : List ℕ) (low high : ℕ) → ¬ (Contains numbers l.agent) → RiseBetween low l.done high → AreApartIn l.fn.slots → AreBelow numbers l.agent low l.fn.slots
+    → At l.agent numbers high (drop l.one-index l.done) l.slots)
+    × (filled_in l.slots ≡ filled_in l.fn.slots + l.one-index)
+    × (length l.slots ≡ length l.fn.slots)
+    × ((seen : List ℕ) → AreSeen seen l.fn.slots → AreSeen (seen ++ places_by (take l.one-index l.done)) l.slots)

@@ -1,5 +1,12 @@
+use Rattle.std.proofs.Common.{◌≡◌, sym, subst}
+use Rattle.std.specs.Prelude.{◌↔◌, IsTrue}
+use Rattle.run_core.specs.code.Equality.{same_outcome}
+use Rattle.run_core.specs.declared.done.EndedJob.{EndedJob}
+use Rattle.run_certify.specs.declared.entry.Entry.TheVariants.{Ended}
 use Rattle.run_certify.proofs.Equal.{same_end_decides}
 use Rattle.run_certify.proofs.unused.is_end.Goals as goal
 
 pub returns-in-Ended : goal.returns-in-Ended
-returns-in-Ended c = rw (c.in-Ended.is, c.eq.ensures) (same_end_decides c.in-Ended.told c.args.outcome.now)
+returns-in-Ended c =
+    rw (c.in-Ended.is, c.eq.ensures) (subst (λ (told : EndedJob). IsTrue (same_outcome told c.args.outcome.now) ↔ (Ended c.in-Ended.told ≡ Ended c.args.outcome.now))
+    (sym c.deref.ensures) (same_end_decides c.in-Ended.told c.args.outcome.now))

@@ -15,7 +15,7 @@ returns g c =
     let worked = c.in_ok-agents.field-0 in
     let transcripts = c.in_ok-transcripts.transcripts in
     let jobs = c.in_ok-jobs.jobs.items in
-    let done : AreDone jobs plan.alone worked = subst (λ (js : List NamedJob). AreDone js plan.alone worked) c.deref.ensures.value c.in_ok-agents.ensures in
+    let done : AreDone jobs plan.alone worked = c.in_ok-agents.ensures in
     let told = c.new.ensures ∙ ap (came_of transcripts worked.outcomes.items) c.items_in-steps.ensures in
     subst (λ (p : Plan). IsServed p c.new.result) c.script.view_is
     (is_served plan c.new.result c.in-Ok.histories transcripts jobs worked c.in_ok-judge.ensures c.in_ok-jobs.ensures c.in_ok-transcripts.ensures done told)

@@ -15,7 +15,7 @@ use Rattle.suite_serve.proofs.serving.work.Goals as goal
 pub returns : goal.returns
 returns g c =
     let given = c.args.opened.servers.now in
-    let jobs = c.args.jobs.now in
+    let jobs = c.args.jobs.items in
     let first = c.in_ok-agents.field-0 in
     let second = c.in_ok-agents-3.field-0 in
     let above = c.split_at.result.0.now in
@@ -26,7 +26,7 @@ returns g c =
     let all : first_player given 0 ∷ c.in_ok-first.others.items ≡ players_from given 0 given.agents =
     ap (λ (ps : List Played). ps ++ c.in_ok-first.others.items) (sym alone) ∙ c.in_ok-first.ensures.all ∙ ap (λ (s : Opening). players_from s 0 s.agents) c.settings.ensures
     in
-    let split : jobs ≡ above ++ below = sym (take-append-drop c.min.result jobs) ∙ ap₂ (λ (xs ys : List NamedJob). xs ++ ys) (sym c.split_at.ensures.front) (sym c.split_at.ensures.back) in
+    let split : jobs ≡ above ++ below = sym c.as_slice.ensures.value ∙ sym (take-append-drop c.min.result c.as_slice.result.now) ∙ ap₂ (λ (xs ys : List NamedJob). xs ++ ys) (sym c.split_at.ensures.front) (sym c.split_at.ensures.back) in
     let cut : length above ≡ min c.args.alone (length jobs) = c.split_at.ensures.front_len ∙ c.min.ensures in
     both_done given jobs above below c.args.alone c.args.opened.passes.items c.in_ok-first.others.items first second
     (record { agents = second.agents; passes = second.passes; outcomes = c.in_ok-outcomes.outcomes })

@@ -9,7 +9,7 @@ use Rattle.agent_pool.proofs.player.Player.begin.Goals as goal
 pub invariant_of-self-2 : goal.invariant_of-self-2
 invariant_of-self-2 c =
     let agent = c.self.inside.agent in
-    let job = c.args.job.now in
+    let job = c.deref.result.now in
     let is = c.in_ok-begin.ensures.ok in
     let count = ap (λ (s : Standing). s.state.count) is in
     let starts = began agent.fixed agent.state job (λ e. let a = c.count.ensures in let b = c.count-count.ensures in let other = c.if-count.false in omega arith) in

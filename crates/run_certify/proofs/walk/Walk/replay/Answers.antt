@@ -1,11 +1,14 @@
 use Rattle.std.proofs.Common.{sym, subst}
+use Rattle.txn_core.specs.declared.job.Job.{Job}
 use Rattle.run_certify.specs.declared.entry.Entry.{Entry}
+use Rattle.run_certify.specs.declared.entry.Entry.TheVariants.{Begun}
 use Rattle.run_certify.specs.code.Walks.{EntryFails}
 use Rattle.run_certify.proofs.Going.{no_play}
 use Rattle.run_certify.proofs.walk.Walk.replay.Goals as goal
 
 pub returns-in-Begun-clause-mismatch : goal.returns-in-Begun-clause-mismatch
-returns-in-Begun-clause-mismatch c = λ is other. subst (λ (entry : Entry). EntryFails c.args.agent entry c.args.self.now) (sym c.in-Begun.is) (c.begin.ensures.mismatch is)
+returns-in-Begun-clause-mismatch c = λ is other. subst (λ (entry : Entry). EntryFails c.args.agent entry c.args.self.now) (sym c.in-Begun.is)
+    (subst (λ (job : Job). EntryFails c.args.agent (Begun job) c.args.self.now) c.deref.ensures (c.begin.ensures.mismatch is))
 
 pub returns-in-Lacked-clause-mismatch : goal.returns-in-Lacked-clause-mismatch
 returns-in-Lacked-clause-mismatch c = λ is other. subst (λ (entry : Entry). EntryFails c.args.agent entry c.args.self.now) (sym c.in-Lacked.is) (c.lack.ensures.mismatch is)

@@ -1,0 +1,10 @@
+use Rattle.std.proofs.Common.{◌≡◌, ◌≢◌, ℕ, ◌∙◌, List, sym, subst}
+use Rattle.std.specs.Prelude.{Option, None, Some, slice_get}
+use Rattle.agent_pool.specs.declared.outcome.JobOutcome.{JobOutcome}
+use Rattle.agent_pool.proofs.Columns.{slots_full}
+use Rattle.agent_pool.proofs.slots.Slots.into_outcomes.Goals as goal
+
+pub returns : goal.returns
+returns c =
+    slots_full c.self.inside.outcomes.items c.self.inside.filled.items c.self.invariant
+    (subst (λ (slots : List (Option JobOutcome)). (k : ℕ) → slice_get slots k ≢ Some None) (sym c.self.view_is) c.requires) ∙ c.self.view_is
