@@ -1,4 +1,4 @@
-use Rattle.std.proofs.Common.{◌≡◌, ◌∙◌, ap, ap₂, refl, sym, subst, List, [], ◌∷◌, ◌++◌, length, min, Result}
+use Rattle.std.proofs.Common.{◌≡◌, ◌∙◌, ap, ap₂, arith, refl, sym, subst, List, [], ◌∷◌, ◌++◌, length, min, Result}
 use Rattle.std.specs.Prelude.{IfOk}
 use Rattle.std.proofs.lemmas.List.{take-append-drop}
 use Rattle.agent_pool.specs.declared.fault.PoolFault.{PoolFault}
@@ -27,7 +27,8 @@ returns g c =
     ap (λ (ps : List Played). ps ++ c.in_ok-first.others.items) (sym alone) ∙ c.in_ok-first.ensures.all ∙ ap (λ (s : Opening). players_from s 0 s.agents) c.settings.ensures
     in
     let split : jobs ≡ above ++ below = sym c.as_slice.ensures.value ∙ sym (take-append-drop c.min.result c.as_slice.result.now) ∙ ap₂ (λ (xs ys : List NamedJob). xs ++ ys) (sym c.split_at.ensures.front) (sym c.split_at.ensures.back) in
-    let cut : length above ≡ min c.args.alone (length jobs) = c.split_at.ensures.front_len ∙ c.min.ensures in
+    let count : c.len.result ≡ length jobs = omega (arith, c.len.ensures, c.args.jobs.ok.0) in
+    let cut : length above ≡ min c.args.alone (length jobs) = c.split_at.ensures.front_len ∙ c.min.ensures ∙ ap (min c.args.alone) count in
     both_done given jobs above below c.args.alone c.args.opened.passes.items c.in_ok-first.others.items first second
     (record { agents = second.agents; passes = second.passes; outcomes = c.in_ok-outcomes.outcomes })
     split cut all
