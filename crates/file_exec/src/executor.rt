@@ -101,7 +101,7 @@ fn play_on(
         match operate(transaction, &mut stage.log, at, op, &mut stage.point) {
             Ok(answer) => {
                 // Room for all the answers is taken at once.
-                stage.answers.reserve(ops.len() - usize::from(at))?;
+                stage.answers.reserve_exact(ops.len() - usize::from(at))?;
                 stage.answers.push(answer)?;
             }
             Err(stop) => {

@@ -74,7 +74,8 @@ impl PathText {
 /// The most names of a path.
 const MAX_PATH_NAMES: usize = 8;
 
-/// As many names as most paths have at the most. Room for them is taken at once, which costs less than to count them first.
+/// As many names as most paths have at the most. Where there are several, room for these is taken at once, which costs less
+/// than to count them first.
 const USUAL_PATH_NAMES: usize = 4;
 
 /// The names of a text, from the root folder down, where it is a path.
@@ -94,7 +95,12 @@ fn read(alloc: Global, text: &[u8]) -> Result<Option<Vec<Name>>, AllocError>
 fn collect(alloc: Global, text: &[u8]) -> Result<Option<Vec<Name>>, AllocError>
     ensures { IfOk result (λ names. option_map (λ names. names.items) names ≡ some_names (slice_split is_slash text.now)) }
 {
-    let mut names = Vec::with_capacity(alloc, USUAL_PATH_NAMES)?;
+    let room = if text.contains(&b'/') {
+        USUAL_PATH_NAMES
+    } else {
+        1
+    };
+    let mut names = Vec::with_capacity(alloc, room)?;
     for part in text.split(|byte| *byte == b'/') {
         if names.len() == MAX_PATH_NAMES {
             return Ok(None);

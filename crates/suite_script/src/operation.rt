@@ -60,7 +60,8 @@ pub fn read_operations(alloc: Global, names: &Names, words: Words<'_>) -> Result
     ensures enough { FirstAreEnough }
 {
     let mut phrases = Phrases::new(words);
-    let mut ops = Vec::new(alloc);
+    // Most transactions have one operation, and jobs are many.
+    let mut ops = Vec::with_capacity(alloc, 1)?;
     loop {
         keep(&mut ops, read_operation(alloc, names, &mut phrases)?)?;
         if !phrases.next_phrase() {

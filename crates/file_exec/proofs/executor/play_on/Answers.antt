@@ -23,8 +23,8 @@ from_ok : {A E : Type 0} (P : A → Type 0) (result : Result A E) (x : A) → re
 from_ok P (Ok other) x is holds = let same : other ≡ x = cc in subst P same holds
 from_ok P (Err e) x is holds = cc
 
-pub returns-in_err-reserve-in-Ok-clause-first : goal.returns-in_err-reserve-in-Ok-clause-first
-returns-in_err-reserve-in-Ok-clause-first c =
+pub returns-in_err-reserve_exact-in-Ok-clause-first : goal.returns-in_err-reserve_exact-in-Ok-clause-first
+returns-in_err-reserve_exact-in-Ok-clause-first c =
     let known = c.args.transaction.known.now in
     on_err c.from_residual.result
     (given_first known.service known.suites c.args.transaction.t c.args.transaction.caller.now c.args.ops.now (reached_of c.loop-at.stage) c.loop-at.invariant c.index-ops-from.result (subst (λ at. at < length c.args.ops.now) c.from.ensures c.loop-at-test.true) (c.index-ops-from.is ∙ ap (λ at. get_or c.args.ops.now at c.index-ops-from.result) c.from-in-loop-at.ensures)
@@ -62,5 +62,5 @@ loop-at-preserved c =
     ∙ ap (λ at. point_after c.operate.new.point op (drop (at + 1) c.args.ops.now)) c.from-in-loop-at-2.ensures in
     let leads = subst (λ point. LeadsTo known.suites c.operate.new.log caller (walked_next (drop (c.loop-at.stage.at + 1) c.args.ops.now)) point) (sym begins)
     (leads_after known.suites caller c.loop-at.stage.log c.operate.new.log op c.operate.new.point c.in-Ok.ensures.read c.in-Ok.ensures.point (drop (c.loop-at.stage.at + 1) c.args.ops.now)) in
-    rw (c.in_ok-push-in-Ok.ensures.items, c.reserve.ensures.items)
+    rw (c.in_ok-push-in-Ok.ensures.items, c.reserve_exact.ensures.items)
     (done_too known.service known.suites c.args.transaction.t caller c.args.ops.now (reached_of c.loop-at.stage) c.loop-at.invariant op (subst (λ at. at < length c.args.ops.now) c.from.ensures c.loop-at-test.true) (c.index-ops-from.is ∙ ap (λ at. get_or c.args.ops.now at op) c.from-in-loop-at.ensures) c.in-Ok.answer c.operate.new.log c.after-stage.result c.in-Ok.ensures.answer leads)
