@@ -21,11 +21,11 @@ use Rattle.acl_text.specs.declared.keyword.Keyword.{Keyword}
 use Rattle.acl_text.specs.declared.keyword.Keyword.TheVariants.{User, Group, Mask, Other}
 use Rattle.acl_text.specs.declared.item.Side.{Side}
 use Rattle.acl_text.specs.declared.item.Side.TheVariants.{Access, Default}
-use Rattle.acl_text.specs.Grammar.{reading, entry_reading, fields_reading, said_reading, fits_keyword, numbered, tag_of, are_permissions, permission_digit}
+use Rattle.acl_text.specs.Grammar.{reading, entry_reading, fields_reading, sided_reading, fits_keyword, numbered, tag_of, are_permissions, permission_digit}
 use Rattle.acl_text.specs.Keywords.{word_of, keyword_of, is_default}
 use Rattle.acl_text.specs.Layout.{is_white, colon, parts, trimmed, fields_of}
 use Rattle.acl_text.specs.Qualifiers.{is_name_byte, max_id}
-use Rattle.acl_text.specs.Sides.{said_of}
+use Rattle.acl_text.specs.Sides.{sided_entry}
 use Rattle.acl_text.specs.Tables.{Tables}
 use Rattle.acl_text.specs.Writing.{entry_text, sided_text, tag_text}
 use Rattle.acl_text.proofs.CleanText.{lacks, split_at_byte, trimmed_clean, list_all_wider}
@@ -134,15 +134,15 @@ qualifier_facts names tag.Other small = record { no_colon = refl; trims = refl; 
 
 -- an item of three fields
 reading_fields : (names : Tables) (text word q permissions : List ℕ) (e : Entry) → list_all is_white text ≡ false → fields_of text ≡ word ∷ q ∷ permissions ∷ [] → is_default word ≡ false
-    → entry_reading names (keyword_of word) q permissions ≡ Ok e → reading names text ≡ Ok (Some (said_of Access e))
+    → entry_reading names (keyword_of word) q permissions ≡ Ok e → reading names text ≡ Ok (Some (sided_entry Access e))
 reading_fields names text word q permissions e no_blank three_fields no_default read = rw (no_blank, three_fields, no_default, read) refl
 
 -- an item of a default list
-reading_marked : (names : Tables) (text : List ℕ) (e : Entry) → fields_reading names (fields_of text) ≡ Ok e → reading names (codes "default:" ++ text) ≡ Ok (Some (said_of Default e))
+reading_marked : (names : Tables) (text : List ℕ) (e : Entry) → fields_reading names (fields_of text) ≡ Ok e → reading names (codes "default:" ++ text) ≡ Ok (Some (sided_entry Default e))
 reading_marked names text e read =
     let cut : fields_of (codes "default:" ++ text) ≡ codes "default" ∷ fields_of text = ap (map trimmed) (split_at_byte (λ b. eqb b colon) (codes "default") 58 text refl refl) in
-    ap (λ fields. result_map_both Some (λ fault. fault) (said_reading names fields)) cut
-    ∙ ap (λ r. result_map_both Some (λ fault. fault) (result_map_both (said_of Default) (λ fault. fault) r)) read
+    ap (λ fields. result_map_both Some (λ fault. fault) (sided_reading names fields)) cut
+    ∙ ap (λ r. result_map_both Some (λ fault. fault) (result_map_both (sided_entry Default) (λ fault. fault) r)) read
 
 -- cut at two colons
 cut_fields : (word q last : List ℕ) → lacks (λ b. eqb b colon) word ≡ true → lacks (λ b. eqb b colon) q ≡ true → parts colon last ≡ last ∷ []
@@ -205,7 +205,7 @@ field_facts names e t small =
     }
 
 -- the text of an entry of one of the two lists, also with a tab after it, is read as that entry
-pub sided_text_read : (names : Tables) (side : Side) (e : Entry) (t : Bool) → qualifier e.tag ≤ max_id → reading names (sided_text side e ++ tail t) ≡ Ok (Some (said_of side e))
+pub sided_text_read : (names : Tables) (side : Side) (e : Entry) (t : Bool) → qualifier e.tag ≤ max_id → reading names (sided_text side e ++ tail t) ≡ Ok (Some (sided_entry side e))
 sided_text_read names Access e t small =
     let f = field_facts names e t small in
     reading_fields names (entry_text e ++ tail t) f.word f.q f.permissions e f.no_blank f.fields f.no_default f.read

@@ -19,17 +19,17 @@ use Rattle.acl_core.specs.Entries.{entry_of}
 use Rattle.acl_core.specs.Permissions.{digit_of}
 use Rattle.acl_text.specs.declared.item.ItemFault.{ItemFault}
 use Rattle.acl_text.specs.declared.item.ItemFault.TheVariants as item
-use Rattle.acl_text.specs.declared.item.Said.{Said}
+use Rattle.acl_text.specs.declared.item.SidedEntry.{SidedEntry}
 use Rattle.acl_text.specs.declared.item.Side.{Side}
 use Rattle.acl_text.specs.declared.item.Side.TheVariants.{Access, Default}
 use Rattle.acl_text.specs.declared.keyword.Keyword.{Keyword}
 use Rattle.acl_text.specs.declared.keyword.Keyword.TheVariants.{User, Group, Mask, Other}
-use Rattle.acl_text.specs.Grammar.{letter_r, letter_w, letter_x, hyphen, times_in, stands_in, are_permissions, permission_bytes, permission_digit, is_permission_byte, numbered, tag_of, fits_keyword, entry_reading, fields_reading, said_reading, reading}
+use Rattle.acl_text.specs.Grammar.{letter_r, letter_w, letter_x, hyphen, times_in, stands_in, are_permissions, permission_bytes, permission_digit, is_permission_byte, numbered, tag_of, fits_keyword, entry_reading, fields_reading, sided_reading, reading}
 use Rattle.acl_text.specs.Items.{IsSpaced, Denotes, Says, Grants, IsLong, IsShort, IsLaidOut, IsItemOf, IsDefaultItemOf, SaysItem, is_single}
 use Rattle.acl_text.specs.Keywords.{word_of, letter_of, keyword_among, keyword_of, single_keyword_of, is_default}
 use Rattle.acl_text.specs.Layout.{colon, is_white, parts, trimmed, fields_of}
 use Rattle.acl_text.specs.Qualifiers.{is_name_byte, max_id, id_of}
-use Rattle.acl_text.specs.Sides.{said_of}
+use Rattle.acl_text.specs.Sides.{sided_entry}
 use Rattle.acl_text.specs.Tables.{Tables, number_in}
 use Rattle.acl_text.proofs.CleanText.{lacks, split_lacking, split_at_byte, list_all_wider}
 use Rattle.acl_text.proofs.Trimming.{trimmed_spaced, spaced_by_trimming}
@@ -331,14 +331,14 @@ default_word true = record { kept = refl; known = refl }
 default_word false = record { kept = refl; known = refl }
 
 said_by_fields : (names : Tables) (bytes word : List ℕ) (more : List (List ℕ)) (marked : Bool) (r : Result Entry ItemFault) → list_all is_white bytes ≡ false → fields_of bytes ≡ word ∷ more → is_default word ≡ marked
-    → reading names bytes ≡ result_map_both Some (λ fault. fault) (cond marked (result_map_both (said_of Default) (λ fault. fault) (fields_reading names more)) (result_map_both (said_of Access) (λ fault. fault) (fields_reading names (word ∷ more))))
+    → reading names bytes ≡ result_map_both Some (λ fault. fault) (cond marked (result_map_both (sided_entry Default) (λ fault. fault) (fields_reading names more)) (result_map_both (sided_entry Access) (λ fault. fault) (fields_reading names (word ∷ more))))
 said_by_fields names bytes word more marked r no_blank fields default = rw (no_blank, fields, default) refl
 
-pub read_if_written : (names : Tables) (side : Side) (e : Entry) (bytes : List ℕ) → SaysItem names side e bytes → reading names bytes ≡ Ok (Some (said_of side e))
+pub read_if_written : (names : Tables) (side : Side) (e : Entry) (bytes : List ℕ) → SaysItem names side e bytes → reading names bytes ≡ Ok (Some (sided_entry side e))
 read_if_written names Access e bytes it =
     let is = fields_if_written names e bytes it in
     said_by_fields names bytes is.word is.more false (Ok e) is.no_blank is.fields is.no_default
-    ∙ ap (λ r. result_map_both Some (λ fault. fault) (result_map_both (said_of Access) (λ fault. fault) r)) is.read
+    ∙ ap (λ r. result_map_both Some (λ fault. fault) (result_map_both (sided_entry Access) (λ fault. fault) r)) is.read
 read_if_written names Default e bytes it =
     let is = fields_if_written names e it.rest it.of_entry in
     let word = cond it.whole_word (codes "default") (codes "d") in
@@ -348,7 +348,7 @@ read_if_written names Default e bytes it =
     ∙ ap (map trimmed) (split_at_byte (λ b. eqb b colon) it.first colon it.rest (uncut word it.first it.of_word facts.kept) refl)
     ∙ ap (λ w. w ∷ fields_of it.rest) (trims word it.first it.of_word facts.kept) in
     said_by_fields names bytes word (fields_of it.rest) true (Ok e) (not_blank it.first it.rest bytes it.is) fields facts.known
-    ∙ ap (λ r. result_map_both Some (λ fault. fault) (result_map_both (said_of Default) (λ fault. fault) r)) (ap (fields_reading names) is.fields ∙ is.read)
+    ∙ ap (λ r. result_map_both Some (λ fault. fault) (result_map_both (sided_entry Default) (λ fault. fault) r)) (ap (fields_reading names) is.fields ∙ is.read)
 
 mapped : (r : Result Tag ItemFault) (f : Tag → Entry) (e : Entry) → result_map_both f (λ fault. fault) r ≡ Ok e → (t : Tag) × (r ≡ Ok t) × (f t ≡ e)
 mapped (Ok t) f e h = (t, refl, cc)
@@ -432,15 +432,15 @@ written_by_parts names e bytes (a ∷ b ∷ c ∷ []) joined h =
     }
 written_by_parts names e bytes (a ∷ b ∷ c ∷ d ∷ more) joined h = cc
 
-said_read : (blank : Bool) (r : Result Said ItemFault) (s : Said) → cond blank (Ok None) (result_map_both Some (λ fault. fault) r) ≡ Ok (Some s) → r ≡ Ok s
+said_read : (blank : Bool) (r : Result SidedEntry ItemFault) (s : SidedEntry) → cond blank (Ok None) (result_map_both Some (λ fault. fault) r) ≡ Ok (Some s) → r ≡ Ok s
 said_read true r s h = cc
 said_read false (Ok x) s h = let same : x ≡ s = cc in ap Ok same
 said_read false (Err fault) s h = cc
 
 -- an entry that was read for one side
-sided : (s side : Side) (r : Result Entry ItemFault) (e : Entry) → result_map_both (said_of s) (λ fault. fault) r ≡ Ok (said_of side e) → (s ≡ side) × (r ≡ Ok e)
-sided s side (Ok x) e h = let same : said_of s x ≡ said_of side e = cc in (ap (λ (y : Said). y.side) same, ap (λ (y : Said). Ok y.entry) same)
-sided s side (Err fault) e h = cc
+sided_parts : (s side : Side) (r : Result Entry ItemFault) (e : Entry) → result_map_both (sided_entry s) (λ fault. fault) r ≡ Ok (sided_entry side e) → (s ≡ side) × (r ≡ Ok e)
+sided_parts s side (Ok x) e h = let same : sided_entry s x ≡ sided_entry side e = cc in (ap (λ (y : SidedEntry). y.side) same, ap (λ (y : SidedEntry). Ok y.entry) same)
+sided_parts s side (Err fault) e h = cc
 
 marked_by_parts : (names : Tables) (e : Entry) (a bytes : List ℕ) (cut : List (List ℕ)) → is_default (trimmed a) ≡ true → join_with_byte colon (a ∷ cut) ≡ bytes → fields_reading names (map trimmed cut) ≡ Ok e → IsDefaultItemOf names e bytes
 marked_by_parts names e a bytes [] default joined h = cc
@@ -459,20 +459,20 @@ marked_by_parts names e a bytes (b ∷ cut) default joined h =
       is = sym joined;
     }
 
-says_by_parts : (names : Tables) (side : Side) (e : Entry) (bytes : List ℕ) (cut : List (List ℕ)) → join_with_byte colon cut ≡ bytes → said_reading names (map trimmed cut) ≡ Ok (said_of side e) → SaysItem names side e bytes
+says_by_parts : (names : Tables) (side : Side) (e : Entry) (bytes : List ℕ) (cut : List (List ℕ)) → join_with_byte colon cut ≡ bytes → sided_reading names (map trimmed cut) ≡ Ok (sided_entry side e) → SaysItem names side e bytes
 says_by_parts names side e bytes [] joined h = cc
 says_by_parts names side e bytes (a ∷ cut) joined h =
-    let marked : Result Said ItemFault = result_map_both (said_of Default) (λ fault. fault) (fields_reading names (map trimmed cut)) in
-    let plain : Result Said ItemFault = result_map_both (said_of Access) (λ fault. fault) (fields_reading names (map trimmed (a ∷ cut))) in
+    let marked : Result SidedEntry ItemFault = result_map_both (sided_entry Default) (λ fault. fault) (fields_reading names (map trimmed cut)) in
+    let plain : Result SidedEntry ItemFault = result_map_both (sided_entry Access) (λ fault. fault) (fields_reading names (map trimmed (a ∷ cut))) in
     elim (cases_Bool (is_default (trimmed a))) [
       | inl default ↦
-          let both = sided Default side (fields_reading names (map trimmed cut)) e (sym (ap (λ test. cond test marked plain) default) ∙ h) in
+          let both = sided_parts Default side (fields_reading names (map trimmed cut)) e (sym (ap (λ test. cond test marked plain) default) ∙ h) in
           subst (λ s. SaysItem names s e bytes) both.0 (marked_by_parts names e a bytes cut default joined both.1)
       | inr other ↦
-          let both = sided Access side (fields_reading names (map trimmed (a ∷ cut))) e (sym (ap (λ test. cond test marked plain) other) ∙ h) in
+          let both = sided_parts Access side (fields_reading names (map trimmed (a ∷ cut))) e (sym (ap (λ test. cond test marked plain) other) ∙ h) in
           subst (λ s. SaysItem names s e bytes) both.0 (written_by_parts names e bytes (a ∷ cut) joined both.1)
     ]
 
-pub written_if_read : (names : Tables) (side : Side) (e : Entry) (bytes : List ℕ) → reading names bytes ≡ Ok (Some (said_of side e)) → SaysItem names side e bytes
+pub written_if_read : (names : Tables) (side : Side) (e : Entry) (bytes : List ℕ) → reading names bytes ≡ Ok (Some (sided_entry side e)) → SaysItem names side e bytes
 written_if_read names side e bytes h =
-    says_by_parts names side e bytes (parts colon bytes) (join_with_byte-slice_split colon bytes) (said_read (list_all is_white bytes) (said_reading names (fields_of bytes)) (said_of side e) h)
+    says_by_parts names side e bytes (parts colon bytes) (join_with_byte-slice_split colon bytes) (said_read (list_all is_white bytes) (sided_reading names (fields_of bytes)) (sided_entry side e) h)

@@ -7,14 +7,14 @@ use Rattle.acl_core.specs.declared.entry.Entry.{Entry}
 use Rattle.acl_core.specs.declared.perms.Perms.{Perms}
 use Rattle.acl_core.specs.Permissions.{may_read, may_write, may_execute, has_permission, has_all}
 use Rattle.acl_core.specs.Tags.{qualifier}
-use Rattle.acl_text.specs.declared.item.Said.{Said}
+use Rattle.acl_text.specs.declared.item.SidedEntry.{SidedEntry}
 use Rattle.acl_text.specs.declared.item.Side.{Side}
 use Rattle.acl_text.specs.declared.item.Side.TheVariants.{Access, Default}
 use Rattle.acl_text.specs.Grammar.{reading}
 use Rattle.acl_text.specs.Laws.{LongTextSpells, ShortTextSpells, NumbersFit}
 use Rattle.acl_text.specs.Layout.{items_of, items_of_line, uncommented, parts, comma, line_feed}
 use Rattle.acl_text.specs.Qualifiers.{max_id}
-use Rattle.acl_text.specs.Sides.{default_entries, entries_of, said_of}
+use Rattle.acl_text.specs.Sides.{default_entries, entries_of, sided_entry}
 use Rattle.acl_text.specs.Tables.{Tables}
 use Rattle.acl_text.specs.Texts.{Spells, readings}
 use Rattle.acl_text.specs.Writing.{canonical, entry_text, remark, is_limited, common_text, line_text, long_lines, mask_of, next_text, sided_text}
@@ -54,7 +54,7 @@ record IsLine (names : Tables) (side : Side) (mask : Option Perms) (e : Entry) :
   unbroken : lacks (λ b. eqb b line_feed) (body side mask e) ≡ true
   item : List ℕ
   one_item : items_of_line (body side mask e) ≡ item ∷ []
-  read_back : reading names item ≡ Ok (Some (said_of side e))
+  read_back : reading names item ≡ Ok (Some (sided_entry side e))
 
 line_by : (names : Tables) (side : Side) (mask : Option Perms) (e : Entry) → qualifier e.tag ≤ max_id → IsRemark (remark mask e) → IsLine names side mask e
 line_by names side mask e small (inl none) =
@@ -96,10 +96,10 @@ lines_of names side mask (e ∷ list) rest fit =
     ∙ ap (λ more. body side mask e ∷ more) (lines_of names side mask list rest fit.1)
 
 -- what these lines say
-said_by : Side → List Entry → List (Option Said)
-said_by side list = map (λ e. Some (said_of side e)) list
+said_by : Side → List Entry → List (Option SidedEntry)
+said_by side list = map (λ e. Some (sided_entry side e)) list
 
-lines_read : (names : Tables) (side : Side) (mask : Option Perms) (list : List Entry) (lines : List (List ℕ)) (said : List (Option Said)) → NumbersFit list
+lines_read : (names : Tables) (side : Side) (mask : Option Perms) (list : List Entry) (lines : List (List ℕ)) (said : List (Option SidedEntry)) → NumbersFit list
     → map (reading names) (flat_map items_of_line lines) ≡ map Ok said
     → map (reading names) (flat_map items_of_line (map (body side mask) list ++ lines)) ≡ map Ok (said_by side list ++ said)
 unfolding said_by
@@ -110,38 +110,38 @@ lines_read names side mask (e ∷ list) lines said fit read =
     ∙ (λ i. line.read_back i ∷ lines_read names side mask list lines said fit.1 read i)
 
 -- the entries of a side among what is said of the two lists, access list first, and nothing after it
-access_said : (access : List Entry) (rest : List (Option Said)) → entries_of Access (filter_map (λ entry. entry) (said_by Access access ++ rest)) ≡ access ++ entries_of Access (filter_map (λ entry. entry) rest)
+access_said : (access : List Entry) (rest : List (Option SidedEntry)) → entries_of Access (filter_map (λ entry. entry) (said_by Access access ++ rest)) ≡ access ++ entries_of Access (filter_map (λ entry. entry) rest)
 unfolding said_by
 access_said [] rest = refl
 access_said (e ∷ access) rest = ap (λ more. e ∷ more) (access_said access rest)
 
-access_passed : (default : List Entry) (rest : List (Option Said)) → entries_of Access (filter_map (λ entry. entry) (said_by Default default ++ rest)) ≡ entries_of Access (filter_map (λ entry. entry) rest)
+access_passed : (default : List Entry) (rest : List (Option SidedEntry)) → entries_of Access (filter_map (λ entry. entry) (said_by Default default ++ rest)) ≡ entries_of Access (filter_map (λ entry. entry) rest)
 unfolding said_by
 access_passed [] rest = refl
 access_passed (e ∷ default) rest = access_passed default rest
 
-default_said : (default : List Entry) (rest : List (Option Said)) → entries_of Default (filter_map (λ entry. entry) (said_by Default default ++ rest)) ≡ default ++ entries_of Default (filter_map (λ entry. entry) rest)
+default_said : (default : List Entry) (rest : List (Option SidedEntry)) → entries_of Default (filter_map (λ entry. entry) (said_by Default default ++ rest)) ≡ default ++ entries_of Default (filter_map (λ entry. entry) rest)
 unfolding said_by
 default_said [] rest = refl
 default_said (e ∷ default) rest = ap (λ more. e ∷ more) (default_said default rest)
 
-default_passed : (access : List Entry) (rest : List (Option Said)) → entries_of Default (filter_map (λ entry. entry) (said_by Access access ++ rest)) ≡ entries_of Default (filter_map (λ entry. entry) rest)
+default_passed : (access : List Entry) (rest : List (Option SidedEntry)) → entries_of Default (filter_map (λ entry. entry) (said_by Access access ++ rest)) ≡ entries_of Default (filter_map (λ entry. entry) rest)
 unfolding said_by
 default_passed [] rest = refl
 default_passed (e ∷ access) rest = default_passed access rest
 
 -- what is said: the entries of both lists, and in between and at the end nothing more
-both_said : List Entry → List Entry → List (Option Said) → List (Option Said)
+both_said : List Entry → List Entry → List (Option SidedEntry) → List (Option SidedEntry)
 both_said access default rest = said_by Access access ++ (said_by Default default ++ rest)
 
-of_access_side : (access default : List Entry) (rest : List (Option Said)) → filter_map (λ entry. entry) rest ≡ [] → entries_of Access (filter_map (λ entry. entry) (both_said access default rest)) ≡ access
+of_access_side : (access default : List Entry) (rest : List (Option SidedEntry)) → filter_map (λ entry. entry) rest ≡ [] → entries_of Access (filter_map (λ entry. entry) (both_said access default rest)) ≡ access
 unfolding both_said
 of_access_side access default rest none =
     access_said access (said_by Default default ++ rest)
     ∙ ap (λ more. access ++ more) (access_passed default rest ∙ ap (entries_of Access) none)
     ∙ append-nil access
 
-of_default_side : (access default : List Entry) (rest : List (Option Said)) → filter_map (λ entry. entry) rest ≡ [] → entries_of Default (filter_map (λ entry. entry) (both_said access default rest)) ≡ default
+of_default_side : (access default : List Entry) (rest : List (Option SidedEntry)) → filter_map (λ entry. entry) rest ≡ [] → entries_of Default (filter_map (λ entry. entry) (both_said access default rest)) ≡ default
 unfolding both_said
 of_default_side access default rest none =
     default_passed access (said_by Default default ++ rest)
@@ -205,16 +205,16 @@ cut_default default fit text plain =
     ∙ ap (λ rest. text ∷ rest) (append-nil (map (sided_text Default) default))
 
 -- what the entries' texts say
-entries_read : (names : Tables) (side : Side) (list : List Entry) (items : List (List ℕ)) (said : List (Option Said)) → NumbersFit list → map (reading names) items ≡ map Ok said
+entries_read : (names : Tables) (side : Side) (list : List Entry) (items : List (List ℕ)) (said : List (Option SidedEntry)) → NumbersFit list → map (reading names) items ≡ map Ok said
     → map (reading names) (map (sided_text side) list ++ items) ≡ map Ok (said_by side list ++ said)
 unfolding said_by
 entries_read names side [] items said fit read = read
 entries_read names side (e ∷ list) items said fit read =
-    let read_back : reading names (sided_text side e) ≡ Ok (Some (said_of side e)) = ap (reading names) (sym (append-nil (sided_text side e))) ∙ sided_text_read names side e false fit.0 in
+    let read_back : reading names (sided_text side e) ≡ Ok (Some (sided_entry side e)) = ap (reading names) (sym (append-nil (sided_text side e))) ∙ sided_text_read names side e false fit.0 in
     λ i. read_back i ∷ entries_read names side list items said fit.1 read i
 
 -- what a text without line ends says that begins with a text of one item
-short_by : (names : Tables) (first : List ℕ) (said : Option Said) (list default : List Entry) → list_all is_plain first ≡ true → reading names first ≡ Ok said → NumbersFit list → NumbersFit default
+short_by : (names : Tables) (first : List ℕ) (said : Option SidedEntry) (list default : List Entry) → list_all is_plain first ≡ true → reading names first ≡ Ok said → NumbersFit list → NumbersFit default
     → readings ((first ++ later Access list) ++ later Default default) names ≡ map Ok (said ∷ both_said list default [])
 unfolding both_said
 short_by names first said list default plain read fit fit_default =
@@ -243,10 +243,10 @@ short_spells names [] default fit fit_default = record {
   of_default = of_default_side [] default [] refl;
 }
 short_spells names (e ∷ list) default fit fit_default =
-    let read_back : reading names (entry_text e) ≡ Ok (Some (said_of Access e)) = ap (reading names) (sym (append-nil (entry_text e))) ∙ sided_text_read names Access e false fit.0 in
+    let read_back : reading names (entry_text e) ≡ Ok (Some (sided_entry Access e)) = ap (reading names) (sym (append-nil (entry_text e))) ∙ sided_text_read names Access e false fit.0 in
     record {
-      said = Some (said_of Access e) ∷ both_said list default [];
-      each_read = short_by names (entry_text e) (Some (said_of Access e)) list default (plain_entry Access e fit.0) read_back fit.1 fit_default;
+      said = Some (sided_entry Access e) ∷ both_said list default [];
+      each_read = short_by names (entry_text e) (Some (sided_entry Access e)) list default (plain_entry Access e fit.0) read_back fit.1 fit_default;
       of_access = of_access_side (e ∷ list) default [] refl;
       of_default = of_default_side (e ∷ list) default [] refl;
     }

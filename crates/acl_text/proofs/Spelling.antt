@@ -4,7 +4,7 @@ use Rattle.std.specs.List.{filter_map, cons_option}
 use Rattle.std.specs.Option.{option_or}
 use Rattle.acl_core.specs.AccessLists.{first_fault}
 use Rattle.acl_text.specs.declared.item.ItemFault.{ItemFault}
-use Rattle.acl_text.specs.declared.item.Said.{Said}
+use Rattle.acl_text.specs.declared.item.SidedEntry.{SidedEntry}
 use Rattle.acl_text.specs.declared.item.Side.TheVariants.{Access, Default}
 use Rattle.acl_text.specs.declared.read.TextFault.TheVariants.{Invalid}
 use Rattle.acl_text.specs.Laws.{SpelledIsRead}
@@ -13,7 +13,7 @@ use Rattle.acl_text.specs.Tables.{Tables}
 use Rattle.acl_text.specs.Texts.{Spells, default_fault, readings, first_item_fault, entry_said, lists_fault, said_in}
 
 abbrev Reading : Type 0
-Reading = Result (Option Said) ItemFault
+Reading = Result (Option SidedEntry) ItemFault
 
 all_said : (n : ℕ) (read : List Reading) → first_item_fault n read ≡ None → read ≡ map Ok (map entry_said read)
 all_said n [] none = refl
@@ -34,11 +34,11 @@ spelled_from_faultless text names none = record {
 }
 
 -- a text that spells entries has no item at fault, and says these entries
-no_item_fault : (n : ℕ) (said : List (Option Said)) → first_item_fault n (map Ok said) ≡ None
+no_item_fault : (n : ℕ) (said : List (Option SidedEntry)) → first_item_fault n (map Ok said) ≡ None
 no_item_fault n [] = refl
 no_item_fault n (first ∷ said) = no_item_fault (n + 1) said
 
-said_again : (said : List (Option Said)) → filter_map entry_said (map Ok said) ≡ filter_map (λ entry. entry) said
+said_again : (said : List (Option SidedEntry)) → filter_map entry_said (map Ok said) ≡ filter_map (λ entry. entry) said
 said_again [] = refl
 said_again (first ∷ said) = ap (cons_option first) (said_again said)
 

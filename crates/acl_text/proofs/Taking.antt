@@ -10,7 +10,7 @@ use Rattle.acl_core.specs.declared.fault.AclError.TheVariants as acl
 use Rattle.acl_core.specs.declared.lists.Lists.{Lists}
 use Rattle.acl_core.specs.AccessLists.{fault_in, first_fault}
 use Rattle.acl_core.specs.Tallies.{IsTallyOf, Tallied}
-use Rattle.acl_text.specs.declared.item.Said.{Said}
+use Rattle.acl_text.specs.declared.item.SidedEntry.{SidedEntry}
 use Rattle.acl_text.specs.declared.item.Side.{Side}
 use Rattle.acl_text.specs.declared.item.Side.TheVariants.{Access, Default}
 use Rattle.acl_text.specs.declared.read.TextFault.TheVariants.{Invalid, Memory}
@@ -30,28 +30,28 @@ cons_more None entries more = refl
 cons_more (Some e) entries more = refl
 
 -- one more entry
-entries_more : (side : Side) (taken : List Said) (said : Said) → entries_of side (taken ++ said ∷ []) ≡ entries_of side taken ++ entries_of side (said ∷ [])
+entries_more : (side : Side) (taken : List SidedEntry) (said : SidedEntry) → entries_of side (taken ++ said ∷ []) ≡ entries_of side taken ++ entries_of side (said ∷ [])
 entries_more side [] said = refl
 entries_more side (first ∷ taken) said =
     ap (cons_option (if_of side first.side first.entry)) (entries_more side taken said)
     ∙ cons_more (if_of side first.side first.entry) (entries_of side taken) (entries_of side (said ∷ []))
 
-one_more : (side : Side) (taken : List Said) (said : Said) (entry : Entry) → if_of side said.side said.entry ≡ Some entry → entries_of side (taken ++ said ∷ []) ≡ entries_of side taken ++ entry ∷ []
+one_more : (side : Side) (taken : List SidedEntry) (said : SidedEntry) (entry : Entry) → if_of side said.side said.entry ≡ Some entry → entries_of side (taken ++ said ∷ []) ≡ entries_of side taken ++ entry ∷ []
 one_more side taken said entry is = entries_more side taken said ∙ ap (λ o. entries_of side taken ++ cons_option o []) is
 
-no_more : (side : Side) (taken : List Said) (said : Said) → if_of side said.side said.entry ≡ None → entries_of side (taken ++ said ∷ []) ≡ entries_of side taken
+no_more : (side : Side) (taken : List SidedEntry) (said : SidedEntry) → if_of side said.side said.entry ≡ None → entries_of side (taken ++ said ∷ []) ≡ entries_of side taken
 no_more side taken said is = entries_more side taken said ∙ ap (λ o. entries_of side taken ++ cons_option o []) is ∙ append-nil (entries_of side taken)
 
-pub tally_more : (old new : Tallied) (side : Side) (taken : List Said) (said : Said) → said.side ≡ side → if_of side side said.entry ≡ Some said.entry → ((entries : List Entry) → IsTallyOf old entries → IsTallyOf new (entries ++ said.entry ∷ [])) → IsTallyOf old (entries_of side taken) → IsTallyOf new (entries_of side (taken ++ said ∷ []))
+pub tally_more : (old new : Tallied) (side : Side) (taken : List SidedEntry) (said : SidedEntry) → said.side ≡ side → if_of side side said.entry ≡ Some said.entry → ((entries : List Entry) → IsTallyOf old entries → IsTallyOf new (entries ++ said.entry ∷ [])) → IsTallyOf old (entries_of side taken) → IsTallyOf new (entries_of side (taken ++ said ∷ []))
 tally_more old new side taken said of_side same more is =
     subst (IsTallyOf new) (sym (one_more side taken said said.entry (ap (λ s. if_of side s said.entry) of_side ∙ same))) (more (entries_of side taken) is)
 
-pub tally_stays : (old : Tallied) (side other : Side) (taken : List Said) (said : Said) → said.side ≡ other → if_of side other said.entry ≡ None → IsTallyOf old (entries_of side taken) → IsTallyOf old (entries_of side (taken ++ said ∷ []))
+pub tally_stays : (old : Tallied) (side other : Side) (taken : List SidedEntry) (said : SidedEntry) → said.side ≡ other → if_of side other said.entry ≡ None → IsTallyOf old (entries_of side taken) → IsTallyOf old (entries_of side (taken ++ said ∷ []))
 tally_stays old side other taken said of_other none is =
     subst (IsTallyOf old) (sym (no_more side taken said (ap (λ s. if_of side s said.entry) of_other ∙ none))) is
 
 -- the fault of an access list is that of both
-refused_first : (a : AclError) (told : Option AclFault) (taken : List Said) → told ≡ fault_in {T = Unit {0}} (Err a) → told ≡ first_fault (entries_of Access taken) → (fault_of_list a ≡ Memory → ⊥) → lists_fault taken ≡ Some (fault_of_list a)
+refused_first : (a : AclError) (told : Option AclFault) (taken : List SidedEntry) → told ≡ fault_in {T = Unit {0}} (Err a) → told ≡ first_fault (entries_of Access taken) → (fault_of_list a ≡ Memory → ⊥) → lists_fault taken ≡ Some (fault_of_list a)
 refused_first (acl.Invalid fault) told taken named is other = ap (λ f. option_or (option_map Invalid f) (default_fault (entries_of Default taken))) (sym is ∙ named)
 refused_first acl.Memory told taken named is other = absurd (other refl)
 
@@ -59,7 +59,7 @@ named_by : (T : Type 0) (a : AclError) → fault_in {T = T} (Err a) ≡ fault_in
 named_by T (acl.Invalid fault) = refl
 named_by T acl.Memory = refl
 
-pub access_refused : (T : Type 0) (r : Result T AclError) (a : AclError) (taken : List Said) → r ≡ Err a → fault_in r ≡ first_fault (entries_of Access taken) → (fault_of_list a ≡ Memory → ⊥) → lists_fault taken ≡ Some (fault_of_list a)
+pub access_refused : (T : Type 0) (r : Result T AclError) (a : AclError) (taken : List SidedEntry) → r ≡ Err a → fault_in r ≡ first_fault (entries_of Access taken) → (fault_of_list a ≡ Memory → ⊥) → lists_fault taken ≡ Some (fault_of_list a)
 access_refused T r a taken failed is other = refused_first a (fault_in r) taken (ap fault_in failed ∙ named_by T a) is other
 
 pub err_told : {T E : Type 0} (Q : E → Type 0) (r : Result T E) (f : E) → IsErrAnd r (λ e. e ≡ f) → Q f → IfErr r Q
@@ -67,9 +67,9 @@ err_told Q (Ok x) f is q = tt
 err_told Q (Err e) f is q = subst Q (sym is) q
 
 -- a text that spells entries spells the lists that they make
-pub lists_spelled : {E : Type 0} (r : Result Lists E) (tallies : Tallies) (text : List ℕ) (names : Tables) (said : List Said) → AreTallied tallies said → Spells text names (entries_of Access said) (entries_of Default said)
-    → IfOk r (λ lists. (taken : List Said) → AreTallied tallies taken → IsPermutation (entries_of Access taken) lists.access)
-    → IfOk r (λ lists. (taken : List Said) → AreTallied tallies taken → IsPermutation (entries_of Default taken) (default_entries lists.default))
+pub lists_spelled : {E : Type 0} (r : Result Lists E) (tallies : Tallies) (text : List ℕ) (names : Tables) (said : List SidedEntry) → AreTallied tallies said → Spells text names (entries_of Access said) (entries_of Default said)
+    → IfOk r (λ lists. (taken : List SidedEntry) → AreTallied tallies taken → IsPermutation (entries_of Access taken) lists.access)
+    → IfOk r (λ lists. (taken : List SidedEntry) → AreTallied tallies taken → IsPermutation (entries_of Default taken) (default_entries lists.default))
     → IfOk r (SpellsLists text names)
 lists_spelled (Ok lists) tallies text names said are spelled access default = record {
   access = entries_of Access said;

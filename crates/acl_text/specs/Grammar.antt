@@ -12,14 +12,14 @@ use Rattle.acl_core.specs.Entries.{entry_of}
 use Rattle.acl_core.specs.Permissions.{digit_of}
 use Rattle.acl_text.specs.declared.item.ItemFault.{ItemFault}
 use Rattle.acl_text.specs.declared.item.ItemFault.TheVariants as item
-use Rattle.acl_text.specs.declared.item.Said.{Said}
+use Rattle.acl_text.specs.declared.item.SidedEntry.{SidedEntry}
 use Rattle.acl_text.specs.declared.item.Side.TheVariants.{Access, Default}
 use Rattle.acl_text.specs.declared.keyword.Keyword.{Keyword}
 use Rattle.acl_text.specs.declared.keyword.Keyword.TheVariants.{User, Group, Mask, Other}
 use Rattle.acl_text.specs.Layout.{fields_of, is_white}
 use Rattle.acl_text.specs.Keywords.{keyword_of, single_keyword_of, is_default}
 use Rattle.acl_text.specs.Qualifiers.{is_name_byte, id_of}
-use Rattle.acl_text.specs.Sides.{said_of}
+use Rattle.acl_text.specs.Sides.{sided_entry}
 use Rattle.acl_text.specs.Tables.{Tables, number_in}
 
 -- how often a byte stands in a field, and whether it does
@@ -96,13 +96,13 @@ fields_reading names (word ∷ qualifier ∷ permissions ∷ []) = entry_reading
 fields_reading names fields = Err item.Syntax
 
 -- what fields say: an entry of the access list, or, behind the word of a default list, one of that
-abbrev pub said_reading : Tables → List (List ℕ) → Result Said ItemFault
-said_reading names [] = Err item.Syntax
-said_reading names (word ∷ fields) =
-    if is_default word then result_map_both (said_of Default) (λ fault. fault) (fields_reading names fields)
-    else result_map_both (said_of Access) (λ fault. fault) (fields_reading names (word ∷ fields))
+abbrev pub sided_reading : Tables → List (List ℕ) → Result SidedEntry ItemFault
+sided_reading names [] = Err item.Syntax
+sided_reading names (word ∷ fields) =
+    if is_default word then result_map_both (sided_entry Default) (λ fault. fault) (fields_reading names fields)
+    else result_map_both (sided_entry Access) (λ fault. fault) (fields_reading names (word ∷ fields))
 
 -- what an item says: nothing, where there is nothing but white space, or an entry of one of the two lists
-abbrev pub reading : Tables → List ℕ → Result (Option Said) ItemFault
+abbrev pub reading : Tables → List ℕ → Result (Option SidedEntry) ItemFault
 reading names bytes =
-    if list_all is_white bytes then Ok None else result_map_both Some (λ fault. fault) (said_reading names (fields_of bytes))
+    if list_all is_white bytes then Ok None else result_map_both Some (λ fault. fault) (sided_reading names (fields_of bytes))

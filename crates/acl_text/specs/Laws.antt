@@ -12,7 +12,7 @@ use Rattle.acl_text.specs.declared.read.TextFault.TheVariants.{Invalid}
 use Rattle.acl_text.specs.Grammar.{reading}
 use Rattle.acl_text.specs.Items.{SaysItem}
 use Rattle.acl_text.specs.Qualifiers.{max_id}
-use Rattle.acl_text.specs.Sides.{default_entries, said_of}
+use Rattle.acl_text.specs.Sides.{default_entries, sided_entry}
 use Rattle.acl_text.specs.Tables.{Tables}
 use Rattle.acl_text.specs.Texts.{Spells, default_fault, fault}
 use Rattle.acl_text.specs.Writing.{canonical, short_text}
@@ -39,4 +39,4 @@ SpelledIsRead = (text : List ℕ) (names : Tables) (access default : List Entry)
 
 -- an item reads as an entry of one of the two lists exactly when it is written as that
 abbrev pub ReadsAsWritten : Type 0
-ReadsAsWritten = (names : Tables) (side : Side) (entry : Entry) (item : List ℕ) → (reading names item ≡ Ok (Some (said_of side entry))) ↔ SaysItem names side entry item
+ReadsAsWritten = (names : Tables) (side : Side) (entry : Entry) (item : List ℕ) → (reading names item ≡ Ok (Some (sided_entry side entry))) ↔ SaysItem names side entry item

@@ -6,7 +6,7 @@ use Rattle.acl_core.specs.declared.entry.Entry.{Entry}
 use Rattle.acl_core.specs.declared.lists.Lists.{Lists}
 use Rattle.acl_core.specs.AccessLists.{first_fault}
 use Rattle.acl_text.specs.declared.item.ItemFault.{ItemFault}
-use Rattle.acl_text.specs.declared.item.Said.{Said}
+use Rattle.acl_text.specs.declared.item.SidedEntry.{SidedEntry}
 use Rattle.acl_text.specs.declared.item.Side.TheVariants.{Access, Default}
 use Rattle.acl_text.specs.declared.read.TextFault.{TextFault}
 use Rattle.acl_text.specs.declared.read.TextFault.TheVariants.{Invalid, DefaultInvalid}
@@ -17,13 +17,13 @@ use Rattle.acl_text.specs.Faults.{fault_at}
 use Rattle.acl_text.specs.Sides.{default_entries, entries_of}
 
 -- what the items of a text say, in order
-abbrev pub readings : List ℕ → Tables → List (Result (Option Said) ItemFault)
+abbrev pub readings : List ℕ → Tables → List (Result (Option SidedEntry) ItemFault)
 readings text names = map (reading names) (items_of text)
 
 -- a text spells these entries of an access list and of a default list: each item says nothing or an entry of one
 -- of the two, and these are the entries in order
 pub record Spells (text : List ℕ) (names : Tables) (access default : List Entry) : Type 0 where
-  pub said : List (Option Said)
+  pub said : List (Option SidedEntry)
   pub each_read : readings text names ≡ map Ok said
   pub of_access : entries_of Access (filter_map (λ entry. entry) said) ≡ access
   pub of_default : entries_of Default (filter_map (λ entry. entry) said) ≡ default
@@ -37,18 +37,18 @@ pub record SpellsLists (text : List ℕ) (names : Tables) (lists : Lists) : Type
   pub same_default : IsPermutation default (default_entries lists.default)
 
 -- the fault of the first item that has one, where the items are numbered from n
-abbrev pub first_item_fault : ℕ → List (Result (Option Said) ItemFault) → Option TextFault
+abbrev pub first_item_fault : ℕ → List (Result (Option SidedEntry) ItemFault) → Option TextFault
 first_item_fault n [] = None
 first_item_fault n (Ok said ∷ more) = first_item_fault (n + 1) more
 first_item_fault n (Err fault ∷ more) = Some (fault_at fault n)
 
 -- the entry that an item says
-abbrev pub entry_said : Result (Option Said) ItemFault → Option Said
+abbrev pub entry_said : Result (Option SidedEntry) ItemFault → Option SidedEntry
 entry_said (Ok said) = said
 entry_said (Err fault) = None
 
 -- the entries that a text says, up to what is no entry
-abbrev pub said_in : List ℕ → Tables → List Said
+abbrev pub said_in : List ℕ → Tables → List SidedEntry
 said_in text names = filter_map entry_said (readings text names)
 
 -- the fault of the entries of a default list: without entries there is no list, and no fault
@@ -57,7 +57,7 @@ default_fault [] = None
 default_fault (entry ∷ entries) = option_map DefaultInvalid (first_fault (entry ∷ entries))
 
 -- the fault of the two lists: the first of the access list, or else the first of the default list
-abbrev pub lists_fault : List Said → Option TextFault
+abbrev pub lists_fault : List SidedEntry → Option TextFault
 lists_fault said = option_or (option_map Invalid (first_fault (entries_of Access said))) (default_fault (entries_of Default said))
 
 -- the fault of a text: that of the first faulty item, numbered from 1, and where each item is read, that of the

@@ -4,7 +4,7 @@ ghost use Rattle.std.specs.Prelude.{◌≡◌, ℕ, false, List, [], ◌∷◌, 
 ghost use Rattle.std.specs.List.{list_all};
 ghost use Rattle.acl_text.specs.Layout.{colon, fields_of, trimmed};
 ghost use Rattle.acl_text.specs.code.Remaining.{parts_left};
-ghost use Rattle.acl_text.specs.Grammar.{are_permissions, entry_reading, fields_reading, fits_keyword, numbered, reading, said_reading, tag_of};
+ghost use Rattle.acl_text.specs.Grammar.{are_permissions, entry_reading, fields_reading, fits_keyword, numbered, reading, sided_reading, tag_of};
 ghost use Rattle.acl_text.specs.code.Reading.{IsReadOf};
 ghost use Rattle.acl_text.specs.Qualifiers.{is_name_byte};
 
@@ -31,7 +31,7 @@ pub(crate) enum Side {
 
 /// What an item says: an entry of one of the two lists.
 #[derive(Clone, Copy)]
-pub(crate) struct Said {
+pub(crate) struct SidedEntry {
     pub(crate) side: Side,
     pub(crate) entry: Entry,
 }
@@ -166,20 +166,20 @@ fn read_marked(rest: Option<&[u8]>, names: &Names) -> Result<Entry, ItemFault>
 }
 
 /// What the fields of an item say: an entry of one of the two lists.
-fn read_said(item: &[u8], names: &Names) -> Result<Said, ItemFault>
-    ensures { result ≡ said_reading names.now (fields_of item.now) }
+fn read_sided_entry(item: &[u8], names: &Names) -> Result<SidedEntry, ItemFault>
+    ensures { result ≡ sided_reading names.now (fields_of item.now) }
 {
     let (word, rest) = cut(item, b':');
     let word = trimmed(word);
     if is_default(word) {
         let entry = read_marked(rest, names)?;
-        Ok(Said {
+        Ok(SidedEntry {
             side: Side::Default,
             entry,
         })
     } else {
         let entry = read_fields(word, rest, names)?;
-        Ok(Said {
+        Ok(SidedEntry {
             side: Side::Access,
             entry,
         })
@@ -187,11 +187,11 @@ fn read_said(item: &[u8], names: &Names) -> Result<Said, ItemFault>
 }
 
 /// What an item says: nothing, or an entry of one of the two lists.
-pub(crate) fn read_item(item: &[u8], names: &Names) -> Result<Option<Said>, ItemFault>
+pub(crate) fn read_item(item: &[u8], names: &Names) -> Result<Option<SidedEntry>, ItemFault>
     ensures { result ≡ reading names.now item.now }
 {
     if is_blank(item) {
         return Ok(None);
     }
-    read_said(item, names).map(Some)
+    read_sided_entry(item, names).map(Some)
 }

@@ -5,14 +5,14 @@ ghost use Rattle.acl_core.specs.Tallies.{IsTallyOf};
 ghost use Rattle.acl_core.specs.declared.entry.Entry.{Entry};
 ghost use Rattle.acl_text.specs.Faults.{fault_at, fault_of_list};
 ghost use Rattle.acl_text.specs.code.Tallied.{AreTallied, ForTallied};
-ghost use Rattle.acl_text.specs.declared.item.Said.{Said};
+ghost use Rattle.acl_text.specs.declared.item.SidedEntry.{SidedEntry};
 ghost use Rattle.acl_text.specs.declared.item.Side.TheVariants.{Access, Default};
 ghost use Rattle.acl_text.specs.Sides.{default_entries, default_of, entries_of, lists_of};
 ghost use Rattle.acl_text.specs.Texts.{SpellsLists, default_fault, fault, lists_fault, said_in};
 ghost use Rattle.acl_text.specs.declared.read.TextFault.TheVariants.{Memory};
 
 use crate::cut::Items;
-use crate::item::{ItemFault, Said, Side, read_item};
+use crate::item::{ItemFault, Side, SidedEntry, read_item};
 use crate::names::Names;
 use acl_core::{Acl, AclError, AclFault, Lists, Tally};
 use std::alloc::{AllocError, Global};
@@ -109,8 +109,8 @@ impl Tallies {
     }
 
     /// Takes an entry of one of the two lists.
-    fn take(&mut self, said: Said) -> Result<(), AllocError>
-        ensures taken { OnOk result ((taken : List Said) → AreTallied self.old taken → AreTallied self.new (taken ++ said ∷ [])) }
+    fn take(&mut self, said: SidedEntry) -> Result<(), AllocError>
+        ensures taken { OnOk result ((taken : List SidedEntry) → AreTallied self.old taken → AreTallied self.new (taken ++ said ∷ [])) }
     {
         match said.side {
             Side::Access => self.access.take(said.entry),

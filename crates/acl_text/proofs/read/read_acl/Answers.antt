@@ -1,6 +1,6 @@
 use Rattle.std.proofs.Common.{◌≡◌, ◌+◌, List, [], ◌∷◌, ◌++◌, length, map, None, Some, Ok, refl, ap, subst, sym, ◌∙◌, append-nil, append_assoc, length-append, arith}
 use Rattle.std.specs.List.{filter_map}
-use Rattle.acl_text.specs.declared.item.Said.{Said}
+use Rattle.acl_text.specs.declared.item.SidedEntry.{SidedEntry}
 use Rattle.acl_text.specs.Grammar.{reading}
 use Rattle.acl_text.specs.code.Remaining.{items_left}
 use Rattle.acl_text.specs.code.Tallied.{AreTallied}
@@ -12,7 +12,7 @@ use Rattle.acl_text.proofs.Taking.{lists_spelled}
 use Rattle.acl_text.proofs.read.read_acl.Goals as goal
 
 -- entries of which one was taken are some
-some_taken : (taken later : List Said) (said : Said) → taken ++ said ∷ later ≡ [] → ⊥
+some_taken : (taken later : List SidedEntry) (said : SidedEntry) → taken ++ said ∷ later ≡ [] → ⊥
 some_taken taken later said none =
     let long = length-append taken (said ∷ later) in
     let short = ap length none in

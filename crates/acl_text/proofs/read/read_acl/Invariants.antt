@@ -1,6 +1,6 @@
 use Rattle.std.proofs.Common.{◌≡◌, ◌+◌, ◌≤◌, List, ◌++◌, length, map}
 use Rattle.std.specs.List.{filter_map}
-use Rattle.acl_text.specs.declared.item.Said.{Said}
+use Rattle.acl_text.specs.declared.item.SidedEntry.{SidedEntry}
 use Rattle.acl_text.specs.Grammar.{reading}
 use Rattle.acl_text.specs.code.Remaining.{items_left}
 use Rattle.acl_text.specs.code.Tallied.{AreTallied}
@@ -13,6 +13,6 @@ abbrev pub invariant-loop-item : goal.invariant-loop-item
 invariant-loop-item l =
     (goal.iterator-loop-item).can_next l.item-iterator
     × (goal.iterator-loop-item).is_finite l.item-iterator
-    × ((taken : List Said) × AreTallied l.tallies taken × (taken ++ filter_map entry_said (map (reading l.names) (items_left l.item-iterator)) ≡ said_in l.text l.names))
+    × ((taken : List SidedEntry) × AreTallied l.tallies taken × (taken ++ filter_map entry_said (map (reading l.names) (items_left l.item-iterator)) ≡ said_in l.text l.names))
     × (first_item_fault (l.number + 1) (map (reading l.names) (items_left l.item-iterator)) ≡ first_item_fault 1 (readings l.text l.names))
     × (l.number + length (items_left l.item-iterator) ≤ length l.text + 1)
