@@ -9,8 +9,9 @@ use rep_core::{Reply, Request};
 use std::alloc::AllocError;
 use std::process::Abort;
 use suite_collect::{
-    Collect, Hearing, Next, Told, asks_are_few, current_has_a_source, current_is_a_quorum,
-    nobody_is_asked_twice, prefix_and_version_stay, short_has_none_left, widened_is_a_write_quorum,
+    Collect, Hearing, Next, ReadPoint, Told, asks_are_few, current_has_a_source,
+    current_is_a_quorum, nobody_is_asked_twice, prefix_and_version_stay, short_has_none_left,
+    widened_is_a_write_quorum,
 };
 use suite_prefix::{LockMode, Prefix, PrefixKind, SharedPrefix};
 use talks::TALKS;
@@ -108,11 +109,17 @@ fn takes(rt: &impl Abort, talk: &mut Talk, reply: &Reply) -> &'static str {
     }
 }
 
+/// What the quorum gives that there is once this is told.
+fn quorum_after(rt: &impl Abort, collect: &Collect, last: &Told) -> ReadPoint {
+    assert!(rt; usize::from(last.server) < MAX_SERVERS);
+    collect.quorum_after(last).ok().expect(rt, "memory")
+}
+
 /// It is told a lock that gives a quorum.
 fn tell(rt: &impl Abort, talk: &mut Talk, last: Told) {
     assert!(rt; usize::from(last.server) < MAX_SERVERS);
     if !talk.is_widened {
-        talk.source = talk.collect.quorum_after(&last).source;
+        talk.source = Some(quorum_after(rt, &talk.collect, &last).source);
     }
     talk.collect.tell(last);
 }
@@ -331,9 +338,8 @@ fn quorum_of(rt: &impl Abort, collect: &mut Collect, reply: &Reply) -> Told {
 
 /// What a quorum gives before it is told.
 fn gives(rt: &impl Abort, collect: &Collect, last: &Told) {
-    assert!(rt; usize::from(last.server) < MAX_SERVERS);
-    let quorum = collect.quorum_after(last);
-    assert!(rt; quorum.prefix.pver == 2 && quorum.dver == 2 && quorum.source == Some(1));
+    let point = quorum_after(rt, collect, last);
+    assert!(rt; point.prefix.pver == 2 && point.dver == 2 && point.source == 1);
 }
 
 /// A quorum by this reply is known before it is told.

@@ -11,14 +11,14 @@ use Rattle.suite_collect.specs.declared.told.Told.{Told}
 use Rattle.suite_collect.specs.declared.collect.Collect.TheInside.{Inside}
 use Rattle.suite_collect.specs.declared.widening.Widening.{Widening as Wide}
 use Rattle.suite_collect.specs.declared.due.Tally.{Tally as Coded}
-use Rattle.suite_collect.specs.declared.hearing.Quorum.{Quorum}
+use Rattle.suite_collect.specs.declared.read_point.ReadPoint.{ReadPoint}
 use Rattle.suite_collect.specs.code.Adding.{IsAdded}
 use Rattle.suite_collect.specs.code.Dues as due
 use Rattle.suite_collect.specs.code.Dues.{Due, Tally, due_left, tally_among, tally_by, tally_in, IsKnown}
 use Rattle.suite_collect.specs.Telling.{newer, newest, holds, has_refused, first_busy, shown}
 use Rattle.suite_collect.specs.Collecting.{Widening, Collector, all_told, counted, wanted, needed, got, is_member, is_left, members_of, version, source, asked_of, ask_or_short, said_to, tell, told_by, Current, Ask, Short, next}
 use Rattle.suite_collect.specs.code.CollectFields.{widening_of, collecting_of, tally_of, due_of, IsSummed}
-use Rattle.suite_collect.specs.Answering.{has_quorum, IsQuorumOf}
+use Rattle.suite_collect.specs.Answering.{has_quorum, read_point}
 use Rattle.suite_collect.proofs.Collected.{asked_as_wanted}
 
 module _ (c : Collector) where
@@ -130,15 +130,22 @@ counted_wide c last w wide = ap (λ widening. counted (tell last (record c { wid
 
 -- ---- what a quorum gives
 
-pub gives_narrow : (c : Collector) (last : Told) (quorum : Quorum) → c.widening ≡ None → quorum.prefix.now ≡ newer (newest c.start c.told) last.said
-    → (let after : Collector = record c { told = last ∷ c.told; widening = None } in (quorum.dver ≡ version after) × (quorum.source ≡ source after)) → IsQuorumOf quorum (tell last c)
-gives_narrow c last quorum narrow prefix rest =
-    subst (λ widening. IsQuorumOf quorum (tell last (record c { widening = widening }))) (sym narrow) (record { prefix = prefix; dver = rest.0; source = rest.1 })
+abbrev point : Prefix → ℕ → ℕ → ReadPoint
+point prefix dver source = record { prefix = prefix; dver = dver; source = source }
 
-pub gives_wide : (c : Collector) (last : Told) (w : Widening) (quorum : Quorum) → c.widening ≡ Some w → quorum.prefix.now ≡ newest c.start c.told → quorum.dver ≡ version c
-    → quorum.source ≡ find (λ server. shown c.told server == version c) (members_of w.votes (holds Exclusive (last ∷ (w.told ++ c.told)))) → IsQuorumOf quorum (tell last c)
-gives_wide c last w quorum wide prefix dver source' =
-    subst (λ widening. IsQuorumOf quorum (tell last (record c { widening = widening }))) (sym wide) (record { prefix = prefix; dver = dver; source = source' })
+same_point : (prefix prefix' : Prefix) (dver dver' source source' : ℕ) → prefix ≡ prefix' → dver ≡ dver' → source ≡ source' → point prefix dver source ≡ point prefix' dver' source'
+same_point prefix prefix' dver dver' source source' prefixes versions sources =
+    ap (λ prefix. point prefix dver source) prefixes ∙ ap (λ dver. point prefix' dver source) versions ∙ ap (point prefix' dver') sources
+
+pub gives_narrow : (c : Collector) (last : Told) (prefix : Prefix) (dver first : ℕ) → c.widening ≡ None → prefix ≡ newer (newest c.start c.told) last.said
+    → (let after : Collector = record c { told = last ∷ c.told; widening = None } in (dver ≡ version after) × (first ≡ unwrap_or (source after) 0)) → point prefix dver first ≡ read_point (tell last c)
+gives_narrow c last prefix dver first narrow newest' rest =
+    subst (λ widening. point prefix dver first ≡ read_point (tell last (record c { widening = widening }))) (sym narrow) (same_point prefix _ dver _ first _ newest' rest.0 rest.1)
+
+pub gives_wide : (c : Collector) (last : Told) (w : Widening) (prefix : Prefix) (dver first : ℕ) → c.widening ≡ Some w → prefix ≡ newest c.start c.told → dver ≡ version c
+    → first ≡ unwrap_or (find (λ server. shown c.told server == version c) (members_of w.votes (holds Exclusive (last ∷ (w.told ++ c.told))))) 0 → point prefix dver first ≡ read_point (tell last c)
+gives_wide c last w prefix dver first wide newest' version' first' =
+    subst (λ widening. point prefix dver first ≡ read_point (tell last (record c { widening = widening }))) (sym wide) (same_point prefix _ dver _ first _ newest' version' first')
 
 -- ---- what the fields keep
 

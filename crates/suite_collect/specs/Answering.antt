@@ -1,5 +1,5 @@
 -- What a `Next` tells of a collector, and what comes of a reply.
-use Rattle.std.specs.Prelude.{◌≡◌, ℕ, ◌<◌, ◌==◌, List, Bool, true, false, find, Option, Some, None}
+use Rattle.std.specs.Prelude.{◌≡◌, ℕ, ◌<◌, ◌==◌, List, Bool, true, false, find, unwrap_or, Option, Some, None}
 use Rattle.vote_core.specs.declared.TheConstants.{MAX_SERVERS}
 use Rattle.suite_prefix.specs.declared.copies.Prefix.{Prefix}
 use Rattle.rep_core.specs.declared.reply.Reply.{Reply}
@@ -11,7 +11,7 @@ use Rattle.suite_collect.specs.declared.coming.Coming.{Coming}
 use Rattle.suite_collect.specs.declared.coming.Coming.TheVariants as coming
 use Rattle.suite_collect.specs.declared.hearing.Hearing.{Hearing}
 use Rattle.suite_collect.specs.declared.hearing.Hearing.TheVariants as hearing
-use Rattle.suite_collect.specs.declared.hearing.Quorum.{Quorum}
+use Rattle.suite_collect.specs.declared.read_point.ReadPoint.{ReadPoint}
 use Rattle.suite_collect.specs.declared.next.Next.{Next}
 use Rattle.suite_collect.specs.declared.next.Next.TheVariants.{Current, Ask, Short}
 use Rattle.suite_collect.specs.Collecting as spec
@@ -73,8 +73,10 @@ Hears hearing.Asks before reply after = IsTold before reply after × IsAsk (next
 Hears hearing.Short before reply after = IsTold before reply after × IsShort (next after.collector)
 Hears (hearing.Quorum last) before reply after = Completes last before reply after
 
--- what a quorum gives, where there is one
-pub record IsQuorumOf (quorum : Quorum) (c : Collector) : Type 0 where
-  pub prefix : quorum.prefix.now ≡ newest c.start c.told
-  pub dver : quorum.dver ≡ version c
-  pub source : quorum.source ≡ find (λ server. shown c.told server == version c) (members_of (counted c) (is_member c))
+-- what a quorum gives, where there is one: its source is the first member that showed the version, and 0, where none did
+abbrev pub read_point : Collector → ReadPoint
+read_point c = record {
+  prefix = newest c.start c.told;
+  dver = version c;
+  source = unwrap_or (find (λ server. shown c.told server == version c) (members_of (counted c) (is_member c))) 0;
+}

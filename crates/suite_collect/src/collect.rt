@@ -15,10 +15,11 @@ ghost use Rattle.suite_collect.specs.Telling.{is_held};
 use crate::coming::{Asked, Coming};
 use crate::due::{Due, Tally, due_among, tally_of};
 use crate::heard::Heard;
-use crate::hearing::{Hearing, Quorum};
+use crate::hearing::Hearing;
 use crate::log::Log;
 use crate::members::{members_of, votes_with};
 use crate::next::{Members, Next};
+use crate::read_point::ReadPoint;
 use crate::told::{Said, Saying, Spoken, Told};
 use crate::widening::Widening;
 use rep_core::Reply;
@@ -59,7 +60,7 @@ impl Model for Collect {
 
 impl Collect {
     ghost use Rattle.suite_collect.specs.Telling.{newest};
-    ghost use Rattle.suite_collect.specs.Answering.{Comes, Hears, IsQuorumOf, Tells, asked_in, shows_lock};
+    ghost use Rattle.suite_collect.specs.Answering.{Comes, Hears, Tells, asked_in, read_point, shows_lock};
 
     /// A collector that was told nothing yet. `start` is any prefix that the suite once had, or that of
     /// what was never made.
@@ -211,10 +212,10 @@ impl Collect {
         }
     }
 
-    /// What the quorum gives that there is once this is told.
-    pub fn quorum_after<'a>(&'a self, last: &'a Told) -> Quorum<'a>
+    /// What the quorum gives that there is once this is told. Only the prefix, which is kept, needs memory.
+    pub fn quorum_after(&self, last: &Told) -> Result<ReadPoint, AllocError>
         requires { last.now.server < MAX_SERVERS }
-        ensures { IsQuorumOf result (spec.tell last.now self.now.collector) }
+        ensures { IfOk result (λ point. point ≡ read_point (spec.tell last.now self.now.collector)) }
     {
         match &self.widening {
             Some(widening) => self.widened_after(widening, last),
@@ -223,38 +224,45 @@ impl Collect {
     }
 
     /// What a quorum of these other votes gives, once this is told: prefix and version stay.
-    fn widened_after<'a>(&'a self, widening: &'a Widening, last: &'a Told) -> Quorum<'a>
+    fn widened_after(&self, widening: &Widening, last: &Told) -> Result<ReadPoint, AllocError>
         requires server { last.now.server < MAX_SERVERS }
         requires is { self.now.collector.widening ≡ Some (widening_of widening.now) }
         requires all { widening.now.all ≡ spec.all_told self.now.collector }
-        ensures { IsQuorumOf result (spec.tell last.now self.now.collector) }
+        ensures { IfOk result (λ point. point ≡ read_point (spec.tell last.now self.now.collector)) }
     {
         let dver = self.told.greatest(self.first_members().as_slice());
         let holders = widening.all.holders_after(last.lend(), LockMode::Exclusive);
         let members = members_of(&widening.votes, &holders);
-        Quorum {
-            prefix: self.newest(),
+        let source = self
+            .told
+            .first_showing(dver, members.as_slice())
+            .unwrap_or(0);
+        let prefix = self.newest().clone()?;
+        Ok(ReadPoint {
+            prefix,
             dver,
-            source: self.told.first_showing(dver, members.as_slice()),
-        }
+            source,
+        })
     }
 
     /// What a quorum of the votes of the newest prefix gives, once this is told.
-    fn narrow_after<'a>(&'a self, last: &'a Told) -> Quorum<'a>
+    fn narrow_after(&self, last: &Told) -> Result<ReadPoint, AllocError>
         requires server { last.now.server < MAX_SERVERS }
         requires is { self.now.collector.widening ≡ None }
-        ensures { IsQuorumOf result (spec.tell last.now self.now.collector) }
+        ensures { IfOk result (λ point. point ≡ read_point (spec.tell last.now self.now.collector)) }
     {
         let mut told = self.told.same();
         told.add(last.lend());
         let prefix = newer_of(self.newest(), last.lend());
         let members = members_of(&prefix.votes, &told.holders(self.mode));
         let dver = told.greatest(members.as_slice());
-        Quorum {
+        let source = told.first_showing(dver, members.as_slice()).unwrap_or(0);
+        let prefix = prefix.clone()?;
+        Ok(ReadPoint {
             prefix,
             dver,
-            source: told.first_showing(dver, members.as_slice()),
-        }
+            source,
+        })
     }
 
     /// The mode in which locks are wanted before a widening.

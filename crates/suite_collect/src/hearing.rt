@@ -1,7 +1,6 @@
-//! What comes of a reply, and what a quorum gives.
+//! What comes of a reply.
 
 use crate::told::Told;
-use suite_prefix::SharedPrefix;
 
 /// What comes of a reply to what a collector asked.
 #[derive(Drop)]
@@ -14,13 +13,4 @@ pub enum Hearing {
     Short,
     /// With this there is a quorum. It is not told yet.
     Quorum(Told),
-}
-
-/// What a quorum gives: the newest prefix, the version of the content, and the first member that showed
-/// that version.
-#[derive(Drop)]
-pub struct Quorum<'a> {
-    pub prefix: &'a SharedPrefix,
-    pub dver: u64,
-    pub source: Option<u8>,
 }

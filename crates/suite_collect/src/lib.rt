@@ -15,9 +15,9 @@
 //! left is asked, in listed order. Else it is Short. `Collect::coming` says the same without what a quorum gives.
 //! `raise` wants exclusive locks from now on; `widen` gathers other votes too.
 //!
-//! The caller asks the server and hands the reply to `Collect::take`, which alone may be out of memory. A lock that
-//! gives a quorum changes nothing yet (`Hearing::Quorum`): the caller gets what it needs (`quorum_after`), and then
-//! tells it (`tell`), which cannot fail.
+//! The caller asks the server and hands the reply to `Collect::take`. A lock that gives a quorum changes nothing yet
+//! (`Hearing::Quorum`): the caller gets what it gives (`quorum_after`, a `ReadPoint`), and then tells it (`tell`),
+//! which cannot fail. `take` and `quorum_after` alone may be out of memory, for a prefix that is kept.
 //!
 //! The laws (`specs/Laws.antt`): a Current is a quorum under the prefix that it gives, with a source
 //! (`current_is_a_quorum`, `current_has_a_source`). Widened, it is a write quorum of the given votes too, and
@@ -31,7 +31,7 @@
 //! The code keeps sets of servers, versions, the newest prefix, and what is due, and no list but for proofs (`log`,
 //! which has no bytes).
 //!
-//! **Files**: `told`, `log`, `heard`, `members`, `widening`, `next`, `coming`, `hearing`, `due`, `collect`, `laws`.
+//! **Files**: `told`, `log`, `heard`, `members`, `widening`, `next`, `coming`, `hearing`, `read_point`, `due`, `collect`, `laws`.
 //!
 //! **Definitions** (`specs/`): `Telling`, `Collecting`, `Answering`, `Laws`.
 #![tactic(auto)]
@@ -45,15 +45,17 @@ mod laws;
 mod log;
 mod members;
 mod next;
+mod read_point;
 mod told;
 mod widening;
 
 pub use collect::Collect;
 pub use coming::{Asked, Coming};
-pub use hearing::{Hearing, Quorum};
+pub use hearing::Hearing;
 pub use laws::{
     asks_are_few, current_has_a_source, current_is_a_quorum, nobody_is_asked_twice,
     prefix_and_version_stay, short_has_none_left, widened_is_a_write_quorum,
 };
 pub use next::{Members, Next};
+pub use read_point::ReadPoint;
 pub use told::{Said, Told};

@@ -1,5 +1,5 @@
-use Rattle.std.proofs.Common.{◌≡◌, ◌∷◌, None, ap, ◌∙◌}
-use Rattle.std.specs.Prelude.{◌==◌, find}
+use Rattle.std.proofs.Common.{◌≡◌, ◌∷◌, None, ap, ◌∙◌, rules}
+use Rattle.std.specs.Prelude.{◌==◌, find, unwrap_or}
 use Rattle.std.specs.FinSet.{contains}
 use Rattle.suite_prefix.specs.declared.copies.Prefix.{Prefix}
 use Rattle.suite_collect.specs.declared.told.Told.{Told}
@@ -23,9 +23,11 @@ returns c =
     let shown_by : c.as_slice-2.result.now ≡ first_members after = c.as_slice-2.ensures.value ∙ members in
     let dver : c.greatest-dver.result ≡ version after =
     c.greatest-dver.ensures ∙ ap (λ told. greatest told c.as_slice.result.now) told ∙ ap (greatest (last ∷ now.told)) asked in
-    let first : c.first_showing.result ≡ source after =
+    let found : c.first_showing.result ≡ source after =
     c.first_showing.ensures
     ∙ ap (λ told. find (λ server. shown told server == c.greatest-dver.result) c.as_slice-2.result.now) told
     ∙ ap (λ dver. find (λ server. shown (last ∷ now.told) server == dver) c.as_slice-2.result.now) dver
     ∙ ap (find (λ server. shown (last ∷ now.told) server == version after)) shown_by in
-    gives_narrow now last _ c.requires.is prefix (dver, first)
+    let copied : c.in_ok-prefix.prefix ≡ c.newer_of-prefix.result.now = search rules in
+    let first : c.unwrap_or-source.result ≡ unwrap_or (source after) 0 = c.unwrap_or-source.ensures ∙ ap (λ found. unwrap_or found 0) found in
+    gives_narrow now last c.in_ok-prefix.prefix c.greatest-dver.result c.unwrap_or-source.result c.requires.is (copied ∙ prefix) (dver, first)
