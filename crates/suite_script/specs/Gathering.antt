@@ -1,10 +1,9 @@
 -- Scripts that are played, and text that is gathered and written in pieces.
-use Rattle.std.specs.Prelude.{◌≡◌, ℕ, Bool, true, false, List, ◌++◌, Option, Result, Ok, Err}
+use Rattle.std.specs.Prelude.{◌≡◌, ℕ, List, ◌++◌, Option, Result, Ok, Err}
 use Rattle.byte_streams.specs.Streams.{Adds, one_more}
 use Rattle.byte_streams.specs.declared.traits.WriteFailed.{WriteFailed}
 use Rattle.suite_script.specs.Faults.{fault_line}
-use Rattle.suite_script.specs.Outputs.{Output, Done, Faulty, IsBegun, StopsWith, script_output}
-use Rattle.suite_script.specs.declared.fault.ScriptError.{ScriptError}
+use Rattle.suite_script.specs.Outputs.{Output, Done, Faulty, IsBegun, script_output}
 use Rattle.suite_script.specs.declared.fault.ScriptFault.{ScriptFault}
 use Rattle.suite_script.specs.declared.play_error.PlayError.{PlayError}
 use Rattle.suite_script.specs.declared.play_error.PlayError.TheVariants as play
@@ -54,9 +53,3 @@ Plays (Err play.Memory) output before after failures failures_after = BrokeOff o
 -- what a script comes to, of which some lines were played: what these printed, and what the lines that are left print; or the first fault
 abbrev pub comes_to : {Own : Type 0} → List ℕ → (List Own → List ℕ) → Result (List Own) ScriptFault → Output
 comes_to printed lines left = script_output (λ later. printed ++ lines later) left
-
--- one more of its lines was played, and it comes to the same; or there is none, and it came to what was printed
-abbrev pub PlaysNext : Result Bool ScriptError → Output → Output → List ℕ → Type 0
-PlaysNext (Ok true) before after printed = after ≡ before
-PlaysNext (Ok false) before after printed = before ≡ Done printed
-PlaysNext (Err error) before after printed = StopsWith error before

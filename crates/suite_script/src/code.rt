@@ -21,7 +21,7 @@ pub fn fault_text(alloc: Global, fault: ScriptFault) -> Result<Vec<u8>, AllocErr
 }
 
 /// Adds the line of a faulty script.
-pub fn push_fault(text: &mut Vec<u8>, fault: ScriptFault) -> Result<(), AllocError>
+fn push_fault(text: &mut Vec<u8>, fault: ScriptFault) -> Result<(), AllocError>
     ensures { OnOk result (text.new.items ≡ text.old.items ++ fault_line fault) }
 {
     text.extend_from_slice(b"fault line ")?;

@@ -10,7 +10,7 @@ use byte_streams::{ByteOut, WriteFailed, write_all};
 const GATHERED: usize = 65_536;
 
 /// How much is printed before the rest of a script is looked through.
-pub const KEPT: usize = 4_194_304;
+pub(crate) const KEPT: usize = 4_194_304;
 
 /// Writes the text that is gathered where it is long enough.
 pub fn write_if_full<O: ByteOut>(writer: &mut O, text: &mut Vec<u8>) -> Result<(), WriteFailed>

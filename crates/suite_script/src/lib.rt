@@ -17,8 +17,7 @@
 //! collects 0 to 65535, else it is S1. Votes that are not valid are V1 to V7, in `vote_core`'s order. `step A N`
 //! goes up to 1,000,000. `setacl` sets both lists.
 //!
-//! **The caller owes** a text below 2^62 bytes to `ScriptReader::new`, to `look_ahead` that the header was read, and
-//! to `play_lines` fewer than 2^60 lines.
+//! **The caller owes** a text below 2^62 bytes to `ScriptReader::new`, and to `play_lines` fewer than 2^60 lines.
 //!
 //! **Files**: `fault`, `play_error`, `word`, `votes`, `operation`, `names`, `line`, `language`, `script`, `header`,
 //! `root`, `code`, `outcome`, `gathered`, `stage`.
@@ -43,9 +42,9 @@ mod stage;
 mod votes;
 mod word;
 
-pub use code::{fault_text, push_fault, push_text_code};
+pub use code::{fault_text, push_text_code};
 pub use fault::{LineError, LineFault, ScriptError, ScriptFault};
-pub use gathered::{KEPT, write_gathered, write_if_full};
+pub use gathered::{write_gathered, write_if_full};
 pub use header::read_root;
 pub use language::Language;
 pub use line::Line;
