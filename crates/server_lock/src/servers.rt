@@ -157,9 +157,9 @@ fn first_passes(alloc: Global, settings: &Settings) -> Result<Vec<Pass>, AllocEr
     let count = settings.agents() as u8;
     let mut passes = Vec::new(alloc);
     for agent in 0..count {
-        passes.push(Pass::new(Some(agent)))?;
+        passes.push(Pass::new(alloc, Some(agent))?)?;
     }
-    passes.push(Pass::new(None))?;
+    passes.push(Pass::new(alloc, None)?)?;
     Ok(passes)
 }
 
