@@ -17,7 +17,8 @@
 //! collects 0 to 65535, else it is S1. Votes that are not valid are V1 to V7, in `vote_core`'s order. `step A N`
 //! goes up to 1,000,000. `setacl` sets both lists.
 //!
-//! **The caller owes** a text below 2^62 bytes to `ScriptReader::new`, and to `play_lines` fewer than 2^60 lines.
+//! **The caller owes** a text below 2^62 bytes to `ScriptReader::new`, to `look_ahead` that the header was read, and
+//! to `play_lines` fewer than 2^60 lines.
 //!
 //! **Files**: `fault`, `play_error`, `word`, `votes`, `operation`, `names`, `line`, `language`, `script`, `header`,
 //! `root`, `code`, `outcome`, `gathered`, `stage`.

@@ -160,11 +160,7 @@ impl<'a> ScriptReader<'a> {
     }
 
     /// Looks through the lines that are left for the first fault, and leaves them to be read. No name may come any more.
-    pub(crate) fn look_ahead<L: Language>(
-        &self,
-        alloc: Global,
-        language: &L,
-    ) -> Result<(), ScriptError>
+    pub fn look_ahead<L: Language>(&self, alloc: Global, language: &L) -> Result<(), ScriptError>
         requires { self.now.begun ≡ true }
         ensures { Checks result (fault_of (owns (language_of L.is_known L.begins (L.own language.now)) self.now)) }
     {
