@@ -8,9 +8,8 @@ use Rattle.rep_core.specs.declared.reply.Reply.{Reply}
 use Rattle.rep_core.specs.declared.reply.Reply.TheVariants as reply
 use Rattle.suite_collect.specs.declared.told.Said.{Said}
 use Rattle.suite_collect.specs.declared.told.Told.{Told}
-use Rattle.suite_collect.specs.declared.hearing.Quorum.{Quorum}
-use Rattle.suite_collect.specs.Telling.{shown}
-use Rattle.suite_collect.specs.Answering.{IsAsk, IsShort, IsQuorumOf, has_quorum}
+use Rattle.suite_collect.specs.Telling.{newest, shown}
+use Rattle.suite_collect.specs.Answering.{IsAsk, IsShort, has_quorum, read_point}
 use Rattle.suite_collect.specs.Collecting.{Widening, Collector, Asked, Poll, Upgrade, Next, Current, Ask, Short, counted, is_member, members_of, version, tell, request_for, mode_of, mode_asked, told_by, next}
 use Rattle.suite_collect.specs.Collecting as collecting
 use Rattle.suite_collect.proofs.Collected.{gives_of}
@@ -151,28 +150,22 @@ module _ (suite : Suite) (answer : Reply) where
 abbrev the_first : Prefix → ℕ → ℕ → ReadPoint
 the_first prefix dver source = record { prefix = prefix; dver = dver; source = source }
 
-module _ (c : Collector) (quorum : Quorum) (gives : IsQuorumOf quorum c) (prefix : Prefix) (dver : ℕ) (members : List ℕ) (is : next c ≡ Current prefix dver members) where
-  quorum_given : (source : ℕ) → source ≡ source_of c (version c) (members_of (counted c) (is_member c))
-      → the_first quorum.prefix.now quorum.dver source ≡ the_first prefix dver (source_of c dver members)
-  quorum_given source same =
+module _ (c : Collector) (prefix : Prefix) (dver : ℕ) (members : List ℕ) (is : next c ≡ Current prefix dver members) where
+  point_given : read_point c ≡ the_first prefix dver (source_of c dver members)
+  point_given =
       let all = gives_of c prefix dver members is in
-      ap (λ prefix. the_first prefix quorum.dver source) (gives.prefix ∙ all.prefix_is)
-      ∙ ap (λ dver. the_first prefix dver source) (gives.dver ∙ all.version_is)
-      ∙ ap (λ source. the_first prefix dver source)
-      (same
-      ∙ ap (λ dver. source_of c dver (members_of (counted c) (is_member c))) all.version_is
-      ∙ ap (source_of c dver) all.members_are)
+      ap (the_first (newest c.start c.told) (version c)) (source_found c (version c) (members_of (counted c) (is_member c)))
+      ∙ ap (λ prefix. the_first prefix (version c) (source_of c (version c) (members_of (counted c) (is_member c)))) all.prefix_is
+      ∙ ap (λ dver. the_first prefix dver (source_of c dver (members_of (counted c) (is_member c)))) all.version_is
+      ∙ ap (λ members. the_first prefix dver (source_of c dver members)) all.members_are
 
-  given_first : (first : Option ReadPoint) → first ≡ None
-      → option_or first (Some (record { prefix = quorum.prefix.now; dver = quorum.dver; source = unwrap_or quorum.source 0 })) ≡ first_or first (record { prefix = prefix; dver = dver; source = source_of c dver members })
-  given_first None none =
-      ap (λ (first : ReadPoint). Some first)
-      (quorum_given (unwrap_or quorum.source 0) (ap (λ source. unwrap_or source 0) gives.source ∙ source_found c (version c) (members_of (counted c) (is_member c))))
+  given_first : (first : Option ReadPoint) → first ≡ None → option_or first (Some (read_point c)) ≡ first_or first (the_first prefix dver (source_of c dver members))
+  given_first None none = ap (λ (first : ReadPoint). Some first) point_given
   given_first (Some first) none = absurd (none-some first (sym none))
 
-pub first_given : (suite : Suite) (last : Told) (quorum : Quorum) → suite.first ≡ None → IsQuorumOf quorum (tell last suite.collector)
-    → IsFirstAfter suite last (Some (record { prefix = quorum.prefix.now; dver = quorum.dver; source = unwrap_or quorum.source 0 }))
-first_given suite last quorum none gives prefix dver members is = given_first (tell last suite.collector) quorum gives prefix dver members is suite.first none
+pub first_given : (suite : Suite) (last : Told) (point : ReadPoint) → suite.first ≡ None → point ≡ read_point (tell last suite.collector) → IsFirstAfter suite last (Some point)
+first_given suite last point none gives prefix dver members is =
+    ap (λ (point : ReadPoint). option_or suite.first (Some point)) gives ∙ given_first (tell last suite.collector) prefix dver members is suite.first none
 
 -- a suite that had a first quorum keeps what it gave
 pub first_kept : (suite : Suite) (last : Told) → is_some suite.first ≡ true → IsFirstAfter suite last None

@@ -1,6 +1,7 @@
 -- Versions that are not used up.
 use Rattle.std.proofs.Common.{◌≡◌, ℕ, ◌<◌, max, Bool, true, false, cond, inl, inr, List, [], ◌∷◌, Option, Some, None, refl, sym, ap, ◌∙◌, arith}
-use Rattle.std.specs.Prelude.{◌==◌, ◌&&◌, ◌||◌, nat_lt, not, unwrap_or}
+use Rattle.std.specs.Prelude.{◌==◌, ◌&&◌, ◌||◌, nat_lt, not, unwrap_or, IfSome}
+use Rattle.std.specs.Option.{option_or}
 use Rattle.std.proofs.lemmas.Bool.Decides.{nat_tests}
 use Rattle.std.proofs.lemmas.Option.{same_Some}
 use Rattle.suite_prefix.specs.declared.copies.Prefix.{Prefix}
@@ -13,21 +14,21 @@ use Rattle.rep_core.specs.declared.reply.Reply.TheVariants as reply
 use Rattle.suite_collect.specs.declared.told.Said.{Said}
 use Rattle.suite_collect.specs.declared.told.Said.TheVariants as said
 use Rattle.suite_collect.specs.declared.told.Told.{Told}
-use Rattle.suite_collect.specs.declared.hearing.Quorum.{Quorum as Gives}
-use Rattle.suite_collect.specs.Answering.{IsQuorumOf}
+use Rattle.suite_collect.specs.Answering.{read_point}
 use Rattle.suite_collect.specs.Telling.{newer, newest, version_in, shown, greatest}
 use Rattle.suite_collect.specs.Collecting.{Collector, Widening, Asked, Poll, Upgrade, Next, Current, Ask, Short, first_members, version, collect, tell_at, tell, request_for, mode_asked, told_by, next}
 use Rattle.suite_collect.proofs.Collected.{gives_of}
 use Rattle.weak_cache.specs.Entries.{Entry, Cache, forgotten}
 use Rattle.weak_cache.specs.Cache.{Limits, Limited, hint, searched, put}
 use Rattle.weak_cache.proofs.Origins.{entries_come_from_puts}
+use Rattle.txn_core.specs.Suites.{ReadPoint}
 use Rattle.txn_core.specs.Doing.{Fixed, Task}
 use Rattle.txn_core.specs.Transactions.{start_from}
 use Rattle.txn_core.specs.declared.learned.Learned.{Learned}
 use Rattle.txn_core.specs.declared.learned.Learned.TheVariants.{Nothing, Quorum, Content as Given}
 use Rattle.txn_core.specs.code.Learning.{Fits, kept_by}
 use Rattle.txn_core.specs.code.Plans.{shelved}
-use Rattle.txn_core.specs.code.Unused.{HasUnused, SawUnused, shows_unused, says_unused}
+use Rattle.txn_core.specs.code.Unused.{HasUnused, SawUnused, GaveUnused, first_unused, shows_unused, says_unused}
 
 -- ---- replies
 
@@ -138,11 +139,17 @@ told_says next answer one told unused = of one.said (told_shows next answer one 
     of (said.Busy holder) shows = refl
     of said.Down shows = refl
 
-pub given_unused : (c : Collector) (quorum : Gives) → IsQuorumOf quorum c → SawUnused c → (is_used_up quorum.prefix.now.pver ≡ false) × (is_used_up quorum.dver ≡ false)
-given_unused c quorum gives saw = (
-  ap (λ (prefix : Prefix). is_used_up prefix.pver) gives.prefix ∙ saw.prefix,
-  ap is_used_up gives.dver ∙ greatest_unused c.told (first_members c) saw.shown,
-)
+pub given_unused : (c : Collector) → SawUnused c → first_unused (Some (read_point c)) ≡ true
+given_unused c saw = ap (λ b. not b && not (is_used_up (version c))) saw.prefix ∙ ap (λ b. not b) (greatest_unused c.told (first_members c) saw.shown)
+
+-- what the first quorum gave stays
+pub or_unused : (first given : Option ReadPoint) → first_unused first ≡ true → first_unused given ≡ true → first_unused (option_or first given) ≡ true
+or_unused (Some point) given unused other = unused
+or_unused None given unused other = other
+
+pub first_gave : (first : Option ReadPoint) → first_unused first ≡ true → IfSome first GaveUnused
+first_gave (Some point) unused = let fine = both (is_used_up point.prefix.pver) (is_used_up point.dver) unused in record { prefix = fine.0; content = fine.1 }
+first_gave None unused = tt
 
 pub unused_none : HasUnused []
 unused_none entry there = absurd (let below : there.0 < 0 = there.1 in omega (arith, below))

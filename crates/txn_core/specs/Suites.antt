@@ -14,15 +14,10 @@ use Rattle.suite_prefix.specs.declared.lock_mode.LockMode.{LockMode}
 use Rattle.suite_prefix.specs.declared.lock_mode.LockMode.TheVariants.{Shared, Exclusive}
 use Rattle.file_exec.specs.KnownSuites.{KnownSuite}
 use Rattle.file_exec.specs.Known.{Known}
+pub use Rattle.suite_collect.specs.declared.read_point.ReadPoint.{ReadPoint}
 use Rattle.suite_collect.specs.declared.told.Told.{Told}
 use Rattle.suite_collect.specs.Telling.{holds, shown}
 use Rattle.suite_collect.specs.Collecting.{Collector, all_told}
-
--- what the first Current of a suite gave: its prefix, the version of its content, and the first server that showed that version
-pub record ReadPoint : Type 0 where
-  pub prefix : Prefix
-  pub dver : ℕ
-  pub source : ℕ
 
 -- a suite that was asked for: its collector; what the first Current gave; in which mode a Current was had last; and its content, once it is there
 pub record Suite : Type 0 where

@@ -1,4 +1,3 @@
-pub mod FirstFields
 pub mod SuiteFields
 pub mod SweepRunFields
 pub mod TaskFields

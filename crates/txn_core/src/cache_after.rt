@@ -6,10 +6,11 @@ ghost use Rattle.weak_cache.specs.Cache.{content_at, hint};
 ghost use Rattle.weak_cache.specs.Entries.{max_sites};
 ghost use Rattle.txn_core.specs.code.Learning.{IsKeepable};
 ghost use Rattle.txn_core.specs.code.Plans.{entries_on, kept_of, shelved};
+ghost use Rattle.txn_core.specs.code.Unused.{GaveUnused};
 
-use crate::read_point::ReadPoint;
 use crate::task::Task;
 use std::alloc::AllocError;
+use suite_collect::ReadPoint;
 use suite_content::Content;
 use suite_prefix::SharedPrefix;
 use weak_cache::{NewEntry, WeakCache};
@@ -32,6 +33,7 @@ impl Fetched {
         first: &ReadPoint,
         content: &Content,
     ) -> Result<Fetched, AllocError>
+        requires { GaveUnused first.now }
         ensures value { IfOk result (λ one. one ≡ kept_of task.now number content.now first.now) }
         ensures keepable { IfOk result (λ one. IsKeepable one) }
     {

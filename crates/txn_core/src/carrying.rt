@@ -9,12 +9,12 @@ ghost use Rattle.txn_core.specs.Transactions.{after_search};
 use crate::granted::Granted;
 use crate::next_phase::NextPhase;
 use crate::plan::Plan;
-use crate::read_point::ReadPoint;
 use crate::suites::Suite;
 use crate::task::Task;
 use file_exec::{Need, Outcome};
 use sorted_map::RoomyMap;
 use std::alloc::AllocError;
+use suite_collect::ReadPoint;
 use suite_content::Content;
 use weak_cache::WeakCache;
 

@@ -36,9 +36,9 @@
 //! clauses of its steps have names in `specs/code/Goings.antt`.
 //!
 //! **Files**, what a job is: `job`, `ending`, `response`, `task`, `phase`, `resources`, `fixed_parts`, `servers`,
-//! `home`. Suites: `read_point`, `suites`, `pending_quorum`, `learned`, `suites_after`, `empty`, `cache_after`,
-//! `knowing`. Execution: `granted`, `plan`, `next_phase`, `carrying`, `execution`. Late phases: `widening`,
-//! `writing`, `sorting`, `finishing`. The whole: `asking`, `transaction_run`, `sweep_run`, `agent`, `laws`.
+//! `home`. Suites: `suites`, `pending_quorum`, `learned`, `suites_after`, `empty`, `cache_after`, `knowing`.
+//! Execution: `granted`, `plan`, `next_phase`, `carrying`, `execution`. Late phases: `widening`, `writing`,
+//! `sorting`, `finishing`. The whole: `asking`, `transaction_run`, `sweep_run`, `agent`, `laws`.
 //!
 //! **Definitions** (`specs/`): `Suites`, `Doing`, `Transactions`, `Writing`, `Sweeps`, `Agents`, `Standing`,
 //! `Wanting`; for the laws `Undecided`, `Caching`, `Worlds`, `Runs`, `Laws`. The laws' proofs are one walk
@@ -64,7 +64,6 @@ mod next_phase;
 mod pending_quorum;
 mod phase;
 mod plan;
-mod read_point;
 mod resources;
 mod response;
 mod servers;

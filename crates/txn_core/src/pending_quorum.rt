@@ -2,10 +2,9 @@
 
 ghost use Rattle.std.specs.Prelude.{◌≡◌, ◌<◌, true};
 ghost use Rattle.vote_core.specs.declared.TheConstants.{MAX_SERVERS};
-ghost use Rattle.txn_core.specs.code.Unused.{says_unused};
+ghost use Rattle.txn_core.specs.code.Unused.{first_unused, says_unused};
 
-use crate::read_point::ReadPoint;
-use suite_collect::Told;
+use suite_collect::{ReadPoint, Told};
 
 /// A quorum that a suite is to have: the lock that completes it, and what it gives, where it is the first.
 #[derive(Drop)]
@@ -14,4 +13,5 @@ pub(crate) struct PendingQuorum {
     pub(crate) first: Option<ReadPoint>,
     ghost known: { last.server < MAX_SERVERS },
     ghost unused: { says_unused last.said ≡ true },
+    ghost gave_unused: { first_unused first ≡ true },
 }

@@ -15,11 +15,11 @@ ghost use Rattle.txn_core.specs.code.Unused.{HasUnused};
 use crate::cache_after::CacheAfter;
 use crate::execution::Execution;
 use crate::knowing::known_of;
-use crate::read_point::ReadPoint;
 use crate::suites::Suite;
 use crate::suites_after::SuitesAfter;
 use file_exec::{Known, Need, Outcome, Progress, exec};
 use std::alloc::AllocError;
+use suite_collect::ReadPoint;
 use suite_content::Content;
 use suite_prefix::SharedPrefix;
 

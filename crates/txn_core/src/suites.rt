@@ -1,7 +1,7 @@
 //! What a transaction gathered of a suite.
 
 ghost use Rattle.std.specs.FinSet.{contains};
-ghost use Rattle.std.specs.Prelude.{◌≡◌, ℕ, ◌<◌, IfOk, IfErr, IsTrue, OnErr, None, Some, false, true};
+ghost use Rattle.std.specs.Prelude.{◌≡◌, ℕ, ◌<◌, IfOk, IfErr, IfSome, IsTrue, OnErr, None, Some, false, true};
 ghost use Rattle.std.specs.Option.{option_copied, option_or};
 ghost use Rattle.rep_core.specs.Fits.{is_held};
 ghost use Rattle.rep_core.specs.Store.{is_used_up};
@@ -12,15 +12,14 @@ ghost use Rattle.txn_core.specs.code.Hearing.{Hears, IsFirstAfter, IsSound, Sett
 ghost use Rattle.txn_core.specs.code.Plans.{takes_in};
 ghost use Rattle.txn_core.specs.code.Seeing.{settled_with, suite_view_of, view_of_suite};
 ghost use Rattle.txn_core.specs.Suites as gathering;
-ghost use Rattle.txn_core.specs.code.Unused.{shows_unused, says_unused};
+ghost use Rattle.txn_core.specs.code.Unused.{GaveUnused, first_unused, shows_unused, says_unused};
 
 use crate::pending_quorum::PendingQuorum;
-use crate::read_point::ReadPoint;
 use crate::suites_after::SuiteView;
 use rep_core::Reply;
 use std::alloc::{AllocError, Global};
 use std::marker::Model;
-use suite_collect::{Collect, Coming, Hearing, Told};
+use suite_collect::{Collect, Coming, Hearing, ReadPoint, Told};
 use suite_content::Content;
 use suite_prefix::{LockMode, SharedPrefix};
 use vote_core::{MAX_SERVERS, ServerSet, Votes};
@@ -77,7 +76,8 @@ impl Suite {
 
     /// What its first quorum gave.
     pub(crate) fn first(&self) -> Option<&ReadPoint>
-        ensures { option_copied result ≡ self.now.first }
+        ensures value { option_copied result ≡ self.now.first }
+        ensures unused { IfSome (option_copied result) GaveUnused }
     {
         self.gathered.first.as_ref()
     }
@@ -153,18 +153,14 @@ impl Suite {
     fn first_after(&self, last: &Told) -> Result<Option<ReadPoint>, AllocError>
         requires known { last.now.server < MAX_SERVERS }
         requires unused { says_unused last.now.said ≡ true }
-        ensures { IfOk result (λ first. IsFirstAfter self.now last.now first) }
+        ensures value { IfOk result (λ first. IsFirstAfter self.now last.now first) }
+        ensures unused { IfOk result (λ first. first_unused first ≡ true) }
     {
         if self.first().is_some() {
             return Ok(None);
         }
-        let quorum = self.gathered.collect.quorum_after(last);
-        let prefix = quorum.prefix.clone()?;
-        Ok(Some(ReadPoint {
-            prefix,
-            dver: quorum.dver,
-            source: quorum.source.unwrap_or(0),
-        }))
+        let point = self.gathered.collect.quorum_after(last)?;
+        Ok(Some(point))
     }
 
     /// From now on it has the quorum. It takes no memory.

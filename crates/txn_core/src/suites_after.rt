@@ -6,10 +6,10 @@ ghost use Rattle.txn_core.specs.code.Seeing.{first_at, known_of_view, seen_in, s
 ghost use Rattle.txn_core.specs.Suites.{suite_of};
 
 use crate::learned::Learned;
-use crate::read_point::ReadPoint;
 use crate::suites::Suite;
 use file_exec::KnownSuite;
 use sorted_map::RoomyMap;
+use suite_collect::ReadPoint;
 use suite_content::Content;
 use suite_prefix::LockMode;
 

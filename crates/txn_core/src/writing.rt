@@ -5,12 +5,13 @@ ghost use Rattle.std.specs.Option.{option_copied};
 ghost use Rattle.rep_core.specs.Store.{is_used_up};
 ghost use Rattle.txn_core.specs.Writing as spec;
 ghost use Rattle.txn_core.specs.code.Leaving.{take_of};
+ghost use Rattle.txn_core.specs.code.Unused.{GaveUnused};
 
-use crate::read_point::ReadPoint;
 use crate::suites::Suite;
 use file_exec::{Change, Changes};
 use rep_core::{Part, Parts, Take};
 use std::alloc::{AllocError, Global};
+use suite_collect::ReadPoint;
 use suite_content::Kind;
 use suite_prefix::{Prefix, PrefixKind, Replica};
 use vote_core::Votes;
@@ -73,6 +74,7 @@ fn taken<'a>(
     server: u8,
 ) -> Option<(&'a ReadPoint, &'a Change)>
     ensures some { IfSome result (λ one. take_of suite.now server (option_copied changes.entry) number ≡ spec.take_of_changed one.0.now one.1.now server) }
+    ensures unused { IfSome result (λ one. GaveUnused one.0.now) }
     ensures none { IfNone result (take_of suite.now server (option_copied changes.entry) number ≡ Take.Keep) }
 {
     if !suite.holds_exclusively(server) {
@@ -93,6 +95,7 @@ fn change_of(changes: Option<&Changes>, number: u64) -> Option<&Change>
 
 /// What a server that holds a suite exclusively takes of it, where it is changed.
 fn take_of_changed(first: &ReadPoint, change: &Change, server: u8) -> Result<Take, AllocError>
+    requires { GaveUnused first.now }
     ensures { IfOk result (λ what. what ≡ spec.take_of_changed first.now change.now server) }
 {
     if takes_whole(change, server) {
@@ -131,6 +134,7 @@ fn sets_prefix(change: &Change) -> bool
 
 /// The copy after a change.
 fn new_copy(first: &ReadPoint, change: &Change) -> Result<Replica, AllocError>
+    requires { GaveUnused first.now }
     ensures { IfOk result (λ copy. copy ≡ spec.new_copy first.now change.now) }
 {
     let prefix = new_prefix(first, change)?;
@@ -144,6 +148,7 @@ fn new_copy(first: &ReadPoint, change: &Change) -> Result<Replica, AllocError>
 
 /// The prefix after a change.
 fn new_prefix(first: &ReadPoint, change: &Change) -> Result<Prefix, AllocError>
+    requires { GaveUnused first.now }
     ensures { IfOk result (λ prefix. prefix ≡ spec.new_prefix first.now change.now) }
 {
     let row = &change.row;

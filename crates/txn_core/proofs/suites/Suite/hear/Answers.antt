@@ -2,7 +2,7 @@ use Rattle.std.proofs.Common.{◌≡◌, sym, ap, subst, ◌∙◌}
 use Rattle.std.specs.Prelude.{IfOk}
 use Rattle.txn_core.specs.declared.suites.Gathered.{Gathered}
 use Rattle.txn_core.specs.code.Hearing.{Hears}
-use Rattle.txn_core.specs.code.Unused.{SawUnused}
+use Rattle.txn_core.specs.code.Unused.{SawUnused, first_unused}
 use Rattle.txn_core.specs.Suites.{Suite}
 use Rattle.txn_core.proofs.InPlace.{heard_as, heard_unused}
 use Rattle.txn_core.proofs.suites.Suite.hear.Goals as goal
@@ -13,8 +13,11 @@ viewed gathered = record { collector = gathered.collect.collector; first = gathe
 pub invariant_of-self : goal.invariant_of-self
 invariant_of-self c =
     let was = c.deref_mut.result.now in
-    let saw = subst (λ (gathered : Gathered). SawUnused gathered.collect.collector) (sym c.deref_mut.ensures.value) c.self.invariant in
-    heard_unused (viewed was) was.collect c.take.new.self c.args.reply.now c.requires c.take.result c.take.ensures.ok c.take.ensures.err saw
+    let saw = subst (λ (gathered : Gathered). SawUnused gathered.collect.collector) (sym c.deref_mut.ensures.value) c.self.invariant.saw in
+    record {
+      saw = heard_unused (viewed was) was.collect c.take.new.self c.args.reply.now c.requires c.take.result c.take.ensures.ok c.take.ensures.err saw;
+      first = ap (λ (gathered : Gathered). first_unused gathered.first) c.deref_mut.ensures.value ∙ c.self.invariant.first;
+    }
 
 pub returns-clause-ok : goal.returns-clause-ok
 returns-clause-ok c =
