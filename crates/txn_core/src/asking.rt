@@ -10,7 +10,7 @@ ghost use Rattle.txn_core.specs.code.Asking.{Asks, AsksIn, Wants, WantsIn, asked
 ghost use Rattle.txn_core.specs.declared.ending.Ending.{Ending};
 
 use crate::fixed_parts::FixedParts;
-use crate::granted::Outcome;
+use crate::granted::Proposal;
 use crate::home::home_of;
 use crate::phase::Phase;
 use crate::servers::Servers;
@@ -113,7 +113,7 @@ impl TransactionRun {
         &self,
         alloc: Global,
         servers: &Servers,
-        outcome: &Outcome,
+        outcome: &Proposal,
         request: &mut Request,
     ) -> Result<Option<u8>, AllocError>
         ensures ok { IfOk result (λ server. AsksIn (doing.Preparing servers.now outcome.now) self.now server request.new) }
@@ -137,7 +137,7 @@ impl TransactionRun {
     fn ask_decide(
         &self,
         fixed_parts: &FixedParts,
-        outcome: &Outcome,
+        outcome: &Proposal,
         request: &mut Request,
     ) -> Result<Option<u8>, AllocError>
         requires { (0 < fixed_parts.now.servers) × (fixed_parts.now.servers ≤ MAX_SERVERS) }
@@ -177,7 +177,7 @@ impl TransactionRun {
 }
 
 /// What is to be recorded of an outcome.
-fn decision_of(task: &Task, outcome: &Outcome) -> Result<Decision, AllocError>
+fn decision_of(task: &Task, outcome: &Proposal) -> Result<Decision, AllocError>
     ensures ok { IfOk result (λ decision. decision ≡ txn_run.decision_of task.now outcome.now) }
     ensures memory { IfErr result (λ _. IsTrue (records_answers (txn_run.decision_of task.now outcome.now))) }
 {

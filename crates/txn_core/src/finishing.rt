@@ -10,7 +10,7 @@ ghost use Rattle.txn_core.specs.code.Passing.{passed, passes_last};
 ghost use Rattle.txn_core.specs.Transactions as txn_run;
 
 use crate::ending::{Cause, Ending, Flow};
-use crate::granted::Outcome;
+use crate::granted::Proposal;
 use crate::phase::Phase;
 use crate::resources::Resources;
 use crate::servers::{Servers, locked_at};
@@ -22,7 +22,7 @@ use vote_core::MAX_SERVERS;
 
 impl TransactionRun {
     /// These servers prepare, one after the other; then the home decides.
-    pub(crate) fn prepare(&mut self, servers: Servers, outcome: Outcome) -> Flow
+    pub(crate) fn prepare(&mut self, servers: Servers, outcome: Proposal) -> Flow
         ensures { (cache : Cache) → GoesBy (txn_run.prepare self.old.task cache self.old.suites outcome servers) result self.new cache }
     {
         self.phase = match servers.first() {

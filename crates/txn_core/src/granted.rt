@@ -1,4 +1,4 @@
-//! What a transaction comes to.
+//! What a transaction proposes.
 
 use file_exec::Changes;
 use file_ops::{Answers, Refusal};
@@ -21,5 +21,5 @@ impl Model for Granted {
     ghost view = { granted_of };
 }
 
-/// What a transaction came to on what was gathered.
-pub(crate) type Outcome = Result<Granted, Refusal>;
+/// What a transaction proposes to its home: to be answered, or refused.
+pub(crate) type Proposal = Result<Granted, Refusal>;

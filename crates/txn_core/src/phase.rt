@@ -1,7 +1,7 @@
 //! Where a transaction stands.
 
 use crate::ending::Ending;
-use crate::granted::{Granted, Outcome};
+use crate::granted::{Granted, Proposal};
 use crate::servers::Servers;
 use rep_core::Verdict;
 
@@ -20,9 +20,9 @@ pub(crate) enum Phase {
         granted: Granted,
     },
     /// Servers prepare, the first of them now.
-    Preparing(Servers, Outcome),
+    Preparing(Servers, Proposal),
     /// The home is to decide.
-    Deciding(Outcome),
+    Deciding(Proposal),
     /// The end is told to servers, to the first of them now.
     Finishing(Servers, Verdict, Ending),
 }
