@@ -21,7 +21,7 @@ use Rattle.txn_core.specs.declared.ending.Ending.{Ending}
 use Rattle.txn_core.specs.declared.ending.Ending.TheVariants.{Undecided}
 use Rattle.txn_core.specs.declared.job.Job.{Job}
 use Rattle.txn_core.specs.declared.job.Job.TheVariants.{Transaction}
-use Rattle.txn_core.specs.Doing.{Fixed, Task, home_of, Outcome, Phase, Gathering, Fetching, Widening, Preparing, Deciding, Finishing, TransactionRun, Doing, Running, RunningSweep, After, GoesOn, Ends}
+use Rattle.txn_core.specs.Doing.{Fixed, Task, home_of, Proposal, Phase, Gathering, Fetching, Widening, Preparing, Deciding, Finishing, TransactionRun, Doing, Running, RunningSweep, After, GoesOn, Ends}
 use Rattle.txn_core.specs.Transactions.{lack_cause, tell_end, give_up, prepare, locked_at, prepared, after_response, request_in, changes_of, decision_of, verdict_in, ending_by, cause_of_abort}
 use Rattle.txn_core.specs.Agents as agents
 use Rattle.txn_core.specs.Agents.{Agent, Event, Take, next_in, next_of, end_of, take_in, begin, started, is_idle, has_sense, max_jobs, after_all}
@@ -49,7 +49,7 @@ end_is task cache suites v ending (server ∷ servers) by = (refl, by)
 given_up : (task : Task) (cache : Cache) (suites : Suites) (cause : Cause) → LeftIs verdict.Aborted (give_up task cache suites cause).after
 given_up task cache suites cause = end_is task cache suites verdict.Aborted (Undecided cause) (locked_at suites) (cause, refl)
 
-prepare_is : (task : Task) (cache : Cache) (suites : Suites) (outcome : Outcome) (servers : List ℕ) → LeftIs verdict.Aborted (prepare task cache suites outcome servers).after
+prepare_is : (task : Task) (cache : Cache) (suites : Suites) (outcome : Proposal) (servers : List ℕ) → LeftIs verdict.Aborted (prepare task cache suites outcome servers).after
 prepare_is task cache suites outcome [] = refl
 prepare_is task cache suites outcome (server ∷ servers) = refl
 
@@ -61,10 +61,10 @@ early task suites (Preparing left outcome) is = absurd is
 early task suites (Deciding outcome) is = absurd is
 early task suites (Finishing servers told ending) is = absurd is
 
-prepares : (task : Task) (cache : Cache) (suites : Suites) (outcome : Outcome) → LeftIs verdict.Aborted (prepare task cache suites outcome (locked_at suites)).after
+prepares : (task : Task) (cache : Cache) (suites : Suites) (outcome : Proposal) → LeftIs verdict.Aborted (prepare task cache suites outcome (locked_at suites)).after
 prepares task cache suites outcome = prepare_is task cache suites outcome (locked_at suites)
 
-prepared_is : (task : Task) (cache : Cache) (suites : Suites) (outcome : Outcome) (server : ℕ) (left : List ℕ) (said : Reply) → LeftIs verdict.Aborted (prepared task cache suites outcome server left said).after
+prepared_is : (task : Task) (cache : Cache) (suites : Suites) (outcome : Proposal) (server : ℕ) (left : List ℕ) (said : Reply) → LeftIs verdict.Aborted (prepared task cache suites outcome server left said).after
 prepared_is task cache suites outcome server left said =
     elim (is_prepared said) as (λ b. LeftIs verdict.Aborted (cond b (prepare task cache suites outcome left) (give_up task cache suites (Lost server))).after) [
       | true ↦ prepare_is task cache suites outcome left
@@ -93,12 +93,12 @@ module _ (fixed : Fixed) (task : Task) (cache : Cache) (suites : Suites) where
   early_is : (phase : Phase) (server : ℕ) (asked : Request) (heard : Response) → IsEarly phase → LeftIs verdict.Aborted (then' phase server asked heard)
   early_is phase server asked heard is = goes_response task (LeftIs verdict.Aborted) (early task) (given_up task) (prepares task) fixed cache suites phase server asked heard is
 
-  decide_is : (outcome : Outcome) (server : ℕ) (asked : Request) (heard : Response) → LeftIs (said_by heard verdict.Aborted) (then' (Deciding outcome) server asked heard)
+  decide_is : (outcome : Proposal) (server : ℕ) (asked : Request) (heard : Response) → LeftIs (said_by heard verdict.Aborted) (then' (Deciding outcome) server asked heard)
   decide_is outcome server asked (Replied said) =
       end_is task cache suites (verdict_in said verdict.Aborted) (ending_by (verdict_in said verdict.Aborted) (cause_of_abort said)) (locked_at suites) (by_verdict (verdict_in said verdict.Aborted) (cause_of_abort said))
   decide_is outcome server asked (Lacked lacked) = given_up task cache suites (lack_cause server lacked)
 
-  prepare_heard : (now : ℕ) (left : List ℕ) (outcome : Outcome) (server : ℕ) (asked : Request) (heard : Response) → LeftIs verdict.Aborted (then' (Preparing (now ∷ left) outcome) server asked heard)
+  prepare_heard : (now : ℕ) (left : List ℕ) (outcome : Proposal) (server : ℕ) (asked : Request) (heard : Response) → LeftIs verdict.Aborted (then' (Preparing (now ∷ left) outcome) server asked heard)
   prepare_heard now left outcome server asked (Replied said) = prepared_is task cache suites outcome server left said
   prepare_heard now left outcome server asked (Lacked lacked) = given_up task cache suites (lack_cause server lacked)
 

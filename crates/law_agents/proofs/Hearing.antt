@@ -17,7 +17,7 @@ use Rattle.txn_core.specs.declared.response.Response.{Response}
 use Rattle.txn_core.specs.declared.response.Response.TheVariants.{Replied, Lacked}
 use Rattle.txn_core.specs.declared.ending.Cause.{Cause}
 use Rattle.txn_core.specs.declared.ending.Cause.TheVariants.{Lost}
-use Rattle.txn_core.specs.Doing.{Granted, Fixed, Task, Outcome, Phase, Gathering, Fetching, Widening, Preparing, Deciding, Finishing, TransactionRun, After, GoesOn}
+use Rattle.txn_core.specs.Doing.{Granted, Fixed, Task, Proposal, Phase, Gathering, Fetching, Widening, Preparing, Deciding, Finishing, TransactionRun, After, GoesOn}
 use Rattle.txn_core.specs.Transactions.{Step, Gathered, give_up, prepare, locked_at, short_cause, gather_by, widen_by, widen_one, widened, widen_all, opened, heard_on, raised_or_new, keep_content, heard_of, said_to, proceed, execute, collected, hear, fetched, after_response, asked_for, request_in, given_in, lack_cause}
 use Rattle.txn_core.specs.Laws.{Exchange, locks, told_of, told_by, more_told}
 use Rattle.txn_core.proofs.Asks.{fetched_as}
@@ -85,7 +85,7 @@ are_told past suites number server asked said heard now lock was same are =
 module _ (task : Task) (past : List Exchange) (Left : After TransactionRun → Type 0)
     (early : (suites : Suites) (phase : Phase) → IsEarly phase → Are (tells past) suites → Left (GoesOn (record { task = task; suites = suites; phase = phase })))
     (given_up : (cache : Cache) (suites : Suites) (cause : Cause) → Are (tells past) suites → Left (give_up task cache suites cause).after)
-    (prepares : (cache : Cache) (suites : Suites) (outcome : Outcome) → Are (tells past) suites → Left (prepare task cache suites outcome (locked_at suites)).after) where
+    (prepares : (cache : Cache) (suites : Suites) (outcome : Proposal) → Are (tells past) suites → Left (prepare task cache suites outcome (locked_at suites)).after) where
   goes_gather : (cache : Cache) (suites : Suites) (number : ℕ) (next : Next) → Are (tells past) suites → Left (gather_by task cache suites number next).after
   goes_gather cache suites number (Short got needed busy) are = given_up cache suites (short_cause number got needed busy) are
   goes_gather cache suites number (Ask server asked) are = early suites (Gathering number) tt are
@@ -144,7 +144,7 @@ module _ (task : Task) (past : List Exchange) (Left : After TransactionRun → T
 module _ (task : Task) (past : List Exchange) (server : ℕ) (asked : Request) (heard : Response) (Left : After TransactionRun → Type 0)
     (early : (suites : Suites) (phase : Phase) → IsEarly phase → Are (tells (push past server asked heard)) suites → Left (GoesOn (record { task = task; suites = suites; phase = phase })))
     (given_up : (cache : Cache) (suites : Suites) (cause : Cause) → Are (tells (push past server asked heard)) suites → Left (give_up task cache suites cause).after)
-    (prepares : (cache : Cache) (suites : Suites) (outcome : Outcome) → Are (tells (push past server asked heard)) suites → Left (prepare task cache suites outcome (locked_at suites)).after) where
+    (prepares : (cache : Cache) (suites : Suites) (outcome : Proposal) → Are (tells (push past server asked heard)) suites → Left (prepare task cache suites outcome (locked_at suites)).after) where
   goes_heard : (cache : Cache) (suites : Suites) (phase : Phase) (number : ℕ) (found : Option Suite) (said : Reply) (go_on : Suites → Step) → heard ≡ Replied said → IsEarly phase → Are (tells past) suites → suite_of suites number ≡ found
       → asked_for task number found ≡ Some (server, asked) → ((suites : Suites) → Are (tells (push past server asked heard)) suites → Left (go_on suites).after)
       → Left (heard_of task cache suites phase number found server asked said go_on).after

@@ -24,7 +24,7 @@ use Rattle.txn_core.specs.declared.ending.Ending.{Ending}
 use Rattle.txn_core.specs.declared.ending.Ending.TheVariants.{Undecided}
 use Rattle.txn_core.specs.declared.job.Job.{Job}
 use Rattle.txn_core.specs.declared.job.Job.TheVariants.{Transaction}
-use Rattle.txn_core.specs.Doing.{home_of, Fixed, Task, Outcome, Phase, Gathering, Fetching, Widening, Preparing, Deciding, Finishing, TransactionRun, Doing, Running, RunningSweep, After, GoesOn}
+use Rattle.txn_core.specs.Doing.{home_of, Fixed, Task, Proposal, Phase, Gathering, Fetching, Widening, Preparing, Deciding, Finishing, TransactionRun, Doing, Running, RunningSweep, After, GoesOn}
 use Rattle.txn_core.specs.Transactions.{tell_end, give_up, prepare, locked_at, after_response, request_in, request_of, changes_of, decision_of, verdict_in, ending_by, cause_of_abort, lack_cause}
 use Rattle.txn_core.specs.Agents as agents
 use Rattle.txn_core.specs.Agents.{Agent, Event, next_in, next_of, take_in, begin, started, is_idle, has_sense, max_jobs, after_all}
@@ -173,7 +173,7 @@ module _ (fixed : Fixed) (agent : Agent) (caller : Identity) (site : ℕ) (ops :
     ends past cache suites v ending all up =
         ends_on past cache suites v ending (locked_at suites) all (up_more 2 3 past (omega arith) up) (ap (λ sent. sent ++ locked_at suites) (sym (none_finished 2 past (omega arith) up)))
 
-    prepares_on : (past : List Exchange) (cache : Cache) (suites : Suites) (outcome : Outcome) (left : List ℕ) → UpTo 1 past → locked_at suites ≡ sent_to is_prepare past ++ left → AllPrepared past
+    prepares_on : (past : List Exchange) (cache : Cache) (suites : Suites) (outcome : Proposal) (left : List ℕ) → UpTo 1 past → locked_at suites ≡ sent_to is_prepare past ++ left → AllPrepared past
         → LeftIs past (prepare task cache suites outcome left).after
     prepares_on past cache suites outcome [] up is prepared = (same, (up, is ∙ append-nil (sent_to is_prepare past), prepared))
     prepares_on past cache suites outcome (server ∷ left) up is prepared = (same, (up, is, prepared))
@@ -192,7 +192,7 @@ module _ (fixed : Fixed) (agent : Agent) (caller : Identity) (site : ℕ) (ops :
       given_up : (cache : Cache) (suites : Suites) (cause : Cause) → Are (tells past) suites → LeftIs past (give_up task cache suites cause).after
       given_up cache suites cause are = ends past cache suites verdict.Aborted (Undecided cause) (locked_is past suites (heard_of_are past suites are)) (up_more 0 2 past (omega arith) up)
 
-      prepares : (cache : Cache) (suites : Suites) (outcome : Outcome) → Are (tells past) suites → LeftIs past (prepare task cache suites outcome (locked_at suites)).after
+      prepares : (cache : Cache) (suites : Suites) (outcome : Proposal) → Are (tells past) suites → LeftIs past (prepare task cache suites outcome (locked_at suites)).after
       prepares cache suites outcome are =
           prepares_on past cache suites outcome (locked_at suites) (up_more 0 1 past (omega arith) up) (ap (λ sent. sent ++ locked_at suites) (sym (none_prepared past up))) (prepared_low past up)
 
@@ -219,7 +219,7 @@ module _ (fixed : Fixed) (agent : Agent) (caller : Identity) (site : ℕ) (ops :
     abbrev Then : List Exchange → Cache → Suites → Phase → Response → ℕ × Request → Type 0
     Then past cache suites phase heard asked = LeftIs (push past asked.0 asked.1 heard) (after_response fixed (record { task = task; suites = suites; phase = phase }) cache asked.0 asked.1 heard).after
 
-    prepare_heard : (past : List Exchange) (cache : Cache) (suites : Suites) (now : ℕ) (left : List ℕ) (outcome : Outcome) (heard : Response) → HeardOf past suites → InPhase past suites (Preparing (now ∷ left) outcome)
+    prepare_heard : (past : List Exchange) (cache : Cache) (suites : Suites) (now : ℕ) (left : List ℕ) (outcome : Proposal) (heard : Response) → HeardOf past suites → InPhase past suites (Preparing (now ∷ left) outcome)
         → Then past cache suites (Preparing (now ∷ left) outcome) heard (now, request.Prepare task.t (parts_at suites (changes_of outcome) now))
     prepare_heard past cache suites now left outcome heard locks in' = of heard refl
       where
@@ -243,7 +243,7 @@ module _ (fixed : Fixed) (agent : Agent) (caller : Identity) (site : ℕ) (ops :
               | false ↦ λ no. gives_up (Lost now)
             ] refl
 
-    decide_heard : (past : List Exchange) (cache : Cache) (suites : Suites) (outcome : Outcome) (heard : Response) → HeardOf past suites → InPhase past suites (Deciding outcome)
+    decide_heard : (past : List Exchange) (cache : Cache) (suites : Suites) (outcome : Proposal) (heard : Response) → HeardOf past suites → InPhase past suites (Deciding outcome)
         → Then past cache suites (Deciding outcome) heard (home_of fixed.service task.t, request.Decide task.t (decision_of task outcome))
     decide_heard past cache suites outcome heard locks in' = of heard
       where

@@ -21,7 +21,7 @@ use Rattle.txn_core.specs.declared.ending.Ending.{Ending}
 use Rattle.txn_core.specs.declared.ending.Ending.TheVariants.{Undecided}
 use Rattle.txn_core.specs.declared.job.Job.{Job}
 use Rattle.txn_core.specs.declared.job.Job.TheVariants.{Transaction, Sweep}
-use Rattle.txn_core.specs.Doing.{home_of, Fixed, Task, Outcome, Phase, Gathering, Fetching, Widening, Preparing, Deciding, Finishing, TransactionRun, Sweeping, Listing, Resolving, Telling, Breaking, SweepRun, Doing, Running, RunningSweep, After, GoesOn, Ends}
+use Rattle.txn_core.specs.Doing.{home_of, Fixed, Task, Proposal, Phase, Gathering, Fetching, Widening, Preparing, Deciding, Finishing, TransactionRun, Sweeping, Listing, Resolving, Telling, Breaking, SweepRun, Doing, Running, RunningSweep, After, GoesOn, Ends}
 use Rattle.txn_core.specs.Transactions.{tell_end, give_up, prepare, locked_at, after_response, request_in, request_of, changes_of, decision_of, verdict_in, ending_by, cause_of_abort, lack_cause}
 use Rattle.txn_core.specs.Sweeps as sweep
 use Rattle.txn_core.specs.Agents as agents
@@ -56,7 +56,7 @@ end_are : (past : List Exchange) (task : Task) (cache : Cache) (suites : Suites)
 end_are past task cache suites v ending [] = tt
 end_are past task cache suites v ending (server ∷ servers) = tt
 
-prepare_are : (past : List Exchange) (task : Task) (cache : Cache) (suites : Suites) (outcome : Outcome) (servers : List ℕ) → Are (tells past) suites → LeftAre past (prepare task cache suites outcome servers).after
+prepare_are : (past : List Exchange) (task : Task) (cache : Cache) (suites : Suites) (outcome : Proposal) (servers : List ℕ) → Are (tells past) suites → LeftAre past (prepare task cache suites outcome servers).after
 prepare_are past task cache suites outcome [] are = tt
 prepare_are past task cache suites outcome (server ∷ servers) are = are
 
@@ -71,14 +71,14 @@ early_are past task suites (Finishing servers v ending) is are = absurd is
 given_up : (past : List Exchange) (task : Task) (cache : Cache) (suites : Suites) (cause : Cause) → Are (tells past) suites → LeftAre past (give_up task cache suites cause).after
 given_up past task cache suites cause are = end_are past task cache suites verdict.Aborted (Undecided cause) (locked_at suites)
 
-prepares : (past : List Exchange) (task : Task) (cache : Cache) (suites : Suites) (outcome : Outcome) → Are (tells past) suites → LeftAre past (prepare task cache suites outcome (locked_at suites)).after
+prepares : (past : List Exchange) (task : Task) (cache : Cache) (suites : Suites) (outcome : Proposal) → Are (tells past) suites → LeftAre past (prepare task cache suites outcome (locked_at suites)).after
 prepares past task cache suites outcome are = prepare_are past task cache suites outcome (locked_at suites) are
 
 module _ (fixed : Fixed) (task : Task) (past : List Exchange) (cache : Cache) (suites : Suites) (server : ℕ) (asked : Request) where
   abbrev Then : Phase → Response → Response → Type 0
   Then phase heard told = LeftAre (push past server asked heard) (after_response fixed (record { task = task; suites = suites; phase = phase }) cache server asked told).after
 
-  prepared_are : (now : ℕ) (left : List ℕ) (outcome : Outcome) (heard told : Response) → Are (tells (push past server asked heard)) suites → Then (Preparing (now ∷ left) outcome) heard told
+  prepared_are : (now : ℕ) (left : List ℕ) (outcome : Proposal) (heard told : Response) → Are (tells (push past server asked heard)) suites → Then (Preparing (now ∷ left) outcome) heard told
   prepared_are now left outcome heard (Lacked lacked) are = given_up (push past server asked heard) task cache suites (lack_cause server lacked) are
   prepared_are now left outcome heard (Replied said) are =
       elim (is_prepared said) as (λ b. LeftAre (push past server asked heard) (cond b (prepare task cache suites outcome left) (give_up task cache suites (Lost server))).after) [
@@ -86,7 +86,7 @@ module _ (fixed : Fixed) (task : Task) (past : List Exchange) (cache : Cache) (s
         | false ↦ given_up (push past server asked heard) task cache suites (Lost server) are
       ]
 
-  decided_are : (outcome : Outcome) (heard told : Response) → Then (Deciding outcome) heard told
+  decided_are : (outcome : Proposal) (heard told : Response) → Then (Deciding outcome) heard told
   decided_are outcome heard (Lacked lacked) = end_are (push past server asked heard) task cache suites verdict.Aborted (Undecided (lack_cause server lacked)) (locked_at suites)
   decided_are outcome heard (Replied said) = end_are (push past server asked heard) task cache suites (verdict_in said verdict.Aborted) (ending_by (verdict_in said verdict.Aborted) (cause_of_abort said)) (locked_at suites)
 
@@ -169,13 +169,13 @@ after_more fixed agent [] later = refl
 after_more fixed agent (Take heard ∷ before) later = after_more fixed (take fixed agent heard).agent before later
 after_more fixed agent (Forget site ∷ before) later = after_more fixed (forget agent site) before later
 
-abbrev prepares_yet : Task → Suites → Outcome → List ℕ → Option Doing
+abbrev prepares_yet : Task → Suites → Proposal → List ℕ → Option Doing
 prepares_yet task suites outcome servers = Some (Running (record { task = task; suites = suites; phase = Preparing servers outcome }))
 
-abbrev decides : Task → Suites → Outcome → Option Doing
+abbrev decides : Task → Suites → Proposal → Option Doing
 decides task suites outcome = Some (Running (record { task = task; suites = suites; phase = Deciding outcome }))
 
-if_all : (fixed : Fixed) (task : Task) (suites : Suites) (outcome : Outcome) (server : ℕ) (left : List ℕ) (agent : Agent) → agent.doing ≡ prepares_yet task suites outcome (server ∷ left)
+if_all : (fixed : Fixed) (task : Task) (suites : Suites) (outcome : Proposal) (server : ℕ) (left : List ℕ) (agent : Agent) → agent.doing ≡ prepares_yet task suites outcome (server ∷ left)
     → (later : List Event) × ((after_all fixed agent later).doing ≡ decides task suites outcome)
 if_all fixed task suites outcome server [] agent is =
     (Take (Replied reply.Prepared) ∷ [], ap (λ doing. (take_in fixed agent (Replied reply.Prepared) doing (next_in fixed doing)).agent.doing) is)
@@ -193,7 +193,7 @@ module _ (fixed : Fixed) (agent : Agent) (job : Job) (events : List Event) (idle
   abbrev now : Agent
   now = after_all fixed (begin fixed agent job) events
 
-  ready_then : (task : Task) (suites : Suites) (outcome : Outcome) (server : ℕ) (left : List ℕ) → now.doing ≡ prepares_yet task suites outcome (server ∷ left) → (number : ℕ) (suite : Suite) → suite_of suites number ≡ Some suite → IsReady suite number (changes_of outcome)
+  ready_then : (task : Task) (suites : Suites) (outcome : Proposal) (server : ℕ) (left : List ℕ) → now.doing ≡ prepares_yet task suites outcome (server ∷ left) → (number : ℕ) (suite : Suite) → suite_of suites number ≡ Some suite → IsReady suite number (changes_of outcome)
   ready_then task suites outcome server left was number suite there =
       let then' = if_all fixed task suites outcome server left now was in
       decides_on_quorums fixed agent job (events ++ then'.0) (record { task = task; suites = suites; phase = Deciding outcome }) outcome number suite idle

@@ -48,7 +48,7 @@ use Rattle.txn_core.specs.Writing.{change_of}
 use Rattle.txn_core.specs.declared.ending.Cause.{Cause}
 use Rattle.txn_core.specs.declared.ending.Ending.{Ending}
 use Rattle.txn_core.specs.declared.ending.Ending.TheVariants.{Undecided}
-use Rattle.txn_core.specs.Doing.{Changes, Granted, home_of, Fixed, Task, Outcome, Phase, Gathering, Fetching, Widening as Widens, Preparing, Deciding, Finishing, TransactionRun, After, GoesOn, Ends}
+use Rattle.txn_core.specs.Doing.{Changes, Granted, home_of, Fixed, Task, Proposal, Phase, Gathering, Fetching, Widening as Widens, Preparing, Deciding, Finishing, TransactionRun, After, GoesOn, Ends}
 use Rattle.txn_core.specs.Transactions.{Step, Gathered, tell_end, give_up, prepare, locked_at, numbers_from, short_cause, gather_by, start_from, widen_by, widen_one, widened, widen_all, to_widen, votes_then, votes_after, opened, or_all, open_needed, open_suite, open_first, opened_with, after_search, free_content, heard_on, raised_or_new, proceed, execute}
 use Rattle.txn_core.proofs.Gathers.{Each, EachBut, each_but, each_with, with_at, self}
 use Rattle.txn_core.proofs.Setting.{known_at}
@@ -199,7 +199,7 @@ module _ (fixed : Fixed) (V : Configuration → Type 0) (S : ℕ → Type 0) (go
   pub l_give_up : (task : Task) (cache : Cache) (suites : Suites) (cause : Cause) → CacheFine cache → AllFine suites → Leaves (give_up task cache suites cause)
   l_give_up task cache suites cause cached all = l_end task cache suites verdict.Aborted (Undecided cause) (locked_at suites) cached (all_locking suites all)
 
-  pub l_prepare : (task : Task) (cache : Cache) (suites : Suites) (outcome : Outcome) (servers : List ℕ) → CacheFine cache → AllFine suites → AllIn V S servers → Leaves (prepare task cache suites outcome servers)
+  pub l_prepare : (task : Task) (cache : Cache) (suites : Suites) (outcome : Proposal) (servers : List ℕ) → CacheFine cache → AllFine suites → AllIn V S servers → Leaves (prepare task cache suites outcome servers)
   l_prepare task cache suites outcome [] cached fine all = (cached, fine)
   l_prepare task cache suites outcome (server ∷ servers) cached fine all = (cached, (fine, all))
 

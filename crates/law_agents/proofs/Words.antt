@@ -20,7 +20,7 @@ use Rattle.txn_core.specs.Suites.{ReadPoint, Suite, Suites, suite_of, with_suite
 use Rattle.txn_core.specs.declared.response.Response.{Response}
 use Rattle.txn_core.specs.declared.response.Response.TheVariants.{Replied, Lacked}
 use Rattle.txn_core.specs.declared.ending.Cause.TheVariants.{Lost}
-use Rattle.txn_core.specs.Doing.{Granted, Fixed, Task, Outcome, Phase, Gathering, Fetching, Widening as Widens, Preparing, Deciding, Finishing}
+use Rattle.txn_core.specs.Doing.{Granted, Fixed, Task, Proposal, Phase, Gathering, Fetching, Widening as Widens, Preparing, Deciding, Finishing}
 use Rattle.txn_core.specs.Transactions.{Step, tell_end, give_up, prepare, locked_at, short_cause, widen_all, keep_content, heard_of, said_to, execute, collected, hear, fetched, prepared, after_lack, after_response, asked_by, asked_for, given_in, verdict_in, ending_by, cause_of_abort, lack_cause, request_in, changes_of, decision_of}
 use Rattle.txn_core.proofs.Gathers.{Each, each_with, but_with}
 use Rattle.txn_core.proofs.Asks.{asks_same}
@@ -283,7 +283,7 @@ module _ (fixed : Fixed) (V : Configuration → Type 0) (S : ℕ → Type 0) (go
 
   -- ---- any response
 
-  l_prepared : (task : Task) (cache : Cache) (suites : Suites) (outcome : Outcome) (server : ℕ) (left : List ℕ) (said' : Reply) → Cached cache → AllFine' suites → AllIn V S left → Left (prepared task cache suites outcome server left said')
+  l_prepared : (task : Task) (cache : Cache) (suites : Suites) (outcome : Proposal) (server : ℕ) (left : List ℕ) (said' : Reply) → Cached cache → AllFine' suites → AllIn V S left → Left (prepared task cache suites outcome server left said')
   l_prepared task cache suites outcome server left said' cached fine all =
       elim (is_prepared said') as (λ b. Left (cond b (prepare task cache suites outcome left) (give_up task cache suites (Lost server)))) [
         | true ↦ walk.l_prepare fixed V S goes task cache suites outcome left cached fine all

@@ -27,7 +27,7 @@ use Rattle.txn_core.specs.declared.job.Job.TheVariants.{Transaction, Sweep}
 use Rattle.txn_core.specs.declared.response.Response.{Response}
 use Rattle.txn_core.specs.declared.response.Response.TheVariants.{Replied, Lacked}
 use Rattle.txn_core.specs.Suites.{Suites}
-use Rattle.txn_core.specs.Doing.{Fixed, Task, Outcome, Phase, Gathering, Fetching, Widening, Preparing, Deciding, Finishing, TransactionRun, SweepRun, Doing, Running, RunningSweep, After, GoesOn, Ends}
+use Rattle.txn_core.specs.Doing.{Fixed, Task, Proposal, Phase, Gathering, Fetching, Widening, Preparing, Deciding, Finishing, TransactionRun, SweepRun, Doing, Running, RunningSweep, After, GoesOn, Ends}
 use Rattle.txn_core.specs.Transactions.{execute, tell_end, give_up, prepare, prepared, locked_at, lack_cause, after_response, verdict_in, ending_by, cause_of_abort}
 use Rattle.txn_core.specs.Sweeps as sweep
 use Rattle.txn_core.specs.Agents.{Agent, left as left_doing, fixed_of, next_of, take_in, take, begin, started, forget, is_idle, has_sense, max_jobs}
@@ -61,11 +61,11 @@ stays_end task cache suites v ending (server ∷ servers) = refl
 stays_give_up : (task : Task) (cache : Cache) (suites : Suites) (cause : Cause) → Stays task (give_up task cache suites cause).after
 stays_give_up task cache suites cause = stays_end task cache suites verdict.Aborted (Undecided cause) (locked_at suites)
 
-stays_prepare : (task : Task) (cache : Cache) (suites : Suites) (outcome : Outcome) (servers : List ℕ) → Stays task (prepare task cache suites outcome servers).after
+stays_prepare : (task : Task) (cache : Cache) (suites : Suites) (outcome : Proposal) (servers : List ℕ) → Stays task (prepare task cache suites outcome servers).after
 stays_prepare task cache suites outcome [] = refl
 stays_prepare task cache suites outcome (server ∷ servers) = refl
 
-stays_prepares : (task : Task) (cache : Cache) (suites : Suites) (outcome : Outcome) → Stays task (prepare task cache suites outcome (locked_at suites)).after
+stays_prepares : (task : Task) (cache : Cache) (suites : Suites) (outcome : Proposal) → Stays task (prepare task cache suites outcome (locked_at suites)).after
 stays_prepares task cache suites outcome = stays_prepare task cache suites outcome (locked_at suites)
 
 stays_early : (task : Task) (suites : Suites) (phase : Phase) → IsEarly phase → Stays task (GoesOn (record { task = task; suites = suites; phase = phase }))
@@ -74,7 +74,7 @@ stays_early task suites phase is = refl
 pub stays_begin : (fixed : Fixed) (task : Task) (cache : Cache) → Stays task (execute fixed task (record { suites = []; cache = cache })).after
 stays_begin fixed task cache = goes_execute task (Stays task) (stays_early task) (stays_give_up task) (stays_prepares task) fixed (record { suites = []; cache = cache })
 
-stays_prepared : (task : Task) (cache : Cache) (suites : Suites) (outcome : Outcome) (server : ℕ) (left : List ℕ) (said : Reply) → Stays task (prepared task cache suites outcome server left said).after
+stays_prepared : (task : Task) (cache : Cache) (suites : Suites) (outcome : Proposal) (server : ℕ) (left : List ℕ) (said : Reply) → Stays task (prepared task cache suites outcome server left said).after
 stays_prepared task cache suites outcome server left said =
     elim (is_prepared said) as (λ b. Stays task (cond b (prepare task cache suites outcome left) (give_up task cache suites (Lost server))).after) [
       | true ↦ stays_prepare task cache suites outcome left

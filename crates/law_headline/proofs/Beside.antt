@@ -16,7 +16,7 @@ use Rattle.rep_core.specs.Store.{root_copy}
 use Rattle.file_exec.specs.declared.changes.Change as executor
 use Rattle.txn_core.specs.Suites.{ReadPoint, Suite, suite_of}
 use Rattle.txn_core.specs.Writing.{change_of, prefix_kind, new_prefix}
-use Rattle.txn_core.specs.Doing.{Outcome, Deciding, Phase, Gathering, Fetching, Widening, Preparing, Finishing, TransactionRun, Doing, Running, RunningSweep}
+use Rattle.txn_core.specs.Doing.{Proposal, Deciding, Phase, Gathering, Fetching, Widening, Preparing, Finishing, TransactionRun, Doing, Running, RunningSweep}
 use Rattle.txn_core.specs.Transactions.{changes_of}
 use Rattle.txn_core.specs.Agents.{Agent, fixed_of}
 use Rattle.run_core.specs.declared.event.Event as happening
@@ -78,7 +78,7 @@ module _ (start : Beginning) (w : World) (inv : Inv start w) (kind : HoldsItsKin
       subst (λ k. FitsAs k (row start w.log).content) (sym (leaves.kind c)) (subst (λ (prefix : Prefix). FitsAs prefix.kind (row start w.log).content) (sym knows.prefix) kind)
 
 -- a decision leaves such a row, where what was known was what the register held
-with_change : (start : Beginning) (w : World) (t : ℕ) (suite : Suite) (first : ReadPoint) (outcome : Outcome) (change : Option executor.Change) → HoldsItsKind (row start w.log)
+with_change : (start : Beginning) (w : World) (t : ℕ) (suite : Suite) (first : ReadPoint) (outcome : Proposal) (change : Option executor.Change) → HoldsItsKind (row start w.log)
     → ((one : executor.Change) → change ≡ Some one → IsKnown (row start w.log) (known_by first suite) → HoldsItsKind (changed (change_to first one) (row start w.log)))
     → IsPlain start (happens start w (decides_with w t (known_by first suite) outcome (written_from (Some first) change))).log
     → HoldsItsKind (row start (happens start w (decides_with w t (known_by first suite) outcome (written_from (Some first) change))).log)
@@ -86,7 +86,7 @@ with_change start w t suite first (Err refusal) change kind writes plain = kind
 with_change start w t suite first (Ok granted) None kind writes plain = kind
 with_change start w t suite first (Ok granted) (Some one) kind writes plain = writes one refl plain.0
 
-without : (start : Beginning) (w : World) (t : ℕ) (outcome : Outcome) → HoldsItsKind (row start w.log) → HoldsItsKind (row start (happens start w (decides_without t outcome)).log)
+without : (start : Beginning) (w : World) (t : ℕ) (outcome : Proposal) → HoldsItsKind (row start w.log) → HoldsItsKind (row start (happens start w (decides_without t outcome)).log)
 without start w t (Ok granted) kind = kind
 without start w t (Err refusal) kind = kind
 
@@ -94,7 +94,7 @@ module _ (given : Opening) (z : ℕ) (w : World) (inv : Inv (beginning z given) 
   abbrev start : Beginning
   start = beginning z given
 
-  module _ (txn_run : TransactionRun) (outcome : Outcome) (well : CameWell (fixed_of given) txn_run outcome) where
+  module _ (txn_run : TransactionRun) (outcome : Proposal) (well : CameWell (fixed_of given) txn_run outcome) where
     pub leaves : (suite : Suite) (first : ReadPoint) (change : executor.Change) → suite_of txn_run.suites z ≡ Some suite → suite.first ≡ Some first → change_of (changes_of outcome) z ≡ Some change → IsKnown (row start w.log) (known_by first suite) → Leaves suite first change
     leaves suite first change found had set knows =
         came_fair (fixed_of given) txn_run.task txn_run.suites outcome z suite first change found had set c0 well.valid (known_fits start w inv kind first suite knows) (known_valid start w inv kind first suite knows) well.came
@@ -183,7 +183,7 @@ knows_from origin w t known owes = record {
 }
 
 -- it is ready, and knows what the register holds
-module _ (given : Opening) (z : ℕ) (w : World) (world : worlds.World) (now : Together given z w world) (number : ℕ) (actor : Actor) (txn_run : TransactionRun) (outcome : Outcome)
+module _ (given : Opening) (z : ℕ) (w : World) (world : worlds.World) (now : Together given z w world) (number : ℕ) (actor : Actor) (txn_run : TransactionRun) (outcome : Proposal)
     (there : actor_at world number ≡ Some actor) (running : actor.agent.doing ≡ Some (Running txn_run)) (phase : txn_run.phase ≡ Deciding outcome) (undecided : w.verdict txn_run.task.t ≡ None) where
   some_of : {X : Type 0} (o : Option X) → is_some o ≡ true → (x : X) × (o ≡ Some x)
   some_of None is = absurd (false≢true is)

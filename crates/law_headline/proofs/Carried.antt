@@ -11,7 +11,7 @@ use Rattle.txn_core.specs.declared.response.Response.{Response}
 use Rattle.txn_core.specs.declared.response.Response.TheVariants.{Replied, Lacked}
 use Rattle.txn_core.specs.declared.job.Job.{Job}
 use Rattle.txn_core.specs.declared.job.Job.TheVariants.{Transaction, Sweep}
-use Rattle.txn_core.specs.Doing.{Fixed, Task, Outcome, Phase, Preparing, Deciding, TransactionRun, SweepRun, Doing, Running, RunningSweep, After, GoesOn, Ends}
+use Rattle.txn_core.specs.Doing.{Fixed, Task, Proposal, Phase, Preparing, Deciding, TransactionRun, SweepRun, Doing, Running, RunningSweep, After, GoesOn, Ends}
 use Rattle.txn_core.specs.Sweeps as sweep
 use Rattle.txn_core.specs.Agents as agents
 use Rattle.txn_core.specs.Agents.{Agent, Take, Forget, next_in, next_of, left, take, take_in, begin, started, forget, is_idle, has_sense, max_jobs, after_event, after_all}
@@ -175,7 +175,7 @@ begin_knows fixed agent job idle =
     of (Sweep server) = tt
 
 -- where it is known what a transaction is to be decided with, that came of operations that set no votes but valid ones
-pub record CameWell (fixed : Fixed) (txn_run : TransactionRun) (outcome : Outcome) : Type 0 where
+pub record CameWell (fixed : Fixed) (txn_run : TransactionRun) (outcome : Proposal) : Type 0 where
   pub came : Came fixed txn_run.task txn_run.suites outcome
   pub valid : AllGiveValidVotes txn_run.task.ops
 
@@ -190,15 +190,15 @@ knows_now fixed agent is txn_run running =
     )
 
 -- so where it decides, and already where it prepares
-came_at : (fixed : Fixed) (agent : Agent) → ValidOr fixed agent → (txn_run : TransactionRun) (outcome : Outcome) (phase : Phase) → agent.doing ≡ Some (Running txn_run) → txn_run.phase ≡ phase
+came_at : (fixed : Fixed) (agent : Agent) → ValidOr fixed agent → (txn_run : TransactionRun) (outcome : Proposal) (phase : Phase) → agent.doing ≡ Some (Running txn_run) → txn_run.phase ≡ phase
     → (Keeps fixed txn_run.task txn_run.suites phase → Came fixed txn_run.task txn_run.suites outcome) → CameWell fixed txn_run outcome
 came_at fixed agent (inl idle) txn_run outcome phase running at came = absurd (false≢true (ap is_idle (sym running) ∙ idle))
 came_at fixed agent (inr is) txn_run outcome phase running at came =
     let knows = knows_now fixed agent is txn_run running in
     record { came = came (subst (Keeps fixed txn_run.task txn_run.suites) at knows.0); valid = knows.1 }
 
-pub came_well : (fixed : Fixed) (agent : Agent) → ValidOr fixed agent → (txn_run : TransactionRun) (outcome : Outcome) → agent.doing ≡ Some (Running txn_run) → txn_run.phase ≡ Deciding outcome → CameWell fixed txn_run outcome
+pub came_well : (fixed : Fixed) (agent : Agent) → ValidOr fixed agent → (txn_run : TransactionRun) (outcome : Proposal) → agent.doing ≡ Some (Running txn_run) → txn_run.phase ≡ Deciding outcome → CameWell fixed txn_run outcome
 came_well fixed agent valid txn_run outcome running phase = came_at fixed agent valid txn_run outcome (Deciding outcome) running phase (λ came. came)
 
-pub came_preparing : (fixed : Fixed) (agent : Agent) → ValidOr fixed agent → (txn_run : TransactionRun) (servers : List ℕ) (outcome : Outcome) → agent.doing ≡ Some (Running txn_run) → txn_run.phase ≡ Preparing servers outcome → CameWell fixed txn_run outcome
+pub came_preparing : (fixed : Fixed) (agent : Agent) → ValidOr fixed agent → (txn_run : TransactionRun) (servers : List ℕ) (outcome : Proposal) → agent.doing ≡ Some (Running txn_run) → txn_run.phase ≡ Preparing servers outcome → CameWell fixed txn_run outcome
 came_preparing fixed agent valid txn_run servers outcome running phase = came_at fixed agent valid txn_run outcome (Preparing servers outcome) running phase (λ came. came)

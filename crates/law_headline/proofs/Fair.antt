@@ -29,7 +29,7 @@ use Rattle.file_exec.proofs.Unset.{changes_are_held}
 use Rattle.file_exec.proofs.VotesRead.{knows_whose_votes}
 use Rattle.txn_core.specs.Suites.{ReadPoint, Suite, Suites, suite_of, row_with, known_row, known_of}
 use Rattle.txn_core.specs.Writing.{change_of, prefix_kind}
-use Rattle.txn_core.specs.Doing.{Fixed, Task, Outcome}
+use Rattle.txn_core.specs.Doing.{Fixed, Task, Proposal}
 use Rattle.txn_core.specs.Transactions.{changes_of}
 use Rattle.txn_core.proofs.Setting.{known_at}
 use Rattle.law_runs.proofs.Executed.{set_by, Came}
@@ -147,7 +147,7 @@ pub record Leaves (suite : Suite) (first : ReadPoint) (change : executor.Change)
   pub fair : IsFair suite first change
   pub kind : change.content ≡ false → prefix_kind (kind_of change.row.content) ≡ first.prefix.kind
 
-module _ (fixed : Fixed) (task : Task) (suites : Suites) (outcome : Outcome) (z : ℕ) (suite : Suite) (first : ReadPoint) (change : executor.Change)
+module _ (fixed : Fixed) (task : Task) (suites : Suites) (outcome : Proposal) (z : ℕ) (suite : Suite) (first : ReadPoint) (change : executor.Change)
     (there : suite_of suites z ≡ Some suite) (was : suite.first ≡ Some first) (set : change_of (changes_of outcome) z ≡ Some change) (c0 : IsValid fixed.service.c0) (valid : AllGiveValidVotes task.ops)
     (fits : (c : Content) → suite.content ≡ Some c → FitsAs first.prefix.kind c) (votes : IsValid first.prefix.votes) where
   by_edits : (before : known.Known) → ((rows : ℕ → Option Row) → AgreesWith (known_of suites) rows → AgreesWith before rows) → (ended : Ended (List Answer)) → exec_of fixed.service before task.t task.caller task.ops ≡ Done (Ok ended)

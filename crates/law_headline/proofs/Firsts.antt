@@ -26,7 +26,7 @@ use Rattle.txn_core.specs.declared.response.Response.TheVariants.{Replied, Lacke
 use Rattle.txn_core.specs.declared.ending.Cause.{Cause}
 use Rattle.txn_core.specs.declared.ending.Cause.TheVariants.{Lost}
 use Rattle.txn_core.specs.declared.ending.Ending.{Ending}
-use Rattle.txn_core.specs.Doing.{Granted, Fixed, Task, Outcome, Phase, Gathering, Fetching, Widening, Preparing, Deciding, Finishing, Changes, TransactionRun, SweepRun, Doing, Running, RunningSweep, After, GoesOn, Ends}
+use Rattle.txn_core.specs.Doing.{Granted, Fixed, Task, Proposal, Phase, Gathering, Fetching, Widening, Preparing, Deciding, Finishing, Changes, TransactionRun, SweepRun, Doing, Running, RunningSweep, After, GoesOn, Ends}
 use Rattle.txn_core.specs.Transactions.{Step, Gathered, tell_end, give_up, prepare, locked_at, short_cause, gather_by, widen_by, widen_one, widened, widen_all, opened, or_all, open_needed, open_suite, open_first, opened_with, free_content, heard_on, raised_or_new, keep_content, heard_of, said_to, proceed, execute, collected, hear, fetched, after_lack, after_response, given_in, lack_cause, verdict_in, ending_by, cause_of_abort}
 use Rattle.txn_core.proofs.Gathers.{Each, each_but, each_with, tell_start}
 -- a suite whose content is fetched has one of a version above 0
@@ -117,7 +117,7 @@ module _ (fixed : Fixed) (task : Task) where
   first_give_up : (cache : Cache) (suites : Suites) (cause : Cause) → AllFirst suites → Firsts (give_up task cache suites cause)
   first_give_up cache suites cause all = first_end cache suites _ _ (locked_at suites) all
 
-  first_prepare : (cache : Cache) (suites : Suites) (outcome : Outcome) (servers : List ℕ) → AllFirst suites → Firsts (prepare task cache suites outcome servers)
+  first_prepare : (cache : Cache) (suites : Suites) (outcome : Proposal) (servers : List ℕ) → AllFirst suites → Firsts (prepare task cache suites outcome servers)
   first_prepare cache suites outcome [] all = all
   first_prepare cache suites outcome (server ∷ servers) all = all
 

@@ -6,7 +6,7 @@ use Rattle.file_exec.specs.declared.changes.Change as executor
 use Rattle.suite_collect.specs.Collecting.{all_told}
 use Rattle.txn_core.specs.Suites.{ReadPoint, Suite, suite_of, told_in}
 use Rattle.txn_core.specs.Writing.{change_of, part_of}
-use Rattle.txn_core.specs.Doing.{Fixed, Outcome, Deciding, TransactionRun, Running}
+use Rattle.txn_core.specs.Doing.{Fixed, Proposal, Deciding, TransactionRun, Running}
 use Rattle.txn_core.specs.Transactions.{changes_of}
 use Rattle.txn_core.specs.Agents.{Agent, fixed_of, is_idle}
 use Rattle.txn_core.specs.Laws.{IsReady}
@@ -30,24 +30,24 @@ use Rattle.law_headline.proofs.Firsts.{firsts_given}
 use Rattle.law_headline.proofs.Together.{Together}
 
 -- of a transaction that decides, for a suite of which it had a Current
-pub record LeftOf (z : ℕ) (w : World) (txn_run : TransactionRun) (outcome : Outcome) (suite : Suite) (first : ReadPoint) : Type 0 where
+pub record LeftOf (z : ℕ) (w : World) (txn_run : TransactionRun) (outcome : Proposal) (suite : Suite) (first : ReadPoint) : Type 0 where
   pub fair : (change : executor.Change) → change_of (changes_of outcome) z ≡ Some change → IsFair suite first change  -- its operations leave what they do not set
   pub prepared : (i : ℕ) → IsTrue (holds_exclusively w txn_run.task.t i) → PreparedPart w txn_run.task.t i (part_of (changes_of outcome) i (z, suite))  -- and it prepared what it is to write
 
 -- in one world
 abbrev pub Left : ℕ → World → worlds.World → Type 0
 Left z w world =
-    (number : ℕ) (actor : Actor) (txn_run : TransactionRun) (outcome : Outcome) (suite : Suite) (first : ReadPoint) → actor_at world number ≡ Some actor → actor.agent.doing ≡ Some (Running txn_run) → txn_run.phase ≡ Deciding outcome
+    (number : ℕ) (actor : Actor) (txn_run : TransactionRun) (outcome : Proposal) (suite : Suite) (first : ReadPoint) → actor_at world number ≡ Some actor → actor.agent.doing ≡ Some (Running txn_run) → txn_run.phase ≡ Deciding outcome
     → w.verdict txn_run.task.t ≡ None → suite_of txn_run.suites z ≡ Some suite → suite.first ≡ Some first → LeftOf z w txn_run outcome suite first
 
 -- ready to be decided, as every agent of a job
-is_ready : (fixed : Fixed) (agent : Agent) (z : ℕ) → IdleOr fixed agent → (txn_run : TransactionRun) (outcome : Outcome) → agent.doing ≡ Some (Running txn_run) → txn_run.phase ≡ Deciding outcome → (suite : Suite) → suite_of txn_run.suites z ≡ Some suite → IsReady suite z (changes_of outcome)
+is_ready : (fixed : Fixed) (agent : Agent) (z : ℕ) → IdleOr fixed agent → (txn_run : TransactionRun) (outcome : Proposal) → agent.doing ≡ Some (Running txn_run) → txn_run.phase ≡ Deciding outcome → (suite : Suite) → suite_of txn_run.suites z ≡ Some suite → IsReady suite z (changes_of outcome)
 is_ready fixed agent z (inl idle) txn_run outcome running phase suite there = absurd (false≢true (ap is_idle (sym running) ∙ idle))
 is_ready fixed agent z (inr is) txn_run outcome running phase suite there =
     decides_on_quorums fixed is.before is.job is.told txn_run outcome z suite is.idle (ap (λ (agent : Agent). agent.doing) (sym is.is) ∙ running) phase there
 
 -- what is known is owed, and where something is written that
-with_change : (start : Beginning) (w : World) (t : ℕ) (suite : Suite) (first : ReadPoint) (outcome : Outcome) (change : Option executor.Change) → OwesKnown start w t (known_by first suite)
+with_change : (start : Beginning) (w : World) (t : ℕ) (suite : Suite) (first : ReadPoint) (outcome : Proposal) (change : Option executor.Change) → OwesKnown start w t (known_by first suite)
     → ((one : executor.Change) → change ≡ Some one → OwesWritten start w t (known_by first suite) (change_to first one)) → OwesWith start w t (known_by first suite) outcome (written_from (Some first) change)
 with_change start w t suite first (Err refusal) change known written = known
 with_change start w t suite first (Ok granted) None known written = known
@@ -57,7 +57,7 @@ module _ (given : Opening) (z : ℕ) (w : World) (world : worlds.World) (now : T
   abbrev start : Beginning
   start = beginning z given
 
-  module _ (number : ℕ) (actor : Actor) (txn_run : TransactionRun) (outcome : Outcome) (there : actor_at world number ≡ Some actor) (running : actor.agent.doing ≡ Some (Running txn_run)) (phase : txn_run.phase ≡ Deciding outcome) where
+  module _ (number : ℕ) (actor : Actor) (txn_run : TransactionRun) (outcome : Proposal) (there : actor_at world number ≡ Some actor) (running : actor.agent.doing ≡ Some (Running txn_run)) (phase : txn_run.phase ≡ Deciding outcome) where
     abbrev t : ℕ
     t = txn_run.task.t
 

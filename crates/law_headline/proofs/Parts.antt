@@ -27,7 +27,7 @@ use Rattle.txn_core.specs.declared.ending.Cause.{Cause}
 use Rattle.txn_core.specs.declared.ending.Cause.TheVariants.{Lost}
 use Rattle.txn_core.specs.declared.ending.Ending.{Ending}
 use Rattle.txn_core.specs.declared.ending.Ending.TheVariants.{Undecided}
-use Rattle.txn_core.specs.Doing.{Changes, Fixed, Task, Outcome, Phase, Gathering, Fetching, Widening, Preparing, Deciding, Finishing, TransactionRun, SweepRun, Doing, Running, RunningSweep, After, GoesOn, Ends}
+use Rattle.txn_core.specs.Doing.{Changes, Fixed, Task, Proposal, Phase, Gathering, Fetching, Widening, Preparing, Deciding, Finishing, TransactionRun, SweepRun, Doing, Running, RunningSweep, After, GoesOn, Ends}
 use Rattle.txn_core.specs.Transactions.{execute, tell_end, give_up, prepare, locked_at, changes_of, lack_cause, verdict_in, ending_by, cause_of_abort}
 use Rattle.txn_core.specs.Sweeps as sweep
 use Rattle.txn_core.specs.Agents.{Agent, next_in, take_in, left}
@@ -39,7 +39,7 @@ use Rattle.law_run_machine.proofs.Turned.{same_or}
 use Rattle.law_run_quorums.specs.Fairness.{PreparedPart}
 
 -- at a server the transaction has prepared its part of the suite
-abbrev pub IsPrepared : ℕ → World → ℕ → Suites → Outcome → ℕ → Type 0
+abbrev pub IsPrepared : ℕ → World → ℕ → Suites → Proposal → ℕ → Type 0
 IsPrepared z w t suites outcome i = (suite : Suite) → suite_of suites z ≡ Some suite → PreparedPart w t i (part_of (changes_of outcome) i (z, suite))
 
 -- each server that holds a lock on the suite is still to prepare, or has prepared its part
@@ -141,13 +141,13 @@ pub prepared_begin : (z : ℕ) (w : World) (task : Task) (fixed : Fixed) (cache 
 prepared_begin z w task fixed cache = from_unprepared z w _ (readying_left z (unprepared w) task.t _ (ready_begin z (unprepared w) task fixed cache))
 
 -- what a Prepare that is answered Prepared leaves in the books: the part here, and at others what was there
-pub record Prepares (z : ℕ) (w later : World) (before : TransactionRun) (outcome : Outcome) (now : ℕ) : Type 0 where
+pub record Prepares (z : ℕ) (w later : World) (before : TransactionRun) (outcome : Proposal) (now : ℕ) : Type 0 where
   pub here : holds Shared (told_at before.suites z) now ≡ true → IsPrepared z later before.task.t before.suites outcome now
   pub elsewhere : (i : ℕ) → (i ≡ now → ⊥) → later.ready i before.task.t ≡ w.ready i before.task.t
 
 abbrev pub PreparesPart : ℕ → World → World → Option Doing → Response → Type 0
 PreparesPart z w later doing response =
-    (before : TransactionRun) (now : ℕ) (left : List ℕ) (outcome : Outcome) → doing ≡ Some (Running before) → before.phase ≡ Preparing (now ∷ left) outcome → response ≡ Replied reply.Prepared → Prepares z w later before outcome now
+    (before : TransactionRun) (now : ℕ) (left : List ℕ) (outcome : Proposal) → doing ≡ Some (Running before) → before.phase ≡ Preparing (now ∷ left) outcome → response ≡ Replied reply.Prepared → Prepares z w later before outcome now
 
 said_prepared : (said : Reply) → is_prepared said ≡ true → said ≡ reply.Prepared
 said_prepared reply.Prepared is = refl
@@ -173,7 +173,7 @@ module _ (z : ℕ) (later : World) (task : Task) where
   prepared_give_up : (cache : Cache) (suites : Suites) (cause : Cause) → DoingPrepared z later (left Running (give_up task cache suites cause).after)
   prepared_give_up cache suites cause = prepared_end cache suites verdict.Aborted (Undecided cause) (locked_at suites)
 
-  prepared_rest : (cache : Cache) (suites : Suites) (outcome : Outcome) (servers : List ℕ) → ((i : ℕ) → i < max_servers → holds Shared (told_at suites z) i ≡ true → Has servers i ⊎ IsPrepared z later task.t suites outcome i)
+  prepared_rest : (cache : Cache) (suites : Suites) (outcome : Proposal) (servers : List ℕ) → ((i : ℕ) → i < max_servers → holds Shared (told_at suites z) i ≡ true → Has servers i ⊎ IsPrepared z later task.t suites outcome i)
       → DoingPrepared z later (left Running (prepare task cache suites outcome servers).after)
   prepared_rest cache suites outcome [] is = λ i small held. elim (is i small held) [ inl none ↦ absurd none | inr there ↦ there ]
   prepared_rest cache suites outcome (server ∷ servers) is = is
@@ -186,13 +186,13 @@ module _ (z : ℕ) (later : World) (task : Task) where
     Taken phase = DoingPrepared z later (take_in fixed agent response (in_phase phase) (Some asked)).agent.doing
 
     -- where the servers do not prepare nothing is asked of what was prepared
-    unasked : (phase : Phase) → next_in fixed (in_phase phase) ≡ Some asked → ReadyIn z (unprepared later) task.t suites phase → ((now : ℕ) (left : List ℕ) (outcome : Outcome) → phase ≡ Preparing (now ∷ left) outcome → ⊥) → Taken phase
+    unasked : (phase : Phase) → next_in fixed (in_phase phase) ≡ Some asked → ReadyIn z (unprepared later) task.t suites phase → ((now : ℕ) (left : List ℕ) (outcome : Proposal) → phase ≡ Preparing (now ∷ left) outcome → ⊥) → Taken phase
     unasked phase is ready other =
         from_unprepared z later (take_in fixed agent response (in_phase phase) (Some asked)).agent.doing
         (take_readying z (unprepared later) (unprepared later) fixed agent response (in_phase phase) asked (λ i u is. is) is ready (λ before now left outcome running at said held. absurd (other now left outcome (ap phase_or running ∙ at))))
 
     parts_response : (phase : Phase) → next_in fixed (in_phase phase) ≡ Some asked → PartsIn z w task.t suites phase
-        → ((now : ℕ) (left : List ℕ) (outcome : Outcome) → phase ≡ Preparing (now ∷ left) outcome → response ≡ Replied reply.Prepared → Prepares z w later (record { task = task; suites = suites; phase = phase }) outcome now)
+        → ((now : ℕ) (left : List ℕ) (outcome : Proposal) → phase ≡ Preparing (now ∷ left) outcome → response ≡ Replied reply.Prepared → Prepares z w later (record { task = task; suites = suites; phase = phase }) outcome now)
         → Taken phase
     parts_response (Gathering number) is parts now = unasked (Gathering number) is tt (λ now left outcome same. cc)
     parts_response (Fetching number) is parts now = unasked (Fetching number) is tt (λ now left outcome same. cc)

@@ -23,7 +23,7 @@ use Rattle.txn_core.specs.declared.response.Response.{Response}
 use Rattle.txn_core.specs.declared.response.Response.TheVariants.{Replied, Lacked}
 use Rattle.txn_core.specs.declared.job.Job.{Job}
 use Rattle.txn_core.specs.declared.job.Job.TheVariants.{Transaction, Sweep}
-use Rattle.txn_core.specs.Doing.{Outcome, Phase, Gathering, Fetching, Widening, Preparing, Deciding, Finishing, TransactionRun, Doing, Running, RunningSweep}
+use Rattle.txn_core.specs.Doing.{Proposal, Phase, Gathering, Fetching, Widening, Preparing, Deciding, Finishing, TransactionRun, Doing, Running, RunningSweep}
 use Rattle.txn_core.specs.Transactions.{request_in, changes_of}
 use Rattle.txn_core.specs.Agents.{Agent, fixed_of, next_in, next_of, take, take_in, begin, started, forget, is_idle, has_sense, max_jobs}
 use Rattle.txn_core.specs.Agents as agents
@@ -59,20 +59,20 @@ use Rattle.law_headline.proofs.Together.{Together}
 -- ---- a request that is served prepares for its own transaction alone
 
 -- nothing is prepared by a decision
-by_with : (start : Beginning) (w v : World) (t : ℕ) (known : Known) (outcome : Outcome) (new : Option Change) → (happens start w (decides_with v t known outcome new)).ready ≡ w.ready
+by_with : (start : Beginning) (w v : World) (t : ℕ) (known : Known) (outcome : Proposal) (new : Option Change) → (happens start w (decides_with v t known outcome new)).ready ≡ w.ready
 by_with start w v t known (Err refusal) new = refl
 by_with start w v t known (Ok granted) None = refl
 by_with start w v t known (Ok granted) (Some new) = refl
 
-by_without : (start : Beginning) (w : World) (t : ℕ) (outcome : Outcome) → (happens start w (decides_without t outcome)).ready ≡ w.ready
+by_without : (start : Beginning) (w : World) (t : ℕ) (outcome : Proposal) → (happens start w (decides_without t outcome)).ready ≡ w.ready
 by_without start w t (Ok granted) = refl
 by_without start w t (Err refusal) = refl
 
-by_first : (start : Beginning) (w v : World) (t : ℕ) (outcome : Outcome) (new : Option Change) (suite : Suite) (first : Option ReadPoint) → (happens start w (decides_first v t outcome new suite first)).ready ≡ w.ready
+by_first : (start : Beginning) (w v : World) (t : ℕ) (outcome : Proposal) (new : Option Change) (suite : Suite) (first : Option ReadPoint) → (happens start w (decides_first v t outcome new suite first)).ready ≡ w.ready
 by_first start w v t outcome new suite (Some first) = by_with start w v t (known_by first suite) outcome new
 by_first start w v t outcome new suite None = by_without start w t outcome
 
-by_on : (start : Beginning) (w v : World) (t : ℕ) (outcome : Outcome) (new : Option Change) (found : Option Suite) → (happens start w (decides_on v t outcome new found)).ready ≡ w.ready
+by_on : (start : Beginning) (w v : World) (t : ℕ) (outcome : Proposal) (new : Option Change) (found : Option Suite) → (happens start w (decides_on v t outcome new found)).ready ≡ w.ready
 by_on start w v t outcome new (Some suite) = by_first start w v t outcome new suite suite.first
 by_on start w v t outcome new None = by_without start w t outcome
 
@@ -116,14 +116,14 @@ module _ (start : Beginning) (z : ℕ) (home : ℕ → ℕ) (decision : Event) (
 
 -- what an agent does by itself prepares nothing
 module _ (start : Beginning) (z t : ℕ) (w : World) where
-  ready_aims : (before : Option Outcome) (after : Option Doing) → (run start w (aims z t before after)).ready ≡ w.ready
+  ready_aims : (before : Option Proposal) (after : Option Doing) → (run start w (aims z t before after)).ready ≡ w.ready
   ready_aims before (Some (Running txn_run)) = of before (fixed_in txn_run.phase)
     where
       aim : (new : Option Change) → (run start w (aim_of t new)).ready ≡ w.ready
       aim (Some new) = refl
       aim None = refl
 
-      of : (before after : Option Outcome) → (run start w (aims_once z t txn_run.suites before after)).ready ≡ w.ready
+      of : (before after : Option Proposal) → (run start w (aims_once z t txn_run.suites before after)).ready ≡ w.ready
       of None (Some outcome) = aim (to_write z txn_run.suites outcome)
       of None None = refl
       of (Some old) None = refl
@@ -346,7 +346,7 @@ opens_prepared given z n actor there =
 
 -- each server that holds an exclusive lock has prepared its part
 prepared_at : (z : ℕ) (w : World) (world : worlds.World) → AllAgree z w world → ToldBelow w → AllPrepared z w world
-    → (number : ℕ) (actor : Actor) (txn_run : TransactionRun) (outcome : Outcome) (suite : Suite) → actor_at world number ≡ Some actor → actor.agent.doing ≡ Some (Running txn_run) → txn_run.phase ≡ Deciding outcome
+    → (number : ℕ) (actor : Actor) (txn_run : TransactionRun) (outcome : Proposal) (suite : Suite) → actor_at world number ≡ Some actor → actor.agent.doing ≡ Some (Running txn_run) → txn_run.phase ≡ Deciding outcome
     → suite_of txn_run.suites z ≡ Some suite → (i : ℕ) → IsTrue (holds_exclusively w txn_run.task.t i) → PreparedPart w txn_run.task.t i (part_of (changes_of outcome) i (z, suite))
 prepared_at z w world agree below all number actor txn_run outcome suite there running phase found i held =
     let agrees : DoingAgrees z w (Some (Running txn_run)) = subst (DoingAgrees z w) running (agree number actor there) in
@@ -363,6 +363,6 @@ prepared_at z w world agree below all number actor txn_run outcome suite there r
 
 -- with all that holds together
 pub prepared_left : (given : Opening) (z : ℕ) (w : World) (world : worlds.World) → Together given z w world → AllPrepared z w world
-    → (number : ℕ) (actor : Actor) (txn_run : TransactionRun) (outcome : Outcome) (suite : Suite) → actor_at world number ≡ Some actor → actor.agent.doing ≡ Some (Running txn_run) → txn_run.phase ≡ Deciding outcome
+    → (number : ℕ) (actor : Actor) (txn_run : TransactionRun) (outcome : Proposal) (suite : Suite) → actor_at world number ≡ Some actor → actor.agent.doing ≡ Some (Running txn_run) → txn_run.phase ≡ Deciding outcome
     → suite_of txn_run.suites z ≡ Some suite → (i : ℕ) → IsTrue (holds_exclusively w txn_run.task.t i) → PreparedPart w txn_run.task.t i (part_of (changes_of outcome) i (z, suite))
 prepared_left given z w world now all = prepared_at z w world now.agrees now.readied.below all

@@ -10,7 +10,7 @@ use Rattle.file_exec.specs.KnownSuites.{KnownSuite}
 use Rattle.file_exec.specs.Known as known
 use Rattle.file_exec.specs.Known.{IsSo, IsSoAt, AgreesWith}
 use Rattle.txn_core.specs.Suites.{ReadPoint, Suite, Suites, suite_of, row_with, known_row, known_of}
-use Rattle.txn_core.specs.Doing.{Task, Outcome}
+use Rattle.txn_core.specs.Doing.{Task, Proposal}
 use Rattle.txn_core.proofs.Growing.{known_from}
 use Rattle.law_suite_machine.specs.Registers.{Beginning, Known, Change, IsKnown, IsPlain, row}
 use Rattle.law_suite_machine.specs.Machine.{World}
@@ -21,13 +21,13 @@ use Rattle.law_one_table.proofs.Shown.{IsShown, is_so}
 
 -- ---- what a decision knew
 
-pub known_by_plain : (start : Beginning) (w : World) (t : ℕ) (known : Known) (outcome : Outcome) (new : Option Change) → IsPlain start (happens start w (decides_with w t known outcome new)).log → IsKnown (row start w.log) known
+pub known_by_plain : (start : Beginning) (w : World) (t : ℕ) (known : Known) (outcome : Proposal) (new : Option Change) → IsPlain start (happens start w (decides_with w t known outcome new)).log → IsKnown (row start w.log) known
 known_by_plain start w t known (Err refusal) new plain = plain.0
 known_by_plain start w t known (Ok granted) None plain = plain.0
 known_by_plain start w t known (Ok granted) (Some new) plain = plain.0
 
 -- a decision on a suite that had a first Current
-pub decision_is : (z : ℕ) (w : World) (task : Task) (suites : Suites) (outcome : Outcome) (suite : Suite) (first : ReadPoint) → suite_of suites z ≡ Some suite → suite.first ≡ Some first
+pub decision_is : (z : ℕ) (w : World) (task : Task) (suites : Suites) (outcome : Proposal) (suite : Suite) (first : ReadPoint) → suite_of suites z ≡ Some suite → suite.first ≡ Some first
     → decision_with z w task suites outcome ≡ decides_with w task.t (known_by first suite) outcome (to_write z suites outcome)
 decision_is z w task suites outcome suite first there was =
     ap (decides_on w task.t outcome (to_write z suites outcome)) there ∙ ap (decides_first w task.t outcome (to_write z suites outcome) suite) was

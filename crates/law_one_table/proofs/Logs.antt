@@ -20,7 +20,7 @@ use Rattle.txn_core.specs.declared.job.Job.{Job}
 use Rattle.txn_core.specs.declared.response.Response.{Response}
 use Rattle.txn_core.specs.declared.response.Response.TheVariants.{Replied, Lacked}
 use Rattle.txn_core.specs.Suites.{Suites}
-use Rattle.txn_core.specs.Doing.{Task, Outcome, Doing, Running, RunningSweep}
+use Rattle.txn_core.specs.Doing.{Task, Proposal, Doing, Running, RunningSweep}
 use Rattle.txn_core.specs.Transactions.{decision_of}
 use Rattle.txn_core.specs.Sweeps.{asked_now}
 use Rattle.txn_core.specs.Laws.{is_decide}
@@ -57,13 +57,13 @@ same_aim : (start : Beginning) (t : ℕ) (new : Option Change) (later : List Eve
 same_aim start t (Some new) later same = λ w. same (aimed w t new)
 same_aim start t None later same = same
 
-same_once : (start : Beginning) (z t : ℕ) (suites : Suites) (before after : Option Outcome) (later : List Event) → SameLog start later → SameLog start (aims_once z t suites before after ++ later)
+same_once : (start : Beginning) (z t : ℕ) (suites : Suites) (before after : Option Proposal) (later : List Event) → SameLog start later → SameLog start (aims_once z t suites before after ++ later)
 same_once start z t suites None (Some outcome) later same = same_aim start t (to_write z suites outcome) later same
 same_once start z t suites None None later same = same
 same_once start z t suites (Some old) None later same = same
 same_once start z t suites (Some old) (Some outcome) later same = same
 
-same_aims : (start : Beginning) (z t : ℕ) (before : Option Outcome) (after : Option Doing) (later : List Event) → SameLog start later → SameLog start (aims z t before after ++ later)
+same_aims : (start : Beginning) (z t : ℕ) (before : Option Proposal) (after : Option Doing) (later : List Event) → SameLog start later → SameLog start (aims z t before after ++ later)
 same_aims start z t before (Some (Running txn_run)) later same = same_once start z t txn_run.suites before (fixed_in txn_run.phase) later same
 same_aims start z t before (Some (RunningSweep sweep_run)) later same = same
 same_aims start z t before None later same = same
@@ -147,13 +147,13 @@ module _ (given : Opening) (z : ℕ) (w : World) (world : worlds.World) (shows :
 
   -- ---- a Decide
 
-  by_record : (task : Task) (outcome : Outcome) (decision : Event) (old : Option replied.Verdict)
+  by_record : (task : Task) (outcome : Proposal) (decision : Event) (old : Option replied.Verdict)
       → LogIs start decision w (cond (is_some old) None (decided_as (Some task) (decisions.answer_of (recorded old (verdict_of (decision_of task outcome)))))) (run start w (first_verdict (views.verdict_of old) decision)).log
   by_record task outcome decision (Some old) = refl
   by_record task (Ok granted) decision None = refl
   by_record task (Err refusal) decision None = refl
 
-  decide_log : (task : Task) (outcome : Outcome) (decision : Event) (i : ℕ) (st : State) → server_at world i ≡ Some st → i ≡ home_in given task.t
+  decide_log : (task : Task) (outcome : Proposal) (decision : Event) (i : ℕ) (st : State) → server_at world i ≡ Some st → i ≡ home_in given task.t
       → LogIs start decision w (decides_at st task (request.Decide task.t (decision_of task outcome)) (reply_of st (request.Decide task.t (decision_of task outcome))))
       (run start w (moves z (home_in given) decision i w (request.Decide task.t (decision_of task outcome)) (reply_of st (request.Decide task.t (decision_of task outcome))))).log
   decide_log task outcome decision i st there home =

@@ -19,7 +19,7 @@ use Rattle.file_exec.proofs.Leading.{changes_lead_on}
 use Rattle.file_exec.proofs.Unset.{changes_are_held}
 use Rattle.txn_core.specs.Suites.{ReadPoint, Suite, Suites, suite_of, known_of}
 use Rattle.txn_core.specs.Writing.{change_of}
-use Rattle.txn_core.specs.Doing.{Granted, Fixed, Task, Outcome}
+use Rattle.txn_core.specs.Doing.{Granted, Fixed, Task, Proposal}
 use Rattle.txn_core.proofs.Growing.{known_from, IsOfSuite}
 use Rattle.law_runs.proofs.Executed.{given_by, set_by, answer_as, Came}
 use Rattle.law_suite_machine.specs.Registers.{Beginning, Change, changed, row}
@@ -104,7 +104,7 @@ module _ (start : Beginning) (z : ℕ) (w : World) (fixed : Fixed) (task : Task)
       of ordered None at some = absurd (false≢true some)
       of ordered (Some it) at some = had_first suites z it (known_from suites z it ordered at)
 
-  by_result : (outcome : Outcome) (came : Came fixed task suites outcome) (result : Result (Ended (List Answer)) Refusal) → came.result ≡ result → answer_as outcome ≡ given_by result
+  by_result : (outcome : Proposal) (came : Came fixed task suites outcome) (result : Result (Ended (List Answer)) Refusal) → came.result ≡ result → answer_as outcome ≡ given_by result
       → IsShown (row start (happens start w (decision_with z w task suites outcome)).log) (row_of (rows_after rows result) z)
   by_result (Ok granted) came (Ok ended) is same =
       by_change granted came ended is (get nat_cmp (changes.changes_of came.before ended.edits) z) refl
@@ -113,5 +113,5 @@ module _ (start : Beginning) (z : ℕ) (w : World) (fixed : Fixed) (task : Task)
   by_result (Err why) came (Ok ended) is same = cc
   by_result (Err why) came (Err refusal) is same = subst (λ held. IsShown held (row_of rows z)) (sym (refused_keeps start w task.t why (to_write z suites (Err why)) (suite_of suites z))) shown
 
-  pub decision_leads : (outcome : Outcome) (came : Came fixed task suites outcome) → IsShown (row start (happens start w (decision_with z w task suites outcome)).log) (row_of (rows_after rows came.result) z)
+  pub decision_leads : (outcome : Proposal) (came : Came fixed task suites outcome) → IsShown (row start (happens start w (decision_with z w task suites outcome)).log) (row_of (rows_after rows came.result) z)
   decision_leads outcome came = by_result outcome came came.result refl came.answered

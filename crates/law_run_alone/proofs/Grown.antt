@@ -18,7 +18,7 @@ use Rattle.file_ops.specs.Rows.{made_number}
 use Rattle.file_exec.specs.declared.changes.Change as executor
 use Rattle.txn_core.specs.Suites.{ReadPoint, Suite, suite_of}
 use Rattle.txn_core.specs.Writing.{change_of, prefix_kind}
-use Rattle.txn_core.specs.Doing.{Outcome, Deciding, Phase, Gathering, Fetching, Widening, Preparing, Finishing, TransactionRun, Doing, Running, RunningSweep}
+use Rattle.txn_core.specs.Doing.{Proposal, Deciding, Phase, Gathering, Fetching, Widening, Preparing, Finishing, TransactionRun, Doing, Running, RunningSweep}
 use Rattle.txn_core.specs.Transactions.{changes_of}
 use Rattle.txn_core.specs.Agents.{Agent, fixed_of}
 use Rattle.run_core.specs.declared.event.Event as happening
@@ -151,7 +151,7 @@ new_in_log entry log distinct = not_among (transaction entry) (map transaction l
 
 -- what is written there
 module _ (start : Beginning) (z : ℕ) (w : World) (grown : Grown z start w.log) where
-  with_change : (t : ℕ) (suite : Suite) (first : ReadPoint) (outcome : Outcome) (change : Option executor.Change)
+  with_change : (t : ℕ) (suite : Suite) (first : ReadPoint) (outcome : Proposal) (change : Option executor.Change)
       → ((one : executor.Change) → change ≡ Some one → IsKnown (row start w.log) (known_by first suite) → (one.made ≡ true → IsNumber t z) × (one.made ≡ false → prefix_kind (kind_of one.row.content) ≡ first.prefix.kind))
       → IsPlain start (happens start w (decides_with w t (known_by first suite) outcome (written_from (Some first) change))).log
       → IsDistinct nat_eq (map transaction (happens start w (decides_with w t (known_by first suite) outcome (written_from (Some first) change))).log)
@@ -168,7 +168,7 @@ module _ (start : Beginning) (z : ℕ) (w : World) (grown : Grown z start w.log)
       of own true is = inr (is_fresh z t start w.log grown (own.0 is) (new_in_log (Wrote t (known_by first suite) (changed (change_to first one) (row start w.log))) w.log distinct), own.0 is)
       of own false is = inl (own.1 is ∙ ap (λ (prefix : Prefix). prefix.kind) plain.0.prefix)
 
-  without : (t : ℕ) (outcome : Outcome) → Grown z start (happens start w (decides_without t outcome)).log
+  without : (t : ℕ) (outcome : Proposal) → Grown z start (happens start w (decides_without t outcome)).log
   without t (Ok granted) = grown
   without t (Err refusal) = grown
 
@@ -176,7 +176,7 @@ module _ (given : Opening) (z : ℕ) (w : World) (inv : Inv (beginning z given) 
   abbrev start : Beginning
   start = beginning z given
 
-  module _ (txn_run : TransactionRun) (outcome : Outcome) (well : CameWell (fixed_of given) txn_run outcome) where
+  module _ (txn_run : TransactionRun) (outcome : Proposal) (well : CameWell (fixed_of given) txn_run outcome) where
     -- what it sets of the suite
     pub own_of : (suite : Suite) (first : ReadPoint) (change : executor.Change) → suite_of txn_run.suites z ≡ Some suite → suite.first ≡ Some first → change_of (changes_of outcome) z ≡ Some change → IsKnown (row start w.log) (known_by first suite)
         → IsOwn txn_run.task.t z txn_run.suites first change

@@ -18,7 +18,7 @@ use Rattle.txn_core.specs.declared.ending.Cause.{Cause}
 use Rattle.txn_core.specs.declared.ending.Cause.TheVariants.{Lost}
 use Rattle.txn_core.specs.declared.ending.Ending.{Ending}
 use Rattle.txn_core.specs.declared.ending.Ending.TheVariants.{Undecided}
-use Rattle.txn_core.specs.Doing.{Fixed, Task, Outcome, Phase, Gathering, Fetching, Widening, Preparing, Deciding, Finishing, TransactionRun, SweepRun, Doing, Running, RunningSweep, After, GoesOn, Ends}
+use Rattle.txn_core.specs.Doing.{Fixed, Task, Proposal, Phase, Gathering, Fetching, Widening, Preparing, Deciding, Finishing, TransactionRun, SweepRun, Doing, Running, RunningSweep, After, GoesOn, Ends}
 use Rattle.txn_core.specs.Transactions.{execute, tell_end, give_up, prepare, locked_at, numbers_from, lack_cause, after_response, verdict_in, ending_by, cause_of_abort}
 use Rattle.txn_core.specs.Sweeps as sweep
 use Rattle.txn_core.specs.Agents.{Agent, Event, Take, Forget, next_of, take_in, take, begin, started, forget, is_idle, has_sense, max_jobs, left, after_all}
@@ -50,11 +50,11 @@ module _ (task : Task) where
   holds_given_up : (cache : Cache) (suites : Suites) (cause : Cause) → HoldsAfter (give_up task cache suites cause).after
   holds_given_up cache suites cause = holds_end cache suites verdict.Aborted (Undecided cause) (locked_at suites)
 
-  holds_prepare : (cache : Cache) (suites : Suites) (outcome : Outcome) (servers : List ℕ) → ((server : ℕ) → Has servers server → has_locks suites server ≡ true) → HoldsAfter (prepare task cache suites outcome servers).after
+  holds_prepare : (cache : Cache) (suites : Suites) (outcome : Proposal) (servers : List ℕ) → ((server : ℕ) → Has servers server → has_locks suites server ≡ true) → HoldsAfter (prepare task cache suites outcome servers).after
   holds_prepare cache suites outcome [] all = tt
   holds_prepare cache suites outcome (server ∷ servers) all = all
 
-  holds_prepares : (cache : Cache) (suites : Suites) (outcome : Outcome) → HoldsAfter (prepare task cache suites outcome (locked_at suites)).after
+  holds_prepares : (cache : Cache) (suites : Suites) (outcome : Proposal) → HoldsAfter (prepare task cache suites outcome (locked_at suites)).after
   holds_prepares cache suites outcome = holds_prepare cache suites outcome (locked_at suites) (λ server has. (has_filter (has_locks suites) (numbers_from 0 max_servers) server has).1)
 
   holds_early : (suites : Suites) (phase : Phase) → IsEarly phase → HoldsAfter (GoesOn (record { task = task; suites = suites; phase = phase }))

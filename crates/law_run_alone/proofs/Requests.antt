@@ -31,7 +31,7 @@ use Rattle.suite_collect.specs.Telling.{holds}
 use Rattle.suite_collect.specs.Collecting.{Poll, Upgrade, Next, Ask, Current, Short, next}
 use Rattle.txn_core.specs.Suites.{ReadPoint, Suite, suite_of, has_locks, holds_lock, holds_exclusively, lock_mode, known_of, told_in, told_at}
 use Rattle.txn_core.specs.Writing.{change_of, take_of_changed, part_of, parts_at}
-use Rattle.txn_core.specs.Doing.{Fixed, home_of, Outcome, Phase, Gathering, Fetching, Widening, Preparing, Deciding, Finishing, TransactionRun, Running}
+use Rattle.txn_core.specs.Doing.{Fixed, home_of, Proposal, Phase, Gathering, Fetching, Widening, Preparing, Deciding, Finishing, TransactionRun, Running}
 use Rattle.txn_core.specs.Transactions.{asked_by, asked_for, fetched_at, fetched_for, request_in, changes_of, decision_of}
 use Rattle.txn_core.specs.Agents.{Agent, fixed_of, next_in, next_of, is_idle}
 use Rattle.txn_core.specs.Laws.{is_prepare}
@@ -193,7 +193,7 @@ module _ (given : Opening) (c0 : IsValid given.c0) (world : worlds.World) (event
 
   -- ---- preparing
 
-  module _ (server : ℕ) (left : List ℕ) (outcome : Outcome) (phase : txn_run.phase ≡ Preparing (server ∷ left) outcome) (stood : (z : ℕ) → Stands (machines z) t) (st : State) (at : server_at world server ≡ Some st) where
+  module _ (server : ℕ) (left : List ℕ) (outcome : Proposal) (phase : txn_run.phase ≡ Preparing (server ∷ left) outcome) (stood : (z : ℕ) → Stands (machines z) t) (st : State) (at : server_at world server ≡ Some st) where
     well : CameWell fixed txn_run outcome
     well = came_preparing fixed actor.agent (now.valid number actor there) txn_run (server ∷ left) outcome running phase
 

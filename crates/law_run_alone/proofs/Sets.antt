@@ -30,7 +30,7 @@ use Rattle.file_exec.proofs.Leading.{changes_by_suite}
 use Rattle.file_exec.proofs.Unset.{changes_are_held}
 use Rattle.txn_core.specs.Suites.{ReadPoint, Suite, Suites, suite_of, row_with, known_of}
 use Rattle.txn_core.specs.Writing.{change_of, prefix_kind}
-use Rattle.txn_core.specs.Doing.{Fixed, Task, Outcome}
+use Rattle.txn_core.specs.Doing.{Fixed, Task, Proposal}
 use Rattle.txn_core.specs.Transactions.{changes_of}
 use Rattle.txn_core.proofs.Setting.{known_at}
 use Rattle.txn_core.proofs.Growing.{known_from}
@@ -94,7 +94,7 @@ number_of_made t (e ∷ edits) z numbered is =
     of true makes is rest = numbered.0 makes
     of false makes is rest = rest is
 
-module _ (fixed : Fixed) (task : Task) (suites : Suites) (outcome : Outcome) (z : ℕ) (suite : Suite) (first : ReadPoint) (change : executor.Change)
+module _ (fixed : Fixed) (task : Task) (suites : Suites) (outcome : Proposal) (z : ℕ) (suite : Suite) (first : ReadPoint) (change : executor.Change)
     (there : suite_of suites z ≡ Some suite) (was : suite.first ≡ Some first) (set : change_of (changes_of outcome) z ≡ Some change) (c0 : IsValid fixed.service.c0) (valid : AllGiveValidVotes task.ops)
     (fits : (c : Content) → suite.content ≡ Some c → FitsAs first.prefix.kind c) where
   by_edits : (before : Known) → ((rows : ℕ → Option Row) → AgreesWith (known_of suites) rows → AgreesWith before rows) → (ended : Ended (List Answer)) → exec_of fixed.service before task.t task.caller task.ops ≡ Done (Ok ended)

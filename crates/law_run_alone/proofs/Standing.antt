@@ -9,7 +9,7 @@ use Rattle.rep_core.specs.declared.request.Request.TheVariants as request
 use Rattle.rep_core.specs.declared.reply.Reply.{Reply}
 use Rattle.rep_core.specs.declared.reply.Reply.TheVariants as reply
 use Rattle.txn_core.specs.Suites.{ReadPoint, Suite, Suites, suite_of}
-use Rattle.txn_core.specs.Doing.{Task, Outcome, Phase, Gathering, Fetching, Widening, Preparing, Deciding, Finishing, Doing, Running, RunningSweep}
+use Rattle.txn_core.specs.Doing.{Task, Proposal, Phase, Gathering, Fetching, Widening, Preparing, Deciding, Finishing, Doing, Running, RunningSweep}
 use Rattle.txn_core.specs.Agents.{Taken}
 use Rattle.law_suite_machine.specs.Registers.{Beginning, Change}
 use Rattle.law_suite_machine.specs.Machine.{Hold, Told, Verdict, World}
@@ -97,13 +97,13 @@ spare_aim : (t : ℕ) (new : Option Change) (later : List Event) → AllSpare la
 spare_aim t (Some new) later spares = (tt, spares)
 spare_aim t None later spares = spares
 
-spare_once : (z t : ℕ) (suites : Suites) (before after : Option Outcome) (later : List Event) → AllSpare later → AllSpare (aims_once z t suites before after ++ later)
+spare_once : (z t : ℕ) (suites : Suites) (before after : Option Proposal) (later : List Event) → AllSpare later → AllSpare (aims_once z t suites before after ++ later)
 spare_once z t suites None (Some outcome) later spares = spare_aim t (to_write z suites outcome) later spares
 spare_once z t suites None None later spares = spares
 spare_once z t suites (Some old) None later spares = spares
 spare_once z t suites (Some old) (Some outcome) later spares = spares
 
-spare_aims : (z t : ℕ) (before : Option Outcome) (after : Option Doing) (later : List Event) → AllSpare later → AllSpare (aims z t before after ++ later)
+spare_aims : (z t : ℕ) (before : Option Proposal) (after : Option Doing) (later : List Event) → AllSpare later → AllSpare (aims z t before after ++ later)
 spare_aims z t before (Some (Running txn_run)) later spares = spare_once z t txn_run.suites before (fixed_in txn_run.phase) later spares
 spare_aims z t before (Some (RunningSweep sweep_run)) later spares = spares
 spare_aims z t before None later spares = spares
@@ -132,17 +132,17 @@ spare_own z None taken = tt
 
 -- ---- what a decision is
 
-spare_without : (t : ℕ) (outcome : Outcome) → Spares (decides_without t outcome)
+spare_without : (t : ℕ) (outcome : Proposal) → Spares (decides_without t outcome)
 spare_without t (Ok granted) = tt
 spare_without t (Err refusal) = tt
 
-spare_first : (w : World) (t : ℕ) (outcome : Outcome) (new : Option Change) (suite : Suite) (first : Option ReadPoint) → Spares (decides_first w t outcome new suite first)
+spare_first : (w : World) (t : ℕ) (outcome : Proposal) (new : Option Change) (suite : Suite) (first : Option ReadPoint) → Spares (decides_first w t outcome new suite first)
 spare_first w t outcome new suite None = spare_without t outcome
 spare_first w t (Err refusal) new suite (Some first) = tt
 spare_first w t (Ok granted) None suite (Some first) = tt
 spare_first w t (Ok granted) (Some new) suite (Some first) = tt
 
-spare_on : (w : World) (t : ℕ) (outcome : Outcome) (new : Option Change) (found : Option Suite) → Spares (decides_on w t outcome new found)
+spare_on : (w : World) (t : ℕ) (outcome : Proposal) (new : Option Change) (found : Option Suite) → Spares (decides_on w t outcome new found)
 spare_on w t outcome new (Some suite) = spare_first w t outcome new suite suite.first
 spare_on w t outcome new None = spare_without t outcome
 

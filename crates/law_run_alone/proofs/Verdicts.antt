@@ -13,7 +13,7 @@ use Rattle.rep_core.specs.Service.{reply_of, recorded, verdict_of}
 use Rattle.txn_core.specs.declared.ending.Cause.{Cause}
 use Rattle.txn_core.specs.declared.ending.Ending.{Ending}
 use Rattle.txn_core.specs.declared.response.Response.TheVariants.{Replied}
-use Rattle.txn_core.specs.Doing.{Fixed, Task, Outcome, Phase, Gathering, Fetching, Widening, Preparing, Deciding, Finishing, TransactionRun, Doing, Running, RunningSweep, After, GoesOn, Ends}
+use Rattle.txn_core.specs.Doing.{Fixed, Task, Proposal, Phase, Gathering, Fetching, Widening, Preparing, Deciding, Finishing, TransactionRun, Doing, Running, RunningSweep, After, GoesOn, Ends}
 use Rattle.txn_core.specs.Transactions.{decision_of, ending_by, request_in}
 use Rattle.txn_core.specs.Laws.{is_decide, said_by}
 use Rattle.txn_core.specs.Agents.{left, end_of}
@@ -135,7 +135,7 @@ module _ (task : Task) (ds : List Decided) (st : State) (new' : NotIn ds task.t)
   aborted (verdict.Refused refusal) is = absurd (new' is.decision is.there is.of_it)
   aborted verdict.Aborted is = refl
 
-  by_record : (outcome : Outcome) (old : Option Verdict) → record_of st task.t ≡ old
+  by_record : (outcome : Proposal) (old : Option Verdict) → record_of st task.t ≡ old
       → Turns task verdict.Aborted (recorded old (verdict_of (decision_of task outcome))) (cond (is_some (record_of st task.t)) None (decided_as (Some task) (answer_of (recorded old (verdict_of (decision_of task outcome))))))
   by_record outcome (Some old) has = inl (record {
     none = ap (λ r. cond (is_some r) None (decided_as (Some task) (answer_of old))) has;
@@ -156,7 +156,7 @@ module _ (task : Task) (ds : List Decided) (st : State) (new' : NotIn ds task.t)
     said = refl;
   })
 
-  pub turns_decide : (outcome : Outcome)
+  pub turns_decide : (outcome : Proposal)
       → Turns task verdict.Aborted (said_by (Replied (reply_of st (request.Decide task.t (decision_of task outcome)))) verdict.Aborted) (decided_at (Some st) (Some task.t) (decided_as (Some task) (answer_in (reply_of st (request.Decide task.t (decision_of task outcome))))))
   turns_decide outcome =
       elim (st.up) as (λ b. Turns task verdict.Aborted

@@ -38,7 +38,7 @@ use Rattle.txn_core.specs.declared.response.Response.TheVariants.{Replied, Lacke
 use Rattle.txn_core.specs.declared.ending.Cause.{Cause}
 use Rattle.txn_core.specs.declared.ending.Cause.TheVariants.{Lost}
 use Rattle.txn_core.specs.declared.ending.Ending.{Ending}
-use Rattle.txn_core.specs.Doing.{Granted, Fixed, Task, Outcome, Phase, Gathering, Fetching, Widening, Preparing, Deciding, Finishing, TransactionRun, After, GoesOn, Ends}
+use Rattle.txn_core.specs.Doing.{Granted, Fixed, Task, Proposal, Phase, Gathering, Fetching, Widening, Preparing, Deciding, Finishing, TransactionRun, After, GoesOn, Ends}
 use Rattle.txn_core.specs.Transactions.{Step, Gathered, tell_end, give_up, prepare, locked_at, short_cause, gather_by, start_from, widen_by, widen_one, widened, widen_all, opened, or_all, open_needed, open_suite, open_first, opened_with, free_content, after_search, heard_on, raised_or_new, keep_content, heard_of, said_to, proceed, execute, collected, hear, fetched, fetched_at, fetched_for, after_lack, after_response, given_in, lack_cause, verdict_in, ending_by, cause_of_abort, request_in}
 use Rattle.txn_core.proofs.Asks.{asks_same}
 use Rattle.txn_core.proofs.Gathers.{Each, each_but, each_with, tell_start}
@@ -142,7 +142,7 @@ module _ (start : Beginning) (z : ℕ) (w : World) (copies : CopiesWere start w)
   fits_give_up : (cache : Cache) (suites : Suites) (cause : Cause) → Kept cache → Fit suites → Fits (give_up task cache suites cause)
   fits_give_up cache suites cause kept fit = fits_end cache suites _ _ (locked_at suites) kept fit
 
-  fits_prepare : (cache : Cache) (suites : Suites) (outcome : Outcome) (servers : List ℕ) → Kept cache → Fit suites → Fits (prepare task cache suites outcome servers)
+  fits_prepare : (cache : Cache) (suites : Suites) (outcome : Proposal) (servers : List ℕ) → Kept cache → Fit suites → Fits (prepare task cache suites outcome servers)
   fits_prepare cache suites outcome [] kept fit = (kept, (refl, fit, tt))
   fits_prepare cache suites outcome (server ∷ servers) kept fit = (kept, (refl, fit, tt))
 

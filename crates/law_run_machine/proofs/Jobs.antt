@@ -13,7 +13,7 @@ use Rattle.txn_core.specs.declared.response.Response.{Response}
 use Rattle.txn_core.specs.declared.response.Response.TheVariants.{Replied, Lacked}
 use Rattle.txn_core.specs.declared.job.Job.{Job}
 use Rattle.txn_core.specs.Suites.{ReadPoint, Suite, suite_of}
-use Rattle.txn_core.specs.Doing.{Fixed, Outcome, Deciding, TransactionRun, Doing, Running}
+use Rattle.txn_core.specs.Doing.{Fixed, Proposal, Deciding, TransactionRun, Doing, Running}
 use Rattle.txn_core.proofs.Quorums.{decides_on_quorums}
 use Rattle.txn_core.specs.Agents as agents
 use Rattle.txn_core.specs.Agents.{Agent, Take, Forget, fixed_of, next_in, next_of, take, begin, started, forget, is_idle, has_sense, max_jobs, after_event, after_all}
@@ -144,7 +144,7 @@ agents_are_of_jobs given events number actor there busy =
 none_first : (first : ReadPoint) (o : Option ReadPoint) → o ≡ Some first → o ≡ None → ⊥
 none_first first o is none = none-some first (sym none ∙ is)
 
-pub firsts : (fixed : Fixed) (agent : Agent) (z : ℕ) → IdleOr fixed agent → (txn_run : TransactionRun) (outcome : Outcome) → agent.doing ≡ Some (Running txn_run) → txn_run.phase ≡ Deciding outcome → (suite : Suite) → suite_of txn_run.suites z ≡ Some suite → suite.first ≡ None → ⊥
+pub firsts : (fixed : Fixed) (agent : Agent) (z : ℕ) → IdleOr fixed agent → (txn_run : TransactionRun) (outcome : Proposal) → agent.doing ≡ Some (Running txn_run) → txn_run.phase ≡ Deciding outcome → (suite : Suite) → suite_of txn_run.suites z ≡ Some suite → suite.first ≡ None → ⊥
 firsts fixed agent z (inl idle) txn_run outcome running phase suite there none = absurd (false≢true (ap is_idle (sym running) ∙ idle))
 firsts fixed agent z (inr is) txn_run outcome running phase suite there none =
     let ready = decides_on_quorums fixed is.before is.job is.told txn_run outcome z suite is.idle (ap (λ (agent : Agent). agent.doing) (sym is.is) ∙ running) phase there in

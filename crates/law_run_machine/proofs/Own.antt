@@ -2,7 +2,7 @@
 use Rattle.std.proofs.Common.{◌≡◌, ℕ, Bool, true, false, cond, List, [], ◌∷◌, ◌++◌, Option, Some, None, refl}
 use Rattle.rep_core.specs.State.{State}
 use Rattle.txn_core.specs.Suites.{Suites}
-use Rattle.txn_core.specs.Doing.{Outcome, Doing, Running, RunningSweep}
+use Rattle.txn_core.specs.Doing.{Proposal, Doing, Running, RunningSweep}
 use Rattle.txn_core.specs.Agents.{Taken}
 use Rattle.law_suite_machine.specs.Registers.{Beginning, Change}
 use Rattle.law_suite_machine.specs.Machine.{World}
@@ -22,13 +22,13 @@ own_aim : (t : ℕ) (new : Option Change) (later : List Event) → AllOwn later 
 own_aim t (Some new) later own = own
 own_aim t None later own = own
 
-own_once : (z t : ℕ) (suites : Suites) (before after : Option Outcome) (later : List Event) → AllOwn later → AllOwn (aims_once z t suites before after ++ later)
+own_once : (z t : ℕ) (suites : Suites) (before after : Option Proposal) (later : List Event) → AllOwn later → AllOwn (aims_once z t suites before after ++ later)
 own_once z t suites None (Some outcome) later own = own_aim t (to_write z suites outcome) later own
 own_once z t suites None None later own = own
 own_once z t suites (Some old) None later own = own
 own_once z t suites (Some old) (Some outcome) later own = own
 
-own_aims : (z t : ℕ) (before : Option Outcome) (after : Option Doing) (later : List Event) → AllOwn later → AllOwn (aims z t before after ++ later)
+own_aims : (z t : ℕ) (before : Option Proposal) (after : Option Doing) (later : List Event) → AllOwn later → AllOwn (aims z t before after ++ later)
 own_aims z t before (Some (Running txn_run)) later own = own_once z t txn_run.suites before (fixed_in txn_run.phase) later own
 own_aims z t before (Some (RunningSweep sweep_run)) later own = own
 own_aims z t before None later own = own

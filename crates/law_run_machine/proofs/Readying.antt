@@ -27,7 +27,7 @@ use Rattle.txn_core.specs.declared.ending.Cause.{Cause}
 use Rattle.txn_core.specs.declared.ending.Cause.TheVariants.{Lost}
 use Rattle.txn_core.specs.declared.ending.Ending.{Ending}
 use Rattle.txn_core.specs.declared.ending.Ending.TheVariants.{Undecided}
-use Rattle.txn_core.specs.Doing.{Changes, Fixed, Task, Outcome, Phase, Gathering, Fetching, Widening, Preparing, Deciding, Finishing, TransactionRun, SweepRun, Doing, Running, RunningSweep, After, GoesOn, Ends}
+use Rattle.txn_core.specs.Doing.{Changes, Fixed, Task, Proposal, Phase, Gathering, Fetching, Widening, Preparing, Deciding, Finishing, TransactionRun, SweepRun, Doing, Running, RunningSweep, After, GoesOn, Ends}
 use Rattle.txn_core.specs.Transactions.{execute, tell_end, give_up, prepare, locked_at, numbers_from, lack_cause, after_response, request_in, verdict_in, ending_by, cause_of_abort}
 use Rattle.txn_core.specs.Sweeps as sweep
 use Rattle.txn_core.specs.Agents.{Agent, next_in, take_in, left}
@@ -156,7 +156,7 @@ module _ (z : ℕ) (w : World) (task : Task) where
   ready_give_up : (cache : Cache) (suites : Suites) (cause : Cause) → ReadyLeft z w task.t (give_up task cache suites cause).after
   ready_give_up cache suites cause = ready_end cache suites verdict.Aborted (Undecided cause) (locked_at suites)
 
-  ready_prepare : (cache : Cache) (suites : Suites) (outcome : Outcome) (left : List ℕ) → ((i : ℕ) → i < max_servers → holds Shared (told_at suites z) i ≡ true → Has left i ⊎ (is_some (w.ready i task.t) ≡ true)) → ReadyLeft z w task.t (prepare task cache suites outcome left).after
+  ready_prepare : (cache : Cache) (suites : Suites) (outcome : Proposal) (left : List ℕ) → ((i : ℕ) → i < max_servers → holds Shared (told_at suites z) i ≡ true → Has left i ⊎ (is_some (w.ready i task.t) ≡ true)) → ReadyLeft z w task.t (prepare task cache suites outcome left).after
   ready_prepare cache suites outcome [] is = (refl, λ i small held. elim (is i small held) [ inl none ↦ absurd none | inr ready ↦ ready ])
   ready_prepare cache suites outcome (server ∷ left) is = (refl, is)
 
@@ -168,7 +168,7 @@ module _ (z : ℕ) (w : World) (task : Task) where
   ready_early suites (Deciding outcome) is = absurd is
   ready_early suites (Finishing servers v ending) is = absurd is
 
-  ready_prepares : (cache : Cache) (suites : Suites) (outcome : Outcome) → ReadyLeft z w task.t (prepare task cache suites outcome (locked_at suites)).after
+  ready_prepares : (cache : Cache) (suites : Suites) (outcome : Proposal) → ReadyLeft z w task.t (prepare task cache suites outcome (locked_at suites)).after
   ready_prepares cache suites outcome = ready_prepare cache suites outcome (locked_at suites) (λ i small held. inl (locked_has suites z i small held))
 
   ready_early_response : (fixed : Fixed) (cache : Cache) (suites : Suites) (phase : Phase) (server : ℕ) (asked : Request) (response : Response) → IsEarly phase
@@ -191,7 +191,7 @@ prepared_is reply.Down is = absurd (false≢true is)
 
 module _ (z : ℕ) (w later : World) (fixed : Fixed) (task : Task) (cache : Cache) (suites : Suites) (server : ℕ) (asked : Request) (response : Response) (more : (i : ℕ) → is_some (w.ready i task.t) ≡ true → is_some (later.ready i task.t) ≡ true) where
   ready_response : (phase : Phase) → request_in fixed task suites phase ≡ Some (server, asked) → ReadyIn z w task.t suites phase
-      → ((now : ℕ) (left : List ℕ) (outcome : Outcome) → phase ≡ Preparing (now ∷ left) outcome → response ≡ Replied reply.Prepared → holds Shared (told_at suites z) now ≡ true → is_some (later.ready now task.t) ≡ true)
+      → ((now : ℕ) (left : List ℕ) (outcome : Proposal) → phase ≡ Preparing (now ∷ left) outcome → response ≡ Replied reply.Prepared → holds Shared (told_at suites z) now ≡ true → is_some (later.ready now task.t) ≡ true)
       → ReadyLeft z later task.t (after_response fixed (record { task = task; suites = suites; phase = phase }) cache server asked response).after
   ready_response (Gathering number) is ready now = ready_early_response z later task fixed cache suites (Gathering number) server asked response tt
   ready_response (Fetching number) is ready now = ready_early_response z later task fixed cache suites (Fetching number) server asked response tt
@@ -249,7 +249,7 @@ readying_later z w later None more is = tt
 -- what a Prepare that is answered Prepared leaves in the books
 abbrev pub PreparesNow : ℕ → World → Option Doing → Response → Type 0
 PreparesNow z later doing response =
-    (before : TransactionRun) (now : ℕ) (left : List ℕ) (outcome : Outcome) → doing ≡ Some (Running before) → before.phase ≡ Preparing (now ∷ left) outcome → response ≡ Replied reply.Prepared
+    (before : TransactionRun) (now : ℕ) (left : List ℕ) (outcome : Proposal) → doing ≡ Some (Running before) → before.phase ≡ Preparing (now ∷ left) outcome → response ≡ Replied reply.Prepared
     → holds Shared (told_at before.suites z) now ≡ true → is_some (later.ready now before.task.t) ≡ true
 
 pub take_readying : (z : ℕ) (w later : World) (fixed : Fixed) (agent : Agent) (response : Response) (doing : Option Doing) (asked : ℕ × Request) → ((i u : ℕ) → is_some (w.ready i u) ≡ true → is_some (later.ready i u) ≡ true) → next_in fixed doing ≡ Some asked → IsReadying z w doing → PreparesNow z later doing response

@@ -25,7 +25,7 @@ use Rattle.suite_collect.specs.Telling.{newest, holds}
 use Rattle.suite_collect.specs.Collecting.{Collector, needed, got, all_told, wanted, request_for, Asked, Poll, Upgrade, Next, Ask, Current, Short, next, is_left, counted, is_member, members_of, version, asked_of, ask_or_short}
 use Rattle.txn_core.specs.Suites.{ReadPoint, Suite, Suites, suite_of, holds_lock, holds_exclusively, told_in, told_at}
 use Rattle.txn_core.specs.Writing.{change_of, new_copy, new_prefix, sets_prefix, has_vote, takes_whole, take_of_changed, take_from, part_of, parts_at}
-use Rattle.txn_core.specs.Doing.{Fixed, Task, home_of, Outcome, Phase, Gathering, Fetching, Widening, Preparing, Deciding, Finishing}
+use Rattle.txn_core.specs.Doing.{Fixed, Task, home_of, Proposal, Phase, Gathering, Fetching, Widening, Preparing, Deciding, Finishing}
 use Rattle.txn_core.specs.Transactions.{asked_by, asked_for, fetched_at, fetched_for, request_in, changes_of, decision_of}
 use Rattle.txn_core.proofs.Asks.{asks_same}
 use Rattle.law_suite_machine.specs.Registers.{Beginning, Change, Entry}
@@ -172,7 +172,7 @@ not_answered : (o : Option Verdict) → (o ≡ None) ⊎ (o ≡ Some Aborted) �
 not_answered o (inl none) is = let e = sym none ∙ is in cc
 not_answered o (inr aborted) is = let e = sym aborted ∙ is in cc
 
-sends : (z : ℕ) (w : World) (task : Task) (suites : Suites) (outcome : Outcome) (server : ℕ) (locks : List Lock) → IsOrdered nat_cmp suites → Going w task.t → w.aim task.t ≡ to_write z suites outcome → has_prepared task.t locks ≡ false
+sends : (z : ℕ) (w : World) (task : Task) (suites : Suites) (outcome : Proposal) (server : ℕ) (locks : List Lock) → IsOrdered nat_cmp suites → Going w task.t → w.aim task.t ≡ to_write z suites outcome → has_prepared task.t locks ≡ false
     → Sends w locks task.t z (parts_at suites (changes_of outcome) server)
 sends z w task suites outcome server locks ordered going aimed first part is =
     let changes = changes_of outcome in
@@ -192,11 +192,11 @@ sends z w task suites outcome server locks ordered going aimed first part is =
 -- ---- what is decided
 
 module _ (start : Beginning) (w : World) (t : ℕ) where
-  abbrev ended : Outcome → Verdict
+  abbrev ended : Proposal → Verdict
   ended (Ok granted) = Answered
   ended (Err refusal) = Refused
 
-  logs : (outcome : Outcome) (new : Option Change) (found : Option Suite) → (log : List Entry) × (happens start w (decides_on w t outcome new found) ≡ decided w t (ended outcome) log)
+  logs : (outcome : Proposal) (new : Option Change) (found : Option Suite) → (log : List Entry) × (happens start w (decides_on w t outcome new found) ≡ decided w t (ended outcome) log)
   logs (Ok granted) new None = (_, refl)
   logs (Err refusal) new None = (_, refl)
   logs (Ok granted) new (Some suite) = by new suite.first
@@ -211,11 +211,11 @@ module _ (start : Beginning) (w : World) (t : ℕ) where
       by new None = (_, refl)
       by new (Some first) = (_, refl)
 
-ended_so : (task : Task) (outcome : Outcome) (start : Beginning) (w : World) (t : ℕ) → ended start w t outcome ≡ ended_as (verdict_of (decision_of task outcome))
+ended_so : (task : Task) (outcome : Proposal) (start : Beginning) (w : World) (t : ℕ) → ended start w t outcome ≡ ended_as (verdict_of (decision_of task outcome))
 ended_so task (Ok granted) start w t = refl
 ended_so task (Err refusal) start w t = refl
 
-decides : (start : Beginning) (z : ℕ) (w : World) (task : Task) (suites : Suites) (outcome : Outcome) → (w.verdict task.t ≡ None → May start w (decision_with z w task suites outcome))
+decides : (start : Beginning) (z : ℕ) (w : World) (task : Task) (suites : Suites) (outcome : Proposal) → (w.verdict task.t ≡ None → May start w (decision_with z w task suites outcome))
     → Decides start w task.t (ended_as (verdict_of (decision_of task outcome))) (decision_with z w task suites outcome)
 decides start z w task suites outcome may =
     let log = logs start w task.t outcome (to_write z suites outcome) (suite_of suites z) in
@@ -256,8 +256,8 @@ module _ (start : Beginning) (z : ℕ) (home : ℕ → ℕ) (locks : List Lock) 
       by (Some first) is = subst (AgentSide start z home decision server locks w) (asks_same first.source server (request.Fetch task.t number) asked is) tt
 
   pub agent_side : (phase : Phase) (asked : Request) → request_in fixed task suites phase ≡ Some (server, asked) → Stage z w task.t suites phase
-      → ((outcome : Outcome) → phase ≡ Deciding outcome → w.verdict task.t ≡ None → May start w (decision_with z w task suites outcome))
-      → ((now : ℕ) (left : List ℕ) (outcome : Outcome) → phase ≡ Preparing (now ∷ left) outcome → now ≡ server → has_prepared task.t locks ≡ false)
+      → ((outcome : Proposal) → phase ≡ Deciding outcome → w.verdict task.t ≡ None → May start w (decision_with z w task suites outcome))
+      → ((now : ℕ) (left : List ℕ) (outcome : Proposal) → phase ≡ Preparing (now ∷ left) outcome → now ≡ server → has_prepared task.t locks ≡ false)
       → AgentSide start z home (decision_in z w task suites phase) server locks w asked
   agent_side (Gathering number) asked is stage may first = asks_lock number asked _ is
   agent_side (Fetching number) asked is stage may first = fetches number asked _ (suite_of suites number) is

@@ -16,7 +16,7 @@ use Rattle.txn_core.specs.declared.ending.Cause.{Cause}
 use Rattle.txn_core.specs.declared.ending.Cause.TheVariants.{Lost}
 use Rattle.txn_core.specs.declared.ending.Ending.{Ending}
 use Rattle.txn_core.specs.declared.ending.Ending.TheVariants.{Undecided}
-use Rattle.txn_core.specs.Doing.{Fixed, Task, home_of, Outcome, Phase, Gathering, Fetching, Widening, Preparing, Deciding, Finishing, TransactionRun, Running, After, GoesOn, Ends}
+use Rattle.txn_core.specs.Doing.{Fixed, Task, home_of, Proposal, Phase, Gathering, Fetching, Widening, Preparing, Deciding, Finishing, TransactionRun, Running, After, GoesOn, Ends}
 use Rattle.txn_core.specs.Transactions.{execute, tell_end, give_up, prepare, locked_at, lack_cause, prepared, after_response, request_in, changes_of, decision_of, ending_by, cause_of_abort}
 use Rattle.txn_core.specs.Agents.{Agent, Taken, left, end_of}
 use Rattle.txn_core.specs.Laws.{is_decide}
@@ -54,25 +54,25 @@ abbrev pub ends_with : Agent → After TransactionRun → Taken
 ends_with agent after = record { agent = record agent { doing = left Running after }; ending = end_of after }
 
 -- what it then does by itself
-abbrev pub own_by : ℕ → ℕ → Option Outcome → Bool → Agent → After TransactionRun → List Event
+abbrev pub own_by : ℕ → ℕ → Option Proposal → Bool → Agent → After TransactionRun → List Event
 own_by z t before finishing agent after = aims z t before (left Running after) ++ gives_up t finishing (ends_with agent after)
 
 -- it may, and stands so afterwards
-pub record Does (start : Beginning) (z : ℕ) (t : ℕ) (w : World) (before : Option Outcome) (finishing : Bool) (agent : Agent) (after : After TransactionRun) : Type 0 where
+pub record Does (start : Beginning) (z : ℕ) (t : ℕ) (w : World) (before : Option Proposal) (finishing : Bool) (agent : Agent) (after : After TransactionRun) : Type 0 where
   pub does : Obeys start w (own_by z t before finishing agent after)
   pub stage : StageLeft z (run start w (own_by z t before finishing agent after)) t after
 
 module _ (start : Beginning) (z : ℕ) (agent : Agent) (w : World) (task : Task) where
   -- ---- it gives up
 
-  gives_up_at : (before : Option Outcome) (cache : Cache) (suites : Suites) (cause : Cause) (servers : List ℕ) → (w.verdict task.t ≡ None) ⊎ (w.verdict task.t ≡ Some Aborted)
+  gives_up_at : (before : Option Proposal) (cache : Cache) (suites : Suites) (cause : Cause) (servers : List ℕ) → (w.verdict task.t ≡ None) ⊎ (w.verdict task.t ≡ Some Aborted)
       → Does start z task.t w before false agent (tell_end task cache suites verdict.Aborted (Undecided cause) servers).after
   gives_up_at None cache suites cause [] free = record { does = (record { undecided = free }, tt); stage = tt }
   gives_up_at (Some outcome) cache suites cause [] free = record { does = (record { undecided = free }, tt); stage = tt }
   gives_up_at None cache suites cause (server ∷ servers) free = record { does = (record { undecided = free }, tt); stage = (refl, record { ended = inr (refl, here1 w.gave_up task.t true) }) }
   gives_up_at (Some outcome) cache suites cause (server ∷ servers) free = record { does = (record { undecided = free }, tt); stage = (refl, record { ended = inr (refl, here1 w.gave_up task.t true) }) }
 
-  given_up : (before : Option Outcome) (cache : Cache) (suites : Suites) (cause : Cause) → (w.verdict task.t ≡ None) ⊎ (w.verdict task.t ≡ Some Aborted) → Does start z task.t w before false agent (give_up task cache suites cause).after
+  given_up : (before : Option Proposal) (cache : Cache) (suites : Suites) (cause : Cause) → (w.verdict task.t ≡ None) ⊎ (w.verdict task.t ≡ Some Aborted) → Does start z task.t w before false agent (give_up task cache suites cause).after
   given_up before cache suites cause free = gives_up_at before cache suites cause (locked_at suites) free
 
   -- ---- a response in an early phase
@@ -87,15 +87,15 @@ module _ (start : Beginning) (z : ℕ) (agent : Agent) (w : World) (task : Task)
     early suites (Finishing servers v ending) is = absurd is
 
     -- it fixes what it is to write
-    aims_at : (suites : Suites) (outcome : Outcome) (new : Option Change) → to_write z suites outcome ≡ new → Obeys start w (aim_of task.t new ++ []) × Going (run start w (aim_of task.t new ++ [])) task.t × ((run start w (aim_of task.t new ++ [])).aim task.t ≡ to_write z suites outcome)
+    aims_at : (suites : Suites) (outcome : Proposal) (new : Option Change) → to_write z suites outcome ≡ new → Obeys start w (aim_of task.t new ++ []) × Going (run start w (aim_of task.t new ++ [])) task.t × ((run start w (aim_of task.t new ++ [])).aim task.t ≡ to_write z suites outcome)
     aims_at suites outcome (Some new) is = ((record { unaimed = unaimed }, tt), record { gave_up = going.gave_up; verdict = going.verdict }, here1 w.aim task.t (Some new) ∙ sym is)
     aims_at suites outcome None is = (tt, going, unaimed ∙ sym is)
 
-    prepares_at : (cache : Cache) (suites : Suites) (outcome : Outcome) (servers : List ℕ) → Does start z task.t w None false agent (prepare task cache suites outcome servers).after
+    prepares_at : (cache : Cache) (suites : Suites) (outcome : Proposal) (servers : List ℕ) → Does start z task.t w None false agent (prepare task cache suites outcome servers).after
     prepares_at cache suites outcome [] = let it = aims_at suites outcome (to_write z suites outcome) refl in record { does = it.0; stage = (refl, (it.1, it.2)) }
     prepares_at cache suites outcome (server ∷ servers) = let it = aims_at suites outcome (to_write z suites outcome) refl in record { does = it.0; stage = (refl, (it.1, it.2)) }
 
-    prepares : (cache : Cache) (suites : Suites) (outcome : Outcome) → Does start z task.t w None false agent (prepare task cache suites outcome (locked_at suites)).after
+    prepares : (cache : Cache) (suites : Suites) (outcome : Proposal) → Does start z task.t w None false agent (prepare task cache suites outcome (locked_at suites)).after
     prepares cache suites outcome = prepares_at cache suites outcome (locked_at suites)
 
     early_response : (fixed : Fixed) (cache : Cache) (suites : Suites) (phase : Phase) (server : ℕ) (asked : Request) (response : Response) → IsEarly phase
@@ -109,11 +109,11 @@ module _ (start : Beginning) (z : ℕ) (agent : Agent) (w : World) (task : Task)
 
   -- ---- later responses
 
-  prepare_on : (cache : Cache) (suites : Suites) (outcome : Outcome) (servers : List ℕ) → Going w task.t → w.aim task.t ≡ to_write z suites outcome → Does start z task.t w (Some outcome) false agent (prepare task cache suites outcome servers).after
+  prepare_on : (cache : Cache) (suites : Suites) (outcome : Proposal) (servers : List ℕ) → Going w task.t → w.aim task.t ≡ to_write z suites outcome → Does start z task.t w (Some outcome) false agent (prepare task cache suites outcome servers).after
   prepare_on cache suites outcome [] going aimed = record { does = tt; stage = (refl, (going, aimed)) }
   prepare_on cache suites outcome (server ∷ servers) going aimed = record { does = tt; stage = (refl, (going, aimed)) }
 
-  prepared_word : (cache : Cache) (suites : Suites) (outcome : Outcome) (server : ℕ) (left : List ℕ) (said : Reply) → Going w task.t → w.aim task.t ≡ to_write z suites outcome
+  prepared_word : (cache : Cache) (suites : Suites) (outcome : Proposal) (server : ℕ) (left : List ℕ) (said : Reply) → Going w task.t → w.aim task.t ≡ to_write z suites outcome
       → Does start z task.t w (Some outcome) false agent (prepared task cache suites outcome server left said).after
   prepared_word cache suites outcome server left said going aimed =
       elim (is_prepared said) as (λ b. Does start z task.t w (Some outcome) false agent (cond b (prepare task cache suites outcome left) (give_up task cache suites (Lost server))).after) [
@@ -122,7 +122,7 @@ module _ (start : Beginning) (z : ℕ) (agent : Agent) (w : World) (task : Task)
       ]
 
   -- the home has said how it ended, or nothing
-  decided_as : (cache : Cache) (suites : Suites) (outcome : Outcome) (v : replied.Verdict) (cause : Cause) (servers : List ℕ) → w.verdict task.t ≡ Some (ended_as v) → Does start z task.t w (Some outcome) false agent (tell_end task cache suites v (ending_by v cause) servers).after
+  decided_as : (cache : Cache) (suites : Suites) (outcome : Proposal) (v : replied.Verdict) (cause : Cause) (servers : List ℕ) → w.verdict task.t ≡ Some (ended_as v) → Does start z task.t w (Some outcome) false agent (tell_end task cache suites v (ending_by v cause) servers).after
   decided_as cache suites outcome verdict.Aborted cause servers is = gives_up_at (Some outcome) cache suites cause servers (inr is)
   decided_as cache suites outcome (verdict.Answered answers) cause [] is = record { does = tt; stage = tt }
   decided_as cache suites outcome (verdict.Answered answers) cause (server ∷ servers) is = record { does = tt; stage = (refl, record { ended = inl is }) }

@@ -23,7 +23,7 @@ use Rattle.txn_core.specs.declared.response.Response.{Response}
 use Rattle.txn_core.specs.declared.response.Response.TheVariants.{Replied, Lacked}
 use Rattle.txn_core.specs.declared.job.Job.{Job}
 use Rattle.txn_core.specs.declared.job.Job.TheVariants.{Transaction, Sweep}
-use Rattle.txn_core.specs.Doing.{Fixed, Task, Outcome, Phase, Gathering, Fetching, Widening, Preparing, Deciding, Finishing, TransactionRun, Sweeping, Listing, Resolving, Telling, Breaking, SweepRun, Doing, Running, RunningSweep, After, GoesOn, Ends, home_of}
+use Rattle.txn_core.specs.Doing.{Fixed, Task, Proposal, Phase, Gathering, Fetching, Widening, Preparing, Deciding, Finishing, TransactionRun, Sweeping, Listing, Resolving, Telling, Breaking, SweepRun, Doing, Running, RunningSweep, After, GoesOn, Ends, home_of}
 use Rattle.txn_core.specs.Transactions.{execute, decision_of}
 use Rattle.txn_core.specs.Sweeps.{asked_now}
 use Rattle.txn_core.specs.Agents.{Agent, fixed_of, next_in, next_of, take, take_in, begin, started, is_idle, has_sense, max_jobs, left}
@@ -85,20 +85,20 @@ silent_moves start z home decision i w request.Crash said is none = absurd (fals
 silent_moves start z home decision i w request.Return said is none = absurd (false≢true is)
 silent_moves start z home decision i w (request.Decide t decided) said is none = refl
 
-of_with : (w : World) (t : ℕ) (known : Known) (outcome : Outcome) (new : Option Change) → IsOf t (decides_with w t known outcome new)
+of_with : (w : World) (t : ℕ) (known : Known) (outcome : Proposal) (new : Option Change) → IsOf t (decides_with w t known outcome new)
 of_with w t known (Err refusal) new = refl
 of_with w t known (Ok granted) None = refl
 of_with w t known (Ok granted) (Some new) = refl
 
-of_without : (t : ℕ) (outcome : Outcome) → IsOf t (decides_without t outcome)
+of_without : (t : ℕ) (outcome : Proposal) → IsOf t (decides_without t outcome)
 of_without t (Ok granted) = refl
 of_without t (Err refusal) = refl
 
-of_first : (w : World) (t : ℕ) (outcome : Outcome) (new : Option Change) (suite : Suite) (first : Option ReadPoint) → IsOf t (decides_first w t outcome new suite first)
+of_first : (w : World) (t : ℕ) (outcome : Proposal) (new : Option Change) (suite : Suite) (first : Option ReadPoint) → IsOf t (decides_first w t outcome new suite first)
 of_first w t outcome new suite (Some first) = of_with w t (known_by first suite) outcome new
 of_first w t outcome new suite None = of_without t outcome
 
-of_on : (w : World) (t : ℕ) (outcome : Outcome) (new : Option Change) (found : Option Suite) → IsOf t (decides_on w t outcome new found)
+of_on : (w : World) (t : ℕ) (outcome : Proposal) (new : Option Change) (found : Option Suite) → IsOf t (decides_on w t outcome new found)
 of_on w t outcome new (Some suite) = of_first w t outcome new suite suite.first
 of_on w t outcome new None = of_without t outcome
 
@@ -205,8 +205,8 @@ module _ (given : Opening) (z : ℕ) (w : World) (world : worlds.World) (inv : I
 
   -- what it asks is its side
   pub asks_well : (doing : Option Doing) (asked : ℕ × Request) (held : List Lock) → next_in (fixed_of given) doing ≡ Some asked → IsDoing z w n count doing
-      → ((txn_run : TransactionRun) (outcome : Outcome) → doing ≡ Some (Running txn_run) → txn_run.phase ≡ Deciding outcome → w.verdict txn_run.task.t ≡ None → May start w (decision_with z w txn_run.task txn_run.suites outcome))
-      → ((txn_run : TransactionRun) (now : ℕ) (left : List ℕ) (outcome : Outcome) → doing ≡ Some (Running txn_run) → txn_run.phase ≡ Preparing (now ∷ left) outcome → now ≡ asked.0 → has_prepared txn_run.task.t held ≡ false)
+      → ((txn_run : TransactionRun) (outcome : Proposal) → doing ≡ Some (Running txn_run) → txn_run.phase ≡ Deciding outcome → w.verdict txn_run.task.t ≡ None → May start w (decision_with z w txn_run.task txn_run.suites outcome))
+      → ((txn_run : TransactionRun) (now : ℕ) (left : List ℕ) (outcome : Proposal) → doing ≡ Some (Running txn_run) → txn_run.phase ≡ Preparing (now ∷ left) outcome → now ≡ asked.0 → has_prepared txn_run.task.t held ≡ false)
       → AgentSide start z (home_in given) (decision_by z w doing) asked.0 held w asked.1
   asks_well (Some (Running before)) asked held is in' may first =
       agent_side start z (home_in given) held w (fixed_of given) before.task before.suites asked.0 in'.ordered in'.told before.phase asked.1 is in'.stage (λ outcome phase. may before outcome refl phase) (λ now left outcome phase at. first before now left outcome refl phase at)

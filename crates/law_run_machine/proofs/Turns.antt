@@ -15,7 +15,7 @@ use Rattle.suite_collect.specs.Telling.{holds}
 use Rattle.txn_core.specs.Suites.{Suites, told_at}
 use Rattle.txn_core.specs.declared.response.Response.{Response}
 use Rattle.txn_core.specs.declared.response.Response.TheVariants.{Replied, Lacked}
-use Rattle.txn_core.specs.Doing.{Fixed, Outcome, TransactionRun, Sweeping, Listing, Resolving, Telling, Breaking, SweepRun, Doing, Running, RunningSweep, After, GoesOn, Ends, home_of}
+use Rattle.txn_core.specs.Doing.{Fixed, Proposal, TransactionRun, Sweeping, Listing, Resolving, Telling, Breaking, SweepRun, Doing, Running, RunningSweep, After, GoesOn, Ends, home_of}
 use Rattle.txn_core.specs.Transactions as txn_run
 use Rattle.txn_core.specs.Transactions.{request_of}
 use Rattle.txn_core.specs.Sweeps as sweep
@@ -41,13 +41,13 @@ of_aim : (t : ℕ) (new : Option Change) → AreOf t (aim_of t new)
 of_aim t (Some new) = (refl, tt)
 of_aim t None = tt
 
-of_once : (z t : ℕ) (suites : Suites) (before after : Option Outcome) → AreOf t (aims_once z t suites before after)
+of_once : (z t : ℕ) (suites : Suites) (before after : Option Proposal) → AreOf t (aims_once z t suites before after)
 of_once z t suites None (Some outcome) = of_aim t (to_write z suites outcome)
 of_once z t suites None None = tt
 of_once z t suites (Some old) None = tt
 of_once z t suites (Some old) (Some outcome) = tt
 
-pub of_aims : (z t : ℕ) (before : Option Outcome) (after : Option Doing) → AreOf t (aims z t before after)
+pub of_aims : (z t : ℕ) (before : Option Proposal) (after : Option Doing) → AreOf t (aims z t before after)
 of_aims z t before (Some (Running txn_run)) = of_once z t txn_run.suites before (fixed_in txn_run.phase)
 of_aims z t before (Some (RunningSweep sweep_run)) = tt
 of_aims z t before None = tt

@@ -15,7 +15,7 @@ use Rattle.rep_core.specs.Serving.{answer_of, is_full, served}
 use Rattle.txn_core.specs.declared.response.Response.{Response}
 use Rattle.txn_core.specs.declared.response.Response.TheVariants.{Replied, Lacked}
 use Rattle.txn_core.specs.declared.job.Job.{Job}
-use Rattle.txn_core.specs.Doing.{Fixed, Outcome, Preparing, TransactionRun, Doing, Running, RunningSweep}
+use Rattle.txn_core.specs.Doing.{Fixed, Proposal, Preparing, TransactionRun, Doing, Running, RunningSweep}
 use Rattle.txn_core.specs.Sweeps.{asked_now}
 use Rattle.txn_core.specs.Agents.{Agent, fixed_of, next_in, next_of, take, take_in, begin, forget}
 use Rattle.run_core.specs.declared.event.Event as happening
@@ -34,7 +34,7 @@ abbrev pub AllWaiting : Opening → worlds.World → Type 0
 AllWaiting given world = (n : ℕ) (actor : Actor) → actor_at world n ≡ Some actor → Waiting (servers_of given world) n actor.agent
 
 -- where it is to prepare
-pub waits_first : (servers : ℕ → State) (doing : Option Doing) → IsWaiting servers doing → (txn_run : TransactionRun) → doing ≡ Some (Running txn_run) → (now : ℕ) (left : List ℕ) (outcome : Outcome) → txn_run.phase ≡ Preparing (now ∷ left) outcome → has_prepared txn_run.task.t (servers now).locks ≡ false
+pub waits_first : (servers : ℕ → State) (doing : Option Doing) → IsWaiting servers doing → (txn_run : TransactionRun) → doing ≡ Some (Running txn_run) → (now : ℕ) (left : List ℕ) (outcome : Proposal) → txn_run.phase ≡ Preparing (now ∷ left) outcome → has_prepared txn_run.task.t (servers now).locks ≡ false
 waits_first servers doing waiting txn_run is now left outcome phase =
     (subst (Waits txn_run.task.t servers) phase (subst (IsWaiting servers) is waiting)).0 now (inl refl)
 

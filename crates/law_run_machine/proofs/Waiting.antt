@@ -29,7 +29,7 @@ use Rattle.txn_core.specs.declared.ending.Cause.{Cause}
 use Rattle.txn_core.specs.declared.ending.Cause.TheVariants.{Lost}
 use Rattle.txn_core.specs.declared.ending.Ending.{Ending}
 use Rattle.txn_core.specs.declared.ending.Ending.TheVariants.{Undecided}
-use Rattle.txn_core.specs.Doing.{Fixed, Task, Outcome, Phase, Gathering, Fetching, Widening, Preparing, Deciding, Finishing, TransactionRun, SweepRun, Doing, Running, RunningSweep, After, GoesOn, Ends}
+use Rattle.txn_core.specs.Doing.{Fixed, Task, Proposal, Phase, Gathering, Fetching, Widening, Preparing, Deciding, Finishing, TransactionRun, SweepRun, Doing, Running, RunningSweep, After, GoesOn, Ends}
 use Rattle.txn_core.specs.Transactions.{execute, tell_end, give_up, prepare, locked_at, numbers_from, lack_cause, after_response, request_in, changes_of, verdict_in, ending_by, cause_of_abort}
 use Rattle.txn_core.specs.Sweeps as sweep
 use Rattle.txn_core.specs.Agents.{Agent, next_in, take_in, begin, started, is_idle, has_sense, max_jobs, left}
@@ -146,7 +146,7 @@ module _ (task : Task) (servers : ℕ → State) where
   waits_give_up : (cache : Cache) (suites : Suites) (cause : Cause) → WaitsLeft task.t servers (give_up task cache suites cause).after
   waits_give_up cache suites cause = waits_end cache suites verdict.Aborted (Undecided cause) (locked_at suites)
 
-  waits_prepare : (cache : Cache) (suites : Suites) (outcome : Outcome) (left : List ℕ) → ((j : ℕ) → Has left j → has_prepared task.t (servers j).locks ≡ false) → AreApart left → WaitsLeft task.t servers (prepare task cache suites outcome left).after
+  waits_prepare : (cache : Cache) (suites : Suites) (outcome : Proposal) (left : List ℕ) → ((j : ℕ) → Has left j → has_prepared task.t (servers j).locks ≡ false) → AreApart left → WaitsLeft task.t servers (prepare task cache suites outcome left).after
   waits_prepare cache suites outcome [] none apart = (refl, tt)
   waits_prepare cache suites outcome (server ∷ left) none apart = (refl, (none, apart))
 
@@ -159,7 +159,7 @@ module _ (task : Task) (servers : ℕ → State) where
     waits_early suites (Deciding outcome) is = absurd is
     waits_early suites (Finishing told v ending) is = absurd is
 
-    waits_prepares : (cache : Cache) (suites : Suites) (outcome : Outcome) → WaitsLeft task.t servers (prepare task cache suites outcome (locked_at suites)).after
+    waits_prepares : (cache : Cache) (suites : Suites) (outcome : Proposal) → WaitsLeft task.t servers (prepare task cache suites outcome (locked_at suites)).after
     waits_prepares cache suites outcome = waits_prepare cache suites outcome (locked_at suites) (λ j _. none j) (locked_apart suites)
 
     waits_early_response : (fixed : Fixed) (cache : Cache) (suites : Suites) (phase : Phase) (server : ℕ) (asked : Request) (response : Response) → IsEarly phase

@@ -7,7 +7,7 @@ use Rattle.txn_core.specs.declared.ending.Ending.{Ending}
 use Rattle.txn_core.specs.declared.ending.Ending.TheVariants as ending
 use Rattle.txn_core.specs.Suites.{ReadPoint, Suite, Suites, suite_of}
 use Rattle.txn_core.specs.Writing.{change_of, new_prefix, one_if}
-use Rattle.txn_core.specs.Doing.{Task, Outcome, Phase, Preparing, Deciding, Finishing, Doing, Running}
+use Rattle.txn_core.specs.Doing.{Task, Proposal, Phase, Preparing, Deciding, Finishing, Doing, Running}
 use Rattle.txn_core.specs.Transactions.{changes_of}
 use Rattle.txn_core.specs.Agents.{Taken}
 use Rattle.law_suite_machine.specs.Registers.{Known, Change}
@@ -32,7 +32,7 @@ first_of (Some suite) = suite.first
 first_of None = None
 
 -- what a transaction is to write to the suite, by what it gathered and what its operations came to
-abbrev pub to_write : ℕ → Suites → Outcome → Option Change
+abbrev pub to_write : ℕ → Suites → Proposal → Option Change
 to_write z suites outcome = written_from (first_of (suite_of suites z)) (change_of (changes_of outcome) z)
 
 -- ---- the decision
@@ -49,26 +49,26 @@ abbrev pub known_by : ReadPoint → Suite → Known
 known_by first suite = record { prefix = first.prefix; dver = first.dver; content = suite.content }
 
 -- of a suite of which it knows so much
-abbrev pub decides_with : World → ℕ → Known → Outcome → Option Change → Event
+abbrev pub decides_with : World → ℕ → Known → Proposal → Option Change → Event
 decides_with w t known (Err refusal) new = DecideRefused t (showed_to w t known) known
 decides_with w t known (Ok granted) None = DecideRead t (showed_to w t known) known
 decides_with w t known (Ok granted) (Some new) = DecideWrite t (showed_to w t known) known new
 
 -- of one of which it knows nothing
-abbrev pub decides_without : ℕ → Outcome → Event
+abbrev pub decides_without : ℕ → Proposal → Event
 decides_without t (Ok granted) = DecideElsewhere t Answered
 decides_without t (Err refusal) = DecideElsewhere t Refused
 
-abbrev pub decides_first : World → ℕ → Outcome → Option Change → Suite → Option ReadPoint → Event
+abbrev pub decides_first : World → ℕ → Proposal → Option Change → Suite → Option ReadPoint → Event
 decides_first w t outcome new suite (Some first) = decides_with w t (known_by first suite) outcome new
 decides_first w t outcome new suite None = decides_without t outcome
 
-abbrev pub decides_on : World → ℕ → Outcome → Option Change → Option Suite → Event
+abbrev pub decides_on : World → ℕ → Proposal → Option Change → Option Suite → Event
 decides_on w t outcome new (Some suite) = decides_first w t outcome new suite suite.first
 decides_on w t outcome new None = decides_without t outcome
 
 -- what the decision of a transaction with such an outcome is to the suite
-abbrev pub decision_with : ℕ → World → Task → Suites → Outcome → Event
+abbrev pub decision_with : ℕ → World → Task → Suites → Proposal → Event
 decision_with z w task suites outcome = decides_on w task.t outcome (to_write z suites outcome) (suite_of suites z)
 
 -- what an agent asks to have decided is to the suite; another than one that is deciding asks nothing of the kind
@@ -83,7 +83,7 @@ decision_by z w other = GiveUp 0
 -- ---- what it fixes, and that it gives up
 
 -- its outcome, once that is fixed
-abbrev pub fixed_in : Phase → Option Outcome
+abbrev pub fixed_in : Phase → Option Proposal
 fixed_in (Preparing left outcome) = Some outcome
 fixed_in (Deciding outcome) = Some outcome
 fixed_in other = None
@@ -93,11 +93,11 @@ aim_of t (Some new) = Aim t new ∷ []
 aim_of t None = []
 
 -- where its outcome becomes fixed
-abbrev pub aims_once : ℕ → ℕ → Suites → Option Outcome → Option Outcome → List Event
+abbrev pub aims_once : ℕ → ℕ → Suites → Option Proposal → Option Proposal → List Event
 aims_once z t suites None (Some outcome) = aim_of t (to_write z suites outcome)
 aims_once z t suites before after = []
 
-abbrev pub aims : ℕ → ℕ → Option Outcome → Option Doing → List Event
+abbrev pub aims : ℕ → ℕ → Option Proposal → Option Doing → List Event
 aims z t before (Some (Running txn_run)) = aims_once z t txn_run.suites before (fixed_in txn_run.phase)
 aims z t before other = []
 

@@ -6,7 +6,7 @@ use Rattle.suite_content.specs.declared.content.Content.{Content}
 use Rattle.suite_prefix.specs.declared.copies.Prefix.{Prefix}
 use Rattle.suite_prefix.specs.SettingsRules.{Opening}
 use Rattle.txn_core.specs.Suites.{ReadPoint, Suite, suite_of}
-use Rattle.txn_core.specs.Doing.{Outcome, Deciding, TransactionRun, Running}
+use Rattle.txn_core.specs.Doing.{Proposal, Deciding, TransactionRun, Running}
 use Rattle.txn_core.specs.Agents.{fixed_of}
 use Rattle.run_core.specs.declared.event.Event.{Event}
 use Rattle.run_core.specs.Worlds as worlds
@@ -41,23 +41,23 @@ pub record OwesWritten (start : Beginning) (w : World) (t : ℕ) (known : Known)
   pub covers_prefix : CoversPrefix w t known new
   pub covers_content : CoversContent w t known new
 
-abbrev pub OwesWith : Beginning → World → ℕ → Known → Outcome → Option Change → Type 0
+abbrev pub OwesWith : Beginning → World → ℕ → Known → Proposal → Option Change → Type 0
 OwesWith start w t known (Err refusal) new = OwesKnown start w t known
 OwesWith start w t known (Ok granted) None = OwesKnown start w t known
 OwesWith start w t known (Ok granted) (Some new) = OwesWritten start w t known new
 
 -- each suite that it asked for had a Current, or it would not decide
-abbrev pub OwesFirst : Beginning → World → ℕ → Outcome → Option Change → Suite → Option ReadPoint → Type 0
+abbrev pub OwesFirst : Beginning → World → ℕ → Proposal → Option Change → Suite → Option ReadPoint → Type 0
 OwesFirst start w t outcome new suite (Some first) = OwesWith start w t (known_by first suite) outcome new
 OwesFirst start w t outcome new suite None = Unit {0}
 
-abbrev pub Owes : Beginning → World → ℕ → Outcome → Option Change → Option Suite → Type 0
+abbrev pub Owes : Beginning → World → ℕ → Proposal → Option Change → Option Suite → Type 0
 Owes start w t outcome new (Some suite) = OwesFirst start w t outcome new suite suite.first
 Owes start w t outcome new None = Unit {0}
 
 -- in one world, with the machine of the suite: where an agent is deciding, and nothing is recorded of its transaction
 pub record Owed (given : Opening) (z : ℕ) (w : World) (world : worlds.World) : Type 0 where
-  pub decides : (number : ℕ) (actor : Actor) (txn_run : TransactionRun) (outcome : Outcome) → actor_at world number ≡ Some actor → actor.agent.doing ≡ Some (Running txn_run) → txn_run.phase ≡ Deciding outcome
+  pub decides : (number : ℕ) (actor : Actor) (txn_run : TransactionRun) (outcome : Proposal) → actor_at world number ≡ Some actor → actor.agent.doing ≡ Some (Running txn_run) → txn_run.phase ≡ Deciding outcome
       → w.verdict txn_run.task.t ≡ None → Owes (beginning z given) w txn_run.task.t outcome (to_write z txn_run.suites outcome) (suite_of txn_run.suites z)
 
 -- in each world of a run from some world on

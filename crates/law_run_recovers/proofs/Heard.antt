@@ -300,7 +300,7 @@ module _ (fixed : Fixed) (world : World) (table : PlainTable) (task : Task) (cac
 
   -- ---- the home says how it ended
 
-  decides : (outcome : doing.Outcome) → HasAll fixed world table task cache (answer_in fixed world table task cache outcome) → (server : ℕ) → server ≡ home_of fixed.service task.t → (said : Reply)
+  decides : (outcome : doing.Proposal) → HasAll fixed world table task cache (answer_in fixed world table task cache outcome) → (server : ℕ) → server ≡ home_of fixed.service task.t → (said : Reply)
       → ((is_up world server ≡ true) × (said ≡ reply.Verdict (verdict_of (decision_of task outcome)))) ⊎ ((is_up world server ≡ false) × (said ≡ reply.Down))
       → EndsRight fixed world table task cache (txn_run.ending_by (verdict_in said verdict.Aborted) (cause_of_abort said))
   decides outcome all server home said right = record {
@@ -314,7 +314,7 @@ module _ (fixed : Fixed) (world : World) (table : PlainTable) (task : Task) (cac
         right;
   }
     where
-      answered : (outcome : doing.Outcome) → answer_in fixed world table task cache outcome ≡ answer_to table task
+      answered : (outcome : doing.Proposal) → answer_in fixed world table task cache outcome ≡ answer_to table task
           → txn_run.ending_by (verdict_of (decision_of task outcome)) (cause_of_abort (reply.Verdict (verdict_of (decision_of task outcome)))) ≡ ending_of (answer_to table task)
       answered (Ok granted) is = ap ending_of is
       answered (Err refusal) is = ap ending_of is

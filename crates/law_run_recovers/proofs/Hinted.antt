@@ -43,7 +43,7 @@ tell_cache task now suites v ended (server ∷ servers) = refl
 up_cache : (task : Task) (now : Cache) (suites : Suites) (cause : Cause) → (give_up task now suites cause).cache ≡ now
 up_cache task now suites cause = tell_cache task now suites verdict.Aborted (Undecided cause) (locked_at suites)
 
-prepare_cache : (task : Task) (now : Cache) (suites : Suites) (outcome : doing.Outcome) (servers : List ℕ) → (prepare task now suites outcome servers).cache ≡ now
+prepare_cache : (task : Task) (now : Cache) (suites : Suites) (outcome : doing.Proposal) (servers : List ℕ) → (prepare task now suites outcome servers).cache ≡ now
 prepare_cache task now suites outcome [] = refl
 prepare_cache task now suites outcome (server ∷ servers) = refl
 
@@ -165,7 +165,7 @@ module _ (fixed : Fixed) (world : World) (table : PlainTable) (task : Task) (cac
         of (Some suite) there None = as_now (give_up task now suites (Lost server)) (up_cache task now suites (Lost server))
         of (Some suite) there (Some content) = by suite there content suite.first refl
 
-    prepared_hints : (suites : Suites) (outcome : doing.Outcome) (left : List ℕ) (b : Bool) → Led (cond b (prepare task now suites outcome left) (give_up task now suites (Lost server))).cache
+    prepared_hints : (suites : Suites) (outcome : doing.Proposal) (left : List ℕ) (b : Bool) → Led (cond b (prepare task now suites outcome left) (give_up task now suites (Lost server))).cache
     prepared_hints suites outcome left true = as_now (prepare task now suites outcome left) (prepare_cache task now suites outcome left)
     prepared_hints suites outcome left false = as_now (give_up task now suites (Lost server)) (up_cache task now suites (Lost server))
 

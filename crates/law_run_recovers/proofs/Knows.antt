@@ -131,7 +131,7 @@ module _ (task : Task) (now : Cache) (suites : Suites) where
       of [] some = absurd some.1
       of (server ∷ servers) some = record { txn_run = record { task = task; suites = more; phase = doing.Finishing (server ∷ servers) v ended }; is = refl; like = like }
 
-  prepares_on : (more : Suites) → Like suites more → (outcome : doing.Outcome) (servers : List ℕ) → KnowsOn suites (prepare task now more outcome servers)
+  prepares_on : (more : Suites) → Like suites more → (outcome : doing.Proposal) (servers : List ℕ) → KnowsOn suites (prepare task now more outcome servers)
   prepares_on more like outcome [] = record { txn_run = record { task = task; suites = more; phase = doing.Deciding outcome }; is = refl; like = like }
   prepares_on more like outcome (server ∷ servers) = record { txn_run = record { task = task; suites = more; phase = doing.Preparing (server ∷ servers) outcome }; is = refl; like = like }
 

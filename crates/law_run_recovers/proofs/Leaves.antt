@@ -292,7 +292,7 @@ module _ (given : Opening) (events later : List Event) (agent t : ℕ) (caller :
       left_here = subst (LeftBy w) running s.left
 
       -- its home is down
-      home_said : (outcome : doing.Outcome) → txn_run.phase ≡ Deciding outcome → said ≡ reply.Down
+      home_said : (outcome : doing.Proposal) → txn_run.phase ≡ Deciding outcome → said ≡ reply.Down
       home_said outcome is =
           let asks : request_in fixed its txn_run.suites (Deciding outcome) ≡ Some (tk.asked.0, tk.asked.1) = subst (λ phase. request_in fixed its txn_run.suites phase ≡ Some (tk.asked.0, tk.asked.1)) is request_is in
           let at = subst (PhaseStands fixed first table its cache Was (ends.ground given events later agent t caller site ops actor goes) txn_run.suites m.here.agent.cache) is good.1 in
@@ -303,7 +303,7 @@ module _ (given : Opening) (events later : List Event) (agent t : ℕ) (caller :
           (ends.right_for given events later agent t caller site ops actor goes w event rest m calm own took tk m.here.agent.cache txn_run.suites (Deciding outcome) at asks)
 
       -- servers that have a lock were told of
-      holders : (outcome : doing.Outcome) → txn_run.phase ≡ Deciding outcome → LockedIn next_world (Has (locked_at txn_run.suites))
+      holders : (outcome : doing.Proposal) → txn_run.phase ≡ Deciding outcome → LockedIn next_world (Has (locked_at txn_run.suites))
       holders outcome is i st at up lock has =
           let asks : request_in fixed its txn_run.suites (Deciding outcome) ≡ Some (tk.asked.0, tk.asked.1) = subst (λ phase. request_in fixed its txn_run.suites phase ≡ Some (tk.asked.0, tk.asked.1)) is request_is in
           let decides : tk.asked.1 ≡ request.Decide its.t (decision_of its outcome) = sym (asks_same (home_of fixed.service its.t) tk.asked.0 (request.Decide its.t (decision_of its outcome)) tk.asked.1 asks) in

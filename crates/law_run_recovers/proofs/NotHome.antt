@@ -75,7 +75,7 @@ module _ (task : Task) (now : Cache) where
   up_not : (suites : Suites) (cause : Cause) → is_home (Undecided cause) ≡ false → NotHome (give_up task now suites cause)
   up_not suites cause not = tell_not task now suites verdict.Aborted (Undecided cause) (locked_at suites) not
 
-  prepare_not : (suites : Suites) (outcome : doing.Outcome) (servers : List ℕ) → NotHome (prepare task now suites outcome servers)
+  prepare_not : (suites : Suites) (outcome : doing.Proposal) (servers : List ℕ) → NotHome (prepare task now suites outcome servers)
   prepare_not suites outcome [] ended is = absurd (none-some ended is)
   prepare_not suites outcome (server ∷ servers) ended is = absurd (none-some ended is)
 
@@ -143,7 +143,7 @@ module _ (fixed : Fixed) (task : Task) (now : Cache) (server : ℕ) (asked : Req
         cache = put fixed.limits (record { site = task.site; suite = number; prefix = first.prefix; dver = first.dver; content = content }) now;
       })
 
-  prepared_not : (suites : Suites) (outcome : doing.Outcome) (left : List ℕ) (b : Bool) → NotHome (cond b (prepare task now suites outcome left) (give_up task now suites (Lost server)))
+  prepared_not : (suites : Suites) (outcome : doing.Proposal) (left : List ℕ) (b : Bool) → NotHome (cond b (prepare task now suites outcome left) (give_up task now suites (Lost server)))
   prepared_not suites outcome left true = prepare_not task now suites outcome left
   prepared_not suites outcome left false = up_not task now suites (Lost server) refl
 

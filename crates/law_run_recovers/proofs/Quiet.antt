@@ -18,7 +18,7 @@ use Rattle.txn_core.specs.declared.job.Job.{Job}
 use Rattle.txn_core.specs.declared.response.Response.{Response}
 use Rattle.txn_core.specs.declared.response.Response.TheVariants.{Replied, Lacked}
 use Rattle.txn_core.specs.Suites.{Suites}
-use Rattle.txn_core.specs.Doing.{Outcome, Doing, Running, RunningSweep, SweepRun}
+use Rattle.txn_core.specs.Doing.{Proposal, Doing, Running, RunningSweep, SweepRun}
 use Rattle.txn_core.specs.Sweeps.{asked_now}
 use Rattle.txn_core.specs.Laws.{is_decide}
 use Rattle.txn_core.specs.Agents.{Taken, fixed_of, next_in, next_of, take, begin}
@@ -96,13 +96,13 @@ quiet_aim : (t : ℕ) (new : Option Change) → AllQuiet (aim_of t new)
 quiet_aim t (Some new) = refl
 quiet_aim t None = refl
 
-quiet_once : (z t : ℕ) (suites : Suites) (before after : Option Outcome) → AllQuiet (aims_once z t suites before after)
+quiet_once : (z t : ℕ) (suites : Suites) (before after : Option Proposal) → AllQuiet (aims_once z t suites before after)
 quiet_once z t suites None (Some outcome) = quiet_aim t (to_write z suites outcome)
 quiet_once z t suites None None = refl
 quiet_once z t suites (Some old) None = refl
 quiet_once z t suites (Some old) (Some outcome) = refl
 
-quiet_aims : (z t : ℕ) (before : Option Outcome) (after : Option Doing) → AllQuiet (aims z t before after)
+quiet_aims : (z t : ℕ) (before : Option Proposal) (after : Option Doing) → AllQuiet (aims z t before after)
 quiet_aims z t before (Some (Running txn_run)) = quiet_once z t txn_run.suites before (fixed_in txn_run.phase)
 quiet_aims z t before (Some (RunningSweep sweep_run)) = refl
 quiet_aims z t before None = refl

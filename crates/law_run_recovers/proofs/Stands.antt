@@ -209,7 +209,7 @@ module _ (fixed : Fixed) (world : World) (table : PlainTable) (task : Task) (cac
     pub none : first_short (demands fixed world table task.t task.caller task.ops start) ≡ None
     pub answer_is : answer ≡ answer_to table task
 
-  abbrev pub answer_in : doing.Outcome → Result (List Answer) Refusal
+  abbrev pub answer_in : doing.Proposal → Result (List Answer) Refusal
   answer_in (Ok granted) = Ok granted.answers
   answer_in (Err refusal) = Err refusal
 
@@ -309,6 +309,6 @@ module _ (fixed : Fixed) (world : World) (table : PlainTable) (task : Task) (cac
     told_stands now suites v ended [] right = right
     told_stands now suites v ended (server ∷ servers) right = (refl, right)
 
-    pub prepare_stands : (now : Cache) (suites : Suites) (outcome : doing.Outcome) (servers : List ℕ) → HasAll (answer_in outcome) → StepStands (prepare task now suites outcome servers)
+    pub prepare_stands : (now : Cache) (suites : Suites) (outcome : doing.Proposal) (servers : List ℕ) → HasAll (answer_in outcome) → StepStands (prepare task now suites outcome servers)
     prepare_stands now suites outcome [] all = (refl, all)
     prepare_stands now suites outcome (server ∷ servers) all = (refl, all)

@@ -18,7 +18,7 @@ use Rattle.txn_core.specs.declared.job.Job.TheVariants.{Transaction}
 use Rattle.txn_core.specs.Suites.{Suite, suite_of}
 use Rattle.txn_core.specs.Writing.{is_changed}
 use Rattle.txn_core.specs.Transactions.{changes_of, votes_after}
-use Rattle.txn_core.specs.Doing.{home_of, Outcome as Comes, Deciding, TransactionRun, Running}
+use Rattle.txn_core.specs.Doing.{home_of, Proposal, Deciding, TransactionRun, Running}
 use Rattle.txn_core.specs.Agents.{fixed_of}
 use Rattle.weak_cache.specs.Entries.{Cache}
 use Rattle.run_core.specs.declared.event.Event.{Event}
@@ -197,7 +197,7 @@ pub record HadVotesUp (given : Opening) (events later : List Event) (agent t : �
   pub there : actor_at (run given (events ++ Begin agent (Transaction caller site ops) ∷ before)) agent ≡ Some at_decision
   pub txn_run : TransactionRun
   pub running : at_decision.agent.doing ≡ Some (Running txn_run)
-  pub outcome : Comes
+  pub outcome : Proposal
   pub deciding : txn_run.phase ≡ Deciding outcome
   pub home : is_up (run given events) (home_of (fixed_of given).service t) ≡ true
   pub votes : (z : ℕ) (suite : Suite) → suite_of txn_run.suites z ≡ Some suite

@@ -21,7 +21,7 @@ use Rattle.txn_core.specs.declared.job.Job.{Job}
 use Rattle.txn_core.specs.declared.job.Job.TheVariants.{Transaction, Sweep}
 use Rattle.txn_core.specs.declared.response.Response.{Response}
 use Rattle.txn_core.specs.Suites.{known_of}
-use Rattle.txn_core.specs.Doing.{Fixed, Task, Outcome, TransactionRun, SweepRun, Doing, Running, RunningSweep, After, GoesOn, Ends}
+use Rattle.txn_core.specs.Doing.{Fixed, Task, Proposal, TransactionRun, SweepRun, Doing, Running, RunningSweep, After, GoesOn, Ends}
 use Rattle.txn_core.specs.Transactions.{decision_of}
 use Rattle.txn_core.specs.Sweeps as sweep
 use Rattle.txn_core.specs.Laws.{is_decide}
@@ -116,19 +116,19 @@ no_task world None = refl
 no_task world (Some what) = none_at (server_at world what.server) (to_decide what.request.value)
 
 -- what an outcome makes of a task
-abbrev decided_with : Task → Outcome → Decided
+abbrev decided_with : Task → Proposal → Decided
 decided_with task outcome = record { t = task.t; caller = task.caller; ops = task.ops; answer = answer_as outcome }
 
-as_carried : (task : Task) (outcome : Outcome) → decided_as (Some task) (decisions.answer_of (verdict_of (decision_of task outcome))) ≡ Some (decided_with task outcome)
+as_carried : (task : Task) (outcome : Proposal) → decided_as (Some task) (decisions.answer_of (verdict_of (decision_of task outcome))) ≡ Some (decided_with task outcome)
 as_carried task (Ok granted) = refl
 as_carried task (Err refusal) = refl
 
-carried_if : (task : Task) (outcome : Outcome) (one : Decided) (old : Option Verdict) → cond (is_some old) None (decided_as (Some task) (decisions.answer_of (recorded old (verdict_of (decision_of task outcome))))) ≡ Some one → one ≡ decided_with task outcome
+carried_if : (task : Task) (outcome : Proposal) (one : Decided) (old : Option Verdict) → cond (is_some old) None (decided_as (Some task) (decisions.answer_of (recorded old (verdict_of (decision_of task outcome))))) ≡ Some one → one ≡ decided_with task outcome
 carried_if task outcome one (Some old) is = absurd (none-some one is)
 carried_if task outcome one None is = same_Some one (decided_with task outcome) (sym is ∙ as_carried task outcome)
 
 -- what a Decide decides is what it carries
-carried : (st : State) (task : Task) (outcome : Outcome) (one : Decided) → decides_at st task (request.Decide task.t (decision_of task outcome)) (reply_of st (request.Decide task.t (decision_of task outcome))) ≡ Some one → one ≡ decided_with task outcome
+carried : (st : State) (task : Task) (outcome : Proposal) (one : Decided) → decides_at st task (request.Decide task.t (decision_of task outcome)) (reply_of st (request.Decide task.t (decision_of task outcome))) ≡ Some one → one ≡ decided_with task outcome
 carried st task outcome one =
     elim (st.up) as (λ b. decides_at st task (request.Decide task.t (decision_of task outcome)) (cond b (reply.Verdict (recorded (record_of st task.t) (verdict_of (decision_of task outcome)))) reply.Down) ≡ Some one → one ≡ decided_with task outcome) [
       | true ↦ λ is. carried_if task outcome one (record_of st task.t) is

@@ -8,7 +8,7 @@ use Rattle.rep_core.specs.declared.request.Request.TheVariants as request
 use Rattle.file_ops.specs.declared.service.Service.{Service}
 use Rattle.txn_core.specs.Suites.{Suites, suite_of}
 use Rattle.txn_core.specs.Writing.{parts_at}
-use Rattle.txn_core.specs.Doing.{Fixed, Task, home_of, Outcome, Phase, Gathering, Fetching, Widening, Preparing, Deciding, Finishing, Sweeping, Listing, Resolving, Telling, Breaking, SweepRun}
+use Rattle.txn_core.specs.Doing.{Fixed, Task, home_of, Proposal, Phase, Gathering, Fetching, Widening, Preparing, Deciding, Finishing, Sweeping, Listing, Resolving, Telling, Breaking, SweepRun}
 use Rattle.txn_core.specs.Transactions.{request_in, changes_of, decision_of}
 use Rattle.txn_core.specs.Sweeps.{asked_now}
 use Rattle.txn_core.specs.Laws.{is_decide}
@@ -50,7 +50,7 @@ sweep_decides_none service sweep_run (Breaking lock left) = refl
 -- ---- a decision is asked for at the transaction's home
 
 pub record Decides (fixed : Fixed) (task : Task) (phase : Phase) (server : ℕ) (asked : Request) : Type 0 where
-  pub outcome : Outcome
+  pub outcome : Proposal
   pub deciding : phase ≡ Deciding outcome
   pub at_home : server ≡ home_of fixed.service task.t
   pub decide : asked ≡ request.Decide task.t (decision_of task outcome)

@@ -36,7 +36,7 @@ use Rattle.txn_core.specs.declared.ending.Cause.{Cause}
 use Rattle.txn_core.specs.declared.ending.Cause.TheVariants.{Lost}
 use Rattle.txn_core.specs.declared.ending.Ending.{Ending}
 use Rattle.txn_core.specs.declared.ending.Ending.TheVariants.{Undecided}
-use Rattle.txn_core.specs.Doing.{Changes, Granted, Fixed, Task, Outcome, Phase, Gathering, Fetching, Widening, Preparing, Deciding, Finishing, TransactionRun, After, GoesOn, Ends}
+use Rattle.txn_core.specs.Doing.{Changes, Granted, Fixed, Task, Proposal, Phase, Gathering, Fetching, Widening, Preparing, Deciding, Finishing, TransactionRun, After, GoesOn, Ends}
 use Rattle.txn_core.specs.Transactions.{Step, changes_of, Gathered, tell_end, give_up, prepare, locked_at, short_cause, gather_by, widen_by, widen_one, widened, widen_all, to_widen, opened, or_all, open_needed, open_suite, open_first, opened_with, free_content, heard_on, raised_or_new, keep_content, heard_of, said_to, proceed, execute, collected, hear, fetched, prepared, after_response, given_in, lack_cause, verdict_in, ending_by, cause_of_abort}
 use Rattle.txn_core.proofs.Growing.{serves_itself}
 use Rattle.law_runs.proofs.Standing.{Answer'}
@@ -53,7 +53,7 @@ abbrev pub set_by : Known → Result (Ended (List Answer)) Refusal → Changes
 set_by known (Ok ended) = changes.changes_of known ended.edits
 set_by known (Err refusal) = []
 
-abbrev pub answer_as : Outcome → Answer'
+abbrev pub answer_as : Proposal → Answer'
 answer_as (Ok granted) = Ok granted.answers
 answer_as (Err refusal) = Err refusal
 
@@ -82,7 +82,7 @@ still_more before less more goes still = record {
 }
 
 -- On what is known of these suites the executor is done, with this outcome; what it sets it said when it was done first, on what was known then.
-pub record Came (fixed : Fixed) (task : Task) (suites : Suites) (outcome : Outcome) : Type 0 where
+pub record Came (fixed : Fixed) (task : Task) (suites : Suites) (outcome : Proposal) : Type 0 where
   pub fit : AreFit suites
   pub result : Result (Ended (List Answer)) Refusal
   pub is : exec_of fixed.service (known_of suites) task.t task.caller task.ops ≡ Done result
@@ -92,7 +92,7 @@ pub record Came (fixed : Fixed) (task : Task) (suites : Suites) (outcome : Outco
   pub was : exec_of fixed.service before task.t task.caller task.ops ≡ Done result
   pub set : changes_of outcome ≡ set_by before result
 
-came_more : (fixed : Fixed) (task : Task) (less more : Suites) (outcome : Outcome) → MoreKnown (known_of less) (known_of more) → AreFit more → Came fixed task less outcome → Came fixed task more outcome
+came_more : (fixed : Fixed) (task : Task) (less more : Suites) (outcome : Proposal) → MoreKnown (known_of less) (known_of more) → AreFit more → Came fixed task less outcome → Came fixed task more outcome
 came_more fixed task less more outcome goes fit came = record {
   fit = fit;
   result = came.result;
@@ -176,7 +176,7 @@ left_end fixed task cache suites v ending (server ∷ servers) = tt
 left_give_up : (fixed : Fixed) (task : Task) (cache : Cache) (suites : Suites) (cause : Cause) → Left fixed (give_up task cache suites cause).after
 left_give_up fixed task cache suites cause = left_end fixed task cache suites verdict.Aborted (Undecided cause) (locked_at suites)
 
-left_prepare : (fixed : Fixed) (task : Task) (cache : Cache) (suites : Suites) (outcome : Outcome) (servers : List ℕ) → Came fixed task suites outcome → Left fixed (prepare task cache suites outcome servers).after
+left_prepare : (fixed : Fixed) (task : Task) (cache : Cache) (suites : Suites) (outcome : Proposal) (servers : List ℕ) → Came fixed task suites outcome → Left fixed (prepare task cache suites outcome servers).after
 left_prepare fixed task cache suites outcome [] came = came
 left_prepare fixed task cache suites outcome (server ∷ servers) came = came
 
@@ -333,7 +333,7 @@ left_fetched fixed task cache suites number (Some suite) server None there fit =
 left_fetched fixed task cache suites number None server (Some content) there fit = left_give_up fixed task cache suites (Lost server)
 left_fetched fixed task cache suites number None server None there fit = left_give_up fixed task cache suites (Lost server)
 
-left_prepared : (fixed : Fixed) (task : Task) (cache : Cache) (suites : Suites) (outcome : Outcome) (server : ℕ) (left : List ℕ) (said : Reply) → Came fixed task suites outcome → Left fixed (prepared task cache suites outcome server left said).after
+left_prepared : (fixed : Fixed) (task : Task) (cache : Cache) (suites : Suites) (outcome : Proposal) (server : ℕ) (left : List ℕ) (said : Reply) → Came fixed task suites outcome → Left fixed (prepared task cache suites outcome server left said).after
 left_prepared fixed task cache suites outcome server left said came =
     elim (is_prepared said) as (λ b. Left fixed (cond b (prepare task cache suites outcome left) (give_up task cache suites (Lost server))).after) [
       | true ↦ left_prepare fixed task cache suites outcome left came

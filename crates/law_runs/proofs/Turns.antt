@@ -21,7 +21,7 @@ use Rattle.rep_core.specs.Serving.{is_full, served, step}
 use Rattle.rep_core.proofs.Records.{record_here, record_apart, record_step}
 use Rattle.rep_core.proofs.Ways.{recording}
 use Rattle.txn_core.specs.declared.response.Response.TheVariants.{Replied}
-use Rattle.txn_core.specs.Doing.{Fixed, Task, Phase, Deciding, Outcome, home_of}
+use Rattle.txn_core.specs.Doing.{Fixed, Task, Phase, Deciding, Proposal, home_of}
 use Rattle.txn_core.specs.Transactions.{decision_of}
 use Rattle.txn_core.specs.Laws.{is_decide, said_by}
 use Rattle.txn_core.specs.Agents.{Agent}
@@ -106,14 +106,14 @@ item_is t task refusal audit = of refusal.why
 
 module _ (fixed : Fixed) (agent : Agent) (i : ℕ) (task : Task) (ds : List Decided) (s : ℕ) (st : State) (stamp : ℕ) (home : home_of fixed.service task.t ≡ s)
     (is : (d : Decided) → d.t ≡ task.t → IsOf agent i d) (recorded_so : (v : Verdict) → record_of st task.t ≡ Some v → Recorded ds task.t v) where
-  abbrev asked_by : Outcome → Request
+  abbrev asked_by : Proposal → Request
   asked_by outcome = request.Decide task.t (decision_of task outcome)
 
   of_last : (d : Decided) → d.t ≡ task.t → AreOf agent i (d ∷ [])
   of_last d same e has = elim has [ inl last ↦ subst (IsOf agent i) last (is d same) | inr rest ↦ absurd rest ]
 
   -- the home has a record already, or is down: nothing is decided
-  nothing_new : (outcome : Outcome) (said : Reply) → ((v : Verdict) → v ≡ verdict.Aborted → Stands ds task.t v → Stands ds task.t (said_by (Replied said) v)) → Turn fixed agent i task (Deciding outcome) ds s st (stamped stamp st) (asked_by outcome) said None
+  nothing_new : (outcome : Proposal) (said : Reply) → ((v : Verdict) → v ≡ verdict.Aborted → Stands ds task.t v → Stands ds task.t (said_by (Replied said) v)) → Turn fixed agent i task (Deciding outcome) ds s st (stamped stamp st) (asked_by outcome) said None
   nothing_new outcome said says = record {
     served = inl (record { none = refl; old = λ t v has. inl has; audit = refl });
     of = none_of agent i;
@@ -121,7 +121,7 @@ module _ (fixed : Fixed) (agent : Agent) (i : ℕ) (task : Task) (ds : List Deci
   }
 
   -- it has none: what is carried is recorded
-  first : (outcome : Outcome) → record_of st task.t ≡ None
+  first : (outcome : Proposal) → record_of st task.t ≡ None
       → Turn fixed agent i task (Deciding outcome) ds s st (stamped stamp (recording task.t (verdict_of (decision_of task outcome)) (audit_of task.t (decision_of task outcome)) st)) (asked_by outcome) (reply.Verdict (verdict_of (decision_of task outcome))) (decided_as (Some task) (answer_of (verdict_of (decision_of task outcome))))
   first (Ok granted) free =
       let d : Decided = record { t = task.t; caller = task.caller; ops = task.ops; answer = Ok granted.answers } in
@@ -154,7 +154,7 @@ module _ (fixed : Fixed) (agent : Agent) (i : ℕ) (task : Task) (ds : List Deci
         says = λ v tells stands. stands_last ds d (Err refusal) refl;
       }
 
-  by_record : (outcome : Outcome) (old : Option Verdict) → record_of st task.t ≡ old
+  by_record : (outcome : Proposal) (old : Option Verdict) → record_of st task.t ≡ old
       → Turn fixed agent i task (Deciding outcome) ds s st (stamped stamp (after_record old task.t (verdict_of (decision_of task outcome)) (audit_of task.t (decision_of task outcome)) st)) (asked_by outcome) (reply.Verdict (recorded old (verdict_of (decision_of task outcome))))
       (decides_at st task (asked_by outcome) (reply.Verdict (recorded old (verdict_of (decision_of task outcome)))))
   by_record outcome (Some old) has =
@@ -166,7 +166,7 @@ module _ (fixed : Fixed) (agent : Agent) (i : ℕ) (task : Task) (ds : List Deci
       (ap (λ r. cond (is_some r) None (decided_as (Some task) (answer_of (verdict_of (decision_of task outcome))))) (sym free))
       (first outcome free)
 
-  down : (outcome : Outcome) → Turn fixed agent i task (Deciding outcome) ds s st (stamped stamp st) (asked_by outcome) reply.Down (decides_at st task (asked_by outcome) reply.Down)
+  down : (outcome : Proposal) → Turn fixed agent i task (Deciding outcome) ds s st (stamped stamp st) (asked_by outcome) reply.Down (decides_at st task (asked_by outcome) reply.Down)
   down outcome =
       subst (Turn fixed agent i task (Deciding outcome) ds s st (stamped stamp st) (asked_by outcome) reply.Down)
       (same (is_some (record_of st task.t)))
@@ -176,7 +176,7 @@ module _ (fixed : Fixed) (agent : Agent) (i : ℕ) (task : Task) (ds : List Deci
       same true = refl
       same false = refl
 
-  pub decide_turn : (outcome : Outcome) → Turn fixed agent i task (Deciding outcome) ds s st (stamped stamp (after st (asked_by outcome))) (asked_by outcome) (reply_of st (asked_by outcome)) (decides_at st task (asked_by outcome) (reply_of st (asked_by outcome)))
+  pub decide_turn : (outcome : Proposal) → Turn fixed agent i task (Deciding outcome) ds s st (stamped stamp (after st (asked_by outcome))) (asked_by outcome) (reply_of st (asked_by outcome)) (decides_at st task (asked_by outcome) (reply_of st (asked_by outcome)))
   decide_turn outcome =
       elim (st.up) as (λ b. Turn fixed agent i task (Deciding outcome) ds s st
       (stamped stamp (cond b (after_record (record_of st task.t) task.t (verdict_of (decision_of task outcome)) (audit_of task.t (decision_of task outcome)) st) st)) (asked_by outcome)

@@ -15,7 +15,7 @@ use Rattle.txn_core.specs.declared.ending.Cause.{Cause}
 use Rattle.txn_core.specs.declared.ending.Cause.TheVariants.{Lost}
 use Rattle.txn_core.specs.declared.ending.Ending.{Ending}
 use Rattle.txn_core.specs.declared.ending.Ending.TheVariants.{Undecided}
-use Rattle.txn_core.specs.Doing.{Fixed, Task, home_of, Outcome, Phase, Gathering, Fetching, Widening, Preparing, Deciding, Finishing, TransactionRun, After, GoesOn, Ends}
+use Rattle.txn_core.specs.Doing.{Fixed, Task, home_of, Proposal, Phase, Gathering, Fetching, Widening, Preparing, Deciding, Finishing, TransactionRun, After, GoesOn, Ends}
 use Rattle.txn_core.specs.Transactions.{execute, tell_end, give_up, prepare, locked_at, lack_cause, prepared, after_response, request_in, changes_of, decision_of, verdict_in, ending_by, cause_of_abort}
 use Rattle.txn_core.specs.Laws.{is_decide, said_by}
 use Rattle.txn_core.proofs.Asks.{asks_same, asked_as, fetched_as}
@@ -42,7 +42,7 @@ leaves_end task cache suites v ending (server ∷ servers) ends = (refl, (refl, 
 leaves_give_up : (task : Task) (cache : Cache) (suites : Suites) (cause : Cause) → Leaves task verdict.Aborted (give_up task cache suites cause).after
 leaves_give_up task cache suites cause = leaves_end task cache suites verdict.Aborted (Undecided cause) (locked_at suites) (cause, refl)
 
-leaves_prepare : (task : Task) (cache : Cache) (suites : Suites) (outcome : Outcome) (servers : List ℕ) → Leaves task verdict.Aborted (prepare task cache suites outcome servers).after
+leaves_prepare : (task : Task) (cache : Cache) (suites : Suites) (outcome : Proposal) (servers : List ℕ) → Leaves task verdict.Aborted (prepare task cache suites outcome servers).after
 leaves_prepare task cache suites outcome [] = (refl, refl)
 leaves_prepare task cache suites outcome (server ∷ servers) = (refl, refl)
 
@@ -54,7 +54,7 @@ leaves_early task suites (Preparing left outcome) is = absurd is
 leaves_early task suites (Deciding outcome) is = absurd is
 leaves_early task suites (Finishing servers told ending) is = absurd is
 
-leaves_prepares : (task : Task) (cache : Cache) (suites : Suites) (outcome : Outcome) → Leaves task verdict.Aborted (prepare task cache suites outcome (locked_at suites)).after
+leaves_prepares : (task : Task) (cache : Cache) (suites : Suites) (outcome : Proposal) → Leaves task verdict.Aborted (prepare task cache suites outcome (locked_at suites)).after
 leaves_prepares task cache suites outcome = leaves_prepare task cache suites outcome (locked_at suites)
 
 leaves_response_early : (fixed : Fixed) (task : Task) (cache : Cache) (suites : Suites) (phase : Phase) (server : ℕ) (asked : Request) (response : Response) → IsEarly phase
@@ -66,7 +66,7 @@ leaves_response_early fixed task cache suites phase server asked response is =
 pub leaves_begin : (fixed : Fixed) (task : Task) (cache : Cache) → Leaves task verdict.Aborted (execute fixed task (record { suites = []; cache = cache })).after
 leaves_begin fixed task cache = goes_execute task (Leaves task verdict.Aborted) (leaves_early task) (leaves_give_up task) (leaves_prepares task) fixed (record { suites = []; cache = cache })
 
-leaves_prepared : (task : Task) (cache : Cache) (suites : Suites) (outcome : Outcome) (server : ℕ) (left : List ℕ) (said : Reply) → Leaves task verdict.Aborted (prepared task cache suites outcome server left said).after
+leaves_prepared : (task : Task) (cache : Cache) (suites : Suites) (outcome : Proposal) (server : ℕ) (left : List ℕ) (said : Reply) → Leaves task verdict.Aborted (prepared task cache suites outcome server left said).after
 leaves_prepared task cache suites outcome server left said =
     elim (is_prepared said) as (λ b. Leaves task verdict.Aborted (cond b (prepare task cache suites outcome left) (give_up task cache suites (Lost server))).after) [
       | true ↦ leaves_prepare task cache suites outcome left

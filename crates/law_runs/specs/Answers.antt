@@ -7,7 +7,7 @@ use Rattle.file_ops.specs.Rows.{Rows, row_of}
 use Rattle.file_ops.specs.Transactions.{transaction, replies}
 use Rattle.file_exec.specs.Known.{AgreesWith}
 use Rattle.txn_core.specs.Suites.{known_of}
-use Rattle.txn_core.specs.Doing.{Outcome, TransactionRun, Running, Deciding}
+use Rattle.txn_core.specs.Doing.{Proposal, TransactionRun, Running, Deciding}
 use Rattle.txn_core.specs.Agents.{fixed_of}
 use Rattle.run_core.specs.declared.event.Event.{Event}
 use Rattle.run_core.specs.declared.event.Event.TheVariants.{Step}
@@ -26,7 +26,7 @@ pub record IsAnsweredAsKnown (given : Opening) (world : World) (event : Event) (
   pub there : actor_at world number ≡ Some actor
   pub txn_run : TransactionRun
   pub running : actor.agent.doing ≡ Some (Running txn_run)
-  pub outcome : Outcome
+  pub outcome : Proposal
   pub deciding : txn_run.phase ≡ Deciding outcome
   pub t : one.t ≡ txn_run.task.t
   pub caller : one.caller ≡ txn_run.task.caller

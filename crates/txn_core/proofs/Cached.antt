@@ -24,7 +24,7 @@ use Rattle.txn_core.specs.declared.response.Response.TheVariants.{Replied, Lacke
 use Rattle.txn_core.specs.declared.ending.Cause.{Cause}
 use Rattle.txn_core.specs.declared.ending.Cause.TheVariants.{Lost}
 use Rattle.txn_core.specs.declared.ending.Ending.{Ending}
-use Rattle.txn_core.specs.Doing.{Granted, Fixed, Task, Outcome, Phase, Gathering, Fetching, Widening, Preparing, Deciding, Finishing}
+use Rattle.txn_core.specs.Doing.{Granted, Fixed, Task, Proposal, Phase, Gathering, Fetching, Widening, Preparing, Deciding, Finishing}
 use Rattle.txn_core.specs.Transactions.{Step, Gathered, tell_end, give_up, prepare, locked_at, short_cause, gather_by, widen_by, widen_one, widened, widen_all, opened, or_all, open_needed, open_suite, open_first, opened_with, free_content, heard_on, raised_or_new, keep_content, heard_of, said_to, proceed, execute, collected, hear, fetched, after_lack, after_response, given_in, lack_cause, verdict_in, ending_by, cause_of_abort}
 
 -- ---- steps that leave it as it was
@@ -36,7 +36,7 @@ same_end task cache suites v ending (server ∷ servers) = refl
 same_give_up : (task : Task) (cache : Cache) (suites : Suites) (cause : Cause) → (give_up task cache suites cause).cache ≡ cache
 same_give_up task cache suites cause = same_end task cache suites _ _ (locked_at suites)
 
-same_prepare : (task : Task) (cache : Cache) (suites : Suites) (outcome : Outcome) (servers : List ℕ) → (prepare task cache suites outcome servers).cache ≡ cache
+same_prepare : (task : Task) (cache : Cache) (suites : Suites) (outcome : Proposal) (servers : List ℕ) → (prepare task cache suites outcome servers).cache ≡ cache
 same_prepare task cache suites outcome [] = refl
 same_prepare task cache suites outcome (server ∷ servers) = refl
 

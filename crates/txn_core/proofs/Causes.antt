@@ -38,7 +38,7 @@ use Rattle.txn_core.specs.declared.ending.Ending.{Ending}
 use Rattle.txn_core.specs.declared.response.Response.TheVariants.{Replied, Lacked}
 use Rattle.txn_core.specs.declared.ending.Cause.TheVariants.{Unavailable, Busy, Lost, Overruled, HomeDown, Full, Memory}
 use Rattle.txn_core.specs.declared.ending.Ending.TheVariants.{Answered, Refused, Swept, Undecided}
-use Rattle.txn_core.specs.Doing.{Granted, home_of, Fixed, Task, Outcome, Phase, Gathering, Fetching, Widening, Preparing, Deciding, Finishing, TransactionRun, After, GoesOn, Ends}
+use Rattle.txn_core.specs.Doing.{Granted, home_of, Fixed, Task, Proposal, Phase, Gathering, Fetching, Widening, Preparing, Deciding, Finishing, TransactionRun, After, GoesOn, Ends}
 use Rattle.txn_core.specs.Transactions.{Step, Gathered, tell_end, give_up, prepare, locked_at, short_cause, gather_by, widen_by, widen_one, widened, widen_all, to_widen, opened, start_from, heard_on, raised_or_new, keep_content, heard_of, said_to, proceed, execute, collected, hear, fetched, prepared, after_lack, after_response, asked_by, asked_for, fetched_at, fetched_for, request_in, changes_of, decision_of, given_in, verdict_in, ending_by, cause_of_abort, lack_cause}
 use Rattle.txn_core.specs.Laws.{Exchange, locks, is_decide, told_of, told_by, more_told, fits_response, all_fit}
 use Rattle.txn_core.specs.Undecided.{Was, loses, says_aborted, says_down, is_finish, stops}
@@ -288,7 +288,7 @@ module _ (fixed : Fixed) (task : Task) (Old : Base) (Loose : ℕ → Prefix → 
   caused_give_up : (past : List Exchange) (cache : Cache) (suites : Suites) (cause : Cause) → (all_fit past ≡ true → CausedBy fixed task Old (OrFresh fixed task cache past Loose) past cause) → Leaves fixed task Old Loose past (give_up task cache suites cause)
   caused_give_up past cache suites cause is = caused_end past cache suites verdict.Aborted (Undecided cause) (locked_at suites) is
 
-  caused_prepare : (past : List Exchange) (cache : Cache) (suites : Suites) (outcome : Outcome) (servers : List ℕ) → Leaves fixed task Old Loose past (prepare task cache suites outcome servers)
+  caused_prepare : (past : List Exchange) (cache : Cache) (suites : Suites) (outcome : Proposal) (servers : List ℕ) → Leaves fixed task Old Loose past (prepare task cache suites outcome servers)
   caused_prepare past cache suites outcome [] = (refl, tt)
   caused_prepare past cache suites outcome (server ∷ servers) = (refl, tt)
 

@@ -4,7 +4,7 @@ use Rattle.rep_core.specs.declared.reply.Verdict.{Verdict}
 use Rattle.rep_core.specs.declared.stamped.Lack.{Lack}
 use Rattle.weak_cache.specs.Entries.{Cache}
 use Rattle.txn_core.specs.declared.ending.Ending.{Ending}
-use Rattle.txn_core.specs.Doing.{Task, Outcome, Phase, Finishing, TransactionRun}
+use Rattle.txn_core.specs.Doing.{Task, Proposal, Phase, Finishing, TransactionRun}
 use Rattle.txn_core.specs.code.Steps.{Steps}
 use Rattle.txn_core.specs.Suites.{Suites}
 use Rattle.txn_core.specs.Transactions.{Step, locked_at, tell_end, finish, prepare, after_lack}
@@ -16,7 +16,7 @@ module _ (task : Task) (cache : Cache) (suites given : Suites) (servers : List �
       let Told : List ℕ → Type 0 = λ servers. Steps (tell_end task cache suites verdict ending servers) result after cache in
       subst Told (found ∙ ap locked_at same) steps
 
-  pub prepares : (outcome : Outcome) (result : Option Ending) → Steps (prepare task cache suites outcome servers) result after cache → Steps (prepare task cache suites outcome (locked_at suites)) result after cache
+  pub prepares : (outcome : Proposal) (result : Option Ending) → Steps (prepare task cache suites outcome servers) result after cache → Steps (prepare task cache suites outcome (locked_at suites)) result after cache
   prepares outcome result steps =
       let Prepares : List ℕ → Type 0 = λ servers. Steps (prepare task cache suites outcome servers) result after cache in
       subst Prepares (found ∙ ap locked_at same) steps

@@ -41,7 +41,7 @@ use Rattle.txn_core.specs.declared.ending.Cause.TheVariants.{Lost}
 use Rattle.txn_core.specs.declared.ending.Ending.{Ending}
 use Rattle.txn_core.specs.declared.ending.Ending.TheVariants.{Undecided}
 use Rattle.txn_core.specs.declared.job.Job.TheVariants.{Transaction}
-use Rattle.txn_core.specs.Doing.{Granted, home_of, Fixed, Task, Outcome, Phase, Gathering, Fetching, Widening, Preparing, Deciding, Finishing, TransactionRun, Doing, Running, RunningSweep, After, GoesOn, Ends}
+use Rattle.txn_core.specs.Doing.{Granted, home_of, Fixed, Task, Proposal, Phase, Gathering, Fetching, Widening, Preparing, Deciding, Finishing, TransactionRun, Doing, Running, RunningSweep, After, GoesOn, Ends}
 use Rattle.txn_core.specs.Writing.{parts_at}
 use Rattle.txn_core.specs.Transactions.{Step, Gathered, tell_end, give_up, prepare, locked_at, short_cause, gather_by, widen_by, widen_one, widened, widen_all, opened, or_all, open_needed, open_suite, open_first, opened_with, free_content, heard_on, raised_or_new, keep_content, heard_of, said_to, proceed, execute, collected, hear, fetched, prepared, after_lack, after_response, asked_for, fetched_at, fetched_for, request_in, changes_of, decision_of, given_in, verdict_in, ending_by, cause_of_abort, lack_cause}
 use Rattle.txn_core.specs.Agents as agents
@@ -119,7 +119,7 @@ l_end before task cache suites v ending (server ∷ servers) bounded = bounded
 l_give_up : (before : ℕ → ℕ) (task : Task) (cache : Cache) (suites : Suites) (cause : Cause) → Bounded before → Leaves before (give_up task cache suites cause).after
 l_give_up before task cache suites cause bounded = l_end before task cache suites verdict.Aborted (Undecided cause) (locked_at suites) bounded
 
-l_prepare : (before : ℕ → ℕ) (task : Task) (cache : Cache) (suites : Suites) (outcome : Outcome) (servers : List ℕ) → Bounded before → Leaves before (prepare task cache suites outcome servers).after
+l_prepare : (before : ℕ → ℕ) (task : Task) (cache : Cache) (suites : Suites) (outcome : Proposal) (servers : List ℕ) → Bounded before → Leaves before (prepare task cache suites outcome servers).after
 l_prepare before task cache suites outcome [] bounded = bounded
 l_prepare before task cache suites outcome (server ∷ servers) bounded = bounded
 
@@ -357,7 +357,7 @@ response_bounded before fixed task suites (Finishing [] v ending) server asked i
 response_bounded before fixed task suites (Finishing (now ∷ left) v ending) server asked in' is =
     bounded_quiet before asked (λ other. ap (fetches other) (sym (asks_same now server (request.Finish task.t v) asked is))) in'
 
-l_prepared : (before : ℕ → ℕ) (task : Task) (cache : Cache) (suites : Suites) (outcome : Outcome) (server : ℕ) (left : List ℕ) (said : Reply) → Bounded before → Leaves before (prepared task cache suites outcome server left said).after
+l_prepared : (before : ℕ → ℕ) (task : Task) (cache : Cache) (suites : Suites) (outcome : Proposal) (server : ℕ) (left : List ℕ) (said : Reply) → Bounded before → Leaves before (prepared task cache suites outcome server left said).after
 l_prepared before task cache suites outcome server left said bounded =
     elim (is_prepared said) as (λ b. Leaves before (cond b (prepare task cache suites outcome left) (give_up task cache suites (Lost server))).after) [
       | true ↦ l_prepare before task cache suites outcome left bounded

@@ -21,7 +21,7 @@ use Rattle.txn_core.specs.declared.response.Response.TheVariants.{Replied, Lacke
 use Rattle.txn_core.specs.declared.ending.Cause.TheVariants.{Lost}
 use Rattle.txn_core.specs.declared.ending.Ending.TheVariants.{Undecided}
 use Rattle.txn_core.specs.declared.job.Job.TheVariants.{Transaction}
-use Rattle.txn_core.specs.Doing.{Fixed, Task, Outcome, Phase, Gathering, Fetching, Widening, Preparing, Deciding, Finishing, TransactionRun, Doing, Running, RunningSweep, After, GoesOn, Ends}
+use Rattle.txn_core.specs.Doing.{Fixed, Task, Proposal, Phase, Gathering, Fetching, Widening, Preparing, Deciding, Finishing, TransactionRun, Doing, Running, RunningSweep, After, GoesOn, Ends}
 use Rattle.txn_core.specs.Transactions.{numbers_from, tell_end, give_up, prepare, locked_at, after_response, request_in, decision_of, verdict_in, ending_by, cause_of_abort, lack_cause}
 use Rattle.txn_core.specs.Agents.{Agent, Event, Take, Forget, next_in, next_of, left, take_in, take, begin, started, forget, is_idle, has_sense, max_jobs}
 use Rattle.txn_core.specs.Laws.{Exchange, exchange_of, exchanges, of_job, count_of}
@@ -95,7 +95,7 @@ few_end who task cache suites v ending (server ∷ servers) = refl
 few_finish : (who : ℕ) (task : Task) (cache : Cache) (suites : Suites) (v : Verdict) (ending : Ending) → may who (left Running (tell_end task cache suites v ending (locked_at suites)).after) ≤ 1
 few_finish who task cache suites v ending = let same = few_end who task cache suites v ending (locked_at suites) in let few = few_locked who suites in omega (arith, same, few)
 
-few_prepare : (who : ℕ) (task : Task) (cache : Cache) (suites : Suites) (outcome : Outcome) (servers : List ℕ) → may who (left Running (prepare task cache suites outcome servers).after) ≤ times_in who servers + 1
+few_prepare : (who : ℕ) (task : Task) (cache : Cache) (suites : Suites) (outcome : Proposal) (servers : List ℕ) → may who (left Running (prepare task cache suites outcome servers).after) ≤ times_in who servers + 1
 few_prepare who task cache suites outcome [] = omega arith
 few_prepare who task cache suites outcome (server ∷ servers) = omega arith
 
@@ -110,7 +110,7 @@ few_early who task suites (Finishing servers v ending) is = absurd is
 few_given_up : (who : ℕ) (task : Task) (cache : Cache) (suites : Suites) (cause : Cause) → IsFew who (give_up task cache suites cause).after
 few_given_up who task cache suites cause = let few = few_finish who task cache suites verdict.Aborted (Undecided cause) in omega (arith, few)
 
-few_prepares : (who : ℕ) (task : Task) (cache : Cache) (suites : Suites) (outcome : Outcome) → IsFew who (prepare task cache suites outcome (locked_at suites)).after
+few_prepares : (who : ℕ) (task : Task) (cache : Cache) (suites : Suites) (outcome : Proposal) → IsFew who (prepare task cache suites outcome (locked_at suites)).after
 few_prepares who task cache suites outcome = let few = few_prepare who task cache suites outcome (locked_at suites) in let most = few_locked who suites in omega (arith, few, most)
 
 -- ---- one response

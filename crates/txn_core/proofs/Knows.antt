@@ -26,7 +26,7 @@ use Rattle.txn_core.specs.declared.ending.Cause.TheVariants.{Lost}
 use Rattle.txn_core.specs.declared.ending.Ending.{Ending}
 use Rattle.txn_core.specs.declared.job.Job.{Job}
 use Rattle.txn_core.specs.declared.job.Job.TheVariants.{Transaction, Sweep}
-use Rattle.txn_core.specs.Doing.{Granted, Fixed, Task, Outcome, Phase, Gathering, Fetching, Widening, Preparing, Deciding, Finishing, TransactionRun, SweepRun, Doing, Running, RunningSweep, After, GoesOn, Ends}
+use Rattle.txn_core.specs.Doing.{Granted, Fixed, Task, Proposal, Phase, Gathering, Fetching, Widening, Preparing, Deciding, Finishing, TransactionRun, SweepRun, Doing, Running, RunningSweep, After, GoesOn, Ends}
 use Rattle.txn_core.specs.Transactions.{Step, Gathered, tell_end, give_up, prepare, locked_at, short_cause, gather_by, widen_by, widen_one, widened, widen_all, opened, heard_on, raised_or_new, keep_content, heard_of, said_to, proceed, execute, collected, hear, fetched, fetched_at, fetched_for, after_lack, after_response, given_in, lack_cause, verdict_in, ending_by, cause_of_abort, request_in}
 use Rattle.txn_core.specs.Sweeps as sweep
 use Rattle.txn_core.specs.Agents.{Agent, Event, Take, Forget, next_in, next_of, left, take_in, begin, started, is_idle, has_sense, max_jobs, after_all}
@@ -54,7 +54,7 @@ module _ (C : ℕ → ReadPoint → Content → Type 0) where
     knows_give_up : (cache : Cache) (suites : Suites) (cause : Cause) → Each (Knows C) suites → KnowsAfter (give_up task cache suites cause).after
     knows_give_up cache suites cause each = knows_end cache suites _ _ (locked_at suites) each
 
-    knows_prepare : (cache : Cache) (suites : Suites) (outcome : Outcome) (servers : List ℕ) → Each (Knows C) suites → KnowsAfter (prepare task cache suites outcome servers).after
+    knows_prepare : (cache : Cache) (suites : Suites) (outcome : Proposal) (servers : List ℕ) → Each (Knows C) suites → KnowsAfter (prepare task cache suites outcome servers).after
     knows_prepare cache suites outcome [] each = (refl, each)
     knows_prepare cache suites outcome (server ∷ servers) each = (refl, each)
 

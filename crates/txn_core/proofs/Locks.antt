@@ -50,7 +50,7 @@ use Rattle.txn_core.specs.declared.job.Job.{Job}
 use Rattle.txn_core.specs.declared.response.Response.TheVariants.{Replied, Lacked}
 use Rattle.txn_core.specs.declared.ending.Cause.TheVariants.{Lost}
 use Rattle.txn_core.specs.declared.job.Job.TheVariants.{Transaction, Sweep}
-use Rattle.txn_core.specs.Doing.{Changes, Granted, home_of, Fixed, Task, Outcome, Phase, Gathering, Fetching, Widening, Preparing, Deciding, Finishing, TransactionRun, Sweeping, Listing, Resolving, Telling, Breaking, SweepRun, Doing, Running, RunningSweep, After, GoesOn, Ends}
+use Rattle.txn_core.specs.Doing.{Changes, Granted, home_of, Fixed, Task, Proposal, Phase, Gathering, Fetching, Widening, Preparing, Deciding, Finishing, TransactionRun, Sweeping, Listing, Resolving, Telling, Breaking, SweepRun, Doing, Running, RunningSweep, After, GoesOn, Ends}
 use Rattle.txn_core.specs.Transactions.{Step, Gathered, tell_end, give_up, prepare, locked_at, short_cause, gather_by, widen_by, widen_one, widened, widen_all, opened, or_all, open_needed, open_suite, open_first, opened_with, free_content, heard_on, raised_or_new, keep_content, heard_of, is_poll, said_to, proceed, execute, collected, hear, fetched, prepared, after_lack, after_response, asked_by, asked_for, fetched_at, fetched_for, request_in, changes_of, decision_of, given_in, verdict_in, ending_by, cause_of_abort, lack_cause}
 use Rattle.txn_core.specs.Writing.{parts_at, part_of}
 use Rattle.txn_core.proofs.Asks.{asks_same}
@@ -108,7 +108,7 @@ leaves_end told task cache suites v ending (server ∷ servers) are = are
 leaves_give_up : (told : ℕ → List Told) (task : Task) (cache : Cache) (suites : Suites) (cause : Cause) → Are told suites → Leaves told (give_up task cache suites cause).after
 leaves_give_up told task cache suites cause are = leaves_end told task cache suites _ _ (locked_at suites) are
 
-leaves_prepare : (told : ℕ → List Told) (task : Task) (cache : Cache) (suites : Suites) (outcome : Outcome) (servers : List ℕ) → Are told suites → Leaves told (prepare task cache suites outcome servers).after
+leaves_prepare : (told : ℕ → List Told) (task : Task) (cache : Cache) (suites : Suites) (outcome : Proposal) (servers : List ℕ) → Are told suites → Leaves told (prepare task cache suites outcome servers).after
 leaves_prepare told task cache suites outcome [] are = are
 leaves_prepare told task cache suites outcome (server ∷ servers) are = are
 
@@ -368,7 +368,7 @@ leaves_fetched told fixed task cache suites number (Some suite) server (Some con
     of None = leaves_give_up told task cache suites (Lost server) are
     of (Some first) = leaves_execute told fixed task _ (are_same told suites number (record suite { content = Some content }) are (sym (ap told_in there)))
 
-pub leaves_prepared : (told : ℕ → List Told) (task : Task) (cache : Cache) (suites : Suites) (outcome : Outcome) (server : ℕ) (left : List ℕ) (said : Reply) → Are told suites → Leaves told (prepared task cache suites outcome server left said).after
+pub leaves_prepared : (told : ℕ → List Told) (task : Task) (cache : Cache) (suites : Suites) (outcome : Proposal) (server : ℕ) (left : List ℕ) (said : Reply) → Are told suites → Leaves told (prepared task cache suites outcome server left said).after
 leaves_prepared told task cache suites outcome server left said are =
     elim (is_prepared said) as (λ b. Leaves told (cond b (prepare task cache suites outcome left) (give_up task cache suites (Lost server))).after) [
       | true ↦ leaves_prepare told task cache suites outcome left are

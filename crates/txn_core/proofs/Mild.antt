@@ -19,7 +19,7 @@ use Rattle.txn_core.specs.declared.job.Job.{Job}
 use Rattle.txn_core.specs.declared.response.Response.TheVariants.{Replied, Lacked}
 use Rattle.txn_core.specs.declared.ending.Cause.TheVariants.{Lost}
 use Rattle.txn_core.specs.declared.job.Job.TheVariants.{Transaction, Sweep}
-use Rattle.txn_core.specs.Doing.{Fixed, Task, home_of, Outcome, Phase, Gathering, Fetching, Widening, Preparing, Deciding, Finishing, TransactionRun, SweepRun, Doing, Running, RunningSweep, After, GoesOn, Ends}
+use Rattle.txn_core.specs.Doing.{Fixed, Task, home_of, Proposal, Phase, Gathering, Fetching, Widening, Preparing, Deciding, Finishing, TransactionRun, SweepRun, Doing, Running, RunningSweep, After, GoesOn, Ends}
 use Rattle.txn_core.specs.Transactions.{lack_cause, Step, tell_end, give_up, prepare, locked_at, prepared, decided, after_response, request_in, changes_of, decision_of, verdict_in}
 use Rattle.txn_core.proofs.Asks.{asks_same, asked_as, fetched_as}
 use Rattle.txn_core.proofs.Walk.{IsEarly, goes_response, goes_execute}
@@ -45,7 +45,7 @@ tells_end task cache suites v ending (server ∷ servers) = refl
 pub mild_give_up : (task : Task) (cache : Cache) (suites : Suites) (cause : Cause) → IsMild (give_up task cache suites cause)
 mild_give_up task cache suites cause = tells_end task cache suites verdict.Aborted _ (locked_at suites)
 
-mild_prepare : (task : Task) (cache : Cache) (suites : Suites) (outcome : Outcome) (servers : List ℕ) → IsMild (prepare task cache suites outcome servers)
+mild_prepare : (task : Task) (cache : Cache) (suites : Suites) (outcome : Proposal) (servers : List ℕ) → IsMild (prepare task cache suites outcome servers)
 mild_prepare task cache suites outcome [] = refl
 mild_prepare task cache suites outcome (server ∷ servers) = refl
 
@@ -57,13 +57,13 @@ mild_early task suites (Preparing left outcome) is = absurd is
 mild_early task suites (Deciding outcome) is = absurd is
 mild_early task suites (Finishing servers told ending) is = absurd is
 
-mild_prepares : (task : Task) (cache : Cache) (suites : Suites) (outcome : Outcome) → IsMild (prepare task cache suites outcome (locked_at suites))
+mild_prepares : (task : Task) (cache : Cache) (suites : Suites) (outcome : Proposal) → IsMild (prepare task cache suites outcome (locked_at suites))
 mild_prepares task cache suites outcome = mild_prepare task cache suites outcome (locked_at suites)
 
 mild_response : (fixed : Fixed) (task : Task) (cache : Cache) (suites : Suites) (phase : Phase) (server : ℕ) (asked : Request) (response : Response) → IsEarly phase → IsMild (after_response fixed (record { task = task; suites = suites; phase = phase }) cache server asked response)
 mild_response fixed task cache suites phase server asked response is = goes_response task (LeftTells verdict.Aborted) (mild_early task) (mild_give_up task) (mild_prepares task) fixed cache suites phase server asked response is
 
-mild_prepared : (task : Task) (cache : Cache) (suites : Suites) (outcome : Outcome) (server : ℕ) (left : List ℕ) (said : Reply) → IsMild (prepared task cache suites outcome server left said)
+mild_prepared : (task : Task) (cache : Cache) (suites : Suites) (outcome : Proposal) (server : ℕ) (left : List ℕ) (said : Reply) → IsMild (prepared task cache suites outcome server left said)
 mild_prepared task cache suites outcome server left said =
     elim (is_prepared said) as (λ b. IsMild (cond b (prepare task cache suites outcome left) (give_up task cache suites (Lost server)))) [
       | true ↦ mild_prepare task cache suites outcome left

@@ -3,7 +3,7 @@ use Rattle.std.proofs.Common.{◌≡◌, ℕ, true, false, List, [], ◌∷◌, 
 use Rattle.rep_core.specs.declared.reply.Verdict.{Verdict}
 use Rattle.weak_cache.specs.Entries.{Cache}
 use Rattle.txn_core.specs.declared.ending.Ending.{Ending}
-use Rattle.txn_core.specs.Doing.{Task, Outcome, Preparing, Finishing, TransactionRun}
+use Rattle.txn_core.specs.Doing.{Task, Proposal, Preparing, Finishing, TransactionRun}
 use Rattle.txn_core.specs.code.Passing.{is_none, passed, passes_last}
 use Rattle.txn_core.specs.code.Steps.{Steps}
 use Rattle.txn_core.specs.Suites.{Suites}
@@ -24,12 +24,12 @@ module _ (task : Task) (suites : Suites) (cache : Cache) where
 
   -- ---- servers prepare
 
-  last_prepared : (outcome : Outcome) (left : List ℕ) (result : Option Ending) (after : TransactionRun) → is_none left ≡ true
+  last_prepared : (outcome : Proposal) (left : List ℕ) (result : Option Ending) (after : TransactionRun) → is_none left ≡ true
       → Steps (prepare task cache suites outcome []) result after cache → Steps (prepare task cache suites outcome left) result after cache
   last_prepared outcome [] result after last steps = steps
   last_prepared outcome (server ∷ left) result after last steps = cc
 
-  not_last_prepared : (outcome : Outcome) (left : List ℕ) → is_none left ≡ false
+  not_last_prepared : (outcome : Proposal) (left : List ℕ) → is_none left ≡ false
       → Steps (prepare task cache suites outcome left) None (record { task = task; suites = suites; phase = Preparing left outcome }) cache
   not_last_prepared outcome [] more = cc
   not_last_prepared outcome (server ∷ left) more = (refl, (refl, refl))
@@ -55,8 +55,8 @@ module _ (before between after : TransactionRun) (cache : Cache) (passes : betwe
       let Told : TransactionRun → Type 0 = λ txn_run. Steps (tell_end before.task cache before.suites verdict ending (drop 1 servers)) None txn_run cache in
       subst Told (sym (passes ∙ ap (λ phase. record before { phase = passed phase }) is)) (not_last_told before.task before.suites cache verdict ending (drop 1 servers) left)
 
-  pub prepared_last : (now : ℕ) (left : List ℕ) (outcome : Outcome) (result : Option Ending) → before.phase ≡ Preparing (now ∷ left) outcome → passes_last before.phase ≡ true
-      → ((outcome : Outcome) (cache : Cache) → between.phase ≡ Preparing [] outcome → Steps (prepare between.task cache between.suites outcome []) result after cache)
+  pub prepared_last : (now : ℕ) (left : List ℕ) (outcome : Proposal) (result : Option Ending) → before.phase ≡ Preparing (now ∷ left) outcome → passes_last before.phase ≡ true
+      → ((outcome : Proposal) (cache : Cache) → between.phase ≡ Preparing [] outcome → Steps (prepare between.task cache between.suites outcome []) result after cache)
       → Steps (prepare before.task cache before.suites outcome left) result after cache
   prepared_last now left outcome result is last decides =
       let none : is_none left ≡ true = ap passes_last (sym is) ∙ last in
@@ -64,7 +64,7 @@ module _ (before between after : TransactionRun) (cache : Cache) (passes : betwe
       let Prepares : TransactionRun → Type 0 = λ txn_run. Steps (prepare txn_run.task cache txn_run.suites outcome []) result after cache in
       last_prepared before.task before.suites cache outcome left result after none (subst Prepares passes (decides outcome cache at))
 
-  pub prepared_more : (now : ℕ) (left : List ℕ) (outcome : Outcome) → before.phase ≡ Preparing (now ∷ left) outcome → passes_last before.phase ≡ false
+  pub prepared_more : (now : ℕ) (left : List ℕ) (outcome : Proposal) → before.phase ≡ Preparing (now ∷ left) outcome → passes_last before.phase ≡ false
       → Steps (prepare before.task cache before.suites outcome left) None between cache
   prepared_more now left outcome is more =
       let some : is_none left ≡ false = ap passes_last (sym is) ∙ more in

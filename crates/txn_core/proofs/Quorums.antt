@@ -43,7 +43,7 @@ use Rattle.txn_core.specs.declared.response.Response.TheVariants.{Replied, Lacke
 use Rattle.txn_core.specs.declared.ending.Cause.TheVariants.{Lost}
 use Rattle.txn_core.specs.declared.ending.Ending.TheVariants.{Undecided}
 use Rattle.txn_core.specs.declared.job.Job.TheVariants.{Transaction, Sweep}
-use Rattle.txn_core.specs.Doing.{Changes, Granted, Fixed, Task, Outcome, Phase, Gathering, Fetching, Widening, Preparing, Deciding, Finishing, TransactionRun, SweepRun, Doing, Running, RunningSweep, After, GoesOn, Ends}
+use Rattle.txn_core.specs.Doing.{Changes, Granted, Fixed, Task, Proposal, Phase, Gathering, Fetching, Widening, Preparing, Deciding, Finishing, TransactionRun, SweepRun, Doing, Running, RunningSweep, After, GoesOn, Ends}
 use Rattle.txn_core.specs.Transactions.{Step, Gathered, tell_end, give_up, prepare, locked_at, short_cause, gather_by, widen_by, widen_one, widened, widen_all, to_widen, votes_then, votes_after, opened, or_all, open_needed, open_suite, open_first, opened_with, free_content, heard_on, raised_or_new, keep_content, heard_of, said_to, proceed, execute, collected, hear, fetched, prepared, after_lack, after_response, changes_of, given_in, verdict_in, ending_by, cause_of_abort, lack_cause}
 use Rattle.txn_core.specs.Sweeps as sweep
 use Rattle.txn_core.specs.Agents as agents
@@ -235,7 +235,7 @@ ready_end task cache suites v ending (server ∷ servers) = tt
 ready_give_up : (task : Task) (cache : Cache) (suites : Suites) (cause : Cause) → LeftReady (give_up task cache suites cause).after
 ready_give_up task cache suites cause = ready_end task cache suites verdict.Aborted (Undecided cause) (locked_at suites)
 
-ready_prepare : (task : Task) (cache : Cache) (suites : Suites) (outcome : Outcome) (left : List ℕ) → Each (Ready (changes_of outcome) []) suites → LeftReady (prepare task cache suites outcome left).after
+ready_prepare : (task : Task) (cache : Cache) (suites : Suites) (outcome : Proposal) (left : List ℕ) → Each (Ready (changes_of outcome) []) suites → LeftReady (prepare task cache suites outcome left).after
 ready_prepare task cache suites outcome [] each = each
 ready_prepare task cache suites outcome (server ∷ servers) each = each
 
@@ -499,7 +499,7 @@ ready_lack task cache suites (Deciding outcome) server lacked = ready_give_up ta
 ready_lack task cache suites (Finishing [] v ending) server lacked = tt
 ready_lack task cache suites (Finishing (now ∷ left) v ending) server lacked = ready_end task cache suites v ending left
 
-ready_prepared : (task : Task) (cache : Cache) (suites : Suites) (outcome : Outcome) (server : ℕ) (left : List ℕ) (said : Reply) → Each (Ready (changes_of outcome) []) suites → LeftReady (prepared task cache suites outcome server left said).after
+ready_prepared : (task : Task) (cache : Cache) (suites : Suites) (outcome : Proposal) (server : ℕ) (left : List ℕ) (said : Reply) → Each (Ready (changes_of outcome) []) suites → LeftReady (prepared task cache suites outcome server left said).after
 ready_prepared task cache suites outcome server left said each =
     elim (is_prepared said) as (λ b. LeftReady (cond b (prepare task cache suites outcome left) (give_up task cache suites (Lost server))).after) [
       | true ↦ ready_prepare task cache suites outcome left each
@@ -608,7 +608,7 @@ is_ready changes number suite ready = record {
         subst (λ (votes : Configuration). is_write_quorum votes (λ server. holds Exclusive (all_told suite.collector) server) ≡ true)
         (ap (λ (prefix : Prefix). prefix.votes) (same_prefix same) ∙ sym (kept none)) (before changed')
 
-ready_in : (suites : Suites) (phase : Phase) (outcome : Outcome) → phase ≡ Deciding outcome → PhaseReady suites phase → Each (Ready (changes_of outcome) []) suites
+ready_in : (suites : Suites) (phase : Phase) (outcome : Proposal) → phase ≡ Deciding outcome → PhaseReady suites phase → Each (Ready (changes_of outcome) []) suites
 ready_in suites phase outcome is ready = subst (PhaseReady suites) is ready
 
 pub decides_on_quorums : DecidesOnQuorums

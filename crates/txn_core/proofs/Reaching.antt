@@ -36,7 +36,7 @@ use Rattle.txn_core.specs.declared.plan.Plan.{Plan}
 use Rattle.txn_core.specs.declared.cache_after.Fetched.{Fetched}
 use Rattle.txn_core.specs.declared.next_phase.NextPhase.{NextPhase}
 use Rattle.txn_core.specs.declared.next_phase.NextPhase.TheVariants.{Gather, Fetch, Grant, Refuse}
-use Rattle.txn_core.specs.Doing.{Fixed, Task, Granted, Outcome, Phase, Gathering, Fetching, Widening, Preparing, Deciding, Finishing, TransactionRun, After, GoesOn, Ends}
+use Rattle.txn_core.specs.Doing.{Fixed, Task, Granted, Proposal, Phase, Gathering, Fetching, Widening, Preparing, Deciding, Finishing, TransactionRun, After, GoesOn, Ends}
 use Rattle.txn_core.specs.Suites.{ReadPoint, Suite, Suites, suite_of, with_suite, known_row, known_of, settled}
 use Rattle.txn_core.specs.Transactions.{Gathered, Step, decided, short_cause, verdict_in, ending_by, cause_of_abort, raised_or_new, tell_end, give_up, locked_at, prepare, gather_by, to_widen, widened, widen_by, widen_one, widen_all, collected, hear, heard_of, said_to, after_reply}
 use Rattle.txn_core.specs.Agents.{is_idle}
@@ -105,7 +105,7 @@ module _ (service : Service) (reached : Reached) where
   pub goes_up : (task : Task) (cache : Cache) (suites : Suites) (cause : Cause) → Goes (give_up task cache suites cause).after
   goes_up task cache suites cause = goes_end task cache suites verdict.Aborted (Undecided cause) (locked_at suites)
 
-  pub goes_prepare : (task : Task) (cache : Cache) (suites : Suites) (outcome : Outcome) (servers : List ℕ) → Goes (prepare task cache suites outcome servers).after
+  pub goes_prepare : (task : Task) (cache : Cache) (suites : Suites) (outcome : Proposal) (servers : List ℕ) → Goes (prepare task cache suites outcome servers).after
   goes_prepare task cache suites outcome [] = tt
   goes_prepare task cache suites outcome (server ∷ servers) = tt
 
@@ -157,7 +157,7 @@ module _ (service : Service) (reached : Reached) where
       of (Some said) = let after : Suite = record suite { collector = tell (record { server = server; mode = mode_of asked; said = said }) suite.collector } in by after (next after.collector)
       of None = goes_up task cache suites (Lost server)
 
-  goes_prepared : (task : Task) (cache : Cache) (suites : Suites) (outcome : Outcome) (server : ℕ) (left : List ℕ) (b : Bool) → Goes (cond b (prepare task cache suites outcome left) (give_up task cache suites (Lost server))).after
+  goes_prepared : (task : Task) (cache : Cache) (suites : Suites) (outcome : Proposal) (server : ℕ) (left : List ℕ) (b : Bool) → Goes (cond b (prepare task cache suites outcome left) (give_up task cache suites (Lost server))).after
   goes_prepared task cache suites outcome server left true = goes_prepare task cache suites outcome left
   goes_prepared task cache suites outcome server left false = goes_up task cache suites (Lost server)
 

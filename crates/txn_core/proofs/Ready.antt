@@ -27,7 +27,7 @@ use Rattle.txn_core.specs.declared.response.Response.TheVariants.{Replied, Lacke
 use Rattle.txn_core.specs.declared.ending.Cause.TheVariants.{Lost}
 use Rattle.txn_core.specs.declared.ending.Ending.TheVariants.{Undecided}
 use Rattle.txn_core.specs.declared.job.Job.TheVariants.{Transaction, Sweep}
-use Rattle.txn_core.specs.Doing.{Fixed, Task, Outcome, Phase, Gathering, Fetching, Widening, Preparing, Deciding, Finishing, TransactionRun, Sweeping, Listing, Resolving, Telling, Breaking, SweepRun, Doing, Running, RunningSweep, After, GoesOn, Ends}
+use Rattle.txn_core.specs.Doing.{Fixed, Task, Proposal, Phase, Gathering, Fetching, Widening, Preparing, Deciding, Finishing, TransactionRun, Sweeping, Listing, Resolving, Telling, Breaking, SweepRun, Doing, Running, RunningSweep, After, GoesOn, Ends}
 use Rattle.txn_core.specs.Transactions.{tell_end, give_up, prepare, locked_at, after_response, request_in, changes_of, verdict_in, ending_by, cause_of_abort, lack_cause}
 use Rattle.txn_core.specs.Writing.{parts_at}
 use Rattle.txn_core.proofs.Walk.{IsEarly, goes_response, goes_execute}
@@ -93,11 +93,11 @@ ready_end done task cache suites v ending (server ∷ servers) = tt
 ready_give_up : (done : ℕ → Bool) (task : Task) (cache : Cache) (suites : Suites) (cause : Cause) → LeftReady done (give_up task cache suites cause).after
 ready_give_up done task cache suites cause = ready_end done task cache suites verdict.Aborted (Undecided cause) (locked_at suites)
 
-ready_prepare : (done : ℕ → Bool) (task : Task) (cache : Cache) (suites : Suites) (outcome : Outcome) (left : List ℕ) → Ready done suites left → LeftReady done (prepare task cache suites outcome left).after
+ready_prepare : (done : ℕ → Bool) (task : Task) (cache : Cache) (suites : Suites) (outcome : Proposal) (left : List ℕ) → Ready done suites left → LeftReady done (prepare task cache suites outcome left).after
 ready_prepare done task cache suites outcome [] ready = ready
 ready_prepare done task cache suites outcome (server ∷ servers) ready = ready
 
-ready_all : (done : ℕ → Bool) (task : Task) (cache : Cache) (suites : Suites) (outcome : Outcome) → LeftReady done (prepare task cache suites outcome (locked_at suites)).after
+ready_all : (done : ℕ → Bool) (task : Task) (cache : Cache) (suites : Suites) (outcome : Proposal) → LeftReady done (prepare task cache suites outcome (locked_at suites)).after
 ready_all done task cache suites outcome = ready_prepare done task cache suites outcome (locked_at suites) (λ server few has. ap (λ b. b || done server) (among_locked suites server few has))
 
 ready_early : (done : ℕ → Bool) (task : Task) (suites : Suites) (phase : Phase) → IsEarly phase → LeftReady done (GoesOn (record { task = task; suites = suites; phase = phase }))

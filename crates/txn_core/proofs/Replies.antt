@@ -9,7 +9,7 @@ use Rattle.rep_core.specs.declared.reply.Verdict.{Verdict}
 use Rattle.suite_collect.specs.Collecting.{Asked, Next, Current, Ask, Short, next, request_for}
 use Rattle.weak_cache.specs.Entries.{Cache}
 use Rattle.txn_core.specs.declared.response.Response.TheVariants.{Replied}
-use Rattle.txn_core.specs.Doing.{Fixed, Task, Granted, Outcome, Phase, Gathering, Fetching, Widening, Preparing, Deciding, Finishing, TransactionRun, GoesOn, home_of}
+use Rattle.txn_core.specs.Doing.{Fixed, Task, Granted, Proposal, Phase, Gathering, Fetching, Widening, Preparing, Deciding, Finishing, TransactionRun, GoesOn, home_of}
 use Rattle.txn_core.specs.code.Goings.{GoesBy, IsWidenedFrom, ending_of, given, held, held_from}
 use Rattle.txn_core.specs.code.Goings.{widened as widens}
 use Rattle.txn_core.specs.code.Hearing.{ShowsUnused, asks_in, heard, heard_at, on_hearing}
@@ -32,7 +32,7 @@ pub asked_at : (fixed : Fixed) (txn_run : TransactionRun) (phase : Phase) (found
 asked_at fixed txn_run phase found is same = ap (λ phase. server_of (request_in fixed txn_run.task txn_run.suites phase)) is ∙ sym same
 
 -- the first of the servers that prepare, and of those that are told
-pub preparing_asks : (fixed : Fixed) (txn_run : TransactionRun) (servers : List ℕ) (outcome : Outcome) (server : ℕ) → txn_run.phase ≡ Preparing servers outcome → slice_get servers 0 ≡ Some server → server_of (request_of fixed txn_run) ≡ Some server
+pub preparing_asks : (fixed : Fixed) (txn_run : TransactionRun) (servers : List ℕ) (outcome : Proposal) (server : ℕ) → txn_run.phase ≡ Preparing servers outcome → slice_get servers 0 ≡ Some server → server_of (request_of fixed txn_run) ≡ Some server
 preparing_asks fixed txn_run [] outcome server is first = cc
 preparing_asks fixed txn_run (now ∷ left) outcome server is first = asked_at fixed txn_run (Preparing (now ∷ left) outcome) (Some server) is (sym first)
 
@@ -106,7 +106,7 @@ module _ (fixed : Fixed) (txn_run : TransactionRun) (cache : Cache) (number serv
 -- ---- as the code goes about them
 
 -- the home decides
-pub replied_decided : (fixed : Fixed) (txn_run : TransactionRun) (cache : Cache) (said : Reply) (outcome : Outcome) → txn_run.phase ≡ Deciding outcome → taken fixed txn_run cache (request_of fixed txn_run) (Replied said) ≡ decided txn_run.task cache txn_run.suites said
+pub replied_decided : (fixed : Fixed) (txn_run : TransactionRun) (cache : Cache) (said : Reply) (outcome : Proposal) → txn_run.phase ≡ Deciding outcome → taken fixed txn_run cache (request_of fixed txn_run) (Replied said) ≡ decided txn_run.task cache txn_run.suites said
 replied_decided fixed txn_run cache said outcome is =
     ap (λ asked. taken fixed txn_run cache asked (Replied said)) (ap (request_in fixed txn_run.task txn_run.suites) is)
     ∙ ap (λ phase. after_reply fixed txn_run.task cache txn_run.suites phase (home_of fixed.service txn_run.task.t) (request.Decide txn_run.task.t (decision_of txn_run.task outcome)) said) is
@@ -151,8 +151,8 @@ module _ (fixed : Fixed) (txn_run : TransactionRun) (cache : Cache) (server : �
       ∙ ap (λ phase. after_reply fixed txn_run.task cache txn_run.suites phase server (request.Fetch txn_run.task.t number) said) is
 
   -- a reply to a Prepare, and to a Finish
-  pub preparing_ok : (servers : List ℕ) (outcome : Outcome) (result : Option Ending) (after : TransactionRun) → txn_run.phase ≡ Preparing servers outcome
-      → ((now : ℕ) (left : List ℕ) (outcome : Outcome) (cache : Cache) → txn_run.phase ≡ Preparing (now ∷ left) outcome → Steps (prepared txn_run.task cache txn_run.suites outcome server left said) result after cache)
+  pub preparing_ok : (servers : List ℕ) (outcome : Proposal) (result : Option Ending) (after : TransactionRun) → txn_run.phase ≡ Preparing servers outcome
+      → ((now : ℕ) (left : List ℕ) (outcome : Proposal) (cache : Cache) → txn_run.phase ≡ Preparing (now ∷ left) outcome → Steps (prepared txn_run.task cache txn_run.suites outcome server left said) result after cache)
       → Steps (taken fixed txn_run cache (request_of fixed txn_run) (Replied said)) result after cache
   preparing_ok [] outcome result after is went = let none = asked_in_phase (Preparing [] outcome) is in cc
   preparing_ok (now ∷ left) outcome result after is went =

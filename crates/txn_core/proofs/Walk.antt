@@ -15,7 +15,7 @@ use Rattle.txn_core.specs.declared.response.Response.{Response}
 use Rattle.txn_core.specs.declared.ending.Cause.{Cause}
 use Rattle.txn_core.specs.declared.response.Response.TheVariants.{Replied, Lacked}
 use Rattle.txn_core.specs.declared.ending.Cause.TheVariants.{Lost}
-use Rattle.txn_core.specs.Doing.{Granted, Fixed, Task, Outcome, Phase, Gathering, Fetching, Widening, Preparing, Deciding, Finishing, TransactionRun, After, GoesOn}
+use Rattle.txn_core.specs.Doing.{Granted, Fixed, Task, Proposal, Phase, Gathering, Fetching, Widening, Preparing, Deciding, Finishing, TransactionRun, After, GoesOn}
 use Rattle.txn_core.specs.Transactions.{Step, Gathered, give_up, prepare, locked_at, short_cause, gather_by, widen_by, widen_one, widened, widen_all, opened, heard_on, raised_or_new, keep_content, heard_of, said_to, proceed, execute, collected, hear, fetched, after_response, given_in, lack_cause}
 
 -- a phase in which locks and contents are gathered
@@ -29,7 +29,7 @@ IsEarly _ = ⊥
 module _ (task : Task) (Left : After TransactionRun → Type 0)
     (early : (suites : Suites) (phase : Phase) → IsEarly phase → Left (GoesOn (record { task = task; suites = suites; phase = phase })))
     (given_up : (cache : Cache) (suites : Suites) (cause : Cause) → Left (give_up task cache suites cause).after)
-    (prepares : (cache : Cache) (suites : Suites) (outcome : Outcome) → Left (prepare task cache suites outcome (locked_at suites)).after) where
+    (prepares : (cache : Cache) (suites : Suites) (outcome : Proposal) → Left (prepare task cache suites outcome (locked_at suites)).after) where
   goes_gather : (cache : Cache) (suites : Suites) (number : ℕ) (next : Next) → Left (gather_by task cache suites number next).after
   goes_gather cache suites number (Short got needed busy) = given_up cache suites (short_cause number got needed busy)
   goes_gather cache suites number (Ask server asked) = early suites (Gathering number) tt

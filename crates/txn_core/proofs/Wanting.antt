@@ -11,7 +11,7 @@ use Rattle.txn_core.specs.declared.ending.Flow.{Flow}
 use Rattle.txn_core.specs.declared.response.Response.{Response}
 use Rattle.txn_core.specs.declared.response.Response.TheVariants.{Replied}
 use Rattle.txn_core.specs.Agents.{Agent, next_in, next_of}
-use Rattle.txn_core.specs.Doing.{Fixed, Outcome, Gathering, Fetching, Widening, Deciding, Granted, TransactionRun, Doing}
+use Rattle.txn_core.specs.Doing.{Fixed, Proposal, Gathering, Fetching, Widening, Deciding, Granted, TransactionRun, Doing}
 use Rattle.txn_core.specs.Suites.{ReadPoint, Suite, suite_of}
 use Rattle.txn_core.specs.Transactions.{given_in, verdict_in, asked_by, asked_for, fetched_at, fetched_for, request_in, request_of}
 use Rattle.txn_core.specs.Wanting.{by_reply, by_taking}
@@ -87,7 +87,7 @@ module _ (fixed : Fixed) (txn_run : TransactionRun) (said : Reply) (number : ℕ
       (asked_at fixed txn_run (Widening (number ∷ left) granted) (asks_in txn_run number) is refl) some
 
 -- the home decides
-pub deciding_wants : (fixed : Fixed) (txn_run : TransactionRun) (said : Reply) (outcome : Outcome) (result : Result Flow AllocError) → txn_run.phase ≡ Deciding outcome → IfErr result (λ _. is_answered (verdict_in said verdict.Aborted) ≡ true)
+pub deciding_wants : (fixed : Fixed) (txn_run : TransactionRun) (said : Reply) (outcome : Proposal) (result : Result Flow AllocError) → txn_run.phase ≡ Deciding outcome → IfErr result (λ _. is_answered (verdict_in said verdict.Aborted) ≡ true)
     → IfErr result (λ _. by_taking (request_of fixed txn_run) (Replied said) ≡ true)
 deciding_wants fixed txn_run said outcome (Ok ending) is answered = tt
 deciding_wants fixed txn_run said outcome (Err why) is answered = ap (λ phase. by_taking (request_in fixed txn_run.task txn_run.suites phase) (Replied said)) is ∙ answered

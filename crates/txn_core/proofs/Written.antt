@@ -17,7 +17,7 @@ use Rattle.txn_core.specs.declared.ending.Ending.{Ending}
 use Rattle.txn_core.specs.declared.response.Response.TheVariants.{Replied, Lacked}
 use Rattle.txn_core.specs.declared.ending.Cause.TheVariants.{Lost}
 use Rattle.txn_core.specs.declared.ending.Ending.TheVariants.{Undecided}
-use Rattle.txn_core.specs.Doing.{Changes, home_of, Fixed, Task, Outcome, Phase, Gathering, Fetching, Widening, Preparing, Deciding, Finishing, Sweeping, Listing, Resolving, Telling, Breaking, SweepRun, Doing, Running, RunningSweep, After, GoesOn, Ends}
+use Rattle.txn_core.specs.Doing.{Changes, home_of, Fixed, Task, Proposal, Phase, Gathering, Fetching, Widening, Preparing, Deciding, Finishing, Sweeping, Listing, Resolving, Telling, Breaking, SweepRun, Doing, Running, RunningSweep, After, GoesOn, Ends}
 use Rattle.txn_core.specs.Transactions.{tell_end, give_up, prepare, locked_at, after_response, request_in, changes_of, decision_of, verdict_in, ending_by, cause_of_abort, lack_cause}
 use Rattle.txn_core.specs.Sweeps as sweep
 use Rattle.txn_core.specs.Agents as agents
@@ -75,7 +75,7 @@ all_ended : (task : Task) (cache : Cache) (suites : Suites) (v : Verdict) (endin
 all_ended task cache suites v ending [] later in' = in'
 all_ended task cache suites v ending (server ∷ servers) later in' = in'
 
-writes_prepare : (task : Task) (cache : Cache) (suites : Suites) (outcome : Outcome) (servers : List ℕ) (later : List Exchange) → InDoing (agents.left Running (prepare task cache suites outcome servers).after) later → Writes suites (changes_of outcome) later
+writes_prepare : (task : Task) (cache : Cache) (suites : Suites) (outcome : Proposal) (servers : List ℕ) (later : List Exchange) → InDoing (agents.left Running (prepare task cache suites outcome servers).after) later → Writes suites (changes_of outcome) later
 writes_prepare task cache suites outcome [] later in' = in'
 writes_prepare task cache suites outcome (server ∷ servers) later in' = in'
 

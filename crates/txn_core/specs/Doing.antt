@@ -38,8 +38,8 @@ pub record Granted : Type 0 where
   pub changes : Changes
 
 -- what its operations came to on what was gathered
-abbrev pub Outcome : Type 0
-Outcome = Result Granted Refusal
+abbrev pub Proposal : Type 0
+Proposal = Result Granted Refusal
 
 -- Where a transaction stands. It gathers a suite, or fetches its content; it widens the suites that get votes, the first of the list now;
 -- it prepares at servers, the first of the list now; it has its outcome decided; or it tells servers how it ended, the first of the list now.
@@ -47,8 +47,8 @@ pub data Phase : Type 0 where
   Gathering : ℕ → Phase
   Fetching : ℕ → Phase
   Widening : List ℕ → Granted → Phase
-  Preparing : List ℕ → Outcome → Phase
-  Deciding : Outcome → Phase
+  Preparing : List ℕ → Proposal → Phase
+  Deciding : Proposal → Phase
   Finishing : List ℕ → Verdict → Ending → Phase
 
 pub record TransactionRun : Type 0 where

@@ -31,7 +31,7 @@ use Rattle.txn_core.specs.declared.ending.Ending.{Ending}
 use Rattle.txn_core.specs.declared.job.Job.{Job}
 use Rattle.txn_core.specs.declared.response.Response.TheVariants.{Replied, Lacked}
 use Rattle.txn_core.specs.declared.job.Job.TheVariants.{Transaction, Sweep}
-use Rattle.txn_core.specs.Doing.{Changes, Fixed, Task, Outcome, Deciding, Finishing, TransactionRun, Running}
+use Rattle.txn_core.specs.Doing.{Changes, Fixed, Task, Proposal, Deciding, Finishing, TransactionRun, Running}
 use Rattle.txn_core.specs.Transactions.{changes_of, votes_after, verdict_in, said_to, start_from}
 use Rattle.txn_core.specs.Agents.{Agent, Event, Take, Forget, next_of, take, begin, forget, is_idle, after_all}
 
@@ -184,7 +184,7 @@ pub record IsReady (suite : Suite) (number : ℕ) (changes : Changes) : Type 0 w
 
 abbrev pub DecidesOnQuorums : Type 0
 DecidesOnQuorums =
-    (fixed : Fixed) (agent : Agent) (job : Job) (events : List Event) (txn_run : TransactionRun) (outcome : Outcome) (number : ℕ) (suite : Suite) → is_idle agent.doing ≡ true
+    (fixed : Fixed) (agent : Agent) (job : Job) (events : List Event) (txn_run : TransactionRun) (outcome : Proposal) (number : ℕ) (suite : Suite) → is_idle agent.doing ≡ true
     → (after_all fixed (begin fixed agent job) events).doing ≡ Some (Running txn_run) → txn_run.phase ≡ Deciding outcome
     → suite_of txn_run.suites number ≡ Some suite → IsReady suite number (changes_of outcome)
 

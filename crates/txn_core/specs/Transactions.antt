@@ -39,7 +39,7 @@ use Rattle.txn_core.specs.declared.ending.Ending.{Ending}
 use Rattle.txn_core.specs.declared.response.Response.TheVariants.{Replied, Lacked}
 use Rattle.txn_core.specs.declared.ending.Cause.TheVariants.{Unavailable, Busy, Lost, Overruled, HomeDown, Full, Memory}
 use Rattle.txn_core.specs.declared.ending.Ending.TheVariants.{Answered, Refused, Undecided}
-use Rattle.txn_core.specs.Doing.{Changes, Granted, Fixed, Task, home_of, Outcome, Phase, Gathering, Fetching, Widening, Preparing, Deciding, Finishing, TransactionRun, After, GoesOn, Ends}
+use Rattle.txn_core.specs.Doing.{Changes, Granted, Fixed, Task, home_of, Proposal, Phase, Gathering, Fetching, Widening, Preparing, Deciding, Finishing, TransactionRun, After, GoesOn, Ends}
 
 -- what comes of a response, with the cache after it
 pub record Step : Type 0 where
@@ -73,7 +73,7 @@ give_up task cache suites cause = finish task cache suites verdict.Aborted (Unde
 
 -- ---- before: each of these servers prepares, and then the home decides
 
-abbrev pub prepare : Task → Cache → Suites → Outcome → List ℕ → Step
+abbrev pub prepare : Task → Cache → Suites → Proposal → List ℕ → Step
 prepare task cache suites outcome [] = on_with task cache suites (Deciding outcome)
 prepare task cache suites outcome (server ∷ servers) = on_with task cache suites (Preparing (server ∷ servers) outcome)
 
@@ -215,11 +215,11 @@ fetched_for task number (Some suite) = fetched_at task number suite.first
 fetched_for task number None = None
 
 -- what an outcome sets, and as what it is to be recorded
-abbrev pub changes_of : Outcome → Changes
+abbrev pub changes_of : Proposal → Changes
 changes_of (Ok granted) = granted.changes
 changes_of (Err refusal) = []
 
-abbrev pub decision_of : Task → Outcome → Decision
+abbrev pub decision_of : Task → Proposal → Decision
 decision_of task (Ok granted) = decision.Answered granted.answers
 decision_of task (Err refusal) = decision.Refused task.caller.uid refusal
 
@@ -279,7 +279,7 @@ abbrev pub fetched : Fixed → Task → Cache → Suites → ℕ → Option Suit
 fetched fixed task cache suites number (Some suite) server (Some content) = keep_content fixed task cache suites number suite content suite.first server
 fetched fixed task cache suites number suite server given = give_up task cache suites (Lost server)
 
-abbrev pub prepared : Task → Cache → Suites → Outcome → ℕ → List ℕ → Reply → Step
+abbrev pub prepared : Task → Cache → Suites → Proposal → ℕ → List ℕ → Reply → Step
 prepared task cache suites outcome server left said =
     if is_prepared said then prepare task cache suites outcome left else give_up task cache suites (Lost server)
 

@@ -22,7 +22,7 @@ use Rattle.txn_core.specs.declared.ending.Cause.{Cause}
 use Rattle.txn_core.specs.declared.ending.Cause.TheVariants.{Lost}
 use Rattle.txn_core.specs.declared.ending.Ending.{Ending}
 use Rattle.txn_core.specs.declared.ending.Ending.TheVariants.{Undecided}
-use Rattle.txn_core.specs.Doing.{Changes, Granted, Fixed, Task, Outcome, Phase, Gathering, Fetching, Widening, Preparing, Deciding, Finishing, TransactionRun, After, GoesOn, Ends}
+use Rattle.txn_core.specs.Doing.{Changes, Granted, Fixed, Task, Proposal, Phase, Gathering, Fetching, Widening, Preparing, Deciding, Finishing, TransactionRun, After, GoesOn, Ends}
 use Rattle.txn_core.specs.Transactions.{Step, Gathered, tell_end, give_up, prepare, locked_at, short_cause, gather_by, raised_or_new, widen_by, widen_one, widened, widen_all, to_widen, heard_on, or_all, open_needed, opened, proceed, execute, request_of, collected, hear, keep_content, fetched, given_in, heard_of, said_to, after_reply, lack_cause, after_lack, after_response, decided, verdict_in, ending_by, cause_of_abort}
 use Rattle.suite_play.proofs.kept.Executed.{few, same_executed}
 
@@ -56,7 +56,7 @@ module _ (task : Task) where
   gives_up : (cache : Cache) (suites : Suites) (cause : Cause) → give_up (cut task) cache suites cause ≡ cut_step (give_up task cache suites cause)
   gives_up cache suites cause = tells cache suites verdict.Aborted (Undecided cause) (locked_at suites)
 
-  prepares : (cache : Cache) (suites : Suites) (outcome : Outcome) (servers : List ℕ) → prepare (cut task) cache suites outcome servers ≡ cut_step (prepare task cache suites outcome servers)
+  prepares : (cache : Cache) (suites : Suites) (outcome : Proposal) (servers : List ℕ) → prepare (cut task) cache suites outcome servers ≡ cut_step (prepare task cache suites outcome servers)
   prepares cache suites outcome [] = refl
   prepares cache suites outcome (server ∷ servers) = refl
 
@@ -139,7 +139,7 @@ module _ (task : Task) where
   fetches fixed cache suites number None server (Some content) = gives_up cache suites (Lost server)
   fetches fixed cache suites number None server None = gives_up cache suites (Lost server)
 
-  goes_prepared : (cache : Cache) (suites : Suites) (outcome : Outcome) (server : ℕ) (left : List ℕ) (is : Bool)
+  goes_prepared : (cache : Cache) (suites : Suites) (outcome : Proposal) (server : ℕ) (left : List ℕ) (is : Bool)
       → cond is (prepare (cut task) cache suites outcome left) (give_up (cut task) cache suites (Lost server)) ≡ cut_step (cond is (prepare task cache suites outcome left) (give_up task cache suites (Lost server)))
   goes_prepared cache suites outcome server left true = prepares cache suites outcome left
   goes_prepared cache suites outcome server left false = gives_up cache suites (Lost server)

@@ -13,7 +13,7 @@ use Rattle.txn_core.specs.declared.resources.Resources.{Resources}
 use Rattle.txn_core.specs.declared.learned.Learned.{Learned}
 use Rattle.txn_core.specs.declared.response.Response.TheVariants.{Replied, Lacked}
 use Rattle.txn_core.specs.Agents.{left}
-use Rattle.txn_core.specs.Doing.{Fixed, Task, TransactionRun, Granted, Outcome, Running, Widening, Preparing, Finishing, GoesOn}
+use Rattle.txn_core.specs.Doing.{Fixed, Task, TransactionRun, Granted, Proposal, Running, Widening, Preparing, Finishing, GoesOn}
 use Rattle.txn_core.specs.Suites.{suite_of, with_suite}
 use Rattle.txn_core.specs.Transactions.{Step, execute, fetched, given_in, prepare, prepared, request_of, tell_end, widen_all}
 use Rattle.txn_core.specs.code.Hearing.{CompletesAt, asks_in, heard_at, on_hearing}
@@ -147,19 +147,19 @@ IsWidenedFrom None before number said flow after = (flow ≡ On) × (after ≡ b
 -- the first of the servers that prepare answered
 abbrev pub IsPreparedBy : TransactionRun → ℕ → Reply → Flow → TransactionRun → Type 0
 IsPreparedBy before server said flow after =
-    (now : ℕ) (left : List ℕ) (outcome : Outcome) (cache : Cache) → before.phase ≡ Preparing (now ∷ left) outcome
+    (now : ℕ) (left : List ℕ) (outcome : Proposal) (cache : Cache) → before.phase ≡ Preparing (now ∷ left) outcome
     → GoesBy (prepared before.task cache before.suites outcome server left said) flow after cache
 
 -- those that are left prepare
 abbrev pub PreparesOn : TransactionRun → Flow → TransactionRun → Type 0
 PreparesOn before flow after =
-    (now : ℕ) (left : List ℕ) (outcome : Outcome) (cache : Cache) → before.phase ≡ Preparing (now ∷ left) outcome
+    (now : ℕ) (left : List ℕ) (outcome : Proposal) (cache : Cache) → before.phase ≡ Preparing (now ∷ left) outcome
     → GoesBy (prepare before.task cache before.suites outcome left) flow after cache
 
 -- none is left
 abbrev pub HasPrepared : TransactionRun → Flow → TransactionRun → Type 0
 HasPrepared before flow after =
-    (outcome : Outcome) (cache : Cache) → before.phase ≡ Preparing [] outcome → GoesBy (prepare before.task cache before.suites outcome []) flow after cache
+    (outcome : Proposal) (cache : Cache) → before.phase ≡ Preparing [] outcome → GoesBy (prepare before.task cache before.suites outcome []) flow after cache
 
 -- the end was told to the first of the servers, and to all
 abbrev pub TellsOn : TransactionRun → Flow → TransactionRun → Type 0
