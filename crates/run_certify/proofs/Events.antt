@@ -1,18 +1,37 @@
 -- An event that the walk played, and what else it changed.
-use Rattle.std.proofs.Common.{◌≡◌, ℕ, ◌+◌, List, [], ◌++◌, slice_set, subst, refl, ap, ◌∙◌, sym, append-nil}
-use Rattle.std.specs.Prelude.{Option, Some}
+use Rattle.std.proofs.Common.{◌≡◌, ℕ, ◌+◌, Bool, true, false, List, [], ◌++◌, slice_set, subst, refl, ap, ◌∙◌, sym, append-nil}
+use Rattle.std.specs.Prelude.{Option, Some, None}
 use Rattle.txn_core.specs.declared.job.Job.{Job}
 use Rattle.txn_core.specs.Agents.{fixed_of}
 use Rattle.run_core.specs.declared.done.Done.{Done}
 use Rattle.run_core.specs.declared.done.EndedJob.{EndedJob}
+use Rattle.run_core.specs.declared.done.Served.{Served}
 use Rattle.run_core.specs.declared.event.Event.{Event}
 use Rattle.run_core.specs.declared.event.Event.TheVariants.{Begin}
 use Rattle.run_core.specs.Decisions.{Decided}
+use Rattle.run_core.specs.Telling.{ComesTo, served_if}
 use Rattle.run_core.specs.Worlds.{Stepped, step}
+use Rattle.run_core.proofs.Moving.{step_told}
 use Rattle.run_certify.specs.Deciding.{count_at, counts_after, jobs_after}
+use Rattle.run_certify.specs.Merges.{ItemAt}
+use Rattle.run_certify.specs.Shown.{served_as}
 use Rattle.run_certify.specs.code.Uses.{EndsOtherwise, HasEnded}
-use Rattle.run_certify.specs.code.Walks.{IsBegin, IsEnd, IsEvent, Walked}
+use Rattle.run_certify.specs.code.Walks.{IsBegin, IsEnd, IsEvent, Walked, what_was_done}
 use Rattle.run_certify.proofs.Walking.{IsAfter}
+
+-- what two places tell, of which the second was empty
+pub event_told : (old now : Walked) (event : Event) (served : Served) (before after : Option EndedJob) (was_served : Bool) → before ≡ None
+    → ComesTo (step (fixed_of old.given) old.world event) now.world served before after was_served → now ≡ record old { world = now.world }
+    → IsEvent old event (what_was_done was_served served after) now
+event_told old now event served before after was_served empty comes kept = record {
+  is = step_told (step (fixed_of old.given) old.world event) now.world served after was_served (subst (λ o. ComesTo (step (fixed_of old.given) old.world event) now.world served o after was_served) empty comes);
+  kept = kept;
+}
+
+-- what is an item was served
+pub served_there : (who : Option ℕ) (was_served : Bool) (served : Served) (one : ItemAt) → served_as who (served_if was_served served) ≡ Some one → served_if was_served served ≡ Some served
+served_there who true served one is = refl
+served_there who false served one is = cc
 
 module _ (old mid : Walked) (event : Event) (done : Done) (played : IsEvent old event done mid) where
   -- nothing else has changed

@@ -14,7 +14,7 @@ ghost use Rattle.run_certify.specs.Weaves.{transcript_of};
 ghost use Rattle.run_certify.specs.code.Firsts.{AreAllPlayed, at_server};
 ghost use Rattle.run_certify.specs.code.Turns.{is_asked};
 ghost use Rattle.run_certify.specs.code.Uses.{EndsOtherwise};
-ghost use Rattle.run_certify.specs.code.Walks.{AskedFails, AskedGoes, EntryFails, EntryGoes, Fails, Goes, IsBegin, IsEnd, IsEvent, IsItemTaken, IsShorter, IsSound, IsStart, IsUse, with_decision};
+ghost use Rattle.run_certify.specs.code.Walks.{AskedFails, AskedGoes, EntryFails, EntryGoes, Fails, Goes, IsBegin, IsEnd, IsEvent, IsItemTaken, IsShorter, IsSound, IsStart, IsUse, what_was_done, with_decision};
 ghost use Rattle.run_certify.specs.Merges.{ItemAt, IsMerge};
 
 use crate::begun::Begun;
@@ -28,7 +28,7 @@ use crate::sense::{begin_event, has_sense};
 use crate::unused::Unused;
 use crate::verdicts::decision_of;
 use rep_core::Lack;
-use run_core::{Done, EndedJob, Event, World};
+use run_core::{EndedJob, Event, Served, World};
 use server_lock::{History, Item};
 use std::alloc::{AllocError, Global};
 use std::marker::Model;
@@ -128,8 +128,9 @@ impl<'a> Walk<'a> {
         let Some(event) = operator_event(server, &item.request.value) else {
             return Err(CertifyFault::Mismatch);
         };
-        let done = self.step(&event)?;
-        if is_served(&done, server, item) {
+        let mut served = Served::place();
+        let was_served = self.step(&event, &mut served, &mut None)?;
+        if is_served(was_served, &served, server, item) {
             Ok(())
         } else {
             Err(CertifyFault::Mismatch)
@@ -174,12 +175,14 @@ impl<'a> Walk<'a> {
         if usize::from(told.0) != server || told.1 != item.stamp {
             return Err(CertifyFault::Mismatch);
         }
-        let done = self.step(&Event::Step { agent })?;
-        if !is_served(&done, server, item) {
+        let mut served = Served::place();
+        let mut ended = None;
+        let was_served = self.step(&Event::Step { agent }, &mut served, &mut ended)?;
+        if !is_served(was_served, &served, server, item) {
             return Err(CertifyFault::Mismatch);
         }
-        self.decide(agent, &done)?;
-        self.end(agent, &done.outcome)
+        self.decide(agent, &served)?;
+        self.end(agent, &ended)
     }
 
     /// Plays what is left of the transcripts, which asks no server.
@@ -243,7 +246,7 @@ impl<'a> Walk<'a> {
             return Err(CertifyFault::Mismatch);
         }
         let event = begin_event(agent, job)?;
-        self.step(&event)?;
+        self.step(&event, &mut Served::place(), &mut None)?;
         self.count(agent, job);
         Ok(())
     }
@@ -269,8 +272,13 @@ impl<'a> Walk<'a> {
         if self.asked(agent) != Some(server) {
             return Err(CertifyFault::Mismatch);
         }
-        let done = self.step(&Event::Lack { agent, lack })?;
-        self.end(agent, &done.outcome)
+        let mut ended = None;
+        self.step(
+            &Event::Lack { agent, lack },
+            &mut Served::place(),
+            &mut ended,
+        )?;
+        self.end(agent, &ended)
     }
 
     /// An agent forgets what its cache keeps for a site.
@@ -282,7 +290,11 @@ impl<'a> Walk<'a> {
         if usize::from(agent) >= self.agents() || site >= MAX_SITES {
             return Err(CertifyFault::Mismatch);
         }
-        self.step(&Event::Forget { agent, site })?;
+        self.step(
+            &Event::Forget { agent, site },
+            &mut Served::place(),
+            &mut None,
+        )?;
         Ok(())
     }
 
@@ -320,11 +332,18 @@ impl<'a> Walk<'a> {
         self.unused.end(agent, outcome)
     }
 
-    /// Plays one event in the world.
-    fn step(&mut self, event: &Event) -> Result<Done, AllocError>
-        ensures { IfOk result (λ done. IsEvent self.old event.now done self.new) }
+    /// Plays one event in the world, and tells whether a request was served: it is put into a place, with its reply.
+    /// How a job ended, if one did, is put into another, which is empty.
+    fn step(
+        &mut self,
+        event: &Event,
+        served: &mut Served,
+        ended: &mut Option<EndedJob>,
+    ) -> Result<bool, AllocError>
+        requires { ended.old ≡ None }
+        ensures { IfOk result (λ was_served. IsEvent self.old event.now (what_was_done was_served served.new ended.new) self.new) }
     {
-        self.world.step(event)
+        self.world.advance(event, served, ended)
     }
 
     /// Of which server an agent asks next, if it asks one.
@@ -350,23 +369,20 @@ impl<'a> Walk<'a> {
     }
 
     /// Puts down what was decided, if what was served decided the transaction of an agent.
-    fn decide(&mut self, agent: u8, done: &Done) -> Result<(), AllocError>
-        ensures { OnOk result (self.new ≡ with_decision self.old agent done.now.served) }
+    fn decide(&mut self, agent: u8, served: &Served) -> Result<(), AllocError>
+        ensures { OnOk result (self.new ≡ with_decision self.old agent (Some served.now)) }
     {
-        if let Some(decision) = self.decision(agent, done)? {
+        if let Some(decision) = self.decision(agent, served)? {
             self.decisions.push(decision)?;
         }
         Ok(())
     }
 
     /// What was decided, if what was served decided the transaction of an agent.
-    fn decision(&self, agent: u8, done: &Done) -> Result<Option<Decision>, AllocError>
-        ensures { IfOk result (λ one. one ≡ decision_by (job_at self.now.begun.jobs agent) done.now.served) }
+    fn decision(&self, agent: u8, served: &Served) -> Result<Option<Decision>, AllocError>
+        ensures { IfOk result (λ one. one ≡ decision_by (job_at self.now.begun.jobs agent) (Some served.now)) }
     {
-        match &done.served {
-            Some(served) => decision_of(self.begun.job(agent), served),
-            None => Ok(None),
-        }
+        decision_of(self.begun.job(agent), served)
     }
 
     /// What was decided.

@@ -14,9 +14,10 @@ use Rattle.txn_core.specs.Agents.{Agent, next_of, take}
 use Rattle.run_core.specs.declared.done.Done.{Done}
 use Rattle.run_core.specs.declared.done.EndedJob.{EndedJob}
 use Rattle.run_core.specs.declared.done.Served.{Served}
+use Rattle.run_core.specs.Telling.{ComesTo, IsTold, served_if}
 use Rattle.run_core.specs.Worlds.{Actor, World, Stepped, becomes, quiet, steps_once, asks, asks_at, answered, serve, lacks, lacks_for, lacked, outcome_of}
 use Rattle.run_core.specs.code.Seats.{Seated, changed, actors_in, world_of, AreOf, Becomes, after_response}
-use Rattle.run_core.specs.code.Exchanges.{IsExchange, IsExchangeOf, IsTold, ComesTo, served_if}
+use Rattle.run_core.specs.code.Exchanges.{IsExchange, IsExchangeOf}
 use Rattle.run_core.proofs.Exchanging.{or_nothing, set_there}
 
 -- ---- places

@@ -1,4 +1,5 @@
 pub mod Worlds
+pub mod Telling
 pub mod Runs
 pub mod Decisions
 pub mod TableOfRun

@@ -13,10 +13,10 @@ pub struct Served {
 
 impl Served {
     ghost use Rattle.std.specs.Prelude.{◌≡◌};
-    ghost use Rattle.run_core.specs.code.Exchanges.{served_if};
+    ghost use Rattle.run_core.specs.Telling.{served_if};
 
-    /// A place for what an agent asks, and is answered.
-    pub(crate) fn place() -> Served {
+    /// A place for a request that is served, and its reply (`World::advance`): what it holds says nothing.
+    pub fn place() -> Served {
         Served {
             server: 0,
             request: Stamped {

@@ -5,10 +5,10 @@
 //! it takes the reply. Or it is told that its request was not served. A server crashes, or restarts.
 //!
 //! **Promises.** `World::step` plays an event as the definition says (`specs/Worlds.antt`, one equation an event).
-//! It answers what was served and how a job ended; `World::advance` tells the second alone. `World::play` plays
-//! many. Where memory runs out nothing has changed, or `play` tells how many events were played. Only a begin and a
-//! step may need memory (`specs/Wanting.antt`). An event without sense does nothing (`specs/Senses.antt`,
-//! `nothing_comes`). `World::server` lends a server, to be read.
+//! It answers what was served and how a job ended; `World::advance` puts both into places of its caller's
+//! (`specs/Telling.antt`). `World::play` plays many. Where memory runs out nothing has changed, or `play` tells how
+//! many events were played. Only a begin and a step may need memory (`specs/Wanting.antt`). An event without sense
+//! does nothing (`specs/Senses.antt`, `nothing_comes`). `World::server` lends a server, to be read.
 //!
 //! A **run** is events from the opening on. Its **decisions** are the transactions whose Decide made the first
 //! record at its server, as an answer or a refusal, in that order. Its **table** is the plain table that takes
@@ -22,7 +22,7 @@
 //!
 //! **Files**: `event`, `done`, `host`, `seat`, `operator`, `opening`, `exchange`, `moves`, `world`, `laws`.
 //!
-//! **Definitions** (`specs/`): `Worlds`, `Opened`, `Runs`, `Decisions`, `TableOfRun`, `Senses`, `Asking`,
+//! **Definitions** (`specs/`): `Worlds`, `Telling`, `Opened`, `Runs`, `Decisions`, `TableOfRun`, `Senses`, `Asking`,
 //! `Wanting`, `WorkedRuns` (two runs whose ends are known from outside), `Laws`.
 #![tactic(auto)]
 

@@ -2,13 +2,12 @@
 
 ghost use Rattle.std.specs.Prelude.{◌≡◌, ◌≤◌, ◌++◌, [], Some, take, is_some, length, IfOk, IfErr, IfSome, IsSome, IsTrue, OnOk, OnErr};
 ghost use Rattle.std.specs.List.{cons_option};
-ghost use Rattle.std.specs.Option.{option_or};
 ghost use Rattle.txn_core.specs.Agents.{fixed_of};
 ghost use Rattle.run_core.specs.Asking.{asked_at};
 ghost use Rattle.run_core.specs.Runs as runs;
+ghost use Rattle.run_core.specs.Telling.{ComesTo};
 ghost use Rattle.run_core.specs.Wanting as wanting;
 ghost use Rattle.run_core.specs.Worlds as worlds;
-ghost use Rattle.run_core.specs.code.Exchanges.{ComesTo};
 
 use crate::done::{Done, EndedJob, Served};
 use crate::event::Event;
@@ -82,37 +81,23 @@ impl World {
     {
         let mut asked = Served::place();
         let mut outcome = None;
-        let is_served = self.happen(event, &mut asked, &mut outcome)?;
+        let is_served = self.advance(event, &mut asked, &mut outcome)?;
         let served = asked.when(is_served);
         Ok(Done { served, outcome })
     }
 
-    /// Plays one event as `step` does, and tells only how a job ended, if one did: that is put into a place of
-    /// the caller's, which else keeps what it has, and what was served is not kept. Where memory runs out nothing
-    /// has changed, and the same event may be played again. It needs memory only where `step` may.
-    pub fn advance(&mut self, event: &Event, ended: &mut Option<EndedJob>) -> Result<(), AllocError>
-        ensures given { self.new.given ≡ self.old.given }
-        ensures world { OnOk result (self.new.world ≡ (worlds.step (fixed_of self.old.given) self.old.world event.now).world) }
-        ensures ended { OnOk result (ended.new ≡ option_or (worlds.step (fixed_of self.old.given) self.old.world event.now).done.outcome ended.old) }
-        ensures err { OnErr result ((self.new ≡ self.old) × (ended.new ≡ ended.old)) }
-        ensures memory { IfErr result (λ _. IsTrue (wanting.by_event (fixed_of self.old.given) self.old.world event.now)) }
-    {
-        let mut asked = Served::place();
-        self.happen(event, &mut asked, ended)?;
-        Ok(())
-    }
-
-    /// Plays one event, and tells whether a request was served: it is put into a place of the caller's, with its reply.
-    /// How a job ended, if one did, is put into another, which else keeps what it has.
-    #[inline(always)]
-    fn happen(
+    /// Plays one event as `step` does, and tells whether a request was served. That is put into a place of the
+    /// caller's, with its reply; where none was served, nothing is said of what that place holds. How a job ended,
+    /// if one did, is put into another, which else keeps what it has. Where memory runs out nothing has changed but
+    /// the first place, and the same event may be played again. It needs memory only where `step` may.
+    pub fn advance(
         &mut self,
         event: &Event,
-        asked: &mut Served,
+        served: &mut Served,
         ended: &mut Option<EndedJob>,
     ) -> Result<bool, AllocError>
         ensures given { self.new.given ≡ self.old.given }
-        ensures ok { IfOk result (ComesTo (worlds.step (fixed_of self.old.given) self.old.world event.now) self.new.world asked.new ended.old ended.new) }
+        ensures ok { IfOk result (ComesTo (worlds.step (fixed_of self.old.given) self.old.world event.now) self.new.world served.new ended.old ended.new) }
         ensures err { OnErr result ((self.new ≡ self.old) × (ended.new ≡ ended.old)) }
         ensures memory { IfErr result (λ _. IsTrue (wanting.by_event (fixed_of self.old.given) self.old.world event.now)) }
     {
@@ -122,11 +107,13 @@ impl World {
                 Ok(false)
             }
             Event::Step { agent } => {
-                moves::ask(&mut self.servers, &mut self.seats, *agent, asked, ended)
+                moves::ask(&mut self.servers, &mut self.seats, *agent, served, ended)
             }
-            Event::Crash { server } => Ok(operate(&mut self.servers, *server, Order::Crash, asked)),
+            Event::Crash { server } => {
+                Ok(operate(&mut self.servers, *server, Order::Crash, served))
+            }
             Event::Return { server } => {
-                Ok(operate(&mut self.servers, *server, Order::Return, asked))
+                Ok(operate(&mut self.servers, *server, Order::Return, served))
             }
             Event::Forget { agent, site } => {
                 moves::forget(&mut self.seats, *agent, *site);
@@ -152,10 +139,11 @@ impl World {
         ensures memory { IfErr result (λ stopped. IsTrue (wanting.by_stop (fixed_of self.old.given) self.old.world events.now stopped.done)) }
     {
         let mut outcomes = Vec::new(self.alloc);
+        let mut served = Served::place();
         let mut played = 0;
         for event in events {
             let mut ended = None;
-            let Ok(()) = self.advance(event, &mut ended) else {
+            let Ok(_told) = self.advance(event, &mut served, &mut ended) else {
                 return Err(Stopped { done: played });
             };
             played += 1;

@@ -9,7 +9,7 @@ use crate::fixtures::{
     ended_by, ending, had, number, opening, push, same, settings, settings_of, small, three_votes,
     words,
 };
-use run_core::{EndedJob, Event, World, runs_go_on, worked_runs};
+use run_core::{EndedJob, Event, Served, World, runs_go_on, worked_runs};
 use std::alloc::AllocError;
 use std::process::Abort;
 use suite_prefix::{Form, Settings};
@@ -38,8 +38,8 @@ fn advanced(
     world: &mut World,
     event: &Event,
     ended: &mut Option<EndedJob>,
-) -> Result<(), AllocError> {
-    world.advance(event, ended)
+) -> Result<bool, AllocError> {
+    world.advance(event, &mut Served::place(), ended)
 }
 
 /// How a job ended by an event, in words.

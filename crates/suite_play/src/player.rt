@@ -16,7 +16,7 @@ use crate::outcome::{push_item, push_outcome};
 use crate::places::Places;
 use byte_streams::ByteOut;
 use file_ops::AuditItem;
-use run_core::{EndedJob, Event, World};
+use run_core::{EndedJob, Event, Served, World};
 use script_text::push_number;
 use std::alloc::{AllocError, Global};
 use suite_prefix::Settings;
@@ -111,7 +111,7 @@ fn push_event(
     ensures world { OnOk result (world.new ≡ record world.old { world = (of_event (step (fixed_of world.old.given) world.old.world event.now)).world }) }
 {
     let mut ended = None;
-    world.advance(event, &mut ended)?;
+    world.advance(event, &mut Served::place(), &mut ended)?;
     push_ended(alloc, text, &ended)
 }
 
@@ -130,10 +130,11 @@ fn push_steps(
         return Ok(());
     }
     let event = Event::Step { agent };
+    let mut served = Served::place();
     let mut ended = None;
     let mut left = count;
     while left > 0 && ended.is_none() {
-        world.advance(&event, &mut ended)?;
+        world.advance(&event, &mut served, &mut ended)?;
         left -= 1;
     }
     push_ended(alloc, text, &ended)

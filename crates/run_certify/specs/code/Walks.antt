@@ -1,5 +1,5 @@
 -- A walk through histories and transcripts: what is left of them, the world after what was played, and what was decided so far.
-use Rattle.std.specs.Prelude.{◌≡◌, ℕ, ◌+◌, ◌≤◌, List, [], ◌∷◌, ◌++◌, length, slice_set, Option, Some}
+use Rattle.std.specs.Prelude.{◌≡◌, ℕ, Bool, ◌+◌, ◌≤◌, List, [], ◌∷◌, ◌++◌, length, slice_set, Option, Some}
 use Rattle.std.specs.List.{cons_option}
 use Rattle.suite_prefix.specs.SettingsRules.{Opening, IsAccepted}
 use Rattle.txn_core.specs.Doing.{Fixed}
@@ -10,6 +10,7 @@ use Rattle.run_core.specs.declared.done.Done.{Done}
 use Rattle.run_core.specs.declared.done.EndedJob.{EndedJob}
 use Rattle.run_core.specs.declared.done.Served.{Served}
 use Rattle.run_core.specs.declared.event.Event.{Event}
+use Rattle.run_core.specs.Telling.{served_if}
 use Rattle.run_core.specs.Worlds.{World, opening, step}
 use Rattle.server_lock.specs.declared.item.Item.{Item}
 use Rattle.run_certify.specs.declared.entry.Entry.{Entry}
@@ -81,6 +82,10 @@ pub record IsItemTaken (was : Walked) (server : ℕ) (item : Item) (now : Walked
 pub record IsEvent (was : Walked) (event : Event) (done : Done) (now : Walked) : Type 0 where
   pub is : step (fixed_of was.given) was.world event ≡ record { world = now.world; done = done }
   pub kept : now ≡ record was { world = now.world }
+
+-- what was done, as two places tell it
+abbrev pub what_was_done : Bool → Served → Option EndedJob → Done
+what_was_done was_served served outcome = record { served = served_if was_served served; outcome = outcome }
 
 -- what was served may have decided the transaction of an agent
 abbrev pub with_decision : Walked → ℕ → Option Served → Walked

@@ -1,12 +1,12 @@
 -- What one request of an agent to a server leaves of the two.
-use Rattle.std.specs.Prelude.{◌≡◌, ℕ, Bool, true, false, Option, Some, None}
-use Rattle.std.specs.Option.{option_or}
+use Rattle.std.specs.Prelude.{◌≡◌, ℕ, Bool, Option, Some}
 use Rattle.rep_core.specs.declared.request.Request.{Request}
 use Rattle.rep_core.specs.State.{State}
 use Rattle.run_core.specs.declared.done.Done.{Done}
 use Rattle.run_core.specs.declared.done.EndedJob.{EndedJob}
 use Rattle.run_core.specs.declared.done.Served.{Served}
-use Rattle.run_core.specs.Worlds.{Stepped, World, server_at, with_server, with_actor, serve, answered}
+use Rattle.run_core.specs.Telling.{IsTold}
+use Rattle.run_core.specs.Worlds.{World, server_at, with_server, with_actor, serve, answered}
 use Rattle.run_core.specs.code.Seats.{Seated}
 
 -- in every world in which this server stands at its place, the step of the agent leaves these two
@@ -16,23 +16,8 @@ pub record IsExchange (host host' : State) (seat seat' : Seated) (server number 
       → answered seat.fixed world number seat.actor host (serve server host (record { stamp = seat.actor.stamp; value = asked }))
       ≡ record { world = with_actor number seat'.actor (with_server server host' world); done = done }
 
--- what was put into a place, if it was served
-abbrev pub served_if : Bool → Served → Option Served
-served_if true asked = Some asked
-served_if false asked = None
-
--- what was done is told: how a job ended is put into a place that else keeps what it has, and what was served into another
-pub record IsTold (done : Done) (asked : Served) (ended ended' : Option EndedJob) (is_served : Bool) : Type 0 where
-  pub ended_is : ended' ≡ option_or done.outcome ended
-  pub served_is : done.served ≡ served_if is_served asked
-
 -- an exchange, and what is told of it
 pub record IsExchangeOf (host host' : State) (seat seat' : Seated) (number : ℕ) (asked asked' : Served) (ended ended' : Option EndedJob) (is_served : Bool) : Type 0 where
   pub done : Done
   pub exchange : IsExchange host host' seat seat' asked.server number asked.request.value done
   pub told : IsTold done asked' ended ended' is_served
-
--- an event makes this of a world, and what was done is told
-pub record ComesTo (stepped : Stepped) (world : World) (asked : Served) (ended ended' : Option EndedJob) (is_served : Bool) : Type 0 where
-  pub world_is : world ≡ stepped.world
-  pub told : IsTold stepped.done asked ended ended' is_served

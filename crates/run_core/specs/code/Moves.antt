@@ -9,9 +9,9 @@ use Rattle.txn_core.specs.Agents.{begin}
 use Rattle.run_core.specs.declared.done.EndedJob.{EndedJob}
 use Rattle.run_core.specs.declared.done.Served.{Served}
 use Rattle.run_core.specs.declared.operator.Order.{Order}
+use Rattle.run_core.specs.Telling.{ComesTo, served_if}
 use Rattle.run_core.specs.Wanting.{by_begin, by_step}
 use Rattle.run_core.specs.Worlds.{Actor, Stepped, lacks, operates, steps_once}
-use Rattle.run_core.specs.code.Exchanges.{ComesTo, served_if}
 use Rattle.run_core.specs.code.Orders.{request_of}
 use Rattle.run_core.specs.code.Seats.{Seated, AreOf, Becomes, actors_in, changed, world_of}
 

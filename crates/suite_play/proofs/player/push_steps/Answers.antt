@@ -31,8 +31,8 @@ loop-left-preserved c =
     record {
       played = one_more c.args.world.now c.loop-left.world c.advance.new.self c.args.agent c.args.count c.loop-left.left c.loop-left.ended c.advance.new.ended
           c.loop-left-test.true (nothing_put c.loop-left.ended c.is_none.result c.is_none.ensures c.if-is_none.true) left.given
-          (left.world ∙ ap (λ (all : Stepped). all.world) same)
-          (left.ended ∙ ap (λ (all : Stepped). option_or all.done.outcome c.loop-left.ended) same) c.loop-left.invariant.played;
+          (left.ok.world_is ∙ ap (λ (all : Stepped). all.world) same)
+          (left.ok.told.ended_is ∙ ap (λ (all : Stepped). option_or all.done.outcome c.loop-left.ended) same) c.loop-left.invariant.played;
       event = c.loop-left.invariant.event;
     }
 

@@ -1,6 +1,6 @@
 use Rattle.std.proofs.Common.{◌∙◌, sym, subst}
 use Rattle.run_core.specs.declared.event.Event.{Event}
-use Rattle.run_certify.specs.code.Walks.{IsEvent}
+use Rattle.run_certify.specs.code.Walks.{IsEvent, what_was_done}
 use Rattle.run_certify.proofs.Playing.{begin_fails, begun_goes, begun_shorter}
 use Rattle.run_certify.proofs.walk.Walk.begin.Goals as goal
 
@@ -9,8 +9,8 @@ returns-then-not-may_begin-clause-mismatch c = λ _. begin_fails c.args.self.now
 
 pub returns-clause-ok : goal.returns-clause-ok
 returns-clause-ok c =
-    begun_goes c.args.self.now c.step.new.self c.count.new.self c.args.agent c.args.job.now c.in_ok-step.field-0 (λ sound. sym (c.may_begin.ensures.value sound) ∙ c.if-not-may_begin.false)
-    (subst (λ (event : Event). IsEvent c.args.self.now event c.in_ok-step.field-0 c.step.new.self) c.in_ok-event.ensures c.in_ok-step.ensures) c.count.ensures
+    begun_goes c.args.self.now c.step.new.self c.count.new.self c.args.agent c.args.job.now (what_was_done c.in_ok-step.field-0 c.step.new.served c.step.new.ended) (λ sound. sym (c.may_begin.ensures.value sound) ∙ c.if-not-may_begin.false)
+    (subst (λ (event : Event). IsEvent c.args.self.now event (what_was_done c.in_ok-step.field-0 c.step.new.served c.step.new.ended) c.step.new.self) c.in_ok-event.ensures c.in_ok-step.ensures) c.count.ensures
 
 pub returns-clause-shorter : goal.returns-clause-shorter
-returns-clause-shorter c = begun_shorter c.args.self.now c.step.new.self c.count.new.self c.args.agent c.in_ok-event.event c.args.job.now c.in_ok-step.field-0 c.in_ok-step.ensures c.count.ensures
+returns-clause-shorter c = begun_shorter c.args.self.now c.step.new.self c.count.new.self c.args.agent c.in_ok-event.event c.args.job.now (what_was_done c.in_ok-step.field-0 c.step.new.served c.step.new.ended) c.in_ok-step.ensures c.count.ensures

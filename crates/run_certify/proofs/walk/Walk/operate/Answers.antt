@@ -1,6 +1,7 @@
 use Rattle.std.proofs.Common.{◌≡◌, ⊎_elim, ◌≤◌, [], ◌∙◌, sym, true≢false}
 use Rattle.run_certify.specs.Weaves.{operated}
 use Rattle.run_certify.specs.code.Firsts.{at_server}
+use Rattle.run_certify.specs.code.Walks.{what_was_done}
 use Rattle.run_certify.proofs.Operating.{operate_goes, operate_otherwise, operator_far}
 use Rattle.run_certify.proofs.Walking.{operator_fails}
 use Rattle.run_certify.proofs.walk.Walk.operate.Goals as goal
@@ -13,9 +14,9 @@ returns-in_default-clause-mismatch c = λ _. ⊎_elim
 
 pub returns-then-is_served-clause-ok : goal.returns-then-is_served-clause-ok
 returns-then-is_served-clause-ok c =
-    operate_goes c.args.self.now c.step.new.self c.args.server c.args.item.now c.in-Some.event c.in_ok-done.done c.requires c.in-Some.ensures c.in_ok-done.ensures (c.is_served.ensures.0 c.if-is_served.true)
+    operate_goes c.args.self.now c.step.new.self c.args.server c.args.item.now c.in-Some.event (what_was_done c.in_ok-was_served.was_served c.step.new.served c.step.new.ended) c.requires c.in-Some.ensures c.in_ok-was_served.ensures (c.is_served.ensures.0 c.if-is_served.true)
 
 pub returns-clause-mismatch : goal.returns-clause-mismatch
 returns-clause-mismatch c = λ _.
-    operate_otherwise c.args.self.now c.step.new.self c.args.server c.args.item.now c.in-Some.event c.in_ok-done.done c.requires c.in-Some.ensures c.in_ok-done.ensures
+    operate_otherwise c.args.self.now c.step.new.self c.args.server c.args.item.now c.in-Some.event (what_was_done c.in_ok-was_served.was_served c.step.new.served c.step.new.ended) c.requires c.in-Some.ensures c.in_ok-was_served.ensures
     (λ is. true≢false (sym (c.is_served.ensures.1 is) ∙ c.if-is_served.false))

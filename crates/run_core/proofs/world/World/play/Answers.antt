@@ -14,9 +14,9 @@ loop-event-preserved c =
       given = stepped.given ∙ so_far.given;
       played = omega arith;
       world = world_played c.args.self.now.given c.loop-event.self.given c.args.self.now.world c.loop-event.self.world c.advance.new.self.world c.args.events.now c.loop-event.event-index c.loop-event.event-index c.event-item.result
-          within so_far.given refl so_far.world c.event-item.is stepped.world;
+          within so_far.given refl so_far.world c.event-item.is stepped.ok.world_is;
       outcomes = outcomes_played c.args.self.now.given c.loop-event.self.given c.args.self.now.world c.loop-event.self.world c.args.events.now c.loop-event.event-index c.event-item.result c.advance.new.ended c.loop-event.outcomes.items c.keep.new.outcomes.items
-          within so_far.given so_far.world c.event-item.is (stepped.ended ∙ or_nothing _) so_far.outcomes kept;
+          within so_far.given so_far.world c.event-item.is (stepped.ok.told.ended_is ∙ or_nothing _) so_far.outcomes kept;
     }
 
 pub returns-in_default-keep-clause-stopped : goal.returns-in_default-keep-clause-stopped
@@ -25,7 +25,7 @@ returns-in_default-keep-clause-stopped c =
     let stepped = c.in-Ok.ensures in
     let within : c.loop-event.event-index < length c.args.events.now = omega arith in
     world_played c.args.self.now.given c.loop-event.self.given c.args.self.now.world c.loop-event.self.world c.advance.new.self.world c.args.events.now c.loop-event.event-index c.loop-event.played c.event-item.result
-    within so_far.given so_far.played so_far.world c.event-item.is stepped.world
+    within so_far.given so_far.played so_far.world c.event-item.is stepped.ok.world_is
 
 pub returns-in_default-clause-memory : goal.returns-in_default-clause-memory
 returns-in_default-clause-memory c =
@@ -39,4 +39,4 @@ returns-in_default-keep-clause-memory c =
     let so_far = c.loop-event.invariant in
     let within : c.loop-event.event-index < length c.args.events.now = omega arith in
     stops_behind c.args.self.now.given c.loop-event.self.given c.args.self.now.world c.loop-event.self.world c.args.events.now c.loop-event.event-index c.loop-event.played c.event-item.result c.advance.new.ended
-    within so_far.given so_far.played so_far.world c.event-item.is (c.in-Ok.ensures.ended ∙ or_nothing _) c.in_default-keep.ensures.memory
+    within so_far.given so_far.played so_far.world c.event-item.is (c.in-Ok.ensures.ok.told.ended_is ∙ or_nothing _) c.in_default-keep.ensures.memory

@@ -3,7 +3,7 @@ use Rattle.txn_core.specs.Agents.{fixed_of, begin, forget}
 use Rattle.run_core.specs.code.Seats.{actors_in}
 use Rattle.run_core.proofs.Moving.{of_becoming, becomes_there, comes_to_nothing, comes_by_operator}
 use Rattle.run_core.proofs.Wanting.{held}
-use Rattle.run_core.proofs.world.World.happen.Goals as goal
+use Rattle.run_core.proofs.world.World.advance.Goals as goal
 
 pub invariant_of-self-in-Step : goal.invariant_of-self-in-Step
 invariant_of-self-in-Step c = c.ask.ensures.of (fixed_of c.self.inside.settings) c.self.invariant
