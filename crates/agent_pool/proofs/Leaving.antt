@@ -20,8 +20,8 @@ use Rattle.run_certify.specs.declared.entry.Entry.{Entry}
 use Rattle.run_certify.specs.declared.entry.Entry.TheVariants.{Begun, Asked, Lacked, Forgot, Ended}
 use Rattle.agent_pool.specs.declared.asking.Came.{Came}
 use Rattle.agent_pool.specs.declared.asking.Came.TheVariants as came
-use Rattle.agent_pool.specs.declared.asking.Told.{Told}
-use Rattle.agent_pool.specs.code.Steps.{AsksNobody, CannotGoOn, DidJob, DidMore, HasSeen, Hears, Leaves, RanTo, end_entry, told_by}
+use Rattle.agent_pool.specs.declared.asking.Delivery.{Delivery}
+use Rattle.agent_pool.specs.code.Steps.{AsksNobody, CannotGoOn, DidJob, DidMore, HasSeen, Hears, Leaves, RanTo, delivery_from, end_entry}
 use Rattle.agent_pool.specs.Transcripts.{Played, AreAsks, At, Does, GoesOn, IsLonger, Leads, after_response, at_rest, begins, is_ask, number_of}
 use Rattle.agent_pool.proofs.Begins.{begins-append, goes-append}
 
@@ -65,13 +65,13 @@ same_rest : (a b : Standing) → b ≡ a → at_rest b.state ≡ at_rest a.state
 same_rest a b same = ap (λ (s : Standing). at_rest s.state) same
 
 -- what is written down of an answer is what the agent does, which asked and is told
-pub does_told : (fixed : Fixed) (agent : Agent) (server : ℕ) (request : Request) (reply : Result (Stamped Reply) Miss) (told : Told) → told_by server reply ≡ Some told → next_of fixed agent ≡ Some (server, request)
-    → IfOk reply (λ reply. IsTrue (fits request reply.value)) → Does fixed (at_rest agent) told.entry (after_response fixed (at_rest agent) told.response)
-does_told fixed agent server request (Ok reply) told is asks suits =
-    subst (λ (t : Told). Does fixed (at_rest agent) t.entry (after_response fixed (at_rest agent) t.response)) (same_Some _ told is) (request, reply.value, refl, asks, suits, refl)
-does_told fixed agent server request (Err (Lack lack)) told is asks suits =
-    subst (λ (t : Told). Does fixed (at_rest agent) t.entry (after_response fixed (at_rest agent) t.response)) (same_Some _ told is) (request, refl, asks, refl)
-does_told fixed agent server request (Err Stale) told is asks suits = cc
+pub does_by : (fixed : Fixed) (agent : Agent) (server : ℕ) (request : Request) (reply : Result (Stamped Reply) Miss) (delivery : Delivery) → delivery_from server reply ≡ Some delivery → next_of fixed agent ≡ Some (server, request)
+    → IfOk reply (λ reply. IsTrue (fits request reply.value)) → Does fixed (at_rest agent) delivery.entry (after_response fixed (at_rest agent) delivery.response)
+does_by fixed agent server request (Ok reply) delivery is asks suits =
+    subst (λ (t : Delivery). Does fixed (at_rest agent) t.entry (after_response fixed (at_rest agent) t.response)) (same_Some _ delivery is) (request, reply.value, refl, asks, suits, refl)
+does_by fixed agent server request (Err (Lack lack)) delivery is asks suits =
+    subst (λ (t : Delivery). Does fixed (at_rest agent) t.entry (after_response fixed (at_rest agent) t.response)) (same_Some _ delivery is) (request, refl, asks, refl)
+does_by fixed agent server request (Err Stale) delivery is asks suits = cc
 
 abbrev at_of : Agent → Option Ending → At
 at_of agent ending = record { agent = agent; due = ending }
@@ -117,56 +117,56 @@ did_more servers begun a b c p q r what x y = record {
 }
 
 -- what is written down of an answer, beside the pass
-pub goes_told : (server before : ℕ) (reply : Result (Stamped Reply) Miss) (told : Told) (pass : Held) → told_by server reply ≡ Some told → IfOk reply (λ reply. front_at pass server ≤ before) → IfOk reply (λ reply. sent_stamp pass < reply.stamp)
-    → GoesOn (told.entry ∷ []) pass (after_reply pass server before reply)
-goes_told server before (Ok reply) told pass is front rises = subst (λ (t : Told). GoesOn (t.entry ∷ []) pass (after_reply pass server before (Ok reply))) (same_Some _ told is) (before, front, rises, refl)
-goes_told server before (Err (Lack lack)) told pass is front rises = subst (λ (t : Told). GoesOn (t.entry ∷ []) pass pass) (same_Some _ told is) refl
-goes_told server before (Err Stale) told pass is front rises = cc
+pub goes_by : (server before : ℕ) (reply : Result (Stamped Reply) Miss) (delivery : Delivery) (pass : Held) → delivery_from server reply ≡ Some delivery → IfOk reply (λ reply. front_at pass server ≤ before) → IfOk reply (λ reply. sent_stamp pass < reply.stamp)
+    → GoesOn (delivery.entry ∷ []) pass (after_reply pass server before reply)
+goes_by server before (Ok reply) delivery pass is front rises = subst (λ (t : Delivery). GoesOn (t.entry ∷ []) pass (after_reply pass server before (Ok reply))) (same_Some _ delivery is) (before, front, rises, refl)
+goes_by server before (Err (Lack lack)) delivery pass is front rises = subst (λ (t : Delivery). GoesOn (t.entry ∷ []) pass pass) (same_Some _ delivery is) refl
+goes_by server before (Err Stale) delivery pass is front rises = cc
 
-pub told_asks : (server : ℕ) (reply : Result (Stamped Reply) Miss) (told : Told) → told_by server reply ≡ Some told → is_ask told.entry ≡ true
-told_asks server (Ok reply) told is = ap (λ (t : Told). is_ask t.entry) (sym (same_Some _ told is))
-told_asks server (Err (Lack lack)) told is = ap (λ (t : Told). is_ask t.entry) (sym (same_Some _ told is))
-told_asks server (Err Stale) told is = cc
+pub delivery_asks : (server : ℕ) (reply : Result (Stamped Reply) Miss) (delivery : Delivery) → delivery_from server reply ≡ Some delivery → is_ask delivery.entry ≡ true
+delivery_asks server (Ok reply) delivery is = ap (λ (t : Delivery). is_ask t.entry) (sym (same_Some _ delivery is))
+delivery_asks server (Err (Lack lack)) delivery is = ap (λ (t : Delivery). is_ask t.entry) (sym (same_Some _ delivery is))
+delivery_asks server (Err Stale) delivery is = cc
 
--- what an agent does that is told something
-abbrev DoesTold : Told → Standing → Type 0
-DoesTold told agent = Does agent.fixed (at_rest agent.state) told.entry (after_response agent.fixed (at_rest agent.state) told.response)
+-- what an agent does that a delivery is told to
+abbrev DoesBy : Delivery → Standing → Type 0
+DoesBy delivery agent = Does agent.fixed (at_rest agent.state) delivery.entry (after_response agent.fixed (at_rest agent.state) delivery.response)
 
 -- an agent heard, and what it had done before is counted
-pub heard : (servers begun : ℕ) (told : Told) (old new : Played) (p q : Held) (what : Came) → old.agent.state.count ≡ begins old.entries → is_ask told.entry ≡ true → GoesOn (told.entry ∷ []) p q → DoesTold told old.agent
-    → Hears (number_of old) begun told old.agent old.entries new.agent new.entries what → DidMore servers begun old new p q what
-heard servers begun told old new p q came.On counted asks goes does h =
-    let is : after_response old.agent.fixed (at_rest old.agent.state) told.response ≡ at_rest new.agent.state = took (take old.agent.fixed old.agent.state told.response) new.agent.state None h.3.1.0 h.3.1.1 in
+pub heard : (servers begun : ℕ) (delivery : Delivery) (old new : Played) (p q : Held) (what : Came) → old.agent.state.count ≡ begins old.entries → is_ask delivery.entry ≡ true → GoesOn (delivery.entry ∷ []) p q → DoesBy delivery old.agent
+    → Hears (number_of old) begun delivery old.agent old.entries new.agent new.entries what → DidMore servers begun old new p q what
+heard servers begun delivery old new p q came.On counted asks goes does h =
+    let is : after_response old.agent.fixed (at_rest old.agent.state) delivery.response ≡ at_rest new.agent.state = took (take old.agent.fixed old.agent.state delivery.response) new.agent.state None h.3.1.0 h.3.1.1 in
     record {
-      longer = record { fixed = h.0; number = h.1; rest = told.entry ∷ []; entries = h.3.0 };
+      longer = record { fixed = h.0; number = h.1; rest = delivery.entry ∷ []; entries = h.3.0 };
       went = goes;
-      leads = λ n. (at_rest new.agent.state, subst (λ (q : At). Does old.agent.fixed (at_rest old.agent.state) told.entry q) is does, refl);
+      leads = λ n. (at_rest new.agent.state, subst (λ (q : At). Does old.agent.fixed (at_rest old.agent.state) delivery.entry q) is does, refl);
       leaves = (asks, tt);
       stuck = λ e. cc;
     }
-heard servers begun told old new p q came.Stuck counted asks goes does h = absurd h.3
-heard servers begun told old new p q came.Lacked counted asks goes does h = record {
-  longer = record { fixed = h.0; number = h.1; rest = told.entry ∷ []; entries = h.3 };
+heard servers begun delivery old new p q came.Stuck counted asks goes does h = absurd h.3
+heard servers begun delivery old new p q came.Lacked counted asks goes does h = record {
+  longer = record { fixed = h.0; number = h.1; rest = delivery.entry ∷ []; entries = h.3 };
   went = goes;
   leads = λ n. absurd (n refl);
   leaves = (asks, tt);
   stuck = λ e. cc;
 }
-heard servers begun told old new p q (came.Ended ran) counted asks goes does h =
+heard servers begun delivery old new p q (came.Ended ran) counted asks goes does h =
     let on = h.3 in
     let ending = on.0 in
     let due : At = record { agent = new.agent.state; due = Some ending } in
-    let is : after_response old.agent.fixed (at_rest old.agent.state) told.response ≡ due = took (take old.agent.fixed old.agent.state told.response) new.agent.state (Some ending) on.5.0 on.5.1 in
+    let is : after_response old.agent.fixed (at_rest old.agent.state) delivery.response ≡ due = took (take old.agent.fixed old.agent.state delivery.response) new.agent.state (Some ending) on.5.0 on.5.1 in
     let end = end_entry (number_of old) ran.count (length old.entries + 1 - begun) ending in
     record {
-      longer = record { fixed = h.0; number = h.1; rest = told.entry ∷ end ∷ []; entries = on.1 };
-      went = goes-append (told.entry ∷ []) (end ∷ []) p q q goes refl;
+      longer = record { fixed = h.0; number = h.1; rest = delivery.entry ∷ end ∷ []; entries = on.1 };
+      went = goes-append (delivery.entry ∷ []) (end ∷ []) p q q goes refl;
       leads = λ n. (
         due,
-        subst (λ (q : At). Does old.agent.fixed (at_rest old.agent.state) told.entry q) is does,
+        subst (λ (q : At). Does old.agent.fixed (at_rest old.agent.state) delivery.entry q) is does,
         (at_rest new.agent.state, (refl, sym h.1, on.3 ∙ ap (λ (n : ℕ). n - 1) (sym h.2), refl), refl),
       );
-      leaves = (told.entry ∷ [], ending, (asks, tt), refl, on.2, on.3 ∙ ap (λ n. n - 1) counted, on.4);
+      leaves = (delivery.entry ∷ [], ending, (asks, tt), refl, on.2, on.3 ∙ ap (λ n. n - 1) counted, on.4);
       stuck = λ e. cc;
     }
 
@@ -272,12 +272,12 @@ lacked_job servers job a b p same = record {
 }
 
 -- the same as `heard`, where the fields are named apart
-pub heard_in : (servers begun number : ℕ) (told : Told) (old new : Played) (agent : Standing) (entries : List Entry) (p q : Held) (what : Came) → agent ≡ old.agent → entries ≡ old.entries → number ≡ number_of old → old.agent.state.count ≡ begins old.entries
-    → is_ask told.entry ≡ true → GoesOn (told.entry ∷ []) p q → DoesTold told agent → Hears number begun told agent entries new.agent new.entries what → DidMore servers begun old new p q what
-heard_in servers begun number told old new agent entries p q what a e n counted asks goes does h =
-    heard servers begun told old new p q what counted asks goes (subst (λ (s : Standing). DoesTold told s) a does)
-    (subst (λ (m : ℕ). Hears m begun told old.agent old.entries new.agent new.entries what) n
-    (subst (λ (es : List Entry). Hears number begun told old.agent es new.agent new.entries what) e (subst (λ (s : Standing). Hears number begun told s entries new.agent new.entries what) a h)))
+pub heard_in : (servers begun number : ℕ) (delivery : Delivery) (old new : Played) (agent : Standing) (entries : List Entry) (p q : Held) (what : Came) → agent ≡ old.agent → entries ≡ old.entries → number ≡ number_of old → old.agent.state.count ≡ begins old.entries
+    → is_ask delivery.entry ≡ true → GoesOn (delivery.entry ∷ []) p q → DoesBy delivery agent → Hears number begun delivery agent entries new.agent new.entries what → DidMore servers begun old new p q what
+heard_in servers begun number delivery old new agent entries p q what a e n counted asks goes does h =
+    heard servers begun delivery old new p q what counted asks goes (subst (λ (s : Standing). DoesBy delivery s) a does)
+    (subst (λ (m : ℕ). Hears m begun delivery old.agent old.entries new.agent new.entries what) n
+    (subst (λ (es : List Entry). Hears number begun delivery old.agent es new.agent new.entries what) e (subst (λ (s : Standing). Hears number begun delivery s entries new.agent new.entries what) a h)))
 
 ask_first : (entry : Entry) (entries : List Entry) → is_ask entry ≡ true → begins (entry ∷ entries) ≡ begins entries
 ask_first (Begun job) entries asks = cc
@@ -286,17 +286,17 @@ ask_first (Lacked server lack) entries asks = refl
 ask_first (Forgot site) entries asks = cc
 ask_first (Ended outcome) entries asks = cc
 
-pub heard_begins : (number begun : ℕ) (told : Told) (old : Standing) (entries : List Entry) (new : Standing) (more : List Entry) (what : Came) → is_ask told.entry ≡ true → Hears number begun told old entries new more what → begins more ≡ begins entries
-heard_begins number begun told old entries new more came.On asks h = ap begins h.3.0 ∙ begins-append entries (told.entry ∷ []) ∙ (let one = ask_first told.entry [] asks in omega arith)
-heard_begins number begun told old entries new more came.Stuck asks h = absurd h.3
-heard_begins number begun told old entries new more came.Lacked asks h = ap begins h.3 ∙ begins-append entries (told.entry ∷ []) ∙ (let one = ask_first told.entry [] asks in omega arith)
-heard_begins number begun told old entries new more (came.Ended ran) asks h =
+pub heard_begins : (number begun : ℕ) (delivery : Delivery) (old : Standing) (entries : List Entry) (new : Standing) (more : List Entry) (what : Came) → is_ask delivery.entry ≡ true → Hears number begun delivery old entries new more what → begins more ≡ begins entries
+heard_begins number begun delivery old entries new more came.On asks h = ap begins h.3.0 ∙ begins-append entries (delivery.entry ∷ []) ∙ (let one = ask_first delivery.entry [] asks in omega arith)
+heard_begins number begun delivery old entries new more came.Stuck asks h = absurd h.3
+heard_begins number begun delivery old entries new more came.Lacked asks h = ap begins h.3 ∙ begins-append entries (delivery.entry ∷ []) ∙ (let one = ask_first delivery.entry [] asks in omega arith)
+heard_begins number begun delivery old entries new more (came.Ended ran) asks h =
     let on = h.3 in
     let end = end_entry number ran.count (length entries + 1 - begun) on.0 in
-    ap begins on.1 ∙ begins-append entries (told.entry ∷ end ∷ []) ∙ (let one = ask_first told.entry (end ∷ []) asks in omega arith)
+    ap begins on.1 ∙ begins-append entries (delivery.entry ∷ end ∷ []) ∙ (let one = ask_first delivery.entry (end ∷ []) asks in omega arith)
 
--- nothing is told where the pass is of other servers, of which it has seen something
-pub stale_seen : (server before : ℕ) (request : Request) (reply : Result (Stamped Reply) Miss) (pass : Held) (asked : Option (ℕ × Request)) → told_by server reply ≡ None → (reply ≡ Err Stale → before < front_at pass server)
+-- nothing is delivered where the pass is of other servers, of which it has seen something
+pub stale_seen : (server before : ℕ) (request : Request) (reply : Result (Stamped Reply) Miss) (pass : Held) (asked : Option (ℕ × Request)) → delivery_from server reply ≡ None → (reply ≡ Err Stale → before < front_at pass server)
     → asked ≡ Some (server, request) → HasSeen pass asked
 stale_seen server before request (Ok reply) pass asked none stale is = cc
 stale_seen server before request (Err (Lack lack)) pass asked none stale is = cc

@@ -1,18 +1,15 @@
 //! What comes of asking a server.
 
-ghost use Rattle.std.specs.Prelude.{◌≡◌, ◌+◌, ◌-◌, ◌≤◌, ◌++◌, ◌∷◌, [], length, true, Ok, Err, IfOk, IfErr, OnOk, OnErr, IsTrue};
+ghost use Rattle.std.specs.Prelude.{◌≡◌, ◌+◌, ◌-◌, ◌≤◌, ◌++◌, ◌∷◌, [], length, true, Ok, Err};
 ghost use Rattle.std.specs.Vec.{vec_len, vec_capacity};
-ghost use Rattle.txn_core.specs.Agents as agents;
 ghost use Rattle.txn_core.specs.Agents.{next_of};
 ghost use Rattle.txn_core.specs.Standing.{FitsAsked};
-ghost use Rattle.txn_core.specs.Wanting.{by_taking};
-ghost use Rattle.agent_pool.specs.code.Steps.{Hears, told_by};
+ghost use Rattle.agent_pool.specs.code.Steps.{Hears, delivery_from};
 
 use run_certify::{Entry, KeptEnd};
 use run_core::EndedJob;
 use server_lock::{Answer, Miss};
-use std::alloc::AllocError;
-use txn_core::{Agent, Ending, Response};
+use txn_core::{Agent, Response};
 
 /// Where a job ended: the count of its agent's jobs before it, and the place of its end in the transcript.
 #[derive(Clone, Copy)]
@@ -34,26 +31,26 @@ pub enum Came {
     Lacked,
 }
 
-/// What is written down of an answer, and what the agent is told.
+/// An answer as it is delivered: what is written down of it, and what the agent is told.
 #[derive(Drop)]
-pub struct Told {
+pub struct Delivery {
     pub(crate) entry: Entry,
     pub(crate) response: Response,
 }
 
-/// The same, of this answer of this server. There is none where the pass was of other servers.
-pub(crate) fn told_of(server: u8, answer: Answer) -> Option<Told>
-    ensures { result ≡ told_by server answer.reply }
+/// The delivery of this answer of this server. There is none where the pass was of other servers.
+pub(crate) fn delivery_from(server: u8, answer: Answer) -> Option<Delivery>
+    ensures { result ≡ delivery_from server answer.reply }
 {
     match answer.into_reply() {
-        Ok(reply) => Some(Told {
+        Ok(reply) => Some(Delivery {
             entry: Entry::Asked {
                 server,
                 stamp: reply.stamp,
             },
             response: Response::Replied(reply.value),
         }),
-        Err(Miss::Lack(lack)) => Some(Told {
+        Err(Miss::Lack(lack)) => Some(Delivery {
             entry: Entry::Lacked { server, lack },
             response: Response::Lacked(lack),
         }),
@@ -66,19 +63,20 @@ pub(crate) fn told_of(server: u8, answer: Answer) -> Option<Told>
 pub(crate) fn hear(
     agent: &mut Agent,
     entries: &mut Vec<Entry>,
-    told: Told,
+    delivery: Delivery,
     number: u8,
     begun: usize,
 ) -> Came
     requires room { vec_len entries.old + 2 ≤ vec_capacity entries.old }
-    requires fits { FitsAsked (next_of agent.old.fixed agent.old.state) told.response }
+    requires fits { FitsAsked (next_of agent.old.fixed agent.old.state) delivery.response }
     requires begun { begun ≤ vec_len entries.old }
-    ensures { Hears number begun told agent.old entries.old.items agent.new entries.new.items result }
+    ensures { Hears number begun delivery agent.old entries.old.items agent.new entries.new.items result }
 {
     let count = agent.count().saturating_sub(1);
-    let Told { entry, response } = told;
+    let Delivery { entry, response } = delivery;
     entries.push_reserved(entry);
-    let Ok(ending) = take(agent, &response) else {
+    let mut ending = None;
+    let Ok(()) = agent.take(response.as_result(), &mut ending) else {
         return Came::Lacked;
     };
     let Some(ending) = ending else {
@@ -97,17 +95,4 @@ pub(crate) fn hear(
     };
     entries.push_reserved(Entry::Ended(kept));
     Came::Ended(Ran { count, at })
-}
-
-/// An agent takes what came of what it asks next: the ending of its job, where that is at its end.
-fn take(agent: &mut Agent, response: &Response) -> Result<Option<Ending>, AllocError>
-    requires { FitsAsked (next_of agent.old.fixed agent.old.state) response.now }
-    ensures ok { IfOk result (λ ending. ending ≡ (agents.take agent.old.fixed agent.old.state response.now).ending) }
-    ensures new { OnOk result (agent.new ≡ record agent.old { state = (agents.take agent.old.fixed agent.old.state response.now).agent }) }
-    ensures err { OnErr result (agent.new ≡ agent.old) }
-    ensures memory { IfErr result (λ _. IsTrue (by_taking (next_of agent.old.fixed agent.old.state) response.now)) }
-{
-    let mut ending = None;
-    agent.take(response.as_result(), &mut ending)?;
-    Ok(ending)
 }

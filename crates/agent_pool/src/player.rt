@@ -6,7 +6,7 @@ ghost use Rattle.run_certify.specs.declared.entry.Entry.TheVariants.{Begun, Forg
 ghost use Rattle.agent_pool.specs.code.Steps.{AsksNobody, DidMore};
 ghost use Rattle.agent_pool.specs.Transcripts.{first_player, number_of, players_from};
 
-use crate::asking::{Came, hear, told_of};
+use crate::asking::{Came, delivery_from, hear};
 use crate::pool_context::PoolContext;
 use rep_core::Request;
 use run_certify::{Entry, KeptJob, Transcript};
@@ -138,10 +138,16 @@ impl Player {
             return (pass, Came::Stuck);
         };
         let (pass, answer) = context.servers.ask(rt, context.gate, pass, server, request);
-        let Some(told) = told_of(server, answer) else {
+        let Some(delivery) = delivery_from(server, answer) else {
             return (pass, Came::Stuck);
         };
-        let came = hear(&mut self.agent, &mut self.entries, told, self.number, begun);
+        let came = hear(
+            &mut self.agent,
+            &mut self.entries,
+            delivery,
+            self.number,
+            begun,
+        );
         (pass, came)
     }
 }

@@ -14,16 +14,16 @@ use Rattle.txn_core.specs.declared.job.Job.{Job}
 use Rattle.txn_core.specs.Agents.{is_idle, next_of}
 use Rattle.txn_core.specs.Agents as agents
 use Rattle.txn_core.specs.Standing.{Standing}
-use Rattle.agent_pool.specs.declared.asking.Told.{Told}
+use Rattle.agent_pool.specs.declared.asking.Delivery.{Delivery}
 use Rattle.agent_pool.specs.declared.asking.Came.{Came}
 use Rattle.agent_pool.specs.declared.asking.Came.TheVariants as came
 use Rattle.agent_pool.specs.Transcripts.{Played, AreAsks, GoesOn, IsIdle, IsLonger, IsTold, Leads, at_rest, begins, number_of}
 
 -- what is written down of an answer, and what the agent is told; nothing, where its pass is of other servers
-abbrev pub told_by : ℕ → Result (Stamped Reply) Miss → Option Told
-told_by server (Ok reply) = Some (record { entry = Asked server reply.stamp; response = Replied reply.value })
-told_by server (Err (Lack lack)) = Some (record { entry = AskedInVain server lack; response = NotServed lack })
-told_by server (Err Stale) = None
+abbrev pub delivery_from : ℕ → Result (Stamped Reply) Miss → Option Delivery
+delivery_from server (Ok reply) = Some (record { entry = Asked server reply.stamp; response = Replied reply.value })
+delivery_from server (Err (Lack lack)) = Some (record { entry = AskedInVain server lack; response = NotServed lack })
+delivery_from server (Err Stale) = None
 
 -- how a job of an agent ended, as it is written down
 abbrev pub end_entry : ℕ → ℕ → ℕ → Ending → Entry
@@ -40,23 +40,25 @@ Leaves begun old rest new came.Stuck = AreAsks rest
 Leaves begun old rest new came.Lacked = AreAsks rest
 
 -- the agent takes what it is told, and gives this end
-abbrev pub Takes : Told → Standing → Standing → Option Ending → Type 0
-Takes told old new ending = (new.state ≡ (agents.take old.fixed old.state told.response).agent) × ((agents.take old.fixed old.state told.response).ending ≡ ending)
+abbrev pub Takes : Delivery → Standing → Standing → Option Ending → Type 0
+Takes delivery old new ending =
+    (new.state ≡ (agents.take old.fixed old.state delivery.response).agent) × ((agents.take old.fixed old.state delivery.response).ending ≡ ending)
 
 -- What is written down when an agent is told something: how its job ended too, where it did, as it gave it. Where memory was refused, for
 -- what it takes or for its end, no end is written down.
-abbrev pub HearsOn : ℕ → ℕ → Told → Standing → List Entry → Standing → List Entry → Came → Type 0
-HearsOn number begun told old entries new more (came.Ended ran) =
+abbrev pub HearsOn : ℕ → ℕ → Delivery → Standing → List Entry → Standing → List Entry → Came → Type 0
+HearsOn number begun delivery old entries new more (came.Ended ran) =
     (ending : Ending)
-    × (more ≡ entries ++ told.entry ∷ end_entry number ran.count (length entries + 1 - begun) ending ∷ [])
-    × (ran.at ≡ length entries + 1) × (ran.count ≡ old.state.count - 1) × (is_idle new.state.doing ≡ true) × Takes told old new (Some ending)
-HearsOn number begun told old entries new more came.Stuck = ⊥
-HearsOn number begun told old entries new more came.On = (more ≡ entries ++ told.entry ∷ []) × Takes told old new None
-HearsOn number begun told old entries new more came.Lacked = more ≡ entries ++ told.entry ∷ []
+    × (more ≡ entries ++ delivery.entry ∷ end_entry number ran.count (length entries + 1 - begun) ending ∷ [])
+    × (ran.at ≡ length entries + 1) × (ran.count ≡ old.state.count - 1) × (is_idle new.state.doing ≡ true) × Takes delivery old new (Some ending)
+HearsOn number begun delivery old entries new more came.Stuck = ⊥
+HearsOn number begun delivery old entries new more came.On = (more ≡ entries ++ delivery.entry ∷ []) × Takes delivery old new None
+HearsOn number begun delivery old entries new more came.Lacked = more ≡ entries ++ delivery.entry ∷ []
 
-abbrev pub Hears : ℕ → ℕ → Told → Standing → List Entry → Standing → List Entry → Came → Type 0
-Hears number begun told old entries new more came =
-    (new.fixed ≡ old.fixed) × (new.state.index ≡ old.state.index) × (new.state.count ≡ old.state.count) × HearsOn number begun told old entries new more came
+abbrev pub Hears : ℕ → ℕ → Delivery → Standing → List Entry → Standing → List Entry → Came → Type 0
+Hears number begun delivery old entries new more came =
+    (new.fixed ≡ old.fixed) × (new.state.index ≡ old.state.index) × (new.state.count ≡ old.state.count)
+    × HearsOn number begun delivery old entries new more came
 
 -- nobody is asked of so many servers
 abbrev pub AsksNobody : ℕ → Option (ℕ × Request) → Type 0

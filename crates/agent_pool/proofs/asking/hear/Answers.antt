@@ -1,4 +1,5 @@
-use Rattle.std.proofs.Common.{◌≡◌, ◌+◌, ◌-◌, ◌++◌, ◌∷◌, [], length, ap, sym, ◌∙◌, append_assoc, arith}
+use Rattle.std.proofs.Common.{◌≡◌, ◌+◌, ◌-◌, ◌++◌, ◌∷◌, [], Option, Some, None, refl, length, ap, sym, ◌∙◌, append_assoc, arith}
+use Rattle.std.specs.Option.{option_or}
 use Rattle.run_core.specs.declared.done.EndedJob.{EndedJob}
 use Rattle.run_certify.specs.declared.entry.Entry.TheVariants.{Ended}
 use Rattle.txn_core.specs.Agents.{is_idle}
@@ -7,13 +8,18 @@ use Rattle.agent_pool.specs.code.Steps.{end_entry}
 use Rattle.agent_pool.proofs.Keeping.{take_count, take_idle, take_index}
 use Rattle.agent_pool.proofs.asking.hear.Goals as goal
 
+or_none : {A : Type 0} (x : Option A) → option_or x None ≡ x
+or_none (Some x) = refl
+or_none None = refl
+
 pub returns : goal.returns
 returns c =
     let agent = c.args.agent.now in
-    let response = c.args.told.response in
+    let response = c.args.delivery.response in
     let entries = c.args.entries.now.items in
     let took = c.in-Ok.ensures.new in
     let ending = c.in-Some.ending in
+    let ends = sym (or_none _) ∙ sym c.in-Ok.ensures.ok ∙ c.in-Some.is in
     let count = c.saturating_sub-count.result in
     let whole = c.args.entries.now.ok.0 in
     let one = c.push_reserved.ensures.len in
@@ -27,11 +33,11 @@ returns c =
       (
         ending,
         c.push_reserved-2.ensures.items ∙ ap (λ (kept : EndedJob). c.push_reserved.new.self.items ++ Ended kept ∷ []) c.in-Ok-new.ensures
-            ∙ ap (λ es. es ++ end ∷ []) c.push_reserved.ensures.items ∙ append_assoc entries (c.args.told.entry ∷ []) (end ∷ [])
-            ∙ ap (λ n. entries ++ c.args.told.entry ∷ end_entry c.args.number count n ending ∷ []) steps,
+            ∙ ap (λ es. es ++ end ∷ []) c.push_reserved.ensures.items ∙ append_assoc entries (c.args.delivery.entry ∷ []) (end ∷ [])
+            ∙ ap (λ n. entries ++ c.args.delivery.entry ∷ end_entry c.args.number count n ending ∷ []) steps,
         at,
         (let a = c.saturating_sub-count.ensures in let b = c.count.ensures in omega arith),
-        ap (λ (s : Standing). is_idle s.state.doing) took ∙ take_idle agent.fixed agent.state response ending (sym c.in-Ok.ensures.ok ∙ c.in-Some.is),
-        (ap (λ (s : Standing). s.state) took, sym c.in-Ok.ensures.ok ∙ c.in-Some.is),
+        ap (λ (s : Standing). is_idle s.state.doing) took ∙ take_idle agent.fixed agent.state response ending ends,
+        (ap (λ (s : Standing). s.state) took, ends),
       ),
     )
