@@ -7,7 +7,7 @@ use Rattle.std.specs.List.{AllZip}
 use Rattle.server_lock.specs.Passes.{Held}
 use Rattle.txn_core.specs.Agents.{has_sense}
 use Rattle.agent_pool.specs.declared.work.Done.{Done}
-use Rattle.agent_pool.specs.declared.work.Seat.{Seat}
+use Rattle.agent_pool.specs.declared.work.SeatedAgent.{SeatedAgent}
 use Rattle.agent_pool.specs.declared.work.Worked.{Worked}
 use Rattle.agent_pool.specs.declared.pool_context.NamedJob.{NamedJob}
 use Rattle.agent_pool.specs.declared.outcome.JobOutcome.{JobOutcome}
@@ -71,13 +71,13 @@ there : (x y : Played) (xs : List Played) → Contains xs y → Contains (x ∷ 
 there x y xs at = (suc at.0, (let low = at.1 in omega arith), at.2)
 
 -- the work of one of them, and where it sat
-pub record WorkedAt (jobs : List NamedJob) (seats : List Seat) (worked : List Worked) (w : Worked) : Type 0 where
-  pub seat : Seat
+pub record WorkedAt (jobs : List NamedJob) (seats : List SeatedAgent) (worked : List Worked) (w : Worked) : Type 0 where
+  pub seat : SeatedAgent
   pub sat : Contains (sitting seats) seat.player
   pub is : Contains (players_of worked) w.player
   pub work : IsWorkOf jobs seat w
 
-pub worked_at : (jobs : List NamedJob) (seats : List Seat) (worked : List Worked) (i : ℕ) (w : Worked) → AllZip (IsWorkOf jobs) seats worked → i < length worked → slice_index_or worked i w ≡ w → WorkedAt jobs seats worked w
+pub worked_at : (jobs : List NamedJob) (seats : List SeatedAgent) (worked : List Worked) (i : ℕ) (w : Worked) → AllZip (IsWorkOf jobs) seats worked → i < length worked → slice_index_or worked i w ≡ w → WorkedAt jobs seats worked w
 worked_at jobs [] [] i w all low is = absurd (omega arith)
 worked_at jobs [] (x ∷ worked) i w all low is = absurd all
 worked_at jobs (s ∷ seats) [] i w all low is = absurd all
@@ -92,11 +92,11 @@ worked_at jobs (s ∷ seats) (x ∷ worked) (suc i) w all low is =
     record { seat = more.seat; sat = there s.player more.seat.player (sitting seats) more.sat; is = there x.player w.player (players_of worked) more.is; work = more.work }
 
 -- that it is one agent's
-pub is_of : (jobs : List NamedJob) (seats : List Seat) (worked : List Worked) (w : Worked) (agent : ℕ) (at : WorkedAt jobs seats worked w) → agent ≡ number_of w.player → IsOf (sitting seats) (players_of worked) agent at.seat.player w.player
+pub is_of : (jobs : List NamedJob) (seats : List SeatedAgent) (worked : List Worked) (w : Worked) (agent : ℕ) (at : WorkedAt jobs seats worked w) → agent ≡ number_of w.player → IsOf (sitting seats) (players_of worked) agent at.seat.player w.player
 is_of jobs seats worked w agent at is = record { had = at.sat; old = sym at.work.longer.number ∙ sym is; has = at.is; new = sym is }
 
 -- whoever ran whatever it took is idle
-pub all_idle : (jobs : List NamedJob) (seats : List Seat) (worked : List Worked) → AllZip (IsWorkOf jobs) seats worked → AllRan worked → All IsIdle (players_of worked)
+pub all_idle : (jobs : List NamedJob) (seats : List SeatedAgent) (worked : List Worked) → AllZip (IsWorkOf jobs) seats worked → AllRan worked → All IsIdle (players_of worked)
 all_idle jobs [] [] all ran = All-nil IsIdle
 all_idle jobs [] (w ∷ worked) all ran = absurd all
 all_idle jobs (s ∷ seats) [] all ran = absurd all
@@ -105,7 +105,7 @@ all_idle jobs (s ∷ seats) (w ∷ worked) all ran =
     (all_idle jobs seats worked all.1 (All-tail (λ (one : Worked). one.halt ≡ None) w worked ran))
 
 -- and all began what they did, and no more
-pub all_begun : (jobs : List NamedJob) (seats : List Seat) (worked : List Worked) → AllZip (IsWorkOf jobs) seats worked → AllRan worked → begun_by (players_of worked) ≡ begun_by (sitting seats) + done_in worked
+pub all_begun : (jobs : List NamedJob) (seats : List SeatedAgent) (worked : List Worked) → AllZip (IsWorkOf jobs) seats worked → AllRan worked → begun_by (players_of worked) ≡ begun_by (sitting seats) + done_in worked
 all_begun jobs [] [] all ran = refl
 all_begun jobs [] (w ∷ worked) all ran = absurd all
 all_begun jobs (s ∷ seats) [] all ran = absurd all
@@ -144,21 +144,21 @@ pub more_many : (worked : List Worked) (i : ℕ) (w : Worked) → i < length wor
 more_many worked i w low is = let e : i + 1 ≡ suc i = omega arith in ap (λ n. done_in (take n worked)) e ∙ suc_many worked i w low is
 
 -- who sits there are the agents
-pub sits_same : (old left : List Held) (players : List Played) (seats : List Seat) → AllZip (IsSeated old left) players seats → sitting seats ≡ players
+pub sits_same : (old left : List Held) (players : List Played) (seats : List SeatedAgent) → AllZip (IsSeated old left) players seats → sitting seats ≡ players
 sits_same old left [] [] all = refl
 sits_same old left [] (s ∷ seats) all = absurd all
 sits_same old left (p ∷ players) [] all = absurd all
 sits_same old left (p ∷ players) (s ∷ seats) all = ap (λ q. q ∷ sitting seats) all.0.sits ∙ ap (λ qs. p ∷ qs) (sits_same old left players seats all.1)
 
 -- all who took a seat were idle
-pub seats_idle : (old left : List Held) (players : List Played) (seats : List Seat) → AllZip (IsSeated old left) players seats → All IsIdle players → AreIdle seats
-seats_idle old left [] [] all idle = All-nil (λ (seat : Seat). IsIdle seat.player)
+pub seats_idle : (old left : List Held) (players : List Played) (seats : List SeatedAgent) → AllZip (IsSeated old left) players seats → All IsIdle players → AreIdle seats
+seats_idle old left [] [] all idle = All-nil (λ (seat : SeatedAgent). IsIdle seat.player)
 seats_idle old left [] (s ∷ seats) all idle = absurd all
 seats_idle old left (p ∷ players) [] all idle = absurd all
 seats_idle old left (p ∷ players) (s ∷ seats) all idle =
-    All-cons (λ (seat : Seat). IsIdle seat.player) s seats (subst (λ (q : Played). IsIdle q) (sym all.0.sits) (All-head IsIdle p players idle)) (seats_idle old left players seats all.1 (All-tail IsIdle p players idle))
+    All-cons (λ (seat : SeatedAgent). IsIdle seat.player) s seats (subst (λ (q : Played). IsIdle q) (sym all.0.sits) (All-head IsIdle p players idle)) (seats_idle old left players seats all.1 (All-tail IsIdle p players idle))
 
-pub same_numbers : (jobs : List NamedJob) (old left : List Held) (players : List Played) (seats : List Seat) (worked : List Worked) → AllZip (IsSeated old left) players seats → AllZip (IsWorkOf jobs) seats worked → numbers_of (players_of worked) ≡ numbers_of players
+pub same_numbers : (jobs : List NamedJob) (old left : List Held) (players : List Played) (seats : List SeatedAgent) (worked : List Worked) → AllZip (IsSeated old left) players seats → AllZip (IsWorkOf jobs) seats worked → numbers_of (players_of worked) ≡ numbers_of players
 same_numbers jobs old left [] [] [] a b = refl
 same_numbers jobs old left [] [] (w ∷ worked) a b = absurd b
 same_numbers jobs old left [] (s ∷ seats) worked a b = absurd a
@@ -167,7 +167,7 @@ same_numbers jobs old left (p ∷ players) (s ∷ seats) [] a b = absurd b
 same_numbers jobs old left (p ∷ players) (s ∷ seats) (w ∷ worked) a b =
     ap (λ n. n ∷ numbers_of (players_of worked)) (b.0.longer.number ∙ ap (λ (q : Played). number_of q) a.0.sits) ∙ ap (λ ns. number_of p ∷ ns) (same_numbers jobs old left players seats worked a.1 b.1)
 
-pub still_distinct : (jobs : List NamedJob) (old left : List Held) (players : List Played) (seats : List Seat) (worked : List Worked) → AllZip (IsSeated old left) players seats → AllZip (IsWorkOf jobs) seats worked → AreDistinct (numbers_of players)
+pub still_distinct : (jobs : List NamedJob) (old left : List Held) (players : List Played) (seats : List SeatedAgent) (worked : List Worked) → AllZip (IsSeated old left) players seats → AllZip (IsWorkOf jobs) seats worked → AreDistinct (numbers_of players)
     → AreDistinct (numbers_of (players_of worked))
 still_distinct jobs old left players seats worked a b distinct = subst (λ ns. AreDistinct ns) (sym (same_numbers jobs old left players seats worked a b)) distinct
 

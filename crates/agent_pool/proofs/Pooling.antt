@@ -5,7 +5,7 @@ use Rattle.std.specs.List.{AllZip}
 use Rattle.server_lock.specs.Passes.{Held}
 use Rattle.agent_pool.specs.declared.fault.PoolFault.{PoolFault}
 use Rattle.agent_pool.specs.declared.pool.Pool.{Pool}
-use Rattle.agent_pool.specs.declared.work.Seat.{Seat}
+use Rattle.agent_pool.specs.declared.work.SeatedAgent.{SeatedAgent}
 use Rattle.agent_pool.specs.declared.work.Worked.{Worked}
 use Rattle.agent_pool.specs.declared.pool_context.NamedJob.{NamedJob}
 use Rattle.agent_pool.specs.code.Gathering.{IsGathered}
@@ -18,7 +18,7 @@ use Rattle.agent_pool.specs.Transcripts.{Played, IsIdle}
 use Rattle.agent_pool.proofs.Filling.{all_begun, all_idle, sits_same}
 use Rattle.agent_pool.proofs.Returning.{all_went, others_back}
 
-pub pool_is : (jobs : List NamedJob) (was : List Played) (old left : List Held) (seats : List Seat) (worked : List Worked) (result : Result Pool PoolFault) → AreDistinct (numbers_of was) → AreSeated old left was seats
+pub pool_is : (jobs : List NamedJob) (was : List Played) (old left : List Held) (seats : List SeatedAgent) (worked : List Worked) (result : Result Pool PoolFault) → AreDistinct (numbers_of was) → AreSeated old left was seats
     → AllZip (IsWorkOf jobs) seats worked → IfOk result (IsGathered jobs worked left) → IfOk result (IsPoolOf jobs was old)
 pool_is jobs was old left seats worked (Err fault) distinct seated work is = tt
 pool_is jobs was old left seats worked (Ok pool) distinct seated work is = record {

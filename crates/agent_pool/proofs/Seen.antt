@@ -12,7 +12,7 @@ use Rattle.agent_pool.specs.declared.pool.Pool.{Pool}
 use Rattle.agent_pool.specs.declared.work.Done.{Done}
 use Rattle.agent_pool.specs.declared.work.Halt.{Halt}
 use Rattle.agent_pool.specs.declared.work.Halt.TheVariants.{Lacked, Strange, Stuck}
-use Rattle.agent_pool.specs.declared.work.Seat.{Seat}
+use Rattle.agent_pool.specs.declared.work.SeatedAgent.{SeatedAgent}
 use Rattle.agent_pool.specs.declared.work.Worked.{Worked}
 use Rattle.agent_pool.specs.declared.pool_context.NamedJob.{NamedJob}
 use Rattle.agent_pool.specs.Gathers.{Gathers, HaveOne, IsDouble, IsHandedBack, IsMissing, NoneFailed, TellsOf, first_strange, first_stuck, lacked_or, lacks_memory, places, places_by, strange_or, stuck_or}
@@ -220,7 +220,7 @@ strange_one jobs p (Some Lacked) a place halted is = inr is
 strange_one jobs p (Some (Stuck job)) a place halted is = inr is
 strange_one jobs p (Some (Strange q)) a place halted is = inl (subst (λ n. length jobs ≤ n) (same_Some q place is) halted)
 
-strange_is : (jobs : List NamedJob) (seats : List Seat) (worked : List Worked) (place : ℕ) → AllZip (IsWorkOf jobs) seats worked → first_strange worked ≡ Some place → length jobs ≤ place
+strange_is : (jobs : List NamedJob) (seats : List SeatedAgent) (worked : List Worked) (place : ℕ) → AllZip (IsWorkOf jobs) seats worked → first_strange worked ≡ Some place → length jobs ≤ place
 strange_is jobs seats [] place all is = cc
 strange_is jobs [] (w ∷ worked) place all is = absurd all
 strange_is jobs (s ∷ seats) (w ∷ worked) place all is =
@@ -232,7 +232,7 @@ stuck_one jobs p (Some Lacked) a job halted is = inr is
 stuck_one jobs p (Some (Strange place)) a job halted is = inr is
 stuck_one jobs p (Some (Stuck n)) a job halted is = inl (subst (λ m. Contains (job_numbers jobs) m) (same_Some n job is) halted)
 
-stuck_is : (jobs : List NamedJob) (seats : List Seat) (worked : List Worked) (job : ℕ) → AllZip (IsWorkOf jobs) seats worked → first_stuck worked ≡ Some job → Contains (job_numbers jobs) job
+stuck_is : (jobs : List NamedJob) (seats : List SeatedAgent) (worked : List Worked) (job : ℕ) → AllZip (IsWorkOf jobs) seats worked → first_stuck worked ≡ Some job → Contains (job_numbers jobs) job
 stuck_is jobs seats [] job all is = cc
 stuck_is jobs [] (w ∷ worked) job all is = absurd all
 stuck_is jobs (s ∷ seats) (w ∷ worked) job all is =
@@ -240,7 +240,7 @@ stuck_is jobs (s ∷ seats) (w ∷ worked) job all is =
 
 -- ---- what is told
 
-pub tells_fault : (jobs : List NamedJob) (seats : List Seat) (worked : List Worked) (fault : PoolFault) → AllZip (IsWorkOf jobs) seats worked → TellsOf jobs worked fault → IsFaultOf jobs fault
+pub tells_fault : (jobs : List NamedJob) (seats : List SeatedAgent) (worked : List Worked) (fault : PoolFault) → AllZip (IsWorkOf jobs) seats worked → TellsOf jobs worked fault → IsFaultOf jobs fault
 tells_fault jobs seats worked Memory all tells = tt
 tells_fault jobs seats worked (Stranger place) all tells = strange_is jobs seats worked place all tells.1
 tells_fault jobs seats worked (Double job) all tells =
@@ -250,7 +250,7 @@ tells_fault jobs seats worked (Missing job) all tells =
     let is = tells.2 in
     subst (λ n. Contains (job_numbers jobs) n) (sym is.of) (number_there jobs is.place is.named is.there)
 
-pub handed_back : (jobs : List NamedJob) (old left : List Held) (players : List Played) (seats : List Seat) (worked : List Worked) → AllZip (IsSeated old left) players seats → AllZip (IsWorkOf jobs) seats worked
+pub handed_back : (jobs : List NamedJob) (old left : List Held) (players : List Played) (seats : List SeatedAgent) (worked : List Worked) → AllZip (IsSeated old left) players seats → AllZip (IsWorkOf jobs) seats worked
     → AllZip (IsHandedBack jobs old) players worked
 handed_back jobs old left players seats worked sits works =
     zip_then (IsSeated old left) (IsWorkOf jobs) (IsHandedBack jobs old)

@@ -11,7 +11,7 @@ use Rattle.run_certify.specs.declared.entry.Entry.TheVariants.{Begun}
 use Rattle.agent_pool.specs.declared.asking.Came.TheVariants as came
 use Rattle.agent_pool.specs.declared.work.Done.{Done}
 use Rattle.agent_pool.specs.declared.work.Halt.{Halt}
-use Rattle.agent_pool.specs.declared.work.Seat.{Seat}
+use Rattle.agent_pool.specs.declared.work.SeatedAgent.{SeatedAgent}
 use Rattle.agent_pool.specs.declared.work.Worked.{Worked}
 use Rattle.agent_pool.specs.declared.pool_context.NamedJob.{NamedJob}
 use Rattle.agent_pool.specs.code.Starts.{IsWorkOf}
@@ -66,7 +66,7 @@ rise_more low high [] d rise more = (omega arith, omega arith)
 rise_more low high (e ∷ ds) d rise more = (rise.0, rise_more (e.ran.count + 1) high ds d rise.1 more)
 
 -- an agent that did nothing yet
-pub works_first : (jobs : List NamedJob) (seat : Seat) (w : Worked) → w.player ≡ seat.player → w.pass ≡ seat.pass → w.done.items ≡ [] → w.halt ≡ None → IsIdle seat.player → IsWorkOf jobs seat w
+pub works_first : (jobs : List NamedJob) (seat : SeatedAgent) (w : Worked) → w.player ≡ seat.player → w.pass ≡ seat.pass → w.done.items ≡ [] → w.halt ≡ None → IsIdle seat.player → IsWorkOf jobs seat w
 works_first jobs seat w player pass none ran idle = record {
   longer = record {
     fixed = ap (λ (p : Played). p.agent.fixed) player;
@@ -83,7 +83,7 @@ works_first jobs seat w player pass none ran idle = record {
 }
 
 -- the agent went on, and runs nothing more
-pub works_longer : (jobs : List NamedJob) (seat : Seat) (w v : Worked) (why : Halt) (longer : IsLonger w.player v.player) → IsWorkOf jobs seat w → GoesOn longer.rest w.pass v.pass → v.done.items ≡ w.done.items → v.halt ≡ Some why
+pub works_longer : (jobs : List NamedJob) (seat : SeatedAgent) (w v : Worked) (why : Halt) (longer : IsLonger w.player v.player) → IsWorkOf jobs seat w → GoesOn longer.rest w.pass v.pass → v.done.items ≡ w.done.items → v.halt ≡ Some why
     → IsHalted jobs v.player (Some why) → IsWorkOf jobs seat v
 works_longer jobs seat w v why longer old went same is halted =
     let more = begins-append w.player.entries longer.rest in
@@ -99,7 +99,7 @@ works_longer jobs seat w v why longer old went same is halted =
     }
 
 -- it runs nothing more, and did nothing since
-pub works_stop : (jobs : List NamedJob) (seat : Seat) (w v : Worked) (why : Halt) → IsWorkOf jobs seat w → v.player ≡ w.player → v.pass ≡ w.pass → v.done.items ≡ w.done.items → v.halt ≡ Some why → IsHalted jobs w.player (Some why) → IsWorkOf jobs seat v
+pub works_stop : (jobs : List NamedJob) (seat : SeatedAgent) (w v : Worked) (why : Halt) → IsWorkOf jobs seat w → v.player ≡ w.player → v.pass ≡ w.pass → v.done.items ≡ w.done.items → v.halt ≡ Some why → IsHalted jobs w.player (Some why) → IsWorkOf jobs seat v
 works_stop jobs seat w v why old player pass same is halted =
     works_longer jobs seat w v why
     (record {
@@ -115,7 +115,7 @@ not_some None none = refl
 not_some (Some why) none = cc
 
 -- and it did this one
-pub works_more : (servers : ℕ) (jobs : List NamedJob) (seat : Seat) (w v : Worked) (d : Done) (named : NamedJob) → IsWorkOf jobs seat w → DidJob servers named.job w.player v.player w.pass v.pass (came.Ended d.ran) → v.done.items ≡ w.done.items ++ d ∷ []
+pub works_more : (servers : ℕ) (jobs : List NamedJob) (seat : SeatedAgent) (w v : Worked) (d : Done) (named : NamedJob) → IsWorkOf jobs seat w → DidJob servers named.job w.player v.player w.pass v.pass (came.Ended d.ran) → v.done.items ≡ w.done.items ++ d ∷ []
     → slice_get jobs d.place ≡ Some named → w.halt ≡ None → v.halt ≡ None → IsWorkOf jobs seat v
 works_more servers jobs seat w v d named old did same there before ran =
     let longer = did.longer in

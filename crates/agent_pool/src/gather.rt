@@ -20,7 +20,7 @@ use crate::player::Player;
 use crate::pool::Pool;
 use crate::pool_context::NamedJob;
 use crate::slots::Slots;
-use crate::work::{Done, Halt, Seat, Worked};
+use crate::work::{Done, Halt, SeatedAgent, Worked};
 use server_lock::Pass;
 use std::alloc::{AllocError, Global};
 
@@ -141,7 +141,7 @@ fn fill(jobs: &[NamedJob], worked: &[Worked], slots: &mut Slots) -> Result<(), P
     requires distinct { AreDistinct (numbers_of (players_of worked.now)) }
     requires none { AreNone slots.old }
     requires long { length slots.old ≡ length jobs.now }
-    ensures filled { OnOk result ((seats : List Seat) → AllZip (IsWorkOf jobs.now) seats worked.now
+    ensures filled { OnOk result ((seats : List SeatedAgent) → AllZip (IsWorkOf jobs.now) seats worked.now
         → AllZip (IsFilled (sitting seats) (players_of worked.now)) jobs.now slots.new) }
     ensures apart { OnOk result (AreApartIn slots.new) }
     ensures many { OnOk result (filled_in slots.new ≡ done_in worked.now) }

@@ -6,7 +6,7 @@ ghost use Rattle.agent_pool.specs.code.Seated.{AreSeated, IsTakenOut};
 ghost use Rattle.agent_pool.specs.Transcripts.{Played};
 
 use crate::player::Player;
-use crate::work::Seat;
+use crate::work::SeatedAgent;
 use server_lock::Pass;
 use std::alloc::{AllocError, Global};
 
@@ -15,7 +15,7 @@ pub(crate) fn seats(
     alloc: Global,
     agents: Vec<Player>,
     passes: &mut Vec<Pass>,
-) -> Result<Vec<Seat>, AllocError>
+) -> Result<Vec<SeatedAgent>, AllocError>
     requires { AreReady passes.old.items agents.items }
     ensures { IfOk result (λ seats. AreSeated passes.old.items passes.new.items agents.items seats.items) }
 {
@@ -24,7 +24,7 @@ pub(crate) fn seats(
         let Some(pass) = take_pass(passes, player.number()) else {
             unreachable!();
         };
-        seats.push_reserved(Seat { player, pass });
+        seats.push_reserved(SeatedAgent { player, pass });
     }
     Ok(seats)
 }

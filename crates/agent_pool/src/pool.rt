@@ -20,7 +20,7 @@ use crate::passes::seats;
 use crate::player::Player;
 use crate::pool_context::{NamedJob, PoolContext};
 use crate::start::{Start, begin_thread, join_all};
-use crate::work::{Seat, Worked};
+use crate::work::{SeatedAgent, Worked};
 use crossbeam_channel::bounded_with;
 use server_lock::{Gate, Pass, Servers};
 use std::alloc::{AllocError, Global};
@@ -92,7 +92,7 @@ fn work_in_threads<R: Threads + Wait + Sync, G: Gate + Sync>(
     rt: &R,
     context: &PoolContext<'_, G>,
     giver: Giver,
-    seats: Vec<Seat>,
+    seats: Vec<SeatedAgent>,
 ) -> Result<Vec<Worked>, AllocError>
     requires seat { IsSeatAt (sends_on giver.sender) giver.ticket × (view giver.ticket ≡ feeder 0 0 0) }
     requires same { receives_on context.now.receiver.now ≡ sends_on giver.sender }
@@ -131,7 +131,7 @@ fn in_scope<'s, E, R: Threads + Wait + Sync, G: Gate + Sync>(
     scope: &Scope<'s, E>,
     context: &PoolContext<'s, G>,
     giver: Giver,
-    seats: Vec<Seat>,
+    seats: Vec<SeatedAgent>,
 ) -> Result<Vec<Worked>, AllocError>
     requires seat { IsSeatAt (sends_on giver.sender) giver.ticket × (view giver.ticket ≡ feeder 0 0 0) }
     requires same { receives_on context.now.receiver.now ≡ sends_on giver.sender }

@@ -11,7 +11,7 @@ ghost use Rattle.agent_pool.specs.code.Working.{IsWorked};
 
 use crate::line::Ticket;
 use crate::pool_context::{NamedJob, PoolContext};
-use crate::work::{Seat, Worked, work};
+use crate::work::{SeatedAgent, Worked, work};
 use server_lock::Gate;
 use std::snapshot::Snapshot;
 use std::sync::Wait;
@@ -22,7 +22,7 @@ use std::thread::{Promise, PromisedHandle, Scope, Threads};
 #[derive(Drop)]
 pub(crate) struct Works<'a> {
     pub(crate) jobs: &'a [NamedJob],
-    pub(crate) was: Snapshot<Seat>,
+    pub(crate) was: Snapshot<SeatedAgent>,
 }
 
 impl<'a> Promise<Worked> for Works<'a> {
@@ -45,7 +45,7 @@ pub(crate) fn begin_thread<'s, E, R: Threads + Wait + Sync, G: Gate + Sync>(
     scope: &Scope<'s, E>,
     context: &PoolContext<'s, G>,
     ticket: Ticket,
-    seat: Seat,
+    seat: SeatedAgent,
 ) -> Start<'s>
     requires ticket { IsSeatAt (receives_on context.now.receiver.now) ticket × ((view ticket).puts ≡ false) }
     requires idle { IsIdle seat.player }
@@ -58,14 +58,14 @@ pub(crate) fn begin_thread<'s, E, R: Threads + Wait + Sync, G: Gate + Sync>(
         jobs,
         was: Snapshot::of(&seat),
     };
-    let Seat { player, pass } = seat;
+    let SeatedAgent { player, pass } = seat;
     let spawned = scope.spawn_with(
         works,
         move || -> Worked
             requires { IsSeatAt (receives_on receiver.now) ticket × ((view ticket).puts ≡ false) × IsIdle player }
             ensures { IsWorked jobs.entry.now player pass result }
         {
-            let seat = Seat { player, pass };
+            let seat = SeatedAgent { player, pass };
             if refused.load(Ordering::SeqCst) == number {
                 return Worked::new(alloc, seat);
             }

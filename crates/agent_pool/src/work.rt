@@ -36,7 +36,7 @@ pub enum Halt {
 
 /// An agent with its pass.
 #[derive(Drop)]
-pub struct Seat {
+pub struct SeatedAgent {
     pub player: Player,
     pub pass: Pass,
 }
@@ -52,11 +52,11 @@ pub struct Worked {
 
 impl Worked {
     /// It did nothing yet, whatever jobs there are.
-    pub(crate) fn new(alloc: Global, seat: Seat) -> Worked
+    pub(crate) fn new(alloc: Global, seat: SeatedAgent) -> Worked
         requires { IsIdle seat.player }
         ensures { (jobs : List NamedJob) → IsWorkOf jobs seat result }
     {
-        let Seat { player, pass } = seat;
+        let SeatedAgent { player, pass } = seat;
         Worked {
             player,
             pass,
@@ -92,7 +92,7 @@ impl Worked {
         rt: &R,
         context: &PoolContext<'_, G>,
         place: usize,
-        was: &Snapshot<Seat>,
+        was: &Snapshot<SeatedAgent>,
     ) -> Worked
         requires { IsWorkOf context.now.jobs.now was.now.value self }
         ensures { IsWorkOf context.now.jobs.now was.now.value result }
@@ -181,7 +181,7 @@ pub(crate) fn work<R: Wait, G: Gate>(
     rt: &R,
     context: &PoolContext<'_, G>,
     mut ticket: Ticket,
-    seat: Seat,
+    seat: SeatedAgent,
 ) -> Worked
     requires ticket { IsSeatAt (receives_on context.now.receiver.now) ticket × ((view ticket).puts ≡ false) }
     requires idle { IsIdle seat.player }

@@ -3,7 +3,7 @@ use Rattle.std.specs.Prelude.{◌≡◌, ◌⊎◌, ℕ, ◌+◌, ◌<◌, List,
 use Rattle.std.specs.List.{AllZip}
 use Rattle.server_lock.specs.Passes.{Held}
 use Rattle.agent_pool.specs.declared.work.Done.{Done}
-use Rattle.agent_pool.specs.declared.work.Seat.{Seat}
+use Rattle.agent_pool.specs.declared.work.SeatedAgent.{SeatedAgent}
 use Rattle.agent_pool.specs.declared.work.Worked.{Worked}
 use Rattle.agent_pool.specs.declared.pool_context.NamedJob.{NamedJob}
 use Rattle.agent_pool.specs.declared.outcome.JobOutcome.{JobOutcome}
@@ -13,11 +13,11 @@ use Rattle.agent_pool.specs.code.Starts.{IsWorkOf}
 use Rattle.agent_pool.specs.code.Working.{RiseBetween}
 
 -- all who sit here are idle
-abbrev pub AreIdle : List Seat → Type 0
-AreIdle seats = All (λ (seat : Seat). IsIdle seat.player) seats
+abbrev pub AreIdle : List SeatedAgent → Type 0
+AreIdle seats = All (λ (seat : SeatedAgent). IsIdle seat.player) seats
 
-abbrev pub sitting : List Seat → List Played
-sitting seats = map (λ (seat : Seat). seat.player) seats
+abbrev pub sitting : List SeatedAgent → List Played
+sitting seats = map (λ (seat : SeatedAgent). seat.player) seats
 
 abbrev pub players_of : List Worked → List Played
 players_of worked = map (λ (one : Worked). one.player) worked
@@ -35,7 +35,7 @@ KeepFilled jobs was players old new = AllZip (IsFilled was players) jobs old →
 
 -- this is the work of agents who sat somewhere
 abbrev pub AreWorks : List NamedJob → List Worked → Type 0
-AreWorks jobs worked = (seats : List Seat) × AllZip (IsWorkOf jobs) seats worked
+AreWorks jobs worked = (seats : List SeatedAgent) × AllZip (IsWorkOf jobs) seats worked
 
 -- how many jobs they did, all together
 abbrev pub done_in : List Worked → ℕ

@@ -7,7 +7,7 @@ use Rattle.agent_pool.specs.declared.gather.Room.{Room}
 use Rattle.agent_pool.specs.declared.pool.Pool.{Pool}
 use Rattle.agent_pool.specs.declared.outcome.JobOutcome.{JobOutcome}
 use Rattle.agent_pool.specs.declared.work.Done.{Done}
-use Rattle.agent_pool.specs.declared.work.Seat.{Seat}
+use Rattle.agent_pool.specs.declared.work.SeatedAgent.{SeatedAgent}
 use Rattle.agent_pool.specs.declared.work.Worked.{Worked}
 use Rattle.agent_pool.specs.declared.pool_context.NamedJob.{NamedJob}
 use Rattle.agent_pool.specs.Pools.{AreApart, AreOutcomes}
@@ -59,7 +59,7 @@ AreWithin many (done ∷ later) = IsWithin many done × AreWithin many later
 
 -- the outcomes of all jobs
 pub record AreGathered (jobs : List NamedJob) (worked : List Worked) (outcomes : List JobOutcome) : Type 0 where
-  pub each : (seats : List Seat) → AllZip (IsWorkOf jobs) seats worked → AreOutcomes (sitting seats) (players_of worked) jobs outcomes
+  pub each : (seats : List SeatedAgent) → AllZip (IsWorkOf jobs) seats worked → AreOutcomes (sitting seats) (players_of worked) jobs outcomes
   pub apart : AreApart outcomes
   pub once : done_in worked ≡ length jobs
 
@@ -68,6 +68,6 @@ pub record IsGathered (jobs : List NamedJob) (worked : List Worked) (left : List
   pub agents : pool.agents.items ≡ players_of worked
   pub passes : pool.passes.items ≡ left ++ passes_of worked
   pub ran : AllRan worked
-  pub each : (seats : List Seat) → AllZip (IsWorkOf jobs) seats worked → AreOutcomes (sitting seats) (players_of worked) jobs pool.outcomes.items
+  pub each : (seats : List SeatedAgent) → AllZip (IsWorkOf jobs) seats worked → AreOutcomes (sitting seats) (players_of worked) jobs pool.outcomes.items
   pub apart : AreApart pool.outcomes.items
   pub once : done_in worked ≡ length jobs

@@ -5,12 +5,12 @@ use Rattle.agent_pool.specs.code.Gathering.{AreSeen}
 use Rattle.agent_pool.specs.Gathers.{places}
 use Rattle.agent_pool.specs.Seats.{numbers_of}
 use Rattle.agent_pool.specs.code.Starts.{IsWorkOf}
-use Rattle.agent_pool.specs.declared.work.Seat.{Seat}
+use Rattle.agent_pool.specs.declared.work.SeatedAgent.{SeatedAgent}
 use Rattle.agent_pool.proofs.gather.fill.Given as goal
 
 abbrev pub invariant-loop-one : goal.invariant-loop-one
 invariant-loop-one l =
-    ((seats : List Seat) → AllZip (IsWorkOf l.jobs) seats l.worked → AllZip (IsFilled (sitting seats) (players_of l.worked)) l.jobs l.slots)
+    ((seats : List SeatedAgent) → AllZip (IsWorkOf l.jobs) seats l.worked → AllZip (IsFilled (sitting seats) (players_of l.worked)) l.jobs l.slots)
     × AreApartIn l.slots
     × AreOfThese (take l.one-index (numbers_of (players_of l.worked))) l.slots
     × (filled_in l.slots ≡ done_in (take l.one-index l.worked))

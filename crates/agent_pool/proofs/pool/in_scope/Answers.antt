@@ -5,7 +5,7 @@ use Rattle.std.specs.List.{AllZip}
 use Rattle.std.specs.Vec.Iter.{into_iter_items}
 use Rattle.agent_pool.specs.declared.line.Hand.{Hand}
 use Rattle.agent_pool.specs.declared.start.Start.{Start}
-use Rattle.agent_pool.specs.declared.work.Seat.{Seat}
+use Rattle.agent_pool.specs.declared.work.SeatedAgent.{SeatedAgent}
 use Rattle.agent_pool.specs.Line.{feeder, with_taker}
 use Rattle.agent_pool.specs.code.Starts.{Comes, IsStart, IsWorkOf}
 use Rattle.agent_pool.specs.Transcripts.{IsIdle}
@@ -37,7 +37,7 @@ loop-seat-preserved g c =
       search rules,
       c.another-taker.ensures.rule.0 ∙ ap with_taker at.invariant.8 ∙ ap (λ n. feeder 0 0 n) (sym more),
       (let was = at.invariant.9 in omega arith),
-      All-tail (λ (seat : Seat). IsIdle seat.player) x _ (All-same (λ (seat : Seat). IsIdle seat.player) _ _ (sym steps) at.invariant.10),
+      All-tail (λ (seat : SeatedAgent). IsIdle seat.player) x _ (All-same (λ (seat : SeatedAgent). IsIdle seat.player) _ _ (sym steps) at.invariant.10),
     )
 
 pub join_all-requires-clause-room : goal.join_all-requires-clause-room
@@ -60,4 +60,4 @@ returns g c =
     let all = sym (append-nil at.yielded) ∙ rw empty at at.invariant.2 ∙ c.into_iter-seat-iterator.ensures.into_iter_gives.0 in
     zip_then (IsStart c.args.context.now.jobs.now) Comes (IsWorkOf c.args.context.now.jobs.now) (λ seat start now begun comes. comes c.args.context.now.jobs.now seat begun)
     c.args.seats.items at.starts.items c.join_all.result.items
-    (subst (λ (l : List Seat). AllZip (IsStart c.args.context.now.jobs.now) l at.starts.items) all at.invariant.3) c.join_all.ensures
+    (subst (λ (l : List SeatedAgent). AllZip (IsStart c.args.context.now.jobs.now) l at.starts.items) all at.invariant.3) c.join_all.ensures
