@@ -3,6 +3,8 @@ use Rattle.std.specs.Option.{option_or}
 use Rattle.run_core.specs.declared.done.EndedJob.{EndedJob}
 use Rattle.run_certify.specs.declared.entry.Entry.TheVariants.{Ended}
 use Rattle.txn_core.specs.Agents.{is_idle}
+use Rattle.txn_core.specs.Agents as agents
+use Rattle.txn_core.specs.declared.response.Response.{Response}
 use Rattle.txn_core.specs.Standing.{Standing}
 use Rattle.agent_pool.specs.code.Steps.{end_entry}
 use Rattle.agent_pool.proofs.Keeping.{take_count, take_idle, take_index}
@@ -17,9 +19,11 @@ returns c =
     let agent = c.args.agent.now in
     let response = c.args.delivery.response in
     let entries = c.args.entries.now.items in
-    let took = c.in-Ok.ensures.new in
+    let same = c.as_result.ensures in
+    let took = c.in-Ok.ensures.new ∙ ap (λ (said : Response). record agent { state = (agents.take agent.fixed agent.state said).agent }) same in
     let ending = c.in-Some.ending in
-    let ends = sym (or_none _) ∙ sym c.in-Ok.ensures.ok ∙ c.in-Some.is in
+    let ends : (agents.take agent.fixed agent.state response).ending ≡ Some ending = ap (λ (said : Response). (agents.take agent.fixed agent.state said).ending) (sym same)
+            ∙ sym (or_none _) ∙ sym c.in-Ok.ensures.ok ∙ c.in-Some.is in
     let count = c.saturating_sub-count.result in
     let whole = c.args.entries.now.ok.0 in
     let one = c.push_reserved.ensures.len in
