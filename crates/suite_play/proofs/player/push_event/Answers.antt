@@ -1,0 +1,21 @@
+use Rattle.std.proofs.Common.{◌≡◌, ◌∙◌, ◌++◌, ℕ, Bool, List, Option, None, Result, OnOk, ap}
+use Rattle.std.proofs.lemmas.Result.{on_ok_weaker}
+use Rattle.txn_core.specs.Agents.{fixed_of}
+use Rattle.run_core.proofs.Exchanging.{or_nothing}
+use Rattle.run_core.specs.declared.done.EndedJob.{EndedJob}
+use Rattle.run_core.specs.declared.done.Served.{Served}
+use Rattle.run_core.specs.Telling.{ComesTo}
+use Rattle.run_core.specs.Worlds.{Stepped, World, step}
+use Rattle.suite_play.specs.Playing.{of_event}
+use Rattle.suite_play.specs.Texts.{outcome_text}
+use Rattle.suite_play.proofs.player.push_event.Goals as goal
+
+-- what was put into an empty place is printed
+its_line : {A E : Type 0} (stepped : Stepped) (text text' : List ℕ) (outcome : Option EndedJob) (result : Result A E) {world : World} {served : Served} {told : Bool}
+    → ComesTo stepped world served None outcome told → OnOk result (text' ≡ text ++ outcome_text outcome) → OnOk result (text' ≡ text ++ (of_event stepped).text)
+its_line stepped text text' outcome result comes = on_ok_weaker result (λ printed. printed ∙ ap (λ (one : Option EndedJob). text ++ outcome_text one) (comes.told.ended_is ∙ or_nothing stepped.done.outcome))
+
+pub returns-clause-printed : goal.returns-clause-printed
+returns-clause-printed c =
+    its_line (step (fixed_of c.args.world.now.given) c.args.world.now.world c.args.event.now) c.args.text.now.items _ c.advance.new.ended c.push_ended.result
+    c.in_ok-advance.ensures.ok c.push_ended.ensures
