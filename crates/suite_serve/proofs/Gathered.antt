@@ -5,9 +5,12 @@ use Rattle.std.proofs.lemmas.List.{append-nil, append_assoc, length-append}
 use Rattle.file_ops.specs.Steps.{ok_map}
 use Rattle.txn_core.specs.declared.job.Job as jobs
 use Rattle.suite_script.specs.Scripts.{with_own}
+use Rattle.suite_script.specs.Progress.{Checks, fault_of}
+use Rattle.suite_script.specs.declared.fault.ScriptError.{ScriptError}
+use Rattle.suite_script.specs.declared.fault.ScriptError.TheVariants as script
 use Rattle.suite_script.specs.declared.fault.ScriptFault.{ScriptFault}
 use Rattle.suite_serve.specs.Scripts.{above_together, jobs_of}
-use Rattle.suite_serve.specs.code.Reading.{jobs_and_alone}
+use Rattle.suite_serve.specs.code.Reading.{GivesJobs, jobs_and_alone}
 use Rattle.suite_serve.specs.declared.command.Command.{Command}
 use Rattle.suite_serve.specs.declared.command.Command.TheVariants.{Job, Together}
 
@@ -52,3 +55,13 @@ pub first_fault : (gathered : List jobs.Job) (alone : Option ℕ) (left given : 
     → ok_map (jobs_after gathered alone) left ≡ ok_map (jobs_after [] None) given → left ≡ Err fault → given ≡ Err fault
 first_fault gathered alone left (Ok lines) fault same is = let bad : Err fault ≡ Ok (jobs_after [] None lines) = sym (ap (ok_map (jobs_after gathered alone)) is) ∙ same in cc
 first_fault gathered alone left (Err other) fault same is = let met : Err fault ≡ ok_map (jobs_after [] None) (Err other) = sym (ap (ok_map (jobs_after gathered alone)) is) ∙ same in cc
+
+-- a fault that is found below a line is the first of all
+pub fault_below : (gathered : List jobs.Job) (alone : Option ℕ) (own : Command) (left later given : Result (List Command) ScriptFault) (error : ScriptError)
+    → ok_map (jobs_after gathered alone) left ≡ ok_map (jobs_after [] None) given → left ≡ with_own own later → Checks (Err error) (fault_of later) → GivesJobs (Err error) given
+fault_below gathered alone own left (Ok lines) given (script.Faulty fault) same next checks = cc
+fault_below gathered alone own left (Err other) given (script.Faulty fault) same next checks =
+    let found : Some other ≡ Some fault = checks in
+    let faulty : left ≡ Err fault = next ∙ cc in
+    first_fault gathered alone left given fault same faulty
+fault_below gathered alone own left later given script.Memory same next checks = tt

@@ -19,6 +19,9 @@ use suite_prefix::{MAX_AGENTS, Settings};
 use suite_script::{LineFault, ScriptError, ScriptFault, ScriptReader};
 use txn_core::{Job, SharedCaller};
 
+/// How many jobs are kept before the rest of a script is looked through.
+const KEPT_JOBS: usize = 16_384;
+
 /// What a script asks for: the settings of its servers, its jobs, and how many of these stand above `together`.
 #[derive(Drop)]
 pub struct JobScript {
@@ -158,7 +161,8 @@ fn read_lines(alloc: Global, text: &[u8], agents: usize) -> Result<JobScript, Sc
     })
 }
 
-/// The jobs of the lines that are left, and how many of them stand above the first `together`.
+/// The jobs of the lines that are left, and how many of them stand above the first `together`. Where there are many, those
+/// that are left are looked through for a fault before they are kept.
 fn read_jobs(
     alloc: Global,
     script: &mut ScriptReader<'_>,
@@ -170,7 +174,12 @@ fn read_jobs(
     let mut alone = None;
     while let Some(command) = script.next_own(alloc, lines)? {
         match command {
-            Command::Job(job) => keep(&mut jobs, job)?,
+            Command::Job(job) => {
+                if jobs.len() == KEPT_JOBS {
+                    script.look_ahead(alloc, lines)?;
+                }
+                keep(&mut jobs, job)?;
+            }
             Command::Together => alone = Some(alone.unwrap_or(jobs.len())),
         }
     }

@@ -1,10 +1,19 @@
 use Rattle.std.proofs.Common.{◌≡◌, ◌∙◌, ap, sym, rules, ℕ, Ok, length}
 use Rattle.std.specs.Prelude.{unwrap_or}
 use Rattle.file_ops.specs.Steps.{ok_map}
+use Rattle.suite_script.proofs.Gathering.{failed}
 use Rattle.suite_script.specs.Scripts.{owns}
 use Rattle.suite_serve.specs.code.Kept.{commands}
-use Rattle.suite_serve.proofs.Gathered.{all_are, jobs_after}
+use Rattle.suite_serve.proofs.Gathered.{all_are, fault_below, jobs_after}
 use Rattle.suite_serve.proofs.script.read_jobs.Goals as goal
+
+pub returns-in_err-look_ahead-in-Job : goal.returns-in_err-look_ahead-in-Job
+returns-in_err-look_ahead-in-Job c =
+    let error = c.in_err-look_ahead-in-Job.field-0.0 in
+    let given = owns (commands c.args.lines.now) c.args.script.now in
+    rw (failed c.from_residual-in_err-look_ahead-in-Job.result error c.from_residual-in_err-look_ahead-in-Job.ensures)
+    (fault_below c.loop-jobs.jobs.items c.loop-jobs.alone c.in-Some.command (owns (commands c.args.lines.now) c.loop-jobs.script) (owns (commands c.args.lines.now) c.next_own.new.self) given error
+    c.loop-jobs.invariant (rw c.in-Some.is at c.in_ok-command.ensures.own) c.in_err-look_ahead-in-Job.ensures)
 
 pub returns : goal.returns
 returns c =
