@@ -23,7 +23,7 @@ returns c =
     let took = c.in-Ok.ensures.new ∙ ap (λ (said : Response). record agent { state = (agents.take agent.fixed agent.state said).agent }) same in
     let ending = c.in-Some.ending in
     let ends : (agents.take agent.fixed agent.state response).ending ≡ Some ending = ap (λ (said : Response). (agents.take agent.fixed agent.state said).ending) (sym same)
-            ∙ sym (or_none _) ∙ sym c.in-Ok.ensures.ok ∙ c.in-Some.is in
+    ∙ sym (or_none _) ∙ sym c.in-Ok.ensures.ok ∙ c.in-Some.is in
     let count = c.saturating_sub-count.result in
     let whole = c.args.entries.now.ok.0 in
     let one = c.push_reserved.ensures.len in
