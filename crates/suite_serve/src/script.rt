@@ -76,12 +76,13 @@ pub fn read_script(alloc: Global, text: &[u8], agents: usize) -> Result<JobScrip
     ensures { GivesScript result (ok_map kept_plan (plan_in agents text.now)) }
 {
     let second = second_together(text);
-    match read_lines(alloc, text, agents) {
-        Ok(script) => match second {
-            None => Ok(script),
-            Some(line) => Err(twice_at(line)),
-        },
-        Err(error) => Err(first_of(second, error)),
+    let script = match read_lines(alloc, text, agents) {
+        Ok(script) => script,
+        Err(error) => return Err(first_of(second, error)),
+    };
+    match second {
+        None => Ok(script),
+        Some(line) => Err(twice_at(line)),
     }
 }
 
