@@ -29,6 +29,9 @@ use std::sync::atomic::AtomicU64;
 use std::thread;
 use std::thread::{Scope, Threads};
 
+/// How many jobs wait at most to be taken. Where more are handed in, each that is taken wakes the thread that hands them out.
+const MAX_WAITING: usize = 65_536;
+
 /// What a pool did: the agents with their transcripts, in the order in which they were handed in, the passes, and
 /// an outcome for each job, in the jobs' order.
 #[derive(Drop)]
@@ -65,7 +68,8 @@ pub fn run_pool<R: Threads + Wait + Sync, G: Gate + Sync>(
     let seats = seats(alloc, agents, &mut passes)?;
     let count = seats.len();
     passes.reserve(count)?;
-    let (sender, receiver, ticket) = bounded_with::<Item, Hand, EachOnce, Global>(alloc, count)?;
+    let waiting = count + jobs.len().min(MAX_WAITING);
+    let (sender, receiver, ticket) = bounded_with::<Item, Hand, EachOnce, Global>(alloc, waiting)?;
     let refused = AtomicU64::new(u64::MAX);
     let context = PoolContext {
         alloc,
