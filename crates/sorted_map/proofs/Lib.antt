@@ -1,2 +1,3 @@
 mod Place
 mod Kept
+mod InBlocks

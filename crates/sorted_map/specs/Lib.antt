@@ -1,5 +1,6 @@
 pub mod SortedMap
 pub mod Roomy
+pub mod Blocks
 pub mod Comparisons
 pub mod Laws
 pub mod Edits

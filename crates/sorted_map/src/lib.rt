@@ -15,8 +15,10 @@
 //! texts).
 #![tactic(auto)]
 
+mod blocks;
 mod map;
 mod roomy;
 
+pub use blocks::BlockMap;
 pub use map::SortedMap;
 pub use roomy::RoomyMap;

@@ -1,12 +1,13 @@
 //! A sorted map that is seen with its free places.
 
-ghost use Rattle.std.specs.Prelude.{◌≡◌, ◌+◌, ◌-◌, ◌<◌, ◌≤◌, ◌↔◌, [], length, IsTrue, IfOk, IfErr, OnOk, OnErr, None, Some, is_some, if◌then◌else◌, vec_capacity, vec_len};
+ghost use Rattle.std.specs.Prelude.{◌≡◌, ◌++◌, reverse, ◌+◌, ◌-◌, ◌<◌, ◌≤◌, ◌↔◌, [], length, IsTrue, IfOk, IfErr, OnOk, OnErr, None, Some, is_some, if◌then◌else◌, take, drop, slice_get, vec_capacity, vec_len};
 ghost use Rattle.std.specs.Option.{option_copied, option_copied_mut};
 ghost use Rattle.std.specs.Borrow.{sem};
 ghost use Rattle.std.specs.Fn.{CalledAt};
 ghost use Rattle.std.specs.List.Retain.{IsFiltered};
 ghost use Rattle.sorted_map.specs.SortedMap.{IsOrdered, get, insert, remove};
 ghost use Rattle.sorted_map.specs.Lends.{roomy_lends_value, roomy_lends_get};
+ghost use Rattle.sorted_map.specs.Blocks.{first_from};
 ghost use Rattle.sorted_map.specs.code.Place.{IsPlaceOf, IsGapFor};
 
 use std::alloc::{AllocError, AllocFailed, Global};
@@ -131,6 +132,15 @@ impl<K: Ord, V> RoomyMap<K, V> {
         &mut pair.1
     }
 
+    /// The first pair at a key or above it.
+    pub fn first_from(&self, key: &K) -> Option<&(K, V)>
+        ensures first { option_copied result ≡ first_from K.cmp key.now self.now.pairs }
+        ensures ordered { IsOrdered K.cmp self.now.pairs }
+    {
+        let at = first_place(&self.pairs, key);
+        self.pairs.get(at)
+    }
+
     /// Whether there is a pair with a key.
     pub fn contains_key(&self, key: &K) -> bool
         ensures { result ≡ is_some (get K.cmp self.now.pairs key.now) }
@@ -222,6 +232,20 @@ impl<K: Ord, V> RoomyMap<K, V> {
         self.pairs.reserve(additional)
     }
 
+    /// Moves the pairs from a place on into an empty map that has room for them.
+    pub(crate) fn halve(&mut self, upper: &mut RoomyMap<K, V>, keep: usize)
+        requires keep { keep ≤ length self.old.pairs }
+        requires empty { upper.old.pairs ≡ [] }
+        requires room { length self.old.pairs ≤ upper.old.room + keep }
+        ensures lower { self.new.pairs ≡ take keep self.old.pairs }
+        ensures upper { upper.new.pairs ≡ drop keep self.old.pairs }
+        ensures lower_room { self.new.room + keep ≡ self.old.room + length self.old.pairs }
+        ensures upper_room { upper.new.room + length self.old.pairs ≡ upper.old.room + keep }
+        ensures was_ordered { IsOrdered K.cmp self.old.pairs }
+    {
+        move_behind(&mut self.pairs, &mut upper.pairs, keep);
+    }
+
     /// Where a key stands, or where it would stand.
     fn search(&self, key: &K) -> Result<usize, usize>
         ensures found { IfOk result (IsPlaceOf K.cmp self.now.pairs key.now) }
@@ -229,5 +253,47 @@ impl<K: Ord, V> RoomyMap<K, V> {
         ensures ordered { IsOrdered K.cmp self.now.pairs }
     {
         self.pairs.binary_search_by(|pair| pair.0.cmp(key))
+    }
+}
+
+/// How many pairs are below a key.
+fn first_place<K: Ord, V>(pairs: &[(K, V)], key: &K) -> usize
+    requires { IsOrdered K.cmp pairs.now }
+    ensures { first_from K.cmp key.now pairs.now ≡ slice_get pairs.now result }
+{
+    pairs.partition_point(|pair| pair.0.cmp(key).is_lt())
+}
+
+/// Moves the items from a place on into an empty vector that has room for them.
+fn move_behind<T>(items: &mut Vec<T>, to: &mut Vec<T>, keep: usize)
+    requires keep { keep ≤ length items.old.items }
+    requires empty { to.old.items ≡ [] }
+    requires room { length items.old.items ≤ vec_capacity to.old + keep }
+    ensures kept { items.new.items ≡ take keep items.old.items }
+    ensures len { vec_len items.new ≡ keep }
+    ensures was_len { vec_len items.old ≡ length items.old.items }
+    ensures within { vec_len items.old ≤ vec_capacity items.old }
+    ensures moved { to.new.items ≡ drop keep items.old.items }
+    ensures capacity { vec_capacity items.new ≡ vec_capacity items.old }
+    ensures to_capacity { vec_capacity to.new ≡ vec_capacity to.old }
+{
+    while items.len() > keep {
+        move_last(items, to);
+    }
+    to.reverse();
+}
+
+/// Moves the last item to the end of a vector that has room for it.
+fn move_last<T>(items: &mut Vec<T>, to: &mut Vec<T>)
+    requires some { 0 < length items.old.items }
+    requires room { vec_len to.old < vec_capacity to.old }
+    ensures items { items.new.items ++ reverse to.new.items ≡ items.old.items ++ reverse to.old.items }
+    ensures len { length items.new.items + 1 ≡ length items.old.items }
+    ensures to_len { length to.new.items ≡ length to.old.items + 1 }
+    ensures capacity { vec_capacity items.new ≡ vec_capacity items.old }
+    ensures to_capacity { vec_capacity to.new ≡ vec_capacity to.old }
+{
+    if let Some(item) = items.pop() {
+        to.push_reserved(item);
     }
 }
