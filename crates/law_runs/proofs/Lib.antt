@@ -18,3 +18,6 @@ pub mod Executed
 pub mod Answering
 pub mod Table
 pub mod Each
+pub mod Ruled
+pub mod Closed
+pub mod Finishes

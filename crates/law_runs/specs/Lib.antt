@@ -3,3 +3,4 @@ pub mod Numbers
 pub mod Claims
 pub mod Answers
 pub mod Worked
+pub mod Finishes

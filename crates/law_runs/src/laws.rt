@@ -3,6 +3,7 @@
 ghost use Rattle.law_runs.specs.Claims.{DecidedOnce, DecisionsAreTheRecords, AuditIsTheDenials, AnsweredBefore, ChangesAreMet};
 ghost use Rattle.law_runs.specs.Numbers.{EachIsBegunOnce, AgentsAskForThemselves};
 ghost use Rattle.law_runs.specs.Answers.{AnswersFollowKnowledge, KnownAnswersAreTheTables, TablesAuditIsTheDenials};
+ghost use Rattle.law_runs.specs.Finishes.{FinishIsAfter, FinishedBefore, FinishedChangesAreMet, SomeRunsFinish};
 ghost use Rattle.law_runs.specs.Worked.{SomeRunsDecide};
 
 /// A law: each transaction stands among the decisions of a run once at most. A job that ended answered or
@@ -33,6 +34,25 @@ pub fn answered_before_decided_before()
 /// begins later: its decision stands there, and before that of the request. It does nothing.
 pub fn changes_are_met()
     ensures { ChangesAreMet }
+{}
+
+/// A law: a Finish says how its transaction ended. Whoever asks it, its agent or a sweep, and whatever it is told:
+/// the transaction stands among the decisions by then, with that answer; or it says Aborted, and the transaction
+/// never will stand there, however the run goes on. It does nothing.
+pub fn finish_is_after()
+    ensures { FinishIsAfter }
+{}
+
+/// A law: where a Finish of a transaction was served before a request of another that ends nothing, as its Decide, and
+/// both are decided, the first stands before the second. It does nothing.
+pub fn finished_before()
+    ensures { FinishedBefore }
+{}
+
+/// A law: so a change whose Finish was served, which says that it was answered, is met by each request that asks
+/// something of its own afterwards. It does nothing.
+pub fn finished_changes_are_met()
+    ensures { FinishedChangesAreMet }
 {}
 
 /// A law: each number of a transaction is begun once, and by the agent that is its rest by 64. It does
@@ -70,4 +90,11 @@ pub fn tables_audit_is_the_denials()
 /// that begins later is denied, so that the laws above say something. It does nothing.
 pub fn some_runs_decide()
     ensures { SomeRunsDecide }
+{}
+
+/// A law: a run in which a transaction is finished that was answered, before another that begins later asks
+/// anything, and one that was overruled, by a sweep and by its own agent, so that the laws of a Finish say something.
+/// It does nothing.
+pub fn some_runs_finish()
+    ensures { SomeRunsFinish }
 {}

@@ -77,7 +77,7 @@ module _ {X : Type 0} where
   if_passes q None = None
   if_passes q (Some x) = cond (q x) (Some x) None
 
-  none_filtered : (p q : X → Bool) (xs : List X) → find p xs ≡ None → find p (filter q xs) ≡ None
+  pub none_filtered : (p q : X → Bool) (xs : List X) → find p xs ≡ None → find p (filter q xs) ≡ None
   none_filtered p q [] none = refl
   none_filtered p q (x ∷ xs) none =
       let ahead = none_ahead p x xs none in

@@ -9,6 +9,9 @@ pub mod LockLookups
 pub mod PreparedLocks
 pub mod Quiet
 pub mod Told
+pub mod Again
+pub mod Later
+pub mod HeldStill
 pub mod Intentions
 pub mod Installing
 pub mod IntentionLookups

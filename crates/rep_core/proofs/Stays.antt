@@ -18,7 +18,7 @@ use Rattle.rep_core.proofs.Members.{Has, filter_has, map_has, between_has}
 abbrev pub Stands : List Lock → Lock → Type 0
 Stands locks lock = (later : Lock) × Has locks later × StillPrepared lock later
 
-serves_itself : (m : LockMode) → serves m m ≡ true
+pub serves_itself : (m : LockMode) → serves m m ≡ true
 serves_itself Shared = refl
 serves_itself Exclusive = refl
 
@@ -27,7 +27,7 @@ serves_raised Shared Shared = refl
 serves_raised Shared Exclusive = refl
 serves_raised Exclusive want = refl
 
-serves_on : (a b c : LockMode) → serves b a ≡ true → serves c b ≡ true → serves c a ≡ true
+pub serves_on : (a b c : LockMode) → serves b a ≡ true → serves c b ≡ true → serves c a ≡ true
 serves_on Shared b Shared h k = refl
 serves_on Shared b Exclusive h k = refl
 serves_on Exclusive b Exclusive h k = refl
@@ -53,7 +53,7 @@ stands_on locks first later one more = (
 pub stands_filter : (p : Lock → Bool) (ls : List Lock) (l : Lock) → Has ls l → l.prepared ≡ true → p l ≡ true → Stands (filter p ls) l
 stands_filter p ls l has prepared passes = (l, filter_has p ls l has passes, itself l prepared)
 
-raised_serves : (t s : ℕ) (m : LockMode) (l : Lock) → serves (raised_lock t s m l).mode l.mode ≡ true
+pub raised_serves : (t s : ℕ) (m : LockMode) (l : Lock) → serves (raised_lock t s m l).mode l.mode ≡ true
 raised_serves t s m l = elim (is_own t s l) as (λ b. serves (cond b (stronger l.mode m) l.mode) l.mode ≡ true) [ true ↦ serves_raised l.mode m | false ↦ serves_itself l.mode ]
 
 pub stands_locked : (t s : ℕ) (m : LockMode) (ls : List Lock) (l : Lock) → Has ls l → l.prepared ≡ true → Stands (locked t s m ls) l

@@ -9,6 +9,7 @@ pub mod Serving
 pub mod Fits
 pub mod Consistency
 pub mod Steps
+pub mod Again
 pub mod Laws
 pub mod ValidCopies
 pub mod Wanting

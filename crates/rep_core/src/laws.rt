@@ -3,6 +3,7 @@
 ghost use Rattle.rep_core.specs.ValidCopies.{CopiesAreValid, SomeCopyIsChanged};
 ghost use Rattle.rep_core.specs.Laws.{ConsistencyIsKept, ExclusiveStandsAlone, LocksRise, BusyNamesTheLeast, PreparedStands, IntentionsHaveLocks, VerdictsAreWrittenOnce, StoresAreSound, SuitesAreFew, SomeServerStands};
 ghost use Rattle.rep_core.specs.Steps.{PreparedByPrepare, QuietRepliesChangeNothing};
+ghost use Rattle.rep_core.specs.Again.{AgainAtOnce, AgainLater};
 
 /// A law: a server opens consistent, and stays so whatever it is asked: its locks and its copies stand
 /// in their orders, exclusive locks stand alone, each intention stands beside its transaction's prepared
@@ -76,6 +77,20 @@ pub fn prepared_by_prepare()
 /// does nothing.
 pub fn quiet_replies_change_nothing()
     ensures { QuietRepliesChangeNothing }
+{}
+
+/// A law: a request that is served again at once, as one that was sent again since its reply was lost, changes
+/// nothing but the stamp, and is answered the same; but a Crash, since the server is down. It does nothing.
+pub fn again_at_once()
+    ensures { AgainAtOnce }
+{}
+
+/// A law: so it is later, whatever was asked in between, of a Decide or a Resolve that was told a verdict; of a Prepare
+/// that was told Prepared, until its transaction is finished there; of a Finish, until its transaction polls there; and
+/// of a Poll or an Upgrade that was told Held, and a Fetch that was given a content, until a lock of its transaction is
+/// taken there. It does nothing.
+pub fn again_later()
+    ensures { AgainLater }
 {}
 
 /// A law: there is a copy that a transaction changed, at a server whose settings and requests fit their

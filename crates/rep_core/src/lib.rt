@@ -71,10 +71,10 @@ mod verdicts;
 
 pub use effect::finish_keeps_effect;
 pub use laws::{
-    busy_names_the_least, consistency_is_kept, copies_are_valid, exclusive_stands_alone,
-    intentions_have_locks, locks_rise, prepared_by_prepare, prepared_stands,
-    quiet_replies_change_nothing, some_copy_is_changed, some_server_stands, stores_are_sound,
-    suites_are_few, verdicts_are_written_once,
+    again_at_once, again_later, busy_names_the_least, consistency_is_kept, copies_are_valid,
+    exclusive_stands_alone, intentions_have_locks, locks_rise, prepared_by_prepare,
+    prepared_stands, quiet_replies_change_nothing, some_copy_is_changed, some_server_stands,
+    stores_are_sound, suites_are_few, verdicts_are_written_once,
 };
 pub use lock::Lock;
 pub use reply::{LockList, Reply, Verdict};

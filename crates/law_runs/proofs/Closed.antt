@@ -1,0 +1,144 @@
+-- A transaction that tells its end is not decided any more.
+use Rattle.std.proofs.Common.{◌≡◌, ℕ, ◌+◌, ◌<◌, true, false, cond, List, [], ◌∷◌, ◌++◌, Option, Some, None, refl, sym, ap, subst, ◌∙◌, arith, ⊎_elim}
+use Rattle.std.specs.Prelude.{◌*◌, ◌&&◌, nat_lt}
+use Rattle.std.specs.List.{cons_option}
+use Rattle.std.proofs.lemmas.Option.{same_Some}
+use Rattle.suite_prefix.specs.SettingsRules.{Opening, IsAccepted}
+use Rattle.rep_core.specs.declared.request.Request.{Request}
+use Rattle.rep_core.proofs.Members.{Has}
+use Rattle.weak_cache.specs.Entries.{Cache}
+use Rattle.txn_core.specs.declared.job.Job.{Job}
+use Rattle.txn_core.specs.declared.response.Response.{Response}
+use Rattle.txn_core.specs.declared.response.Response.TheVariants.{Replied, Lacked}
+use Rattle.txn_core.specs.Suites.{Suites}
+use Rattle.txn_core.specs.Doing.{Fixed, Task, Phase, Gathering, Fetching, Widening, Preparing, Deciding, Finishing, SweepRun, Doing, Running, RunningSweep, After, GoesOn, Ends}
+use Rattle.txn_core.specs.Transactions.{after_response}
+use Rattle.txn_core.specs.Sweeps as sweep
+use Rattle.txn_core.specs.Agents.{Agent, next_of, left, take_in, take, begin, started, fixed_of, is_idle, has_sense, max_jobs}
+use Rattle.run_core.specs.declared.event.Event.{Event}
+use Rattle.run_core.specs.Worlds.{opening, step}
+use Rattle.run_core.specs.Runs.{run}
+use Rattle.run_core.specs.Decisions.{Decided, decided, decisions, decisions_from}
+use Rattle.run_core.proofs.Appending.{after-append, decisions_from-append}
+use Rattle.law_runs.proofs.Standing.{NotIn, not_in_more}
+use Rattle.law_runs.proofs.Agents.{IsAt, same_place, take_keeps}
+use Rattle.law_runs.proofs.Worlds.{agent_of, agent_at}
+use Rattle.law_runs.proofs.Servers.{append_none}
+use Rattle.law_runs.proofs.Each.{new_of, each_event}
+use Rattle.law_runs.proofs.Conclusions.{holds_of}
+use Rattle.law_runs.proofs.Answering.{answers_follow_knowledge}
+
+-- ---- an agent that tells how its transaction ended goes on to
+
+abbrev pub IsTelling : Phase → Type 0
+IsTelling (Finishing servers told ending) = Unit {0}
+IsTelling _ = ⊥
+
+abbrev pub TellsEnd : Option Doing → Type 0
+TellsEnd (Some (Running txn_run)) = IsTelling txn_run.phase
+TellsEnd (Some (RunningSweep sweep_run)) = Unit {0}
+TellsEnd None = Unit {0}
+
+telling_response : (fixed : Fixed) (task : Task) (cache : Cache) (suites : Suites) (phase : Phase) (server : ℕ) (asked : Request) (response : Response) → IsTelling phase
+    → TellsEnd (left Running (after_response fixed (record { task = task; suites = suites; phase = phase }) cache server asked response).after)
+telling_response fixed task cache suites (Gathering number) server asked response is = absurd is
+telling_response fixed task cache suites (Fetching number) server asked response is = absurd is
+telling_response fixed task cache suites (Widening numbers granted) server asked response is = absurd is
+telling_response fixed task cache suites (Preparing servers outcome) server asked response is = absurd is
+telling_response fixed task cache suites (Deciding outcome) server asked response is = absurd is
+telling_response fixed task cache suites (Finishing [] told ending) server asked (Replied said) is = tt
+telling_response fixed task cache suites (Finishing [] told ending) server asked (Lacked why) is = tt
+telling_response fixed task cache suites (Finishing (now ∷ []) told ending) server asked (Replied said) is = tt
+telling_response fixed task cache suites (Finishing (now ∷ []) told ending) server asked (Lacked why) is = tt
+telling_response fixed task cache suites (Finishing (now ∷ (next ∷ servers)) told ending) server asked (Replied said) is = tt
+telling_response fixed task cache suites (Finishing (now ∷ (next ∷ servers)) told ending) server asked (Lacked why) is = tt
+
+telling_round : (after : After SweepRun) → TellsEnd (left RunningSweep after)
+telling_round (GoesOn sweep_run) = tt
+telling_round (Ends ending) = tt
+
+take_telling : (fixed : Fixed) (agent : Agent) (response : Response) (doing : Option Doing) (asked : Option (ℕ × Request)) → agent.doing ≡ doing → TellsEnd doing → TellsEnd (take_in fixed agent response doing asked).agent.doing
+take_telling fixed agent response (Some (Running running)) (Some asked) was is = telling_response fixed running.task agent.cache running.suites running.phase asked.0 asked.1 response is
+take_telling fixed agent response (Some (Running running)) None was is = subst TellsEnd (sym was) is
+take_telling fixed agent response (Some (RunningSweep sweep_run)) (Some asked) was is = telling_round (sweep.after_response fixed.service sweep_run asked.0 response)
+take_telling fixed agent response (Some (RunningSweep sweep_run)) None was is = subst TellsEnd (sym was) tt
+take_telling fixed agent response None asked was is = subst TellsEnd (sym was) tt
+
+-- ---- the job of a place is over, or tells its end
+
+pub record IsClosed (place count : ℕ) (doing : Option Doing) : Type 0 where
+  pub before : place < count
+  pub telling : place + 1 ≡ count → TellsEnd doing
+
+abbrev ClosedStill : ℕ → Agent → Agent → Type 0
+ClosedStill place old new = IsClosed place old.count old.doing → IsClosed place new.count new.doing
+
+begin_closed : (fixed : Fixed) (place : ℕ) (agent : Agent) (job : Job) → ClosedStill place agent (begin fixed agent job)
+begin_closed fixed place agent job is =
+    let begun : Agent = record (started fixed agent job) { count = agent.count + 1 } in
+    let before = is.before in
+    elim (is_idle agent.doing && has_sense fixed job && nat_lt agent.count max_jobs) as (λ b. IsClosed place (cond b begun agent).count (cond b begun agent).doing) [
+      | true ↦ record { before = omega (arith, before); telling = λ last. absurd (omega (arith, before, last)) }
+      | false ↦ is
+    ]
+
+take_closed : (fixed : Fixed) (place : ℕ) (agent : Agent) (response : Response) → ClosedStill place agent (take fixed agent response).agent
+take_closed fixed place agent response is =
+    let count = (take_keeps fixed agent response agent.doing (next_of fixed agent)).1 in
+    record {
+      before = subst (λ count. place < count) (sym count) is.before;
+      telling = λ last. take_telling fixed agent response agent.doing (next_of fixed agent) refl (is.telling (last ∙ count));
+    }
+
+-- ---- so it is not decided later
+
+-- after these events the agent of a transaction is closed for it, and it is not decided
+pub record Shut (given : Opening) (t i place : ℕ) (events : List Event) : Type 0 where
+  pub agent : Agent
+  pub at : agent_at (run given events) i ≡ Some agent
+  pub closed : IsClosed place agent.count agent.doing
+  pub none : NotIn (decisions given events) t
+
+module _ (given : Opening) (accepted : IsAccepted given) (t i place : ℕ) (numbered : t ≡ 64 * place + i) where
+  not_now : (events : List Event) (event : Event) (one : Decided) → Shut given t i place events → decided (fixed_of given) (run given events) event ≡ Some one → one.t ≡ t → ⊥
+  not_now events event one shut is same =
+      let known = answers_follow_knowledge given events event one is in
+      let holds = holds_of given accepted events in
+      let at : agent_at (run given events) known.number ≡ Some known.actor.agent = ap agent_of known.there in
+      let runs : IsAt (decisions given events) known.number known.actor.agent.count (Some (Running known.txn_run)) =
+      subst (IsAt (decisions given events) known.number known.actor.agent.count) known.running (holds.agents.at known.number known.actor.agent at) in
+      let places = same_place runs.place place known.number i (sym runs.numbered ∙ sym known.t ∙ same ∙ numbered) (holds.agents.small known.number known.actor.agent at) (holds.agents.small i shut.agent shut.at) in
+      let agents : known.actor.agent ≡ shut.agent = same_Some known.actor.agent shut.agent (sym at ∙ ap (agent_at (run given events)) places.1 ∙ shut.at) in
+      let telling : TellsEnd shut.agent.doing = shut.closed.telling (ap (λ n. n + 1) (sym places.0) ∙ runs.last ∙ ap (λ (agent : Agent). agent.count) agents) in
+      let running : shut.agent.doing ≡ Some (Running known.txn_run) = ap (λ (agent : Agent). agent.doing) (sym agents) ∙ known.running in
+      let phase : IsTelling known.txn_run.phase = subst TellsEnd running telling in
+      subst IsTelling known.deciding phase
+
+  none_now : (events : List Event) (event : Event) → Shut given t i place events → NotIn (decisions_from (fixed_of given) (run given events) (event ∷ [])) t
+  none_now events event shut one has same = of (decided (fixed_of given) (run given events) event) refl has
+    where
+      of : (o : Option Decided) → decided (fixed_of given) (run given events) event ≡ o → Has (cons_option o []) one → ⊥
+      of None is has = has
+      of (Some other) is has = ⊎_elim (λ here. not_now events event other shut is (ap (λ (d : Decided). d.t) here ∙ same)) (λ none. none) has
+
+  shut_on : (events : List Event) (event : Event) → Shut given t i place events → Shut given t i place (events ++ event ∷ [])
+  shut_on events event shut =
+      let fixed = fixed_of given in
+      let world = run given events in
+      let next : run given (events ++ event ∷ []) ≡ (step fixed world event).world = after-append fixed (opening given) events (event ∷ []) in
+      let new = new_of (ClosedStill place) shut.agent (agent_at world i) (agent_at (step fixed world event).world i) shut.at
+      (each_event fixed (ClosedStill place) (λ agent is. is) (begin_closed fixed place) (λ agent site is. is) (take_closed fixed place) world event i) in
+      record {
+        agent = new.0;
+        at = ap (λ world. agent_at world i) next ∙ new.1;
+        closed = new.2 shut.closed;
+        none = subst (λ ds. NotIn ds t) (sym (decisions_from-append fixed (opening given) events (event ∷ []))) (not_in_more (decisions given events) (decisions_from fixed world (event ∷ [])) t shut.none (none_now events event shut));
+      }
+
+  joined : (events : List Event) (event : Event) (later : List Event) → (events ++ event ∷ []) ++ later ≡ events ++ event ∷ later
+  joined [] event later = refl
+  joined (first ∷ events) event later = ap (λ rest. first ∷ rest) (joined events event later)
+
+  pub never : (later events : List Event) → Shut given t i place events → NotIn (decisions given (events ++ later)) t
+  never [] events shut = subst (λ events. NotIn (decisions given events) t) (sym (append_none events)) shut.none
+  never (event ∷ later) events shut = subst (λ events. NotIn (decisions given events) t) (joined events event later) (never later (events ++ event ∷ []) (shut_on events event shut))
