@@ -1,6 +1,6 @@
 -- Which contents are to be had: without asking, or as a server gave them.
 use Rattle.std.proofs.Common.{◌≡◌, ℕ, zero, suc, Bool, true, false, cond, ◌⊎◌, inl, inr, List, [], ◌∷◌, ◌++◌, Option, Some, None, refl, sym, ap, subst, ◌∙◌}
-use Rattle.std.specs.Prelude.{◌==◌, length, Contains}
+use Rattle.std.specs.Prelude.{◌==◌, Contains}
 use Rattle.std.proofs.lemmas.Bool.{eqb-true}
 use Rattle.std.proofs.lemmas.Option.{same_Some}
 use Rattle.std.proofs.lemmas.List.{append-nil, append_assoc}
@@ -23,50 +23,32 @@ use Rattle.txn_core.specs.declared.response.Response.{Response}
 use Rattle.txn_core.specs.declared.response.Response.TheVariants.{Replied, Lacked}
 use Rattle.txn_core.specs.declared.job.Job.{Job}
 use Rattle.txn_core.specs.Doing.{Fixed, Task}
-use Rattle.txn_core.specs.Transactions.{Gathered, opened, or_all, open_needed, open_suite, open_first, opened_with, free_content, after_search, heard_on, execute}
+use Rattle.txn_core.specs.Moves.{Executes, Point, point, Move, opens, MovesTo}
+use Rattle.txn_core.proofs.Moving.{kept, execute_moves}
+use Rattle.txn_core.specs.Transactions.{Step, Gathered, opened, or_all, open_needed, open_suite, open_first, opened_with, free_content, after_search, heard_on, execute}
 use Rattle.txn_core.specs.Agents.{Agent, Event, begin, after_all}
 use Rattle.txn_core.specs.Laws.{Exchange, of_job}
 use Rattle.txn_core.specs.Caching.{IsContentOf}
 use Rattle.txn_core.proofs.Gathers.{Each, each_but, each_with}
-use Rattle.txn_core.proofs.Cached.{same_proceed}
+use Rattle.txn_core.proofs.Cached.{ends_same}
 
 -- ---- a search keeps what is found
 
-pub opened_finds : (n : ℕ) (fixed : Fixed) (task : Task) (all : Gathered) (number dver : ℕ) → content_at (opened n fixed task all).cache task.site number dver ≡ content_at all.cache task.site number dver
-opened_finds zero fixed task all number dver = refl
-opened_finds (suc n) fixed task all number dver = of (heard_on fixed task all.suites) (λ more. opened_finds n fixed task more number dver)
+searched_finds : (task : Task) (cache : Cache) (other : ℕ) (first : ReadPoint) (number dver : ℕ) → content_at (after_search task cache other first) task.site number dver ≡ content_at cache task.site number dver
+searched_finds task cache other first number dver = of (first.dver == 0)
   where
-    or' : (found : Option Gathered) → ((more : Gathered) → found ≡ Some more → content_at more.cache task.site number dver ≡ content_at all.cache task.site number dver)
-        → ((more : Gathered) → content_at (opened n fixed task more).cache task.site number dver ≡ content_at more.cache task.site number dver)
-        → content_at (or_all all found (λ all. opened n fixed task all)).cache task.site number dver ≡ content_at all.cache task.site number dver
-    or' (Some more) same later = later more ∙ same more refl
-    or' None same later = refl
+    of : (b : Bool) → content_at (cond b cache (searched task.site other first.dver cache)) task.site number dver ≡ content_at cache task.site number dver
+    of true = refl
+    of false = search_keeps_all.content task.site other first.dver task.site number dver cache
 
-    with_content : (other : ℕ) (suite : Suite) (first : ReadPoint) (content : Option Content) (more : Gathered) → opened_with task all other suite first content ≡ Some more → content_at more.cache task.site number dver ≡ content_at all.cache task.site number dver
-    with_content other suite first (Some content) more is = subst (λ (more : Gathered). content_at more.cache task.site number dver ≡ content_at all.cache task.site number dver) (same_Some _ more is) (at (first.dver == 0))
-      where
-        at : (b : Bool) → content_at (cond b all.cache (searched task.site other first.dver all.cache)) task.site number dver ≡ content_at all.cache task.site number dver
-        at true = refl
-        at false = search_keeps_all.content task.site other first.dver task.site number dver all.cache
-    with_content other suite first None more is = cc
+move_finds : (fixed : Fixed) (task : Task) (number dver : ℕ) {at next : Point} → Move fixed task at next → content_at next.cache task.site number dver ≡ content_at at.cache task.site number dver
+move_finds fixed task number dver (opens {cache = cache} {number = other} {first = first} needs there was free) = searched_finds task cache other first number dver
+move_finds fixed task number dver _ = refl
 
-    at_first : (other : ℕ) (suite : Suite) (first : Option ReadPoint) (more : Gathered) → open_first task all other suite first ≡ Some more → content_at more.cache task.site number dver ≡ content_at all.cache task.site number dver
-    at_first other suite (Some first) more is = with_content other suite first (free_content task all.cache other first) more is
-    at_first other suite None more is = cc
-
-    at_suite : (other : ℕ) (found : Option Suite) (more : Gathered) → open_suite task all other found ≡ Some more → content_at more.cache task.site number dver ≡ content_at all.cache task.site number dver
-    at_suite other (Some suite) more is = at_first other suite suite.first more is
-    at_suite other None more is = cc
-
-    needed' : (heard : Executed) (more : Gathered) → open_needed task all heard ≡ Some more → content_at more.cache task.site number dver ≡ content_at all.cache task.site number dver
-    needed' (exec.Need (Know other)) more is = at_suite other (suite_of all.suites other) more is
-    needed' (exec.Need (Hold other mode)) more is = cc
-    needed' (exec.Done answers changes) more is = cc
-    needed' (exec.Refused refusal) more is = cc
-
-    of : (heard : Executed) → ((more : Gathered) → content_at (opened n fixed task more).cache task.site number dver ≡ content_at more.cache task.site number dver)
-        → content_at (or_all all (open_needed task all heard) (λ all. opened n fixed task all)).cache task.site number dver ≡ content_at all.cache task.site number dver
-    of heard later = or' (open_needed task all heard) (needed' heard) later
+moves_find : (fixed : Fixed) (task : Task) (at : Point) (step : Step) → MovesTo fixed task at step → (number dver : ℕ) → content_at step.cache task.site number dver ≡ content_at at.cache task.site number dver
+moves_find fixed task at step moves number dver =
+    ap (λ cache. content_at cache task.site number dver) (ends_same task moves.end step moves.ends)
+    ∙ kept fixed task (λ now. content_at now.cache task.site number dver ≡ content_at at.cache task.site number dver) (λ at next move before. move_finds fixed task number dver move ∙ before) moves.moves refl
 
 -- ---- contents that are opened
 
@@ -85,8 +67,8 @@ free_is task cache number first content is = of (first.dver == 0) refl is
 pub each_opened : (start : Cache) (task : Task) (K : ℕ → Suite → Type 0)
     → ((number : ℕ) (suite : Suite) (first : ReadPoint) (content : Content) → suite.first ≡ Some first → Free task start first number content → K number suite → K number (record suite { content = Some content }))
     → (n : ℕ) (fixed : Fixed) (all : Gathered) → ((number dver : ℕ) → content_at all.cache task.site number dver ≡ content_at start task.site number dver) → Each K all.suites → Each K (opened n fixed task all).suites
-each_opened start task K opens zero fixed all same each = each
-each_opened start task K opens (suc n) fixed all same each = of (heard_on fixed task all.suites) (λ more same each. each_opened start task K opens n fixed more same each)
+each_opened start task K opening zero fixed all same each = each
+each_opened start task K opening (suc n) fixed all same each = of (heard_on fixed task all.suites) (λ more same each. each_opened start task K opening n fixed more same each)
   where
     or' : (found : Option Gathered)
         → ((more : Gathered) → found ≡ Some more → ((number dver : ℕ) → content_at more.cache task.site number dver ≡ content_at start task.site number dver) × Each K more.suites)
@@ -94,13 +76,6 @@ each_opened start task K opens (suc n) fixed all same each = of (heard_on fixed 
         → Each K (or_all all found (λ all. opened n fixed task all)).suites
     or' (Some more) both later = let now = both more refl in later more now.0 now.1
     or' None both later = each
-
-    finds : (other : ℕ) (first : ReadPoint) (number dver : ℕ) → content_at (after_search task all.cache other first) task.site number dver ≡ content_at start task.site number dver
-    finds other first number dver = at (first.dver == 0) ∙ same number dver
-      where
-        at : (b : Bool) → content_at (cond b all.cache (searched task.site other first.dver all.cache)) task.site number dver ≡ content_at all.cache task.site number dver
-        at true = refl
-        at false = search_keeps_all.content task.site other first.dver task.site number dver all.cache
 
     back : (first : ReadPoint) (number : ℕ) (content : Content) → Free task all.cache first number content → Free task start first number content
     back first number content (inl none) = inl none
@@ -110,9 +85,9 @@ each_opened start task K opens (suc n) fixed all same each = of (heard_on fixed 
         → opened_with task all number suite first content ≡ Some more → ((number dver : ℕ) → content_at more.cache task.site number dver ≡ content_at start task.site number dver) × Each K more.suites
     with_content number suite first (Some content) more there was given is =
         subst (λ (more : Gathered). ((number dver : ℕ) → content_at more.cache task.site number dver ≡ content_at start task.site number dver) × Each K more.suites) (same_Some _ more is) (
-          finds number first,
+          λ other dver. searched_finds task all.cache number first other dver ∙ same other dver,
           each_with K number all.suites (record suite { content = Some content }) (each_but K number all.suites each)
-              (opens number suite first content was (back first number content (free_is task all.cache number first content given)) (each number suite there)),
+              (opening number suite first content was (back first number content (free_is task all.cache number first content given)) (each number suite there)),
         )
     with_content number suite first None more there was given is = cc
 
@@ -141,13 +116,20 @@ each_opened start task K opens (suc n) fixed all same each = of (heard_on fixed 
 abbrev pub FreeIn : (ℕ → ReadPoint → Content → Type 0) → Task → Cache → Type 0
 FreeIn C task cache = (number : ℕ) (first : ReadPoint) (content : Content) → Free task cache first number content → C number first content
 
--- a step that executes leaves what is found as it was
+-- so it is where the same is found
+free_same : (C : ℕ → ReadPoint → Content → Type 0) (task : Task) (cache other : Cache) → ((number dver : ℕ) → content_at other task.site number dver ≡ content_at cache task.site number dver) → FreeIn C task cache → FreeIn C task other
+free_same C task cache other same free number first content (inl none) = free number first content (inl none)
+free_same C task cache other same free number first content (inr found) = free number first content (inr (sym (same number first.dver) ∙ found))
+
+-- moves leave what is found as it was
+pub free_start : (C : ℕ → ReadPoint → Content → Type 0) (fixed : Fixed) (task : Task) (at : Point) (step : Step) → MovesTo fixed task at step → FreeIn C task step.cache → FreeIn C task at.cache
+free_start C fixed task at step moves free = free_same C task step.cache at.cache (λ number dver. sym (moves_find fixed task at step moves number dver)) free
+
+pub free_next : (C : ℕ → ReadPoint → Content → Type 0) (fixed : Fixed) (task : Task) {at next : Point} → Move fixed task at next → FreeIn C task at.cache → FreeIn C task next.cache
+free_next C fixed task {at = at} {next = next} move free = free_same C task at.cache next.cache (λ number dver. move_finds fixed task number dver move) free
+
 pub free_before : (C : ℕ → ReadPoint → Content → Type 0) (fixed : Fixed) (task : Task) (all : Gathered) → FreeIn C task (execute fixed task all).cache → FreeIn C task all.cache
-free_before C fixed task all free number first content is =
-    let open' = opened (length all.suites) fixed task all in
-    let finds : (number dver : ℕ) → content_at (execute fixed task all).cache task.site number dver ≡ content_at all.cache task.site number dver = λ number dver.
-    ap (λ cache. content_at cache task.site number dver) (same_proceed fixed task open'.cache open'.suites (heard_on fixed task open'.suites)) ∙ opened_finds (length all.suites) fixed task all number dver in
-    free number first content (elim is [ inl none ↦ inl none | inr found ↦ inr (finds number first.dver ∙ found) ])
+free_before C fixed task all free = free_start C fixed task (point Executes all.cache all.suites) (execute fixed task all) (execute_moves fixed task all) free
 
 -- ---- contents that are given
 

@@ -1,6 +1,6 @@
 -- A transaction fetches no content twice.
-use Rattle.std.proofs.Common.{◌≡◌, ℕ, zero, suc, ◌+◌, ◌≤◌, Bool, true, false, cond, List, [], ◌∷◌, ◌++◌, Option, Some, None, Ok, Err, refl, sym, ap, subst, ◌∙◌, arith}
-use Rattle.std.specs.Prelude.{◌==◌, ◌&&◌, ◌*◌, length, nat_lt, is_some}
+use Rattle.std.proofs.Common.{◌≡◌, ℕ, ◌+◌, ◌≤◌, Bool, true, false, cond, List, [], ◌∷◌, ◌++◌, Option, Some, None, Ok, Err, refl, sym, ap, subst, ◌∙◌, arith}
+use Rattle.std.specs.Prelude.{◌==◌, ◌&&◌, ◌*◌, nat_lt, is_some}
 use Rattle.std.specs.Cmp.{unsigned_tied}
 use Rattle.std.proofs.lemmas.Bool.{eqb-true}
 use Rattle.std.proofs.lemmas.Cmp.{nat_cmp_total}
@@ -16,11 +16,8 @@ use Rattle.suite_prefix.specs.declared.lock_mode.LockMode.TheVariants.{Shared, E
 use Rattle.suite_prefix.specs.LockModes.{serves}
 use Rattle.rep_core.specs.declared.request.Request.{Request}
 use Rattle.rep_core.specs.declared.request.Request.TheVariants as request
-use Rattle.rep_core.specs.declared.reply.Reply.{Reply}
 use Rattle.rep_core.specs.declared.reply.Verdict.{Verdict}
 use Rattle.rep_core.specs.declared.reply.Verdict.TheVariants as verdict
-use Rattle.rep_core.specs.Fits.{is_prepared}
-use Rattle.rep_core.specs.declared.stamped.Lack.{Lack}
 use Rattle.file_exec.specs.declared.executor.Outcome.{Outcome as Executed}
 use Rattle.file_exec.specs.declared.executor.Outcome.TheVariants as exec
 use Rattle.file_exec.specs.declared.need.Need.{Need}
@@ -29,21 +26,19 @@ use Rattle.file_exec.specs.Known as known
 use Rattle.file_exec.specs.Known.{Known, Heard, Needs, Done}
 use Rattle.file_exec.specs.Changes.{answered}
 use Rattle.file_exec.proofs.Unmet.{needs_what_is_unmet}
-use Rattle.suite_collect.specs.declared.told.Told.{Told}
-use Rattle.suite_collect.specs.declared.told.Said.{Said}
-use Rattle.suite_collect.specs.Collecting.{Next, Ask, Current, Short, next, tell, mode_of}
+use Rattle.suite_collect.specs.Collecting.{next}
 use Rattle.weak_cache.specs.Entries.{Cache}
-use Rattle.txn_core.specs.Suites.{ReadPoint, Suite, Suites, suite_of, with_suite, known_of, settled}
+use Rattle.txn_core.specs.Suites.{ReadPoint, Suite, Suites, suite_of, with_suite, known_of}
 use Rattle.txn_core.specs.declared.response.Response.{Response}
-use Rattle.txn_core.specs.declared.response.Response.TheVariants.{Replied, Lacked}
 use Rattle.txn_core.specs.declared.ending.Cause.{Cause}
-use Rattle.txn_core.specs.declared.ending.Cause.TheVariants.{Lost}
 use Rattle.txn_core.specs.declared.ending.Ending.{Ending}
 use Rattle.txn_core.specs.declared.ending.Ending.TheVariants.{Undecided}
 use Rattle.txn_core.specs.declared.job.Job.TheVariants.{Transaction}
-use Rattle.txn_core.specs.Doing.{Granted, home_of, Fixed, Task, Proposal, Phase, Gathering, Fetching, Widening, Preparing, Deciding, Finishing, TransactionRun, Doing, Running, RunningSweep, After, GoesOn, Ends}
+use Rattle.txn_core.specs.Doing.{home_of, Fixed, Task, Proposal, Phase, Gathering, Fetching, Widening, Preparing, Deciding, Finishing, TransactionRun, Doing, Running, RunningSweep, After, GoesOn, Ends}
 use Rattle.txn_core.specs.Writing.{parts_at}
-use Rattle.txn_core.specs.Transactions.{Step, Gathered, tell_end, give_up, prepare, locked_at, short_cause, gather_by, widen_by, widen_one, widened, widen_all, opened, or_all, open_needed, open_suite, open_first, opened_with, free_content, heard_on, raised_or_new, keep_content, heard_of, said_to, proceed, execute, collected, hear, fetched, prepared, after_lack, after_response, asked_for, fetched_at, fetched_for, request_in, changes_of, decision_of, given_in, verdict_in, ending_by, cause_of_abort, lack_cause}
+use Rattle.txn_core.specs.Moves.{Stage, Executes, Widens, Asks, Prepares, PreparesAt, GivesUp, Tells, TellsAt, Point, point, EndsIn, Move, opens, fetches as fetches', gathers, lacks_lock, refuses, grants, passes, widens, widens_by, lacks_wide, prepares, MovesTo, Collects, gathering, widening, Hears, asks_on, settles, gets}
+use Rattle.txn_core.proofs.Moving.{kept, collects_asks, execute_moves, response_moves}
+use Rattle.txn_core.specs.Transactions.{Step, Gathered, tell_end, give_up, prepare, locked_at, heard_on, raised_or_new, execute, after_response, asked_for, fetched_at, fetched_for, request_in, changes_of, decision_of}
 use Rattle.txn_core.specs.Agents as agents
 use Rattle.txn_core.specs.Agents.{Agent, Event, Take, Forget, next_in, next_of, take_in, take, begin, started, forget, is_idle, has_sense, max_jobs}
 use Rattle.txn_core.specs.Laws.{Exchange, exchange_of, exchanges, of_job, count_of}
@@ -123,61 +118,9 @@ l_prepare : (before : ℕ → ℕ) (task : Task) (cache : Cache) (suites : Suite
 l_prepare before task cache suites outcome [] bounded = bounded
 l_prepare before task cache suites outcome (server ∷ servers) bounded = bounded
 
-l_gather : (before : ℕ → ℕ) (task : Task) (cache : Cache) (suites : Suites) (number : ℕ) (next : Next) → Keeps before suites → Leaves before (gather_by task cache suites number next).after
-l_gather before task cache suites number (Short got needed busy) keeps = l_give_up before task cache suites (short_cause number got needed busy) (bounded_by before suites keeps)
-l_gather before task cache suites number (Ask server asked) keeps = keeps
-l_gather before task cache suites number (Current prefix dver members) keeps = keeps
-
-l_widen_by : (before : ℕ → ℕ) (task : Task) (cache : Cache) (suites : Suites) (left : List ℕ) (granted : Granted) (number : ℕ) (next : Next) (go_on : Suites → Step) → Keeps before suites → ((suites : Suites) → Keeps before suites → Leaves before (go_on suites).after)
-    → Leaves before (widen_by task cache suites (Widening left granted) number next go_on).after
-l_widen_by before task cache suites left granted number (Current prefix dver members) go_on keeps more = more suites keeps
-l_widen_by before task cache suites left granted number (Ask server asked) go_on keeps more = keeps
-l_widen_by before task cache suites left granted number (Short got needed busy) go_on keeps more = l_give_up before task cache suites (short_cause number got needed busy) (bounded_by before suites keeps)
-
-l_widen_one : (before : ℕ → ℕ) (task : Task) (cache : Cache) (suites : Suites) (left : List ℕ) (granted : Granted) (number : ℕ) (found : Option Suite) (go_on : Suites → Step) → suite_of suites number ≡ found → Keeps before suites
-    → ((suites : Suites) → Keeps before suites → Leaves before (go_on suites).after) → Leaves before (widen_one task cache suites (Widening left granted) granted.changes number found go_on).after
-l_widen_one before task cache suites left granted number (Some suite) go_on there keeps more =
-    l_widen_by before task cache (with_suite number (widened granted.changes number suite) suites) left granted number (next (widened granted.changes number suite).collector) go_on
-    (keeps_with before suites number (Some suite) (widened granted.changes number suite) there (omega arith) keeps) more
-l_widen_one before task cache suites left granted number None go_on there keeps more = more suites keeps
-
-l_widen : (before : ℕ → ℕ) (task : Task) (cache : Cache) (suites : Suites) (granted : Granted) (left : List ℕ) → Keeps before suites → Leaves before (widen_all task cache suites granted left).after
-l_widen before task cache suites granted [] keeps = l_prepare before task cache suites (Ok granted) (locked_at suites) (bounded_by before suites keeps)
-l_widen before task cache suites granted (number ∷ left) keeps = l_widen_one before task cache suites (number ∷ left) granted number (suite_of suites number) _ refl keeps (λ suites keeps. l_widen before task cache suites granted left keeps)
-
 -- a content more
 more_content : (suite : Suite) (content : Content) → content_in (Some suite) ≤ content_in (Some (record suite { content = Some content }))
 more_content suite content = one_most (Some suite)
-
-l_opened : (before : ℕ → ℕ) (n : ℕ) (fixed : Fixed) (task : Task) (all : Gathered) → Keeps before all.suites → Keeps before (opened n fixed task all).suites
-l_opened before zero fixed task all keeps = keeps
-l_opened before (suc n) fixed task all keeps = of (heard_on fixed task all.suites) (λ more keeps. l_opened before n fixed task more keeps)
-  where
-    or' : (found : Option Gathered) → ((more : Gathered) → found ≡ Some more → Keeps before more.suites) → ((more : Gathered) → Keeps before more.suites → Keeps before (opened n fixed task more).suites) → Keeps before (or_all all found (λ all. opened n fixed task all)).suites
-    or' (Some more) found_keeps later = later more (found_keeps more refl)
-    or' None found_keeps later = keeps
-
-    with_content : (number : ℕ) (suite : Suite) (first : ReadPoint) (content : Option Content) (more : Gathered) → suite_of all.suites number ≡ Some suite → opened_with task all number suite first content ≡ Some more → Keeps before more.suites
-    with_content number suite first (Some content) more there is =
-        subst (λ (more : Gathered). Keeps before more.suites) (same_Some _ more is) (keeps_with before all.suites number (Some suite) (record suite { content = Some content }) there (more_content suite content) keeps)
-    with_content number suite first None more there is = cc
-
-    at_first : (number : ℕ) (suite : Suite) (first : Option ReadPoint) (more : Gathered) → suite_of all.suites number ≡ Some suite → open_first task all number suite first ≡ Some more → Keeps before more.suites
-    at_first number suite (Some first) more there is = with_content number suite first (free_content task all.cache number first) more there is
-    at_first number suite None more there is = cc
-
-    at_suite : (number : ℕ) (found : Option Suite) (more : Gathered) → suite_of all.suites number ≡ found → open_suite task all number found ≡ Some more → Keeps before more.suites
-    at_suite number (Some suite) more there is = at_first number suite suite.first more there is
-    at_suite number None more there is = cc
-
-    needed' : (heard : Executed) (more : Gathered) → open_needed task all heard ≡ Some more → Keeps before more.suites
-    needed' (exec.Need (Know number)) more is = at_suite number (suite_of all.suites number) more refl is
-    needed' (exec.Need (Hold number mode)) more is = cc
-    needed' (exec.Done answers changes) more is = cc
-    needed' (exec.Refused refusal) more is = cc
-
-    of : (heard : Executed) → ((more : Gathered) → Keeps before more.suites → Keeps before (opened n fixed task more).suites) → Keeps before (or_all all (open_needed task all heard) (λ all. opened n fixed task all)).suites
-    of heard later = or' (open_needed task all heard) (needed' heard) later
 
 -- what the executor needs is not there
 need_in : Executed → Option Need
@@ -214,36 +157,48 @@ raised_keeps : (before : ℕ → ℕ) (fixed : Fixed) (task : Task) (cache : Cac
 raised_keeps before fixed task cache suites number mode (Some suite) there keeps = keeps_with before suites number (Some suite) (raised_or_new fixed task cache number mode (Some suite)) there (omega arith) keeps
 raised_keeps before fixed task cache suites number mode None there keeps = keeps_with before suites number None (raised_or_new fixed task cache number mode None) there (omega arith) keeps
 
-l_proceed : (before : ℕ → ℕ) (fixed : Fixed) (task : Task) (cache : Cache) (suites : Suites) (heard : Executed) → heard_on fixed task suites ≡ heard → Keeps before suites → Leaves before (proceed fixed task cache suites heard).after
-l_proceed before fixed task cache suites (exec.Need (Hold number mode)) is keeps =
-    let suite = raised_or_new fixed task cache number mode (suite_of suites number) in
-    l_gather before task cache (with_suite number suite suites) number (next suite.collector) (raised_keeps before fixed task cache suites number mode (suite_of suites number) refl keeps)
-l_proceed before fixed task cache suites (exec.Need (Know number)) is keeps = (keeps, away fixed task suites number is)
-l_proceed before fixed task cache suites (exec.Done answers changes) is keeps = l_widen before task cache suites (record { answers = answers; changes = changes }) _ keeps
-l_proceed before fixed task cache suites (exec.Refused refusal) is keeps = l_prepare before task cache suites (Err refusal) (locked_at suites) (bounded_by before suites keeps)
+-- where a transaction comes to
+abbrev AtStage : (ℕ → ℕ) → Suites → Stage → Type 0
+AtStage before suites Executes = Keeps before suites
+AtStage before suites (Widens left granted) = Keeps before suites
+AtStage before suites (Asks phase) = InPhase before suites phase
+AtStage before suites other = Bounded before
+
+move_in : (before : ℕ → ℕ) (fixed : Fixed) (task : Task) {at next : Point} → Move fixed task at next → AtStage before at.suites at.stage → AtStage before next.suites next.stage
+move_in before fixed task (opens {suites = suites} {number = number} {suite = suite} {content = content} needs there was free) keeps = keeps_with before suites number (Some suite) _ there (more_content suite content) keeps
+move_in before fixed task (fetches' {suites = suites} {number = number} needs) keeps = (keeps, away fixed task suites number needs)
+move_in before fixed task (gathers {cache = cache} {suites = suites} {number = number} {mode = mode} needs new more) keeps =
+    subst (λ (suite : Suite). Keeps before (with_suite number suite suites)) new (raised_keeps before fixed task cache suites number mode (suite_of suites number) refl keeps)
+move_in before fixed task (lacks_lock {suites = suites} needs new short) keeps = bounded_by before suites keeps
+move_in before fixed task (refuses {suites = suites} needs) keeps = bounded_by before suites keeps
+move_in before fixed task (grants done) keeps = keeps
+move_in before fixed task (passes none) keeps = keeps
+move_in before fixed task (widens {suites = suites} {number = number} {suite = suite} there is) keeps = keeps_with before suites number (Some suite) _ there (omega arith) keeps
+move_in before fixed task (widens_by {suites = suites} {number = number} {suite = suite} there is) keeps = keeps_with before suites number (Some suite) _ there (omega arith) keeps
+move_in before fixed task (lacks_wide {suites = suites} there is) keeps = bounded_by before suites keeps
+move_in before fixed task (prepares {suites = suites}) keeps = bounded_by before suites keeps
+
+ends_in : (before : ℕ → ℕ) (task : Task) (at : Point) (step : Step) → EndsIn task at.cache at.suites at.stage step → AtStage before at.suites at.stage → Leaves before step.after
+ends_in before task at step ends in' = of at.stage ends in'
+  where
+    of : (stage : Stage) → EndsIn task at.cache at.suites stage step → AtStage before at.suites stage → Leaves before step.after
+    of (Asks phase) ends in' = subst (λ (step : Step). Leaves before step.after) ends in'
+    of (Prepares outcome) ends bounded = subst (λ (step : Step). Leaves before step.after) ends (l_prepare before task at.cache at.suites outcome (locked_at at.suites) bounded)
+    of (PreparesAt servers outcome) ends bounded = subst (λ (step : Step). Leaves before step.after) ends (l_prepare before task at.cache at.suites outcome servers bounded)
+    of (GivesUp cause) ends bounded = subst (λ (step : Step). Leaves before step.after) ends (l_give_up before task at.cache at.suites cause bounded)
+    of (Tells v ending) ends bounded = subst (λ (step : Step). Leaves before step.after) ends (l_end before task at.cache at.suites v ending (locked_at at.suites) bounded)
+    of (TellsAt servers v ending) ends bounded = subst (λ (step : Step). Leaves before step.after) ends (l_end before task at.cache at.suites v ending servers bounded)
+    of Executes ends in' = absurd ends
+    of (Widens left granted) ends in' = absurd ends
+
+moves_in : (before : ℕ → ℕ) (fixed : Fixed) (task : Task) (at : Point) (step : Step) → MovesTo fixed task at step → AtStage before at.suites at.stage → Leaves before step.after
+moves_in before fixed task at step moves in' =
+    ends_in before task moves.end step moves.ends (kept fixed task (λ at. AtStage before at.suites at.stage) (λ at next move now. move_in before fixed task move now) moves.moves in')
 
 l_execute : (before : ℕ → ℕ) (fixed : Fixed) (task : Task) (all : Gathered) → Keeps before all.suites → Leaves before (execute fixed task all).after
-l_execute before fixed task all keeps =
-    let open' = opened (length all.suites) fixed task all in
-    l_proceed before fixed task open'.cache open'.suites (heard_on fixed task open'.suites) refl (l_opened before (length all.suites) fixed task all keeps)
+l_execute before fixed task all keeps = moves_in before fixed task (point Executes all.cache all.suites) (execute fixed task all) (execute_moves fixed task all) keeps
 
 -- ---- one response
-
-l_heard : (before : ℕ → ℕ) (task : Task) (cache : Cache) (suites : Suites) (phase : Phase) (number : ℕ) (found : Option Suite) (server : ℕ) (asked : Request) (said : Reply) (go_on : Suites → Step) → suite_of suites number ≡ found → Keeps before suites
-    → ((suites : Suites) → Keeps before suites → InPhase before suites phase) → ((suites : Suites) → Keeps before suites → Leaves before (go_on suites).after) → Leaves before (heard_of task cache suites phase number found server asked said go_on).after
-l_heard before task cache suites phase number None server asked said go_on there keeps stays more = l_give_up before task cache suites (Lost server) (bounded_by before suites keeps)
-l_heard before task cache suites phase number (Some suite) server asked said go_on there keeps stays more = of (said_to asked said)
-  where
-    by : (now : Suite) → content_in (Some suite) ≤ content_in (Some now) → (after : Next) → Leaves before (collected task cache suites phase number now after (λ suite. go_on (with_suite number suite suites))).after
-    by now same (Ask who question) = stays (with_suite number now suites) (keeps_with before suites number (Some suite) now there same keeps)
-    by now same (Short had wanting busy) = l_give_up before task cache (with_suite number now suites) (short_cause number had wanting busy) (bounded_by before suites keeps)
-    by now same (Current prefix dver members) = more (with_suite number (settled prefix dver members now) suites) (keeps_with before suites number (Some suite) (settled prefix dver members now) there same keeps)
-
-    of : (heard : Option Said) → Leaves before (hear task cache suites phase number suite server asked heard (λ suite. go_on (with_suite number suite suites))).after
-    of None = l_give_up before task cache suites (Lost server) (bounded_by before suites keeps)
-    of (Some heard) =
-        let one : Told = record { server = server; mode = mode_of asked; said = heard } in
-        by (record suite { collector = tell one suite.collector }) (omega arith) (next (tell one suite.collector))
 
 -- with what is asked now
 abbrev plus : (ℕ → ℕ) → Request → ℕ → ℕ
@@ -316,32 +271,6 @@ fetch_keeps before task suites number asked suite content fetch keeps away' othe
         let one = ap one_if (fetch.what other ∙ same) in
         omega (arith, bound, one)
 
-l_fetched : (before : ℕ → ℕ) (fixed : Fixed) (task : Task) (cache : Cache) (suites : Suites) (number : ℕ) (found : Option Suite) (server : ℕ) (asked : Request) (given : Option Content) → IsFetch task suites number asked → Keeps before suites → IsAway suites number
-    → Leaves (plus before asked) (fetched fixed task cache suites number found server given).after
-l_fetched before fixed task cache suites number found server asked given fetch keeps away' = of found given
-  where
-    gives_up : Leaves (plus before asked) (give_up task cache suites (Lost server)).after
-    gives_up = l_give_up (plus before asked) task cache suites (Lost server) (fetch_bounded before task suites number asked fetch keeps away')
-
-    at : (suite : Suite) (content : Content) (first : Option ReadPoint) → Leaves (plus before asked) (keep_content fixed task cache suites number suite content first server).after
-    at suite content (Some first) = l_execute (plus before asked) fixed task _ (fetch_keeps before task suites number asked suite content fetch keeps away')
-    at suite content None = gives_up
-
-    of : (found : Option Suite) (given : Option Content) → Leaves (plus before asked) (fetched fixed task cache suites number found server given).after
-    of (Some suite) (Some content) = at suite content suite.first
-    of (Some suite) None = gives_up
-    of None (Some content) = gives_up
-    of None None = gives_up
-
-l_lack : (before : ℕ → ℕ) (task : Task) (cache : Cache) (suites : Suites) (phase : Phase) (server : ℕ) (lacked : Lack) → Bounded before → Leaves before (after_lack task cache suites phase server lacked).after
-l_lack before task cache suites (Gathering number) server lacked bounded = l_give_up before task cache suites (lack_cause server lacked) bounded
-l_lack before task cache suites (Fetching number) server lacked bounded = l_give_up before task cache suites (lack_cause server lacked) bounded
-l_lack before task cache suites (Widening left granted) server lacked bounded = l_give_up before task cache suites (lack_cause server lacked) bounded
-l_lack before task cache suites (Preparing left outcome) server lacked bounded = l_give_up before task cache suites (lack_cause server lacked) bounded
-l_lack before task cache suites (Deciding outcome) server lacked bounded = l_give_up before task cache suites (lack_cause server lacked) bounded
-l_lack before task cache suites (Finishing [] v ending) server lacked bounded = bounded
-l_lack before task cache suites (Finishing (now ∷ left) v ending) server lacked bounded = l_end before task cache suites v ending left bounded
-
 -- at most once, whatever is asked now
 response_bounded : (before : ℕ → ℕ) (fixed : Fixed) (task : Task) (suites : Suites) (phase : Phase) (server : ℕ) (asked : Request) → InPhase before suites phase → request_in fixed task suites phase ≡ Some (server, asked) → Bounded (plus before asked)
 response_bounded before fixed task suites (Gathering number) server asked in' is = bounded_quiet before asked (asks_no_content task number (suite_of suites number) server asked is) (bounded_by before suites in')
@@ -357,33 +286,31 @@ response_bounded before fixed task suites (Finishing [] v ending) server asked i
 response_bounded before fixed task suites (Finishing (now ∷ left) v ending) server asked in' is =
     bounded_quiet before asked (λ other. ap (fetches other) (sym (asks_same now server (request.Finish task.t v) asked is))) in'
 
-l_prepared : (before : ℕ → ℕ) (task : Task) (cache : Cache) (suites : Suites) (outcome : Proposal) (server : ℕ) (left : List ℕ) (said : Reply) → Bounded before → Leaves before (prepared task cache suites outcome server left said).after
-l_prepared before task cache suites outcome server left said bounded =
-    elim (is_prepared said) as (λ b. Leaves before (cond b (prepare task cache suites outcome left) (give_up task cache suites (Lost server))).after) [
-      | true ↦ l_prepare before task cache suites outcome left bounded
-      | false ↦ l_give_up before task cache suites (Lost server) bounded
-    ]
+module _ (before : ℕ → ℕ) (fixed : Fixed) (task : Task) (cache : Cache) (suites : Suites) (server : ℕ) (asked : Request) where
+  -- the collector of a suite was told
+  collected_in : {phase : Phase} {number : ℕ} {stage : Stage} (suite new : Suite) → Collects phase number stage → InPhase before suites phase → request_in fixed task suites phase ≡ Some (server, asked) → suite_of suites number ≡ Some suite
+      → new.content ≡ suite.content → Keeps (plus before asked) (with_suite number new suites)
+  collected_in {number = number} suite new collects in' is there same =
+      let none = asks_no_content task number (suite_of suites number) server asked (sym (collects_asks fixed task suites collects) ∙ is) in
+      keeps_with (plus before asked) suites number (Some suite) new there (subst (λ content. one_if (is_some suite.content) ≤ one_if (is_some content)) (sym same) (omega arith)) (keeps_quiet before asked suites none (of collects in'))
+    where
+      of : {phase : Phase} {stage : Stage} → Collects phase number stage → InPhase before suites phase → Keeps before suites
+      of gathering in' = in'
+      of widening in' = in'
+
+  hears_in : {phase : Phase} {response : Response} {heard : Point} → Hears fixed task cache suites server asked phase response heard → InPhase before suites phase → request_in fixed task suites phase ≡ Some (server, asked) → AtStage (plus before asked) heard.suites heard.stage
+  hears_in (asks_on {suite = suite} gathering there says next) in' is = collected_in suite _ gathering in' is there refl
+  hears_in (asks_on {suite = suite} (widening {left = left} {granted = granted}) there says next) in' is = collected_in suite _ (widening {left = left} {granted = granted}) in' is there refl
+  hears_in (settles {suite = suite} gathering there says next) in' is = collected_in suite _ gathering in' is there refl
+  hears_in (settles {suite = suite} (widening {left = left} {granted = granted}) there says next) in' is = collected_in suite _ (widening {left = left} {granted = granted}) in' is there refl
+  hears_in (gets {number = number} {suite = suite} {content = content} there was gave) in' is =
+      fetch_keeps before task suites number asked suite content (is_fetch task suites number server asked (suite_of suites number) refl is) in'.0 in'.1
+  hears_in {phase = phase} _ in' is = response_bounded before fixed task suites phase server asked in' is
 
 l_response : (before : ℕ → ℕ) (fixed : Fixed) (task : Task) (cache : Cache) (suites : Suites) (phase : Phase) (server : ℕ) (asked : Request) (response : Response) → InPhase before suites phase → request_in fixed task suites phase ≡ Some (server, asked)
     → Leaves (plus before asked) (after_response fixed (record { task = task; suites = suites; phase = phase }) cache server asked response).after
-l_response before fixed task cache suites phase server asked (Lacked lacked) in' is = l_lack (plus before asked) task cache suites phase server lacked (response_bounded before fixed task suites phase server asked in' is)
-l_response before fixed task cache suites (Gathering number) server asked (Replied said) in' is =
-    l_heard (plus before asked) task cache suites (Gathering number) number (suite_of suites number) server asked said _ refl
-    (keeps_quiet before asked suites (asks_no_content task number (suite_of suites number) server asked is) in') (λ suites keeps. keeps) (λ suites keeps. l_execute (plus before asked) fixed task (record { suites = suites; cache = cache }) keeps)
-l_response before fixed task cache suites (Fetching number) server asked (Replied said) in' is =
-    l_fetched before fixed task cache suites number (suite_of suites number) server asked (given_in said) (is_fetch task suites number server asked (suite_of suites number) refl is) in'.0 in'.1
-l_response before fixed task cache suites (Widening [] granted) server asked (Replied said) in' is = cc
-l_response before fixed task cache suites (Widening (number ∷ left) granted) server asked (Replied said) in' is =
-    l_heard (plus before asked) task cache suites (Widening (number ∷ left) granted) number (suite_of suites number) server asked said _ refl
-    (keeps_quiet before asked suites (asks_no_content task number (suite_of suites number) server asked is) in') (λ suites keeps. keeps) (λ suites keeps. l_widen (plus before asked) task cache suites granted left keeps)
-l_response before fixed task cache suites (Preparing [] outcome) server asked (Replied said) in' is = cc
-l_response before fixed task cache suites (Preparing (now ∷ left) outcome) server asked (Replied said) in' is =
-    l_prepared (plus before asked) task cache suites outcome server left said (response_bounded before fixed task suites (Preparing (now ∷ left) outcome) server asked in' is)
-l_response before fixed task cache suites (Deciding outcome) server asked (Replied said) in' is =
-    l_end (plus before asked) task cache suites (verdict_in said verdict.Aborted) (ending_by (verdict_in said verdict.Aborted) (cause_of_abort said)) (locked_at suites) (response_bounded before fixed task suites (Deciding outcome) server asked in' is)
-l_response before fixed task cache suites (Finishing [] v ending) server asked (Replied said) in' is = cc
-l_response before fixed task cache suites (Finishing (now ∷ left) v ending) server asked (Replied said) in' is =
-    l_end (plus before asked) task cache suites v ending left (response_bounded before fixed task suites (Finishing (now ∷ left) v ending) server asked in' is)
+l_response before fixed task cache suites phase server asked response in' is =
+    let moves = response_moves fixed task cache suites server asked phase response in moves_in (plus before asked) fixed task moves.heard _ moves.moves (hears_in before fixed task cache suites server asked moves.hears in' is)
 
 -- ---- all responses
 

@@ -1,33 +1,22 @@
 -- Which contents a transaction knows.
-use Rattle.std.proofs.Common.{◌≡◌, ℕ, ◌+◌, Bool, true, false, cond, List, [], ◌∷◌, ◌++◌, Option, Some, None, Ok, Err, refl, sym, ap, subst, ◌∙◌}
-use Rattle.std.specs.Prelude.{◌&&◌, nat_lt, length}
+use Rattle.std.proofs.Common.{◌≡◌, ℕ, ◌+◌, Bool, true, false, cond, List, [], ◌∷◌, ◌++◌, Option, Some, None, refl, sym, ap, subst, ◌∙◌}
+use Rattle.std.specs.Prelude.{◌&&◌, nat_lt}
 use Rattle.std.proofs.lemmas.Option.{same_Some}
 use Rattle.std.proofs.lemmas.List.{append-nil, append_assoc}
 use Rattle.suite_content.specs.declared.content.Content.{Content}
 use Rattle.suite_prefix.specs.declared.lock_mode.LockMode.{LockMode}
 use Rattle.rep_core.specs.declared.request.Request.{Request}
 use Rattle.rep_core.specs.declared.request.Request.TheVariants as request
-use Rattle.rep_core.specs.declared.reply.Reply.{Reply}
-use Rattle.rep_core.specs.declared.reply.Verdict.{Verdict}
-use Rattle.rep_core.specs.declared.reply.Verdict.TheVariants as verdict
-use Rattle.rep_core.specs.declared.stamped.Lack.{Lack}
-use Rattle.rep_core.specs.Fits.{is_prepared}
-use Rattle.file_exec.specs.declared.need.Need.TheVariants.{Hold, Know}
-use Rattle.file_exec.specs.declared.executor.Outcome.{Outcome as Executed}
-use Rattle.file_exec.specs.declared.executor.Outcome.TheVariants as exec
-use Rattle.suite_collect.specs.declared.told.Said.{Said}
-use Rattle.suite_collect.specs.Collecting.{tell, mode_of, Next, Ask, Current, Short, next}
+use Rattle.suite_collect.specs.Collecting.{next}
 use Rattle.weak_cache.specs.Entries.{Cache}
-use Rattle.txn_core.specs.Suites.{ReadPoint, Suite, Suites, suite_of, with_suite, settled}
+use Rattle.txn_core.specs.Suites.{ReadPoint, Suite, Suites, suite_of, with_suite}
 use Rattle.txn_core.specs.declared.response.Response.{Response}
-use Rattle.txn_core.specs.declared.response.Response.TheVariants.{Replied, Lacked}
-use Rattle.txn_core.specs.declared.ending.Cause.{Cause}
-use Rattle.txn_core.specs.declared.ending.Cause.TheVariants.{Lost}
-use Rattle.txn_core.specs.declared.ending.Ending.{Ending}
 use Rattle.txn_core.specs.declared.job.Job.{Job}
 use Rattle.txn_core.specs.declared.job.Job.TheVariants.{Transaction, Sweep}
-use Rattle.txn_core.specs.Doing.{Granted, Fixed, Task, Proposal, Phase, Gathering, Fetching, Widening, Preparing, Deciding, Finishing, TransactionRun, SweepRun, Doing, Running, RunningSweep, After, GoesOn, Ends}
-use Rattle.txn_core.specs.Transactions.{Step, Gathered, tell_end, give_up, prepare, locked_at, short_cause, gather_by, widen_by, widen_one, widened, widen_all, opened, heard_on, raised_or_new, keep_content, heard_of, said_to, proceed, execute, collected, hear, fetched, fetched_at, fetched_for, after_lack, after_response, given_in, lack_cause, verdict_in, ending_by, cause_of_abort, request_in}
+use Rattle.txn_core.specs.Doing.{Fixed, Task, Phase, TransactionRun, SweepRun, Doing, Running, RunningSweep, After, GoesOn, Ends}
+use Rattle.txn_core.specs.Moves.{Executes, Point, point, Move, opens, gathers, lacks_lock, widens, widens_by, lacks_wide, MovesTo, now_told, Hears, asks_on, falls_short, settles, gets}
+use Rattle.txn_core.proofs.Moving.{kept, left_by, execute_moves, response_moves}
+use Rattle.txn_core.specs.Transactions.{Step, Gathered, raised_or_new, execute, fetched_at, fetched_for, after_response, request_in}
 use Rattle.txn_core.specs.Sweeps as sweep
 use Rattle.txn_core.specs.Agents.{Agent, Event, Take, Forget, next_in, next_of, left, take_in, begin, started, is_idle, has_sense, max_jobs, after_all}
 use Rattle.txn_core.specs.Laws.{exchange_of, of_job, task_of}
@@ -35,7 +24,7 @@ use Rattle.txn_core.specs.Caching.{KnowsContents}
 use Rattle.txn_core.proofs.Asks.{asks_same}
 use Rattle.txn_core.proofs.Gathers.{Each, each_but, each_with, Knows, knows_settled}
 use Rattle.txn_core.proofs.Cached.{given_is}
-use Rattle.txn_core.proofs.Contents.{Free, each_opened, FreeIn, free_before, GivenTo, GivenIn, Content_of, content_more, free_now, given_now}
+use Rattle.txn_core.proofs.Contents.{free_is, FreeIn, free_start, free_next, GivenIn, Content_of, content_more, free_now, given_now}
 use Rattle.txn_core.proofs.Upheld.{after-append, exchanges-take, exchanges-forget}
 
 -- ---- what is known of each suite
@@ -47,135 +36,53 @@ module _ (C : ℕ → ReadPoint → Content → Type 0) where
     KnowsAfter (GoesOn txn_run) = (txn_run.task ≡ task) × Each (Knows C) txn_run.suites
     KnowsAfter (Ends ending) = Unit {0}
 
-    knows_end : (cache : Cache) (suites : Suites) (v : Verdict) (ending : Ending) (servers : List ℕ) → Each (Knows C) suites → KnowsAfter (tell_end task cache suites v ending servers).after
-    knows_end cache suites v ending [] each = tt
-    knows_end cache suites v ending (server ∷ servers) each = (refl, each)
-
-    knows_give_up : (cache : Cache) (suites : Suites) (cause : Cause) → Each (Knows C) suites → KnowsAfter (give_up task cache suites cause).after
-    knows_give_up cache suites cause each = knows_end cache suites _ _ (locked_at suites) each
-
-    knows_prepare : (cache : Cache) (suites : Suites) (outcome : Proposal) (servers : List ℕ) → Each (Knows C) suites → KnowsAfter (prepare task cache suites outcome servers).after
-    knows_prepare cache suites outcome [] each = (refl, each)
-    knows_prepare cache suites outcome (server ∷ servers) each = (refl, each)
-
-    knows_gather : (cache : Cache) (suites : Suites) (number : ℕ) (next : Next) → Each (Knows C) suites → KnowsAfter (gather_by task cache suites number next).after
-    knows_gather cache suites number (Short got needed busy) each = knows_give_up cache suites (short_cause number got needed busy) each
-    knows_gather cache suites number (Ask server asked) each = (refl, each)
-    knows_gather cache suites number (Current prefix dver members) each = (refl, each)
-
-    knows_widen_by : (cache : Cache) (suites : Suites) (phase : Phase) (number : ℕ) (next : Next) (go_on : Suites → Step) → Each (Knows C) suites → KnowsAfter (go_on suites).after → KnowsAfter (widen_by task cache suites phase number next go_on).after
-    knows_widen_by cache suites phase number (Current prefix dver members) go_on each more = more
-    knows_widen_by cache suites phase number (Ask server asked) go_on each more = (refl, each)
-    knows_widen_by cache suites phase number (Short got needed busy) go_on each more = knows_give_up cache suites (short_cause number got needed busy) each
-
-    knows_widen_one : (cache : Cache) (suites : Suites) (phase : Phase) (granted : Granted) (number : ℕ) (found : Option Suite) (go_on : Suites → Step) → suite_of suites number ≡ found → Each (Knows C) suites
-        → ((suites : Suites) → Each (Knows C) suites → KnowsAfter (go_on suites).after) → KnowsAfter (widen_one task cache suites phase granted.changes number found go_on).after
-    knows_widen_one cache suites phase granted number (Some suite) go_on there each more =
-        let now = widened granted.changes number suite in
-        let each' = each_with (Knows C) number suites now (each_but (Knows C) number suites each) (each number suite there) in
-        knows_widen_by cache (with_suite number now suites) phase number (next now.collector) go_on each' (more (with_suite number now suites) each')
-    knows_widen_one cache suites phase granted number None go_on there each more = more suites each
-
-    knows_widen : (cache : Cache) (suites : Suites) (granted : Granted) (left : List ℕ) → Each (Knows C) suites → KnowsAfter (widen_all task cache suites granted left).after
-    knows_widen cache suites granted [] each = knows_prepare cache suites (Ok granted) (locked_at suites) each
-    knows_widen cache suites granted (number ∷ left) each =
-        knows_widen_one cache suites (Widening (number ∷ left) granted) granted number (suite_of suites number) _ refl each (λ suites each. knows_widen cache suites granted left each)
-
     knows_raised : (fixed : Fixed) (cache : Cache) (number : ℕ) (mode : LockMode) (found : Option Suite) → ((suite : Suite) → found ≡ Some suite → Knows C number suite) → Knows C number (raised_or_new fixed task cache number mode found)
     knows_raised fixed cache number mode (Some suite) knows = knows suite refl
     knows_raised fixed cache number mode None knows = λ content is. cc
 
-    knows_proceed : (fixed : Fixed) (cache : Cache) (suites : Suites) (heard : Executed) → Each (Knows C) suites → KnowsAfter (proceed fixed task cache suites heard).after
-    knows_proceed fixed cache suites (exec.Need (Hold number mode)) each =
-        let suite = raised_or_new fixed task cache number mode (suite_of suites number) in
-        knows_gather cache (with_suite number suite suites) number (next suite.collector)
-        (each_with (Knows C) number suites suite (each_but (Knows C) number suites each) (knows_raised fixed cache number mode (suite_of suites number) (each number)))
-    knows_proceed fixed cache suites (exec.Need (Know number)) each = (refl, each)
-    knows_proceed fixed cache suites (exec.Done answers changes) each = knows_widen cache suites (record { answers = answers; changes = changes }) _ each
-    knows_proceed fixed cache suites (exec.Refused refusal) each = knows_prepare cache suites (Err refusal) (locked_at suites) each
+    knows_with : (suites : Suites) (number : ℕ) (suite : Suite) → Each (Knows C) suites → Knows C number suite → Each (Knows C) (with_suite number suite suites)
+    knows_with suites number suite each knows = each_with (Knows C) number suites suite (each_but (Knows C) number suites each) knows
+
+    move_knows : (fixed : Fixed) {at next : Point} → Move fixed task at next → FreeIn C task at.cache → Each (Knows C) at.suites → Each (Knows C) next.suites
+    move_knows fixed (opens {cache = cache} {suites = suites} {number = number} {first = first} {content = content} needs there was free) found each =
+        knows_with suites number _ each (λ other is. (first, was, subst (C number first) (same_Some content other is) (found number first content (free_is task cache number first content free))))
+    move_knows fixed (gathers {cache = cache} {suites = suites} {number = number} {mode = mode} needs new more) found each =
+        knows_with suites number _ each (subst (Knows C number) new (knows_raised fixed cache number mode (suite_of suites number) (each number)))
+    move_knows fixed (lacks_lock {cache = cache} {suites = suites} {number = number} {mode = mode} needs new short) found each =
+        knows_with suites number _ each (subst (Knows C number) new (knows_raised fixed cache number mode (suite_of suites number) (each number)))
+    move_knows fixed (widens {suites = suites} {number = number} {suite = suite} there is) found each = knows_with suites number _ each (each number suite there)
+    move_knows fixed (widens_by {suites = suites} {number = number} {suite = suite} there is) found each = knows_with suites number _ each (each number suite there)
+    move_knows fixed (lacks_wide {suites = suites} {number = number} {suite = suite} there is) found each = knows_with suites number _ each (each number suite there)
+    move_knows fixed _ found each = each
+
+    moves_know : (fixed : Fixed) (at : Point) (step : Step) → MovesTo fixed task at step → FreeIn C task step.cache → Each (Knows C) at.suites → KnowsAfter step.after
+    moves_know fixed at step moves free each =
+        let end = kept fixed task (λ at. FreeIn C task at.cache × Each (Knows C) at.suites) (λ at next move now. (free_next C fixed task move now.0, move_knows fixed move now.0 now.1)) moves.moves (free_start C fixed task at step moves free, each) in
+        left_by task (λ step. KnowsAfter step.after) moves.end step (λ phase. (refl, end.1)) (λ ending. tt) moves.ends
 
     pub knows_execute : (fixed : Fixed) (all : Gathered) → FreeIn C task (execute fixed task all).cache → Each (Knows C) all.suites → KnowsAfter (execute fixed task all).after
-    knows_execute fixed all free each =
-        let open' = opened (length all.suites) fixed task all in
-        let opens : (number : ℕ) (suite : Suite) (first : ReadPoint) (content : Content) → suite.first ≡ Some first → Free task all.cache first number content → Knows C number suite → Knows C number (record suite { content = Some content }) =
-        λ number suite first content was found _ other at. (first, was, subst (C number first) (same_Some content other at) (free_before C fixed task all free number first content found)) in
-        knows_proceed fixed open'.cache open'.suites (heard_on fixed task open'.suites) (each_opened all.cache task (Knows C) opens (length all.suites) fixed all (λ number dver. refl) each)
+    knows_execute fixed all free each = moves_know fixed (point Executes all.cache all.suites) (execute fixed task all) (execute_moves fixed task all) free each
 
     -- ---- responses
 
-    knows_heard : (cache : Cache) (suites : Suites) (phase : Phase) (number : ℕ) (found : Option Suite) (server : ℕ) (asked : Request) (said : Reply) (go_on : Suites → Step) → suite_of suites number ≡ found → Each (Knows C) suites
-        → FreeIn C task (heard_of task cache suites phase number found server asked said go_on).cache → ((suites : Suites) → FreeIn C task (go_on suites).cache → Each (Knows C) suites → KnowsAfter (go_on suites).after)
-        → KnowsAfter (heard_of task cache suites phase number found server asked said go_on).after
-    knows_heard cache suites phase number None server asked said go_on there each free more = knows_give_up cache suites (Lost server) each
-    knows_heard cache suites phase number (Some suite) server asked said go_on there each free more = of (said_to asked said) free
-      where
-        at : (now : Suite) (after : Next) → Knows C number now → FreeIn C task (collected task cache suites phase number now after (λ suite. go_on (with_suite number suite suites))).cache
-            → KnowsAfter (collected task cache suites phase number now after (λ suite. go_on (with_suite number suite suites))).after
-        at now (Ask who what) knows free = (refl, each_with (Knows C) number suites now (each_but (Knows C) number suites each) knows)
-        at now (Short got needed busy) knows free = knows_give_up cache (with_suite number now suites) (short_cause number got needed busy) (each_with (Knows C) number suites now (each_but (Knows C) number suites each) knows)
-        at now (Current prefix dver members) knows free =
-            more (with_suite number (settled prefix dver members now) suites) free
-            (each_with (Knows C) number suites (settled prefix dver members now) (each_but (Knows C) number suites each) (knows_settled C number now prefix dver members knows))
-
-        of : (heard : Option Said) → FreeIn C task (hear task cache suites phase number suite server asked heard (λ suite. go_on (with_suite number suite suites))).cache
-            → KnowsAfter (hear task cache suites phase number suite server asked heard (λ suite. go_on (with_suite number suite suites))).after
-        of None free = knows_give_up cache suites (Lost server) each
-        of (Some heard) free = let now : Suite = record suite { collector = tell (record { server = server; mode = mode_of asked; said = heard }) suite.collector } in at now (next now.collector) (each number suite there) free
-
-    knows_fetched : (fixed : Fixed) (cache : Cache) (suites : Suites) (number : ℕ) (server : ℕ) (asked : Request) (said : Reply) → request_in fixed task suites (Fetching number) ≡ Some (server, asked) → Each (Knows C) suites → GivenTo C task server asked said
-        → FreeIn C task (fetched fixed task cache suites number (suite_of suites number) server (given_in said)).cache → KnowsAfter (fetched fixed task cache suites number (suite_of suites number) server (given_in said)).after
-    knows_fetched fixed cache suites number server asked said is each given free = of (suite_of suites number) refl is (given_in said) refl free
-      where
-        kept : (suite : Suite) (content : Content) (first : Option ReadPoint) → suite_of suites number ≡ Some suite → suite.first ≡ first → fetched_at task number first ≡ Some (server, asked) → given_in said ≡ Some content
-            → FreeIn C task (keep_content fixed task cache suites number suite content first server).cache → KnowsAfter (keep_content fixed task cache suites number suite content first server).after
-        kept suite content None there was is told free = knows_give_up cache suites (Lost server) each
-        kept suite content (Some first) there was is told free =
-            let new : Suite = record suite { content = Some content } in
-            let said_is = given_is said content told in
-            let at : server ≡ first.source = sym (ap (λ (pair : ℕ × Request). pair.0) (same_Some (first.source, request.Fetch task.t number) (server, asked) is)) in
-            let knows : Knows C number new = λ found at'. (
-              first,
-              was,
-              subst (C number first) (same_Some content found at')
-                  (given number first content said_is.0 at (sym (asks_same first.source server (request.Fetch task.t number) asked is)) said_is.1),
-            ) in
-            knows_execute fixed _ free (each_with (Knows C) number suites new (each_but (Knows C) number suites each) knows)
-
-        of : (found : Option Suite) → suite_of suites number ≡ found → fetched_for task number found ≡ Some (server, asked) → (content : Option Content) → given_in said ≡ content → FreeIn C task (fetched fixed task cache suites number found server content).cache
-            → KnowsAfter (fetched fixed task cache suites number found server content).after
-        of (Some suite) there is (Some content) told free = kept suite content suite.first there refl is told free
-        of (Some suite) there is None told free = knows_give_up cache suites (Lost server) each
-        of None there is (Some content) told free = knows_give_up cache suites (Lost server) each
-        of None there is None told free = knows_give_up cache suites (Lost server) each
-
-    knows_lack : (cache : Cache) (suites : Suites) (phase : Phase) (server : ℕ) (lacked : Lack) → Each (Knows C) suites → KnowsAfter (after_lack task cache suites phase server lacked).after
-    knows_lack cache suites (Gathering number) server lacked each = knows_give_up cache suites (lack_cause server lacked) each
-    knows_lack cache suites (Fetching number) server lacked each = knows_give_up cache suites (lack_cause server lacked) each
-    knows_lack cache suites (Widening left granted) server lacked each = knows_give_up cache suites (lack_cause server lacked) each
-    knows_lack cache suites (Preparing left outcome) server lacked each = knows_give_up cache suites (lack_cause server lacked) each
-    knows_lack cache suites (Deciding outcome) server lacked each = knows_give_up cache suites (lack_cause server lacked) each
-    knows_lack cache suites (Finishing [] v ending) server lacked each = tt
-    knows_lack cache suites (Finishing (now ∷ left) v ending) server lacked each = knows_end cache suites v ending left each
+    knows_hears : (fixed : Fixed) (cache : Cache) (suites : Suites) (server : ℕ) (asked : Request) {phase : Phase} {response : Response} {heard : Point} → Hears fixed task cache suites server asked phase response heard
+        → request_in fixed task suites phase ≡ Some (server, asked) → Each (Knows C) suites → GivenIn C task server asked response → Each (Knows C) heard.suites
+    knows_hears fixed cache suites server asked (asks_on {number = number} {suite = suite} collects there says next) is each given = knows_with suites number _ each (each number suite there)
+    knows_hears fixed cache suites server asked (falls_short {number = number} {suite = suite} collects there says next) is each given = knows_with suites number _ each (each number suite there)
+    knows_hears fixed cache suites server asked (settles {number = number} {suite = suite} {said = said} {prefix = prefix} {dver = dver} {members = members} collects there says next) is each given =
+        knows_with suites number _ each (knows_settled C number (now_told server asked said suite) prefix dver members (each number suite there))
+    knows_hears fixed cache suites server asked (gets {number = number} {first = first} {reply = reply} {content = content} there was gave) is each given =
+        let said = given_is reply content gave in
+        let is' : ◌≡◌ {A = Option (ℕ × Request)} (Some (first.source, request.Fetch task.t number)) (Some (server, asked)) = sym (ap (fetched_for task number) there ∙ ap (fetched_at task number) was) ∙ is in
+        let at : server ≡ first.source = sym (ap (λ (pair : ℕ × Request). pair.0) (same_Some (first.source, request.Fetch task.t number) (server, asked) is')) in
+        knows_with suites number _ each
+        (λ other at'. (first, was, subst (C number first) (same_Some content other at') (given number first content said.0 at (sym (asks_same first.source server (request.Fetch task.t number) asked is')) said.1)))
+    knows_hears fixed cache suites server asked _ is each given = each
 
     pub knows_response : (fixed : Fixed) (cache : Cache) (suites : Suites) (phase : Phase) (server : ℕ) (asked : Request) (response : Response) → request_in fixed task suites phase ≡ Some (server, asked) → Each (Knows C) suites → GivenIn C task server asked response
         → FreeIn C task (after_response fixed (record { task = task; suites = suites; phase = phase }) cache server asked response).cache → KnowsAfter (after_response fixed (record { task = task; suites = suites; phase = phase }) cache server asked response).after
-    knows_response fixed cache suites phase server asked (Lacked lacked) is each given free = knows_lack cache suites phase server lacked each
-    knows_response fixed cache suites (Gathering number) server asked (Replied said) is each given free =
-        knows_heard cache suites (Gathering number) number (suite_of suites number) server asked said _ refl each free (λ suites free each. knows_execute fixed (record { suites = suites; cache = cache }) free each)
-    knows_response fixed cache suites (Fetching number) server asked (Replied said) is each given free = knows_fetched fixed cache suites number server asked said is each given free
-    knows_response fixed cache suites (Widening [] granted) server asked (Replied said) is each given free = knows_give_up cache suites (Lost server) each
-    knows_response fixed cache suites (Widening (number ∷ left) granted) server asked (Replied said) is each given free =
-        knows_heard cache suites (Widening (number ∷ left) granted) number (suite_of suites number) server asked said _ refl each free (λ suites free each. knows_widen cache suites granted left each)
-    knows_response fixed cache suites (Preparing [] outcome) server asked (Replied said) is each given free = knows_give_up cache suites (Lost server) each
-    knows_response fixed cache suites (Preparing (now ∷ left) outcome) server asked (Replied said) is each given free = of (is_prepared said)
-      where
-        of : (b : Bool) → KnowsAfter (cond b (prepare task cache suites outcome left) (give_up task cache suites (Lost server))).after
-        of true = knows_prepare cache suites outcome left each
-        of false = knows_give_up cache suites (Lost server) each
-    knows_response fixed cache suites (Deciding outcome) server asked (Replied said) is each given free =
-        knows_end cache suites (verdict_in said verdict.Aborted) (ending_by (verdict_in said verdict.Aborted) (cause_of_abort said)) (locked_at suites) each
-    knows_response fixed cache suites (Finishing [] v ending) server asked (Replied said) is each given free = tt
-    knows_response fixed cache suites (Finishing (now ∷ left) v ending) server asked (Replied said) is each given free = knows_end cache suites v ending left each
+    knows_response fixed cache suites phase server asked response is each given free =
+        let moves = response_moves fixed task cache suites server asked phase response in moves_know fixed moves.heard _ moves.moves free (knows_hears fixed cache suites server asked moves.hears is each given)
 
 -- ---- after each event
 

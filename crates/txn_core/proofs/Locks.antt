@@ -1,6 +1,6 @@
 -- What an agent keeps of locks is what it heard.
-use Rattle.std.proofs.Common.{◌≡◌, ℕ, zero, suc, ◌+◌, Bool, true, false, cond, List, [], ◌∷◌, ◌++◌, Option, Some, None, Ok, Err, refl, sym, ap, subst, ◌∙◌, arith}
-use Rattle.std.specs.Prelude.{◌==◌, ◌&&◌, ◌||◌, length, map, filter, nat_lt, ◌*◌}
+use Rattle.std.proofs.Common.{◌≡◌, ℕ, zero, suc, ◌+◌, Bool, true, false, cond, List, [], ◌∷◌, ◌++◌, Option, Some, None, refl, sym, ap, subst, ◌∙◌, arith}
+use Rattle.std.specs.Prelude.{◌==◌, ◌&&◌, ◌||◌, map, filter, nat_lt, ◌*◌}
 use Rattle.std.specs.List.{list_any, AllByRecursion}
 use Rattle.std.specs.Ordering.{nat_cmp}
 use Rattle.std.specs.declared.cmp.Ordering.TheVariants.{Less}
@@ -9,7 +9,7 @@ use Rattle.std.specs.Cmp.{unsigned_tied}
 use Rattle.std.specs.Map.{keys_of}
 use Rattle.std.specs.List.Sorted.{IsStrictlySortedBy}
 use Rattle.std.proofs.lemmas.Bool.{eqb-true, false≢true}
-use Rattle.std.proofs.lemmas.Option.{same_Some}
+use Rattle.std.proofs.lemmas.Option.{same_Some, none-some}
 use Rattle.std.proofs.lemmas.Bool.Decides.{nat_tests}
 use Rattle.std.proofs.lemmas.Cmp.{nat_cmp_total, eq_by_cmp_equiv}
 use Rattle.std.proofs.lemmas.Map.{lookup-none}
@@ -22,7 +22,6 @@ use Rattle.suite_prefix.specs.declared.lock_mode.LockMode.{LockMode}
 use Rattle.suite_prefix.specs.declared.lock_mode.LockMode.TheVariants.{Shared, Exclusive}
 use Rattle.rep_core.specs.declared.request.Request.{Request}
 use Rattle.rep_core.specs.declared.request.Request.TheVariants as request
-use Rattle.rep_core.specs.declared.reply.Verdict.{Verdict}
 use Rattle.rep_core.specs.declared.reply.Reply.{Reply}
 use Rattle.rep_core.specs.declared.reply.Reply.TheVariants as reply
 use Rattle.suite_prefix.specs.LockModes.{serves}
@@ -31,7 +30,6 @@ use Rattle.txn_core.specs.Agents as agents
 use Rattle.txn_core.specs.Agents.{Agent, Event, Take, Forget, next_in, next_of, take_in, take, begin, started, forget, is_idle, has_sense, max_jobs, after_all}
 use Rattle.txn_core.specs.Sweeps as sweep
 use Rattle.rep_core.specs.declared.request.Part.{Part}
-use Rattle.rep_core.specs.Fits.{is_prepared}
 use Rattle.file_exec.specs.declared.need.Need.TheVariants.{Hold, Know}
 use Rattle.file_exec.specs.declared.executor.Outcome.{Outcome as Executed}
 use Rattle.file_exec.specs.declared.executor.Outcome.TheVariants as exec
@@ -42,20 +40,17 @@ use Rattle.suite_collect.specs.Telling.{is_held, holds}
 use Rattle.suite_collect.specs.Collecting.{Collector, told_since, all_told, tell, tell_at, mode_of, request_for, Asked, Poll, Upgrade, Next, Ask, Current, Short, next}
 use Rattle.suite_collect.specs.Collecting as collecting
 use Rattle.weak_cache.specs.Entries.{Cache}
-use Rattle.txn_core.specs.Suites.{ReadPoint, Suite, Suites, suite_of, with_suite, told_in, told_at, settled, holds_lock}
+use Rattle.txn_core.specs.Suites.{ReadPoint, Suite, Suites, suite_of, with_suite, told_in, told_at, holds_lock}
 use Rattle.txn_core.specs.declared.response.Response.{Response}
-use Rattle.txn_core.specs.declared.ending.Cause.{Cause}
-use Rattle.txn_core.specs.declared.ending.Ending.{Ending}
 use Rattle.txn_core.specs.declared.job.Job.{Job}
 use Rattle.txn_core.specs.declared.response.Response.TheVariants.{Replied, Lacked}
-use Rattle.txn_core.specs.declared.ending.Cause.TheVariants.{Lost}
 use Rattle.txn_core.specs.declared.job.Job.TheVariants.{Transaction, Sweep}
-use Rattle.txn_core.specs.Doing.{Changes, Granted, home_of, Fixed, Task, Proposal, Phase, Gathering, Fetching, Widening, Preparing, Deciding, Finishing, TransactionRun, Sweeping, Listing, Resolving, Telling, Breaking, SweepRun, Doing, Running, RunningSweep, After, GoesOn, Ends}
-use Rattle.txn_core.specs.Transactions.{Step, Gathered, tell_end, give_up, prepare, locked_at, short_cause, gather_by, widen_by, widen_one, widened, widen_all, opened, or_all, open_needed, open_suite, open_first, opened_with, free_content, heard_on, raised_or_new, keep_content, heard_of, is_poll, said_to, proceed, execute, collected, hear, fetched, prepared, after_lack, after_response, asked_by, asked_for, fetched_at, fetched_for, request_in, changes_of, decision_of, given_in, verdict_in, ending_by, cause_of_abort, lack_cause}
+use Rattle.txn_core.specs.Doing.{Changes, home_of, Fixed, Task, Phase, Gathering, Fetching, Widening, Preparing, Deciding, Finishing, TransactionRun, Sweeping, Listing, Resolving, Telling, Breaking, SweepRun, Doing, Running, RunningSweep, After, GoesOn, Ends}
+use Rattle.txn_core.specs.Moves.{Stage, Executes, Point, point, Move, opens, gathers, lacks_lock, widens, widens_by, lacks_wide, MovesTo, Collects, now_told, Hears, asks_on, falls_short, settles, loses, is_lacked, strays, told_all, gets}
+use Rattle.txn_core.proofs.Moving.{kept, left_by, collects_asks, asks_nothing, execute_moves, response_moves}
+use Rattle.txn_core.specs.Transactions.{Step, Gathered, opened, or_all, open_needed, open_suite, open_first, opened_with, free_content, heard_on, raised_or_new, is_poll, said_to, execute, prepared, after_response, asked_by, asked_for, fetched_at, fetched_for, request_in, changes_of, decision_of}
 use Rattle.txn_core.specs.Writing.{parts_at, part_of}
-use Rattle.txn_core.proofs.Asks.{asks_same}
-use Rattle.rep_core.specs.declared.stamped.Lack.{Lack}
-use Rattle.rep_core.specs.declared.reply.Verdict.TheVariants as verdict
+use Rattle.txn_core.proofs.Asks.{asks_same, fetched_as}
 
 -- ---- what was told of each suite
 
@@ -101,40 +96,6 @@ abbrev pub Leaves : (ℕ → List Told) → After TransactionRun → Type 0
 Leaves told (GoesOn txn_run) = Are told txn_run.suites
 Leaves told (Ends ending) = Unit {0}
 
-leaves_end : (told : ℕ → List Told) (task : Task) (cache : Cache) (suites : Suites) (v : Verdict) (ending : Ending) (servers : List ℕ) → Are told suites → Leaves told (tell_end task cache suites v ending servers).after
-leaves_end told task cache suites v ending [] are = tt
-leaves_end told task cache suites v ending (server ∷ servers) are = are
-
-leaves_give_up : (told : ℕ → List Told) (task : Task) (cache : Cache) (suites : Suites) (cause : Cause) → Are told suites → Leaves told (give_up task cache suites cause).after
-leaves_give_up told task cache suites cause are = leaves_end told task cache suites _ _ (locked_at suites) are
-
-leaves_prepare : (told : ℕ → List Told) (task : Task) (cache : Cache) (suites : Suites) (outcome : Proposal) (servers : List ℕ) → Are told suites → Leaves told (prepare task cache suites outcome servers).after
-leaves_prepare told task cache suites outcome [] are = are
-leaves_prepare told task cache suites outcome (server ∷ servers) are = are
-
-leaves_gather : (told : ℕ → List Told) (task : Task) (cache : Cache) (suites : Suites) (number : ℕ) (next : Next) → Are told suites → Leaves told (gather_by task cache suites number next).after
-leaves_gather told task cache suites number (Short got needed busy) are = leaves_give_up told task cache suites (short_cause number got needed busy) are
-leaves_gather told task cache suites number (Ask server asked) are = are
-leaves_gather told task cache suites number (Current prefix dver members) are = are
-
-leaves_widen_by : (told : ℕ → List Told) (task : Task) (cache : Cache) (suites : Suites) (phase : Phase) (number : ℕ) (next : Next) (go_on : Suites → Step) → Are told suites → ((suites : Suites) → Are told suites → Leaves told (go_on suites).after)
-    → Leaves told (widen_by task cache suites phase number next go_on).after
-leaves_widen_by told task cache suites phase number (Current prefix dver members) go_on are more = more suites are
-leaves_widen_by told task cache suites phase number (Ask server asked) go_on are more = are
-leaves_widen_by told task cache suites phase number (Short got needed busy) go_on are more = leaves_give_up told task cache suites (short_cause number got needed busy) are
-
-leaves_widen_one : (told : ℕ → List Told) (task : Task) (cache : Cache) (suites : Suites) (phase : Phase) (changes : Changes) (number : ℕ) (found : Option Suite) (go_on : Suites → Step) → suite_of suites number ≡ found → Are told suites
-    → ((suites : Suites) → Are told suites → Leaves told (go_on suites).after) → Leaves told (widen_one task cache suites phase changes number found go_on).after
-leaves_widen_one told task cache suites phase changes number (Some suite) go_on is are more =
-    leaves_widen_by told task cache (with_suite number (widened changes number suite) suites) phase number (next (widened changes number suite).collector) go_on
-    (are_same told suites number (widened changes number suite) are (sym (ap told_in is))) more
-leaves_widen_one told task cache suites phase changes number None go_on is are more = more suites are
-
-pub leaves_widen : (told : ℕ → List Told) (task : Task) (cache : Cache) (suites : Suites) (granted : Granted) (left : List ℕ) → Are told suites → Leaves told (widen_all task cache suites granted left).after
-leaves_widen told task cache suites granted [] are = leaves_prepare told task cache suites (Ok granted) (locked_at suites) are
-leaves_widen told task cache suites granted (number ∷ left) are =
-    leaves_widen_one told task cache suites (Widening (number ∷ left) granted) granted.changes number (suite_of suites number) _ refl are (λ suites are. leaves_widen told task cache suites granted left are)
-
 -- a content that is opened
 pub are_opened : (told : ℕ → List Told) (n : ℕ) (fixed : Fixed) (task : Task) (all : Gathered) → Are told all.suites → Are told (opened n fixed task all).suites
 are_opened told zero fixed task all are = are
@@ -170,18 +131,25 @@ pub told_raised : (fixed : Fixed) (task : Task) (cache : Cache) (number : ℕ) (
 told_raised fixed task cache number mode (Some suite) = refl
 told_raised fixed task cache number mode None = refl
 
-leaves_proceed : (told : ℕ → List Told) (fixed : Fixed) (task : Task) (cache : Cache) (suites : Suites) (heard : Executed) → Are told suites → Leaves told (proceed fixed task cache suites heard).after
-leaves_proceed told fixed task cache suites (exec.Need (Hold number mode)) are =
-    let suite = raised_or_new fixed task cache number mode (suite_of suites number) in
-    leaves_gather told task cache (with_suite number suite suites) number (next suite.collector) (are_same told suites number suite are (told_raised fixed task cache number mode (suite_of suites number)))
-leaves_proceed told fixed task cache suites (exec.Need (Know number)) are = are
-leaves_proceed told fixed task cache suites (exec.Done answers changes) are = leaves_widen told task cache suites (record { answers = answers; changes = changes }) _ are
-leaves_proceed told fixed task cache suites (exec.Refused refusal) are = leaves_prepare told task cache suites (Err refusal) (locked_at suites) are
+-- a move tells nothing
+pub move_are : (told : ℕ → List Told) (fixed : Fixed) (task : Task) {at next : Point} → Move fixed task at next → Are told at.suites → Are told next.suites
+move_are told fixed task (opens {suites = suites} {number = number} needs there was free) are = are_same told suites number _ are (sym (ap told_in there))
+move_are told fixed task (gathers {cache = cache} {suites = suites} {number = number} {mode = mode} needs new more) are =
+    are_same told suites number _ are (ap (λ (suite : Suite). all_told suite.collector) (sym new) ∙ told_raised fixed task cache number mode (suite_of suites number))
+move_are told fixed task (lacks_lock {cache = cache} {suites = suites} {number = number} {mode = mode} needs new short) are =
+    are_same told suites number _ are (ap (λ (suite : Suite). all_told suite.collector) (sym new) ∙ told_raised fixed task cache number mode (suite_of suites number))
+move_are told fixed task (widens {suites = suites} {number = number} there is) are = are_same told suites number _ are (sym (ap told_in there))
+move_are told fixed task (widens_by {suites = suites} {number = number} there is) are = are_same told suites number _ are (sym (ap told_in there))
+move_are told fixed task (lacks_wide {suites = suites} {number = number} there is) are = are_same told suites number _ are (sym (ap told_in there))
+move_are told fixed task _ are = are
+
+pub moves_leave : (told : ℕ → List Told) (fixed : Fixed) (task : Task) (at : Point) (step : Step) → MovesTo fixed task at step → Are told at.suites → Leaves told step.after
+moves_leave told fixed task at step moves are =
+    let are' = kept fixed task (λ at. Are told at.suites) (λ at next move are. move_are told fixed task move are) moves.moves are in
+    left_by task (λ step. Leaves told step.after) moves.end step (λ phase. are') (λ ending. tt) moves.ends
 
 pub leaves_execute : (told : ℕ → List Told) (fixed : Fixed) (task : Task) (all : Gathered) → Are told all.suites → Leaves told (execute fixed task all).after
-leaves_execute told fixed task all are =
-    let open' = opened (length all.suites) fixed task all in
-    leaves_proceed told fixed task open'.cache open'.suites (heard_on fixed task open'.suites) (are_opened told (length all.suites) fixed task all are)
+leaves_execute told fixed task all are = moves_leave told fixed task (point Executes all.cache all.suites) (execute fixed task all) (execute_moves fixed task all) are
 
 -- ---- a step that hears something
 
@@ -191,15 +159,6 @@ all_told-tell one c = of c.widening refl
     of : (w : Option collecting.Widening) → c.widening ≡ w → all_told (tell_at w one c) ≡ one ∷ all_told c
     of None is = ap (λ w. told_since w ++ (one ∷ c.told)) is ∙ ap (λ w. one ∷ (told_since w ++ c.told)) (sym is)
     of (Some w) is = ap (λ w. one ∷ (told_since w ++ c.told)) (sym is)
-
-pub leaves_collected : (told : ℕ → List Told) (task : Task) (cache : Cache) (suites : Suites) (phase : Phase) (number : ℕ) (suite : Suite) (next : Next) (go_on : Suites → Step) → Are told suites
-    → ((suites : Suites) → Are (told_with number (all_told suite.collector) told) suites → Leaves (told_with number (all_told suite.collector) told) (go_on suites).after)
-    → Leaves (told_with number (all_told suite.collector) told) (collected task cache suites phase number suite next (λ suite. go_on (with_suite number suite suites))).after
-leaves_collected told task cache suites phase number suite (Ask server asked) go_on are more = are_with told suites number suite are
-leaves_collected told task cache suites phase number suite (Short got needed busy) go_on are more =
-    leaves_give_up (told_with number (all_told suite.collector) told) task cache (with_suite number suite suites) (short_cause number got needed busy) (are_with told suites number suite are)
-leaves_collected told task cache suites phase number suite (Current prefix dver members) go_on are more =
-    more (with_suite number (settled prefix dver members suite) suites) (are_with told suites number (settled prefix dver members suite) are)
 
 -- which servers hold a lock for it
 abbrev pub Held : (ℕ → ℕ → Bool) → (ℕ → List Told) → Type 0
@@ -318,90 +277,58 @@ asks_lock task number (Some suite) server asked is other = of (next suite.collec
     of (Current prefix dver members) is = cc
     of (Short had wanting busy) is = cc
 
-left_give_up : (held : ℕ → ℕ → Bool) (told : ℕ → List Told) (task : Task) (cache : Cache) (suites : Suites) (cause : Cause) → Are told suites → Held held told → LeftWith held (give_up task cache suites cause).after
-left_give_up held told task cache suites cause are agree = record { told = told; leaves = leaves_give_up told task cache suites cause are; agree = agree }
+-- a phase in which no collector asks asks for no lock
+abbrev pub IsQuiet : Phase → Type 0
+IsQuiet (Gathering number) = ⊥
+IsQuiet (Widening left granted) = ⊥
+IsQuiet other = Unit {0}
 
-left_heard : (held : ℕ → ℕ → Bool) (told : ℕ → List Told) (task : Task) (cache : Cache) (suites : Suites) (phase : Phase) (number : ℕ) (found : Option Suite) (server : ℕ) (asked : Request) (said : Reply) (go_on : Suites → Step)
-    → Are told suites → Held held told → suite_of suites number ≡ found → asked_for task number found ≡ Some (server, asked)
-    → ((told : ℕ → List Told) (suites : Suites) → Are told suites → Leaves told (go_on suites).after)
-    → LeftWith (plus held server asked (Replied said)) (heard_of task cache suites phase number found server asked said go_on).after
-left_heard held told task cache suites phase number None server asked said go_on are agree there is more = cc
-left_heard held told task cache suites phase number (Some suite) server asked said go_on are agree there is more = of (said_to asked said) refl
-  where
-    of : (heard : Option Said) → said_to asked said ≡ heard → LeftWith (plus held server asked (Replied said)) (hear task cache suites phase number suite server asked heard (λ suite. go_on (with_suite number suite suites))).after
-    of None was = left_give_up (plus held server asked (Replied said)) told task cache suites (Lost server) are (nothing_new held server asked (Replied said) (said_none asked said was) told agree)
-    of (Some heard) was =
-        let one : Told = record { server = server; mode = mode_of asked; said = heard } in
-        let now : Suite = record suite { collector = tell one suite.collector } in
-        let told' = told_with number (all_told now.collector) told in
-        record {
-          told = told';
-          leaves = leaves_collected told task cache suites phase number now (next now.collector) go_on are (λ suites are. more told' suites are);
-          agree = λ other who. ap (λ list. holds Shared (told_with number list told other) who) (all_told-tell one suite.collector)
-              ∙ held_more held told number server (mode_of asked) heard (all_told suite.collector) asked (Replied said) agree (ap told_in (sym there) ∙ are.1 number) (asks_lock task number (Some suite) server asked is) (said_held asked said heard was) other who;
-        }
+pub quiet_asks : (fixed : Fixed) (task : Task) (suites : Suites) (phase : Phase) (server : ℕ) (asked : Request) → IsQuiet phase → request_in fixed task suites phase ≡ Some (server, asked) → (other : ℕ) → locks other asked ≡ false
+quiet_asks fixed task suites (Gathering number) server asked quiet is other = absurd quiet
+quiet_asks fixed task suites (Widening left granted) server asked quiet is other = absurd quiet
+quiet_asks fixed task suites (Fetching number) server asked quiet is other = fetched_as (locks other) false task number (suite_of suites number) server asked refl is
+quiet_asks fixed task suites (Preparing [] outcome) server asked quiet is other = cc
+quiet_asks fixed task suites (Preparing (now ∷ left) outcome) server asked quiet is other = ap (locks other) (sym (asks_same now server (request.Prepare task.t (parts_at suites (changes_of outcome) now)) asked is))
+quiet_asks fixed task suites (Deciding outcome) server asked quiet is other = ap (locks other) (sym (asks_same (home_of fixed.service task.t) server (request.Decide task.t (decision_of task outcome)) asked is))
+quiet_asks fixed task suites (Finishing [] v ending) server asked quiet is other = cc
+quiet_asks fixed task suites (Finishing (now ∷ left) v ending) server asked quiet is other = ap (locks other) (sym (asks_same now server (request.Finish task.t v) asked is))
 
--- a step that hears of no lock
-left_quiet : (held : ℕ → ℕ → Bool) (told : ℕ → List Told) (server : ℕ) (asked : Request) (response : Response) (after : After TransactionRun) → Held held told → ((number : ℕ) → locks number asked ≡ false) → Leaves told after → LeftWith (plus held server asked response) after
-left_quiet held told server asked response after agree none leaves = record { told = told; leaves = leaves; agree = no_lock held server asked response none told agree }
+-- what holds after a word
+record HeldAt (held : ℕ → ℕ → Bool) (at : Point) : Type 0 where
+  told : ℕ → List Told
+  are : Are told at.suites
+  agree : Held held told
 
-left_lacked : (held : ℕ → ℕ → Bool) (told : ℕ → List Told) (server : ℕ) (asked : Request) (lacked : Lack) (after : After TransactionRun) → Held held told → Leaves told after → LeftWith (plus held server asked (Lacked lacked)) after
-left_lacked held told server asked lacked after agree leaves = record { told = told; leaves = leaves; agree = nothing_new held server asked (Lacked lacked) refl told agree }
+module _ (held : ℕ → ℕ → Bool) (told : ℕ → List Told) (fixed : Fixed) (task : Task) (cache : Cache) (suites : Suites) (server : ℕ) (asked : Request) (are : Are told suites) (agree : Held held told) where
+  held_told : {phase : Phase} {number : ℕ} {stage : Stage} (suite new : Suite) (reply : Reply) (said : Said) → request_in fixed task suites phase ≡ Some (server, asked) → Collects phase number stage → suite_of suites number ≡ Some suite
+      → said_to asked reply ≡ Some said → new.collector ≡ (now_told server asked said suite).collector → (stage' : Stage) (cache' : Cache) → HeldAt (plus held server asked (Replied reply)) (point stage' cache' (with_suite number new suites))
+  held_told {number = number} suite new reply said is collects there says same stage' cache' = record {
+    told = told_with number (all_told new.collector) told;
+    are = are_with told suites number new are;
+    agree = λ other who. ap (λ list. holds Shared (told_with number list told other) who) (ap all_told same ∙ all_told-tell (record { server = server; mode = mode_of asked; said = said }) suite.collector)
+        ∙ held_more held told number server (mode_of asked) said (all_told suite.collector) asked (Replied reply) agree (ap told_in (sym there) ∙ are.1 number)
+        (asks_lock task number (suite_of suites number) server asked (sym (collects_asks fixed task suites collects) ∙ is)) (said_held asked reply said says) other who;
+  }
 
-leaves_lack : (told : ℕ → List Told) (task : Task) (cache : Cache) (suites : Suites) (phase : Phase) (server : ℕ) (lacked : Lack) → Are told suites → Leaves told (after_lack task cache suites phase server lacked).after
-leaves_lack told task cache suites (Gathering number) server lacked are = leaves_give_up told task cache suites (lack_cause server lacked) are
-leaves_lack told task cache suites (Fetching number) server lacked are = leaves_give_up told task cache suites (lack_cause server lacked) are
-leaves_lack told task cache suites (Widening left granted) server lacked are = leaves_give_up told task cache suites (lack_cause server lacked) are
-leaves_lack told task cache suites (Preparing left outcome) server lacked are = leaves_give_up told task cache suites (lack_cause server lacked) are
-leaves_lack told task cache suites (Deciding outcome) server lacked are = leaves_give_up told task cache suites (lack_cause server lacked) are
-leaves_lack told task cache suites (Finishing [] v ending) server lacked are = leaves_end told task cache suites v ending [] are
-leaves_lack told task cache suites (Finishing (now ∷ left) v ending) server lacked are = leaves_end told task cache suites v ending left are
-
-pub leaves_fetched : (told : ℕ → List Told) (fixed : Fixed) (task : Task) (cache : Cache) (suites : Suites) (number : ℕ) (found : Option Suite) (server : ℕ) (given : Option Content) → suite_of suites number ≡ found → Are told suites
-    → Leaves told (fetched fixed task cache suites number found server given).after
-leaves_fetched told fixed task cache suites number None server (Some content) there are = leaves_give_up told task cache suites (Lost server) are
-leaves_fetched told fixed task cache suites number None server None there are = leaves_give_up told task cache suites (Lost server) are
-leaves_fetched told fixed task cache suites number (Some suite) server None there are = leaves_give_up told task cache suites (Lost server) are
-leaves_fetched told fixed task cache suites number (Some suite) server (Some content) there are = of suite.first
-  where
-    of : (first : Option ReadPoint) → Leaves told (keep_content fixed task cache suites number suite content first server).after
-    of None = leaves_give_up told task cache suites (Lost server) are
-    of (Some first) = leaves_execute told fixed task _ (are_same told suites number (record suite { content = Some content }) are (sym (ap told_in there)))
-
-pub leaves_prepared : (told : ℕ → List Told) (task : Task) (cache : Cache) (suites : Suites) (outcome : Proposal) (server : ℕ) (left : List ℕ) (said : Reply) → Are told suites → Leaves told (prepared task cache suites outcome server left said).after
-leaves_prepared told task cache suites outcome server left said are =
-    elim (is_prepared said) as (λ b. Leaves told (cond b (prepare task cache suites outcome left) (give_up task cache suites (Lost server))).after) [
-      | true ↦ leaves_prepare told task cache suites outcome left are
-      | false ↦ leaves_give_up told task cache suites (Lost server) are
-    ]
+  held_hears : {phase : Phase} {response : Response} {heard : Point} → Hears fixed task cache suites server asked phase response heard → request_in fixed task suites phase ≡ Some (server, asked) → HeldAt (plus held server asked response) heard
+  held_hears (asks_on {suite = suite} {reply = reply} {said = said} collects there says next) is = held_told suite _ reply said is collects there says refl _ _
+  held_hears (falls_short {suite = suite} {reply = reply} {said = said} collects there says next) is = held_told suite _ reply said is collects there says refl _ _
+  held_hears (settles {suite = suite} {reply = reply} {said = said} collects there says next) is = held_told suite _ reply said is collects there says refl _ _
+  held_hears (loses {reply = reply} collects there none) is = record { told = told; are = are; agree = nothing_new held server asked (Replied reply) (said_none asked reply none) told agree }
+  held_hears (is_lacked {lack = lack} open') is = record { told = told; are = are; agree = nothing_new held server asked (Lacked lack) refl told agree }
+  held_hears (strays {phase = phase} nothing) is = absurd (none-some (server, asked) (sym (asks_nothing fixed task suites phase nothing) ∙ is))
+  held_hears told_all is = absurd (none-some (server, asked) is)
+  held_hears (gets {number = number} {suite = suite} {reply = reply} there was given) is =
+      record { told = told; are = are_same told suites number _ are (sym (ap told_in there)); agree = no_lock held server asked (Replied reply) (quiet_asks fixed task suites (Fetching number) server asked tt is) told agree }
+  held_hears {phase = phase} {response = response} _ is = record { told = told; are = are; agree = no_lock held server asked response (quiet_asks fixed task suites phase server asked tt is) told agree }
 
 left_response : (held : ℕ → ℕ → Bool) (told : ℕ → List Told) (fixed : Fixed) (task : Task) (cache : Cache) (suites : Suites) (phase : Phase) (server : ℕ) (asked : Request) (response : Response) → Are told suites → Held held told
     → request_in fixed task suites phase ≡ Some (server, asked) → LeftWith (plus held server asked response) (after_response fixed (record { task = task; suites = suites; phase = phase }) cache server asked response).after
-left_response held told fixed task cache suites phase server asked (Lacked lacked) are agree is = left_lacked held told server asked lacked _ agree (leaves_lack told task cache suites phase server lacked are)
-left_response held told fixed task cache suites (Gathering number) server asked (Replied said) are agree is =
-    left_heard held told task cache suites (Gathering number) number (suite_of suites number) server asked said _ are agree refl is (λ told suites are. leaves_execute told fixed task (record { suites = suites; cache = cache }) are)
-left_response held told fixed task cache suites (Fetching number) server asked (Replied said) are agree is =
-    left_quiet held told server asked (Replied said) _ agree (fetch_locks (suite_of suites number) is) (leaves_fetched told fixed task cache suites number (suite_of suites number) server (given_in said) refl are)
-  where
-    fetch_first : (first : Option ReadPoint) → fetched_at task number first ≡ Some (server, asked) → (other : ℕ) → locks other asked ≡ false
-    fetch_first (Some first) is other = ap (locks other) (sym (asks_same first.source server (request.Fetch task.t number) asked is))
-    fetch_first None is other = cc
-
-    fetch_locks : (found : Option Suite) → fetched_for task number found ≡ Some (server, asked) → (other : ℕ) → locks other asked ≡ false
-    fetch_locks (Some suite) is other = fetch_first suite.first is other
-    fetch_locks None is other = cc
-left_response held told fixed task cache suites (Widening [] granted) server asked (Replied said) are agree is = cc
-left_response held told fixed task cache suites (Widening (number ∷ left) granted) server asked (Replied said) are agree is =
-    left_heard held told task cache suites (Widening (number ∷ left) granted) number (suite_of suites number) server asked said _ are agree refl is (λ told suites are. leaves_widen told task cache suites granted left are)
-left_response held told fixed task cache suites (Preparing [] outcome) server asked (Replied said) are agree is = cc
-left_response held told fixed task cache suites (Preparing (now ∷ left) outcome) server asked (Replied said) are agree is =
-    left_quiet held told server asked (Replied said) _ agree (λ other. ap (locks other) (sym (asks_same now server (request.Prepare task.t (parts_at suites (changes_of outcome) now)) asked is))) (leaves_prepared told task cache suites outcome server left said are)
-left_response held told fixed task cache suites (Deciding outcome) server asked (Replied said) are agree is =
-    left_quiet held told server asked (Replied said) _ agree (λ other. ap (locks other) (sym (asks_same (home_of fixed.service task.t) server (request.Decide task.t (decision_of task outcome)) asked is)))
-    (leaves_end told task cache suites (verdict_in said verdict.Aborted) (ending_by (verdict_in said verdict.Aborted) (cause_of_abort said)) (locked_at suites) are)
-left_response held told fixed task cache suites (Finishing [] v ending) server asked (Replied said) are agree is = cc
-left_response held told fixed task cache suites (Finishing (now ∷ left) v ending) server asked (Replied said) are agree is =
-    left_quiet held told server asked (Replied said) _ agree (λ other. ap (locks other) (sym (asks_same now server (request.Finish task.t v) asked is))) (leaves_end told task cache suites v ending left are)
+left_response held told fixed task cache suites phase server asked response are agree is =
+    let step = after_response fixed (record { task = task; suites = suites; phase = phase }) cache server asked response in
+    let moves = response_moves fixed task cache suites server asked phase response in
+    let now = held_hears held told fixed task cache suites server asked are agree moves.hears is in
+    record { told = now.told; leaves = moves_leave now.told fixed task moves.heard step moves.moves now.are; agree = now.agree }
 
 -- ---- all responses
 

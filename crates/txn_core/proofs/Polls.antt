@@ -8,7 +8,6 @@ use Rattle.sorted_map.specs.SortedMap.{IsOrdered}
 use Rattle.suite_prefix.specs.declared.lock_mode.LockMode.{LockMode}
 use Rattle.rep_core.specs.declared.request.Request.{Request}
 use Rattle.rep_core.specs.declared.request.Request.TheVariants as request
-use Rattle.rep_core.specs.declared.reply.Reply.{Reply}
 use Rattle.txn_core.specs.Laws.{Exchange, exchange_of, exchanges, of_job, locks, was_asked, count_of, NobodyIsPolledTwice}
 use Rattle.txn_core.specs.Agents as agents
 use Rattle.txn_core.specs.Agents.{Agent, Event, Take, Forget, next_in, next_of, take_in, take, begin, started, forget, is_idle, has_sense, max_jobs, after_all}
@@ -16,24 +15,23 @@ use Rattle.txn_core.specs.Sweeps as sweep
 use Rattle.suite_collect.specs.declared.told.Told.{Told}
 use Rattle.suite_collect.specs.declared.told.Said.{Said}
 use Rattle.suite_collect.specs.Telling.{has_told}
-use Rattle.suite_collect.specs.Collecting.{Collector, all_told, tell, mode_of, request_for, mode_asked, Asked, Poll, Upgrade, Next, Ask, Current, Short, next}
+use Rattle.suite_collect.specs.Collecting.{Collector, all_told, mode_of, request_for, mode_asked, Asked, Poll, Upgrade, Next, Ask, Current, Short, next}
 use Rattle.weak_cache.specs.Entries.{Cache}
 use Rattle.txn_core.specs.Suites.{ReadPoint, Suite, Suites, suite_of, with_suite, told_at, told_in}
 use Rattle.txn_core.specs.declared.response.Response.{Response}
 use Rattle.txn_core.specs.declared.job.Job.{Job}
-use Rattle.txn_core.specs.declared.response.Response.TheVariants.{Replied, Lacked}
-use Rattle.txn_core.specs.declared.ending.Cause.TheVariants.{Lost}
 use Rattle.txn_core.specs.declared.job.Job.TheVariants.{Transaction, Sweep}
 use Rattle.txn_core.specs.Doing.{home_of, Fixed, Task, Phase, Gathering, Fetching, Widening, Preparing, Deciding, Finishing, TransactionRun, Sweeping, Listing, Resolving, Telling, Breaking, SweepRun, Doing, Running, RunningSweep, After, GoesOn, Ends}
-use Rattle.txn_core.specs.Transactions.{Step, locked_at, heard_of, is_poll, said_to, hear, after_response, asked_by, asked_for, fetched_at, fetched_for, request_in, changes_of, decision_of, given_in, verdict_in, ending_by, cause_of_abort}
+use Rattle.txn_core.specs.Transactions.{Step, locked_at, is_poll, after_response, asked_by, asked_for, fetched_at, fetched_for, request_in, changes_of, decision_of}
 use Rattle.txn_core.specs.Writing.{parts_at}
-use Rattle.txn_core.proofs.Asks.{asks_same, fetched_as}
+use Rattle.txn_core.proofs.Asks.{asks_same}
 use Rattle.suite_collect.proofs.Collected.{nobody_is_asked_twice}
 use Rattle.suite_collect.proofs.Fewness.{times, Few, few_more, never}
 use Rattle.suite_collect.specs.declared.told.Said.TheVariants.{Down}
-use Rattle.txn_core.proofs.Over.{IsOver, LeftOver, over_end, over_give_up, over_lack, stays_over}
-use Rattle.txn_core.proofs.Locks.{Are, Leaves, told_with, leaves_collected, leaves_execute, leaves_widen, leaves_fetched, leaves_prepared, asks_lock, are_nil, all_told-tell}
-use Rattle.rep_core.specs.declared.reply.Verdict.TheVariants as verdict
+use Rattle.txn_core.proofs.Over.{IsOver, LeftOver, over_end, over_give_up, stays_over}
+use Rattle.txn_core.proofs.Locks.{Are, Leaves, told_with, are_with, are_same, move_are, leaves_execute, IsQuiet, quiet_asks, asks_lock, are_nil, all_told-tell}
+use Rattle.txn_core.specs.Moves.{Stage, Executes, Widens, Asks, Prepares, PreparesAt, GivesUp, Tells, TellsAt, Point, point, EndsIn, Move, Collects, now_told, Hears, asks_on, falls_short, settles, gets, prepared_by, prepares}
+use Rattle.txn_core.proofs.Moving.{kept, left_by, collects_asks, response_moves}
 
 -- ---- who was asked, and how often
 
@@ -77,14 +75,6 @@ no_more before server asked number who none = of (server == who) (locks number a
 
 quiet_bounded : (before : ℕ → ℕ → ℕ) (server : ℕ) (asked : Request) → Bounded before → ((number : ℕ) → locks number asked ≡ false) → Bounded (plus before server asked)
 quiet_bounded before server asked bounded none number who = let same = no_more before server asked number who (none number) in let bound = bounded number who in omega (arith, same, bound)
-
-quiet : (before : ℕ → ℕ → ℕ) (told : ℕ → List Told) (server : ℕ) (asked : Request) (after : After TransactionRun) → Asked' before told → AllFew told → ((number : ℕ) → locks number asked ≡ false) → Leaves told after → LeftWith (plus before server asked) after
-quiet before told server asked after agree few none leaves = inr (record {
-  told = told;
-  leaves = leaves;
-  agree = λ number who. agree number who ∙ no_more before server asked number who (none number);
-  few = few;
-})
 
 asked_more : (before : ℕ → ℕ → ℕ) (told : ℕ → List Told) (number server : ℕ) (one : Told) (list : List Told) (asked : Request) → Asked' before told → list ≡ told number → one.server ≡ server
     → ((other : ℕ) → locks other asked ≡ (number == other)) → Asked' (plus before server asked) (told_with number (one ∷ list) told)
@@ -151,64 +141,100 @@ asked_bounded before told task suites number None server asked are agree few the
 asked_bounded before told task suites number (Some suite) server asked are agree few there is =
     let more = told_more before told task suites number suite server asked Down are agree few there is in bounded_by _ _ more.agree more.few
 
-left_heard : (before : ℕ → ℕ → ℕ) (told : ℕ → List Told) (task : Task) (cache : Cache) (suites : Suites) (phase : Phase) (number : ℕ) (found : Option Suite) (server : ℕ) (asked : Request) (said : Reply) (go_on : Suites → Step)
-    → Are told suites → Asked' before told → AllFew told → suite_of suites number ≡ found → asked_for task number found ≡ Some (server, asked)
-    → ((told : ℕ → List Told) (suites : Suites) → Are told suites → Leaves told (go_on suites).after)
-    → LeftWith (plus before server asked) (heard_of task cache suites phase number found server asked said go_on).after
-left_heard before told task cache suites phase number None server asked said go_on are agree few there is more = cc
-left_heard before told task cache suites phase number (Some suite) server asked said go_on are agree few there is more = of (said_to asked said)
-  where
-    of : (heard : Option Said) → LeftWith (plus before server asked) (hear task cache suites phase number suite server asked heard (λ suite. go_on (with_suite number suite suites))).after
-    of None = inl (over_give_up task cache suites (Lost server), asked_bounded before told task suites number (Some suite) server asked are agree few there is)
-    of (Some heard) =
-        let one : Told = record { server = server; mode = mode_of asked; said = heard } in
-        let now : Suite = record suite { collector = tell one suite.collector } in
-        let told' = told_with number (all_told now.collector) told in
-        let new = told_more before told task suites number suite server asked heard are agree few there is in
-        let same : all_told now.collector ≡ one ∷ all_told suite.collector = all_told-tell one suite.collector in
-        inr (record {
-          told = told';
-          leaves = leaves_collected told task cache suites phase number now (next now.collector) go_on are (λ suites are. more told' suites are);
-          agree = λ other who. ap (λ list. times who (told_with number list told other)) same ∙ new.agree other who;
-          few = subst (λ list. AllFew (told_with number list told)) (sym same) new.few;
-        })
-
-fetch_locks : (task : Task) (number : ℕ) (found : Option Suite) (server : ℕ) (asked : Request) → fetched_for task number found ≡ Some (server, asked) → (other : ℕ) → locks other asked ≡ false
-fetch_locks task number found server asked is other = fetched_as (locks other) false task number found server asked refl is
-
 -- whatever is asked, few were asked
 response_bounded : (before : ℕ → ℕ → ℕ) (told : ℕ → List Told) (fixed : Fixed) (task : Task) (suites : Suites) (phase : Phase) (server : ℕ) (asked : Request) → Are told suites → Asked' before told → AllFew told
     → request_in fixed task suites phase ≡ Some (server, asked) → Bounded (plus before server asked)
-response_bounded before told fixed task suites (Gathering number) server asked are agree few is = asked_bounded before told task suites number (suite_of suites number) server asked are agree few refl is
-response_bounded before told fixed task suites (Fetching number) server asked are agree few is = quiet_bounded before server asked (bounded_by before told agree few) (fetch_locks task number (suite_of suites number) server asked is)
-response_bounded before told fixed task suites (Widening [] granted) server asked are agree few is = cc
-response_bounded before told fixed task suites (Widening (number ∷ left) granted) server asked are agree few is = asked_bounded before told task suites number (suite_of suites number) server asked are agree few refl is
-response_bounded before told fixed task suites (Preparing [] outcome) server asked are agree few is = cc
-response_bounded before told fixed task suites (Preparing (now ∷ left) outcome) server asked are agree few is =
-    quiet_bounded before server asked (bounded_by before told agree few) (λ other. ap (locks other) (sym (asks_same now server (request.Prepare task.t (parts_at suites (changes_of outcome) now)) asked is)))
-response_bounded before told fixed task suites (Deciding outcome) server asked are agree few is =
-    quiet_bounded before server asked (bounded_by before told agree few) (λ other. ap (locks other) (sym (asks_same (home_of fixed.service task.t) server (request.Decide task.t (decision_of task outcome)) asked is)))
-response_bounded before told fixed task suites (Finishing [] v ending) server asked are agree few is = cc
-response_bounded before told fixed task suites (Finishing (now ∷ left) v ending) server asked are agree few is =
-    quiet_bounded before server asked (bounded_by before told agree few) (λ other. ap (locks other) (sym (asks_same now server (request.Finish task.t v) asked is)))
+response_bounded before told fixed task suites phase server asked are agree few is = of phase is
+  where
+    quiet' : (phase : Phase) → IsQuiet phase → request_in fixed task suites phase ≡ Some (server, asked) → Bounded (plus before server asked)
+    quiet' phase none is = quiet_bounded before server asked (bounded_by before told agree few) (quiet_asks fixed task suites phase server asked none is)
+
+    of : (phase : Phase) → request_in fixed task suites phase ≡ Some (server, asked) → Bounded (plus before server asked)
+    of (Gathering number) is = asked_bounded before told task suites number (suite_of suites number) server asked are agree few refl is
+    of (Widening [] granted) is = cc
+    of (Widening (number ∷ left) granted) is = asked_bounded before told task suites number (suite_of suites number) server asked are agree few refl is
+    of (Fetching number) is = quiet' (Fetching number) tt is
+    of (Preparing servers outcome) is = quiet' (Preparing servers outcome) tt is
+    of (Deciding outcome) is = quiet' (Deciding outcome) tt is
+    of (Finishing servers v ending) is = quiet' (Finishing servers v ending) tt is
+
+-- what holds after a word: its end is told, or it knows whom it asked
+abbrev TellsEnd : Stage → Type 0
+TellsEnd (GivesUp cause) = Unit {0}
+TellsEnd (Tells v ending) = Unit {0}
+TellsEnd (TellsAt servers v ending) = Unit {0}
+TellsEnd other = ⊥
+
+record KnowsAt (before : ℕ → ℕ → ℕ) (at : Point) : Type 0 where
+  told : ℕ → List Told
+  are : Are told at.suites
+  agree : Asked' before told
+  few : AllFew told
+
+abbrev HeardAs : (ℕ → ℕ → ℕ) → Point → Type 0
+HeardAs before at = (TellsEnd at.stage × Bounded before) ⊎ KnowsAt before at
+
+module _ (before : ℕ → ℕ → ℕ) (told : ℕ → List Told) (fixed : Fixed) (task : Task) (cache : Cache) (suites : Suites) (server : ℕ) (asked : Request) (are : Are told suites) (agree : Asked' before told) (few : AllFew told) where
+  knows_told : {phase : Phase} {number : ℕ} {stage : Stage} (suite new : Suite) (said : Said) → request_in fixed task suites phase ≡ Some (server, asked) → Collects phase number stage → suite_of suites number ≡ Some suite
+      → new.collector ≡ (now_told server asked said suite).collector → (stage' : Stage) (cache' : Cache) → HeardAs (plus before server asked) (point stage' cache' (with_suite number new suites))
+  knows_told {number = number} suite new said is collects there same stage' cache' =
+      let list : all_told new.collector ≡ record { server = server; mode = mode_of asked; said = said } ∷ all_told suite.collector = ap all_told same ∙ all_told-tell (record { server = server; mode = mode_of asked; said = said }) suite.collector in
+      let asks : asked_for task number (Some suite) ≡ Some (server, asked) = ap (asked_for task number) (sym there) ∙ sym (collects_asks fixed task suites collects) ∙ is in
+      let more = told_more before told task suites number suite server asked said are agree few there asks in
+      inr (record {
+        told = told_with number (all_told new.collector) told;
+        are = are_with told suites number new are;
+        agree = λ other who. ap (λ list. times who (told_with number list told other)) list ∙ more.agree other who;
+        few = subst (λ list. AllFew (told_with number list told)) (sym list) more.few;
+      })
+
+  knows_hears : {phase : Phase} {response : Response} {heard : Point} → Hears fixed task cache suites server asked phase response heard → request_in fixed task suites phase ≡ Some (server, asked) → HeardAs (plus before server asked) heard
+  knows_hears (asks_on {suite = suite} {said = said} collects there says next) is = knows_told suite _ said is collects there refl _ _
+  knows_hears (falls_short {suite = suite} {said = said} collects there says next) is = knows_told suite _ said is collects there refl _ _
+  knows_hears (settles {suite = suite} {said = said} collects there says next) is = knows_told suite _ said is collects there refl _ _
+  knows_hears (gets {number = number} there was given) is = inr (record {
+    told = told;
+    are = are_same told suites number _ are (sym (ap told_in there));
+    agree = λ other who. agree other who ∙ no_more before server asked other who (quiet_asks fixed task suites (Fetching number) server asked tt is other);
+    few = few;
+  })
+  knows_hears (prepared_by {now = now} {left = left} {outcome = outcome} prepared) is = inr (record {
+    told = told;
+    are = are;
+    agree = λ other who. agree other who ∙ no_more before server asked other who (quiet_asks fixed task suites (Preparing (now ∷ left) outcome) server asked tt is other);
+    few = few;
+  })
+  knows_hears {phase = phase} _ is = inl (tt, response_bounded before told fixed task suites phase server asked are agree few is)
+
+-- once its end is told no move follows
+move_heard : (before : ℕ → ℕ → ℕ) (fixed : Fixed) (task : Task) (at later : Point) → Move fixed task at later → HeardAs before at → HeardAs before later
+move_heard before fixed task at later move (inr knows) = inr (record { told = knows.told; are = move_are knows.told fixed task move knows.are; agree = knows.agree; few = knows.few })
+move_heard before fixed task at later move (inl over) = absurd (of move over.0)
+  where
+    of : {at next : Point} → Move fixed task at next → TellsEnd at.stage → ⊥
+    of prepares over = over
+    of _ over = over
+
+left_end : (before : ℕ → ℕ → ℕ) (task : Task) (at : Point) (step : Step) → EndsIn task at.cache at.suites at.stage step → HeardAs before at → LeftWith before step.after
+left_end before task at step ends (inl over) = inl (of at.stage ends over.0, over.1)
+  where
+    of : (stage : Stage) → EndsIn task at.cache at.suites stage step → TellsEnd stage → LeftOver step.after
+    of (GivesUp cause) is tells = subst (λ (step : Step). LeftOver step.after) is (over_give_up task at.cache at.suites cause)
+    of (Tells v ending) is tells = subst (λ (step : Step). LeftOver step.after) is (over_end task at.cache at.suites v ending (locked_at at.suites))
+    of (TellsAt servers v ending) is tells = subst (λ (step : Step). LeftOver step.after) is (over_end task at.cache at.suites v ending servers)
+    of (Asks phase) is tells = absurd tells
+    of (Prepares outcome) is tells = absurd tells
+    of (PreparesAt servers outcome) is tells = absurd tells
+    of Executes is tells = absurd tells
+    of (Widens left granted) is tells = absurd tells
+left_end before task at step ends (inr knows) = inr (record { told = knows.told; leaves = left_by task (λ step. Leaves knows.told step.after) at step (λ phase. knows.are) (λ ending. tt) ends; agree = knows.agree; few = knows.few })
 
 left_response : (before : ℕ → ℕ → ℕ) (told : ℕ → List Told) (fixed : Fixed) (task : Task) (cache : Cache) (suites : Suites) (phase : Phase) (server : ℕ) (asked : Request) (response : Response) → Are told suites → Asked' before told → AllFew told
     → request_in fixed task suites phase ≡ Some (server, asked) → LeftWith (plus before server asked) (after_response fixed (record { task = task; suites = suites; phase = phase }) cache server asked response).after
-left_response before told fixed task cache suites phase server asked (Lacked lacked) are agree few is = inl (over_lack task cache suites phase server lacked, response_bounded before told fixed task suites phase server asked are agree few is)
-left_response before told fixed task cache suites (Gathering number) server asked (Replied said) are agree few is =
-    left_heard before told task cache suites (Gathering number) number (suite_of suites number) server asked said _ are agree few refl is (λ told suites are. leaves_execute told fixed task (record { suites = suites; cache = cache }) are)
-left_response before told fixed task cache suites (Fetching number) server asked (Replied said) are agree few is =
-    quiet before told server asked _ agree few (fetch_locks task number (suite_of suites number) server asked is) (leaves_fetched told fixed task cache suites number (suite_of suites number) server (given_in said) refl are)
-left_response before told fixed task cache suites (Widening [] granted) server asked (Replied said) are agree few is = cc
-left_response before told fixed task cache suites (Widening (number ∷ left) granted) server asked (Replied said) are agree few is =
-    left_heard before told task cache suites (Widening (number ∷ left) granted) number (suite_of suites number) server asked said _ are agree few refl is (λ told suites are. leaves_widen told task cache suites granted left are)
-left_response before told fixed task cache suites (Preparing [] outcome) server asked (Replied said) are agree few is = cc
-left_response before told fixed task cache suites (Preparing (now ∷ left) outcome) server asked (Replied said) are agree few is =
-    quiet before told server asked _ agree few (λ other. ap (locks other) (sym (asks_same now server (request.Prepare task.t (parts_at suites (changes_of outcome) now)) asked is))) (leaves_prepared told task cache suites outcome server left said are)
-left_response before told fixed task cache suites (Deciding outcome) server asked (Replied said) are agree few is =
-    inl (over_end task cache suites (verdict_in said verdict.Aborted) (ending_by (verdict_in said verdict.Aborted) (cause_of_abort said)) (locked_at suites), response_bounded before told fixed task suites (Deciding outcome) server asked are agree few is)
-left_response before told fixed task cache suites (Finishing [] v ending) server asked (Replied said) are agree few is = cc
-left_response before told fixed task cache suites (Finishing (now ∷ left) v ending) server asked (Replied said) are agree few is = inl (over_end task cache suites v ending left, response_bounded before told fixed task suites (Finishing (now ∷ left) v ending) server asked are agree few is)
+left_response before told fixed task cache suites phase server asked response are agree few is =
+    let moves = response_moves fixed task cache suites server asked phase response in
+    let now = kept fixed task (HeardAs (plus before server asked)) (move_heard (plus before server asked) fixed task) moves.moves.moves (knows_hears before told fixed task cache suites server asked are agree few moves.hears is) in
+    left_end (plus before server asked) task moves.moves.end _ moves.moves.ends now
 
 -- ---- all responses
 

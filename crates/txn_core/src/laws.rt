@@ -2,8 +2,14 @@
 
 ghost use Rattle.txn_core.specs.Undecided.{EndsAreCaused};
 ghost use Rattle.txn_core.specs.Caching.{CachesWhatWasFetched, KnowsContents};
+ghost use Rattle.txn_core.specs.Moves.{EveryResponseIsMoves};
 ghost use Rattle.txn_core.specs.Runs.{WorkedRuns};
 ghost use Rattle.txn_core.specs.Laws.{NobodyIsPolledTwice, DecideIsSentOnce, NothingFollowsAnEnd, PrepareListsTheLocks, APrepareRises, AllPrepareFirst, FinishCarriesTheVerdict, WhatIsWrittenIsFixed, DecidesOnQuorums, LateStepsAreFew, EndsInTime, SweepEndsInTime};
+
+/// A law: whatever a transaction does as it begins, or with a response, is moves. It does nothing.
+pub fn every_response_is_moves()
+    ensures { EveryResponseIsMoves }
+{}
 
 /// A law: Decide is sent once at most. It does nothing.
 pub fn decide_is_sent_once()
