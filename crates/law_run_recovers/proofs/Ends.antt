@@ -70,6 +70,7 @@ use Rattle.law_run_recovers.specs.Alone.{hinders, unhindered_from}
 use Rattle.law_run_recovers.specs.Demands.{demands, first_short}
 use Rattle.law_run_recovers.specs.Laws.{GoesAlone, EndsByVotes, EndsAreByVotes, ending_by, answer_on}
 use Rattle.law_run_recovers.proofs.Aside.{Aside, event_aside}
+use Rattle.law_run_recovers.proofs.Found.{all_answer}
 use Rattle.law_run_recovers.proofs.Led.{rules_of}
 use Rattle.law_run_recovers.proofs.Polled.{Answers, answers_so}
 use Rattle.law_run_recovers.proofs.Rows.{start_was}
@@ -168,8 +169,9 @@ module _ (given : Opening) (events later : List Event) (agent t : ℕ) (caller :
 
   pub ground : Ground (fixed_of given) (run given events) actor.agent.cache site (λ z. WasPrefix (beginning z given) (machine_of given z events).log)
   ground = record {
-    rules = λ z start may. rules_of given z (machine_of given z events) (run given events) (effects.inv given events (all_keep given events can) z) (effects.follows given events (all_keep given events can) z).shows (all_consistent given events) goes.free start
-        (start_was given events can goes.free z agent site actor start goes.there may);
+    rules = λ z start may. rules_of given z (machine_of given z events) (run given events) (effects.inv given events (all_keep given events can) z) (is_up (run given events))
+        (all_answer given z (machine_of given z events) (run given events) (effects.inv given events (all_keep given events can) z) (effects.follows given events (all_keep given events can) z).shows (all_consistent given events) goes.free) start
+        (start_was given events can z agent site actor start goes.there may);
     valid = λ z prefix was. subst (λ (p : Prefix). IsValid p.votes) was.1 ((effects.inv given events (all_keep given events can) z).logged.valid prefix.pver);
   }
 
@@ -238,11 +240,11 @@ module _ (given : Opening) (events later : List Event) (agent t : ℕ) (caller :
 
       -- ---- it is answered rightly
 
-      asks_here : (z : ℕ) (c : Collector) → AsksFor task.t z c tk.asked.0 tk.asked.1 → Answers fixed first z tk.asked.0 said
+      asks_here : (z : ℕ) (c : Collector) → AsksFor task.t z c tk.asked.0 tk.asked.1 → Answers fixed first (is_up first) z tk.asked.0 said
       asks_here z c asks =
           let is : tk.asked.1 ≡ request_for t z asks.question = asks.asked_is ∙ ap (λ n. request_for n z asks.question) number_is in
           let four = own_asks given first agent t actor.agent caller site ops w (event ∷ rest) m tk.asked.0 tk.st tk.at z asks.question (asks_so (request_for t z asks.question) is) in
-          subst (λ asked. Answers fixed first z tk.asked.0 (reply_of tk.st asked)) (sym is) (answers_so fixed first z tk.asked.0 t tk.st four.0 four.1 four.2 asks.question four.3)
+          subst (λ asked. Answers fixed first (is_up first) z tk.asked.0 (reply_of tk.st asked)) (sym is) (answers_so fixed first (is_up first) z tk.asked.0 t tk.st four.0 four.1 four.2 asks.question four.3)
 
       fetches_here : (z : ℕ) → tk.asked.1 ≡ request.Fetch task.t z → is_some (given_in said) ≡ true
       fetches_here z asked =

@@ -42,6 +42,7 @@ use Rattle.txn_core.specs.Transactions.{Step, Gathered, start_from, raised_or_ne
 use Rattle.txn_core.proofs.Gathers.{self, with_at, each_but, each_with, but_with}
 use Rattle.txn_core.proofs.Locks.{are_nil}
 use Rattle.run_core.specs.Worlds.{World}
+use Rattle.law_run_recovers.specs.Standing.{is_up}
 use Rattle.law_run_recovers.specs.Demands.{is_met, MayStart, has_asked, changes_on}
 use Rattle.law_run_recovers.proofs.Asking.{onto, first_hold, first_new, none_left, held_in, held_if, held_is}
 use Rattle.law_run_recovers.proofs.Led.{reached_first, reached_raise}
@@ -247,7 +248,7 @@ module _ (fixed : Fixed) (world : World) (table : PlainTable) (task : Task) (cac
               let start = start_from fixed task now number in
               let may = may_from number none in
               let new : Suite = record { collector = collect mode start; first = None; mode = Shared; content = None } in
-              let g = gathers new (record { start = start; may = may; reached = reached_first fixed world number (Was number) start (ground.rules number start may) mode; led = λ first had. absurd (none-some first had) }) refl
+              let g = gathers new (record { start = start; may = may; reached = reached_first fixed world (is_up world) number (Was number) start (ground.rules number start may) mode; led = λ first had. absurd (none-some first had) }) refl
               (λ old there. absurd (none-some old (sym none ∙ there))) (λ other. ap (held_in other) (sym none))
               (λ other had. absurd (false≢true (sym (ap (held_in other) none) ∙ ready.asks.modes number other ∙ had))) in
               gather_by_stands fixed world table task cache Was ground (with_suite number new suites) number g now (hinted_with suites number new now hints)
@@ -258,7 +259,7 @@ module _ (fixed : Fixed) (world : World) (table : PlainTable) (task : Task) (cac
               let raised_mode : new.collector.mode ≡ Exclusive = ap (λ (c : Collector). (raise c).mode) found.reached.is in
               let weak : serves suite.mode mode ≡ false = sym (by_first suite.first whole.had) ∙ ap (held_in mode) (sym there) ∙ ready.asks.modes number mode ∙ is_new in
               let exclusive : mode ≡ Exclusive = weak_or_not suite.mode mode weak in
-              let g = gathers new (record { start = found.start; may = found.may; reached = reached_raise fixed world number (Was number) found.start (ground.rules number found.start found.may) suite.collector found.reached; led = found.led })
+              let g = gathers new (record { start = found.start; may = found.may; reached = reached_raise fixed world (is_up world) number (Was number) found.start (ground.rules number found.start found.may) suite.collector found.reached; led = found.led })
               (raised_mode ∙ sym exclusive)
               (λ old is. ap (λ (suite : Suite). suite.collector.start) (same_Some suite old (sym there ∙ is)))
               (λ other. held other suite.first ∙ ap (held_in other) (sym there))

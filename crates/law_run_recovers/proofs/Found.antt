@@ -19,6 +19,7 @@ use Rattle.rep_core.specs.Store.{copy_of}
 use Rattle.rep_core.specs.State as state
 use Rattle.rep_core.specs.State.{State}
 use Rattle.rep_core.proofs.Members.{Has, has_from, all_at, any_has, has_any, find_none}
+use Rattle.txn_core.specs.Doing.{Fixed}
 use Rattle.txn_core.specs.Agents.{fixed_of}
 use Rattle.run_core.specs.Worlds as worlds
 use Rattle.run_core.specs.Worlds.{server_at}
@@ -30,7 +31,7 @@ use Rattle.law_server_moves.specs.Laws.{beginning}
 use Rattle.law_run_machine.specs.Machines.{servers_of, home_in}
 use Rattle.law_run_alone.proofs.Clear.{at_has}
 use Rattle.law_run_recovers.specs.Standing.{up_in, is_up, up_free, shown_at, shown_in}
-use Rattle.law_run_recovers.specs.Demands.{shows_newer, newer_from}
+use Rattle.law_run_recovers.specs.Demands.{shows_newer_by, newer_by}
 
 -- ---- votes of those that have some
 
@@ -83,6 +84,11 @@ newest_is_row start w inv prefix was set quorum none =
 
 -- ---- in a world
 
+-- Servers that answer are up, and what they have stored is in effect.
+pub record Answering (fixed : Fixed) (world : worlds.World) (z : ℕ) (w : World) (answers : ℕ → Bool) : Type 0 where
+  pub up : (i : ℕ) → answers i ≡ true → is_up world i ≡ true
+  pub stored : (i : ℕ) → answers i ≡ true → (effect w i).prefix ≡ shown_at fixed world z i
+
 pub no_locks : (locks : List Lock) → (length locks == 0) ≡ true → locks ≡ []
 no_locks [] is = refl
 no_locks (lock ∷ locks) is = let none : suc (length locks) ≡ 0 = eqb-true (suc (length locks)) 0 is in absurd (omega (arith, none))
@@ -128,16 +134,21 @@ module _ (given : Opening) (z : ℕ) (w : World) (world : worlds.World) (inv : I
           let has = consistent.locked z intention is in
           absurd (subst (λ locks. Has locks has.lock) locks (has_from st.locks has.lock has.there))
 
-  -- of the voting members that are up none shows a newer prefix
-  none_newer : (prefix : Prefix) → newer_from (fixed_of given) world z prefix ≡ None → (i : ℕ) → voting prefix.votes.reps (is_up world) i ≡ true → (effect w i).prefix.pver ≤ prefix.pver
+  -- so all servers answer that are up
+  pub all_answer : Answering (fixed_of given) world z w (is_up world)
+  all_answer = record { up = λ i up. up; stored = stored_so }
+
+module _ (given : Opening) (z : ℕ) (w : World) (world : worlds.World) (inv : Inv (beginning z given) w) (answers : ℕ → Bool) (answering : Answering (fixed_of given) world z w answers) where
+  -- of the voting members that answer none shows a newer prefix
+  none_newer : (prefix : Prefix) → newer_by (fixed_of given) world answers z prefix ≡ None → (i : ℕ) → voting prefix.votes.reps answers i ≡ true → (effect w i).prefix.pver ≤ prefix.pver
   none_newer prefix none i is =
-      let parts = and_parts (is_up world i) (has_vote prefix.votes.reps i) is in
+      let parts = and_parts (answers i) (has_vote prefix.votes.reps i) is in
       let some = any_has (λ (rep : Representative). (rep.0 == i) && nat_lt 0 rep.1) prefix.votes.reps parts.1 in
       let votes = and_parts (some.0.0 == i) (nat_lt 0 some.0.1) some.2 in
       let same = eqb-true some.0.0 i votes.0 in
-      let not_so = find_none (shows_newer (fixed_of given) world z prefix) prefix.votes.reps some.0 (not_found (find (shows_newer (fixed_of given) world z prefix) prefix.votes.reps) none) some.1 in
-      let less = not_less (nat_lt 0 some.0.1) (is_up world some.0.0) (nat_lt prefix.pver (shown_at (fixed_of given) world z some.0.0).pver) votes.1 (ap (is_up world) same ∙ parts.0) not_so in
-      subst (λ (shown : Prefix). shown.pver ≤ prefix.pver) (ap (λ i. shown_at (fixed_of given) world z i) same ∙ sym (stored_so i parts.0)) (ltb-false prefix.pver (shown_at (fixed_of given) world z some.0.0).pver less)
+      let not_so = find_none (shows_newer_by (fixed_of given) world answers z prefix) prefix.votes.reps some.0 (not_found (find (shows_newer_by (fixed_of given) world answers z prefix) prefix.votes.reps) none) some.1 in
+      let less = not_less (nat_lt 0 some.0.1) (answers some.0.0) (nat_lt prefix.pver (shown_at (fixed_of given) world z some.0.0).pver) votes.1 (ap answers same ∙ parts.0) not_so in
+      subst (λ (shown : Prefix). shown.pver ≤ prefix.pver) (ap (λ i. shown_at (fixed_of given) world z i) same ∙ sym (answering.stored i parts.0)) (ltb-false prefix.pver (shown_at (fixed_of given) world z some.0.0).pver less)
     where
       not_found : (found : Option Representative) → option_map (λ (rep : Representative). shown_at (fixed_of given) world z rep.0) found ≡ None → found ≡ None
       not_found None is = refl
@@ -148,6 +159,6 @@ module _ (given : Opening) (z : ℕ) (w : World) (world : worlds.World) (inv : I
       not_less true false c is also none = absurd (false≢true also)
       not_less false b c is also none = absurd (false≢true is)
 
-  pub found_is_row : (prefix : Prefix) → WasPrefix (beginning z given) w.log prefix → newer_from (fixed_of given) world z prefix ≡ None → IsQuorum prefix.votes (is_up world) → prefix ≡ (row (beginning z given) w.log).prefix
+  pub found_is_row : (prefix : Prefix) → WasPrefix (beginning z given) w.log prefix → newer_by (fixed_of given) world answers z prefix ≡ None → IsQuorum prefix.votes answers → prefix ≡ (row (beginning z given) w.log).prefix
   found_is_row prefix was none quorum =
-      newest_is_row (beginning z given) w inv prefix was (voting prefix.votes.reps (is_up world)) (still_quorum prefix.votes (is_up world) quorum) (none_newer prefix none)
+      newest_is_row (beginning z given) w inv prefix was (voting prefix.votes.reps answers) (still_quorum prefix.votes answers quorum) (none_newer prefix none)

@@ -90,8 +90,8 @@ module _ (fixed : Fixed) (world : World) (table : PlainTable) (task : Task) (cac
     pub gathering_short : (had wanting : ℕ) (busy : Option (ℕ × ℕ)) → next g.suite.collector ≡ Short had wanting busy → EndsRight fixed world table task cache (Undecided (short_cause number had wanting busy))
     gathering_short had wanting busy is =
         let start = starts fixed world table task cache suites in
-        let ends = reached_short fixed world number (Was number) g.found.start (ground.rules number g.found.start g.found.may) g.suite.collector g.found.reached had wanting busy is in
-        let not_busy : busy ≡ None = sym (short_busy g.suite.collector had wanting busy is) ∙ nobody_busy fixed world number (all_told g.suite.collector) (found_right fixed world table task cache Was ground number g.suite g.found).right in
+        let ends = reached_short fixed world (is_up world) number (Was number) g.found.start (ground.rules number g.found.start g.found.may) g.suite.collector g.found.reached had wanting busy is in
+        let not_busy : busy ≡ None = sym (short_busy g.suite.collector had wanting busy is) ∙ nobody_busy fixed world (is_up world) number (all_told g.suite.collector) (found_right fixed world table task cache Was ground number g.suite g.found).right in
         let unmet : not (is_met (of_lock fixed world start (number, g.mode))) ≡ true =
         ap (λ p. not (is_met (demand world number g.mode (led p).votes))) same_start
         ∙ ap (λ mode. not (is_met (demand world number mode (led g.found.start).votes))) (sym g.mode_is) ∙ ap not ends.too_few in
@@ -147,7 +147,7 @@ module _ (fixed : Fixed) (world : World) (table : PlainTable) (task : Task) (cac
       led_of (Some old) was first same = ap (λ (first : ReadPoint). first.prefix) (sym (same_Some old first same)) ∙ found.led old was
       led_of None was first same =
           ap (λ (first : ReadPoint). first.prefix) (sym (same_Some _ first same))
-          ∙ (reached_current fixed world z (Was z) found.start (ground.rules z found.start found.may) suite.collector found.reached prefix dver members is).prefix_is
+          ∙ (reached_current fixed world (is_up world) z (Was z) found.start (ground.rules z found.start found.may) suite.collector found.reached prefix dver members is).prefix_is
 
   module _ (suites : Suites) (number : ℕ) (g : Now suites number) (prefix : Prefix) (dver : ℕ) (members : List ℕ) (is : next g.suite.collector ≡ Current prefix dver members) where
     abbrev new : Suite
@@ -158,7 +158,7 @@ module _ (fixed : Fixed) (world : World) (table : PlainTable) (task : Task) (cac
 
     met : is_met (demand world number g.mode (led_to fixed world number g.suite.collector.start).votes) ≡ true
     met =
-        let ends = reached_current fixed world number (Was number) g.found.start (ground.rules number g.found.start g.found.may) g.suite.collector g.found.reached prefix dver members is in
+        let ends = reached_current fixed world (is_up world) number (Was number) g.found.start (ground.rules number g.found.start g.found.may) g.suite.collector g.found.reached prefix dver members is in
         ap (λ p. is_met (demand world number g.mode (led_to fixed world number p).votes)) (found_start fixed world table task cache Was ground number g.suite g.found)
         ∙ ap (λ mode. is_met (demand world number mode (led_to fixed world number g.found.start).votes)) (sym g.mode_is) ∙ ends.enough
 

@@ -49,10 +49,10 @@ use Rattle.law_run_recovers.proofs.Knows.{agreed}
 -- what is right for a transaction to be answered, by where it stands: servers say of a suite what they showed, or are down; a content is given, and
 -- Prepare is done; and the home decides as it is asked, or is down
 abbrev pub RightFor : Fixed → World → Task → Phase → ℕ → Reply → Type 0
-RightFor fixed world task (Gathering z) server said = Answers fixed world z server said
+RightFor fixed world task (Gathering z) server said = Answers fixed world (is_up world) z server said
 RightFor fixed world task (Fetching z) server said = is_some (given_in said) ≡ true
 RightFor fixed world task (doing.Widening [] granted) server said = Unit {0}
-RightFor fixed world task (doing.Widening (z ∷ left) granted) server said = Answers fixed world z server said
+RightFor fixed world task (doing.Widening (z ∷ left) granted) server said = Answers fixed world (is_up world) z server said
 RightFor fixed world task (Preparing left outcome) server said = is_prepared said ≡ true
 RightFor fixed world task (Deciding outcome) server said =
     ((is_up world server ≡ true) × (said ≡ reply.Verdict (verdict_of (decision_of task outcome)))) ⊎ ((is_up world server ≡ false) × (said ≡ reply.Down))
@@ -97,8 +97,8 @@ record HeardOne (number : ℕ) (suite : Suite) (server : ℕ) (asked : Request) 
   is : (task : Task) (now : Cache) (suites : Suites) (phase : Phase) (go_on : Suite → Step) → hear task now suites phase number suite server asked (txn_run.said_to asked said) go_on
       ≡ collected task now suites phase number (record suite { collector = tell one suite.collector }) (next (tell one suite.collector)) go_on
 
-module _ (fixed : Fixed) (world : World) (t number : ℕ) (suite : Suite) (server : ℕ) (asked : Request) (said : Reply) (right : AllRight fixed world number (all_told suite.collector)) (asks : AsksFor t number suite.collector server asked)
-    (so : Answers fixed world number server said) where
+module _ (fixed : Fixed) (world : World) (t number : ℕ) (suite : Suite) (server : ℕ) (asked : Request) (said : Reply) (right : AllRight fixed world (is_up world) number (all_told suite.collector)) (asks : AsksFor t number suite.collector server asked)
+    (so : Answers fixed world (is_up world) number server said) where
   heard_one : HeardOne number suite server asked said
   heard_one =
       let heard = hears fixed world number suite.collector right server asks.question asks.is said so in
@@ -112,8 +112,8 @@ module _ (fixed : Fixed) (world : World) (t number : ℕ) (suite : Suite) (serve
         is = λ task now suites phase go_on. ap (λ found. hear task now suites phase number suite server asked found go_on) (ap (λ asked. txn_run.said_to asked said) asks.asked_is ∙ same_said t number asks.question said ∙ heard.1);
       }
 
-  answers_it : (who : ℕ) (question : Asked) → next suite.collector ≡ Ask who question → Answers fixed world number who said
-  answers_it who question is = subst (λ who. Answers fixed world number who said) (ap who_of (sym asks.is ∙ is)) so
+  answers_it : (who : ℕ) (question : Asked) → next suite.collector ≡ Ask who question → Answers fixed world (is_up world) number who said
+  answers_it who question is = subst (λ who. Answers fixed world (is_up world) number who said) (ap who_of (sym asks.is ∙ is)) so
     where
       who_of : Next → ℕ
       who_of (Ask who question) = who
@@ -147,7 +147,7 @@ module _ (fixed : Fixed) (world : World) (table : PlainTable) (task : Task) (cac
 
   -- ---- a suite is gathered
 
-  module _ (now : Cache) (suites : Suites) (number : ℕ) (g : Now suites number) (hints : Hinted suites now) (server : ℕ) (asked : Request) (said : Reply) (asks : AsksFor task.t number g.suite.collector server asked) (so : Answers fixed world number server said) where
+  module _ (now : Cache) (suites : Suites) (number : ℕ) (g : Now suites number) (hints : Hinted suites now) (server : ℕ) (asked : Request) (said : Reply) (asks : AsksFor task.t number g.suite.collector server asked) (so : Answers fixed world (is_up world) number server said) where
     heard_here : HeardOne number g.suite server asked said
     heard_here = heard_one fixed world task.t number g.suite server asked said (found_right fixed world table task cache Was ground number g.suite g.found).right asks so
 
@@ -163,7 +163,7 @@ module _ (fixed : Fixed) (world : World) (table : PlainTable) (task : Task) (cac
         let found : IsFound fixed world table task cache Was ground number new = record {
           start = g.found.start;
           may = g.found.may;
-          reached = reached_told fixed world number (Was number) g.found.start (ground.rules number g.found.start g.found.may) g.suite.collector g.found.reached said one
+          reached = reached_told fixed world (is_up world) number (Was number) g.found.start (ground.rules number g.found.start g.found.may) g.suite.collector g.found.reached said one
               (answers_it fixed world task.t number g.suite server asked said (found_right fixed world table task cache Was ground number g.suite g.found).right asks so) told;
           led = g.found.led;
         } in
@@ -209,7 +209,7 @@ module _ (fixed : Fixed) (world : World) (table : PlainTable) (task : Task) (cac
   -- ---- a suite is widened
 
   module _ (now : Cache) (suites : Suites) (number : ℕ) (left : List ℕ) (granted : Granted) (w : IsWidening fixed world table task cache suites number left granted) (server : ℕ) (asked : Request) (said : Reply)
-      (asks : AsksFor task.t number w.suite.collector server asked) (so : Answers fixed world number server said) where
+      (asks : AsksFor task.t number w.suite.collector server asked) (so : Answers fixed world (is_up world) number server said) where
     was : IsRight fixed world table task cache number w.suite
     was = w.sets.right number w.suite w.there
 

@@ -7,7 +7,6 @@ use Rattle.std.proofs.lemmas.Option.{none-some, same_Some}
 use Rattle.vote_core.specs.Quorums.{Representative}
 use Rattle.suite_prefix.specs.SettingsRules.{Opening}
 use Rattle.suite_prefix.specs.declared.copies.Prefix.{Prefix}
-use Rattle.rep_core.specs.Consistency.{IsConsistent}
 use Rattle.rep_core.specs.Store.{copy_of}
 use Rattle.rep_core.specs.State.{State}
 use Rattle.rep_core.proofs.Finding.{find_some}
@@ -19,49 +18,47 @@ use Rattle.run_core.specs.Worlds.{server_at}
 use Rattle.law_suite_machine.specs.Registers.{WasPrefix}
 use Rattle.law_suite_machine.specs.Machine.{World}
 use Rattle.law_suite_machine.proofs.Invariant.{Inv}
-use Rattle.law_server_moves.specs.Views.{Shows}
 use Rattle.law_server_moves.specs.Laws.{beginning}
-use Rattle.law_run_machine.specs.Machines.{servers_of, home_in}
 use Rattle.law_run_alone.proofs.Clear.{at_has}
-use Rattle.law_run_recovers.specs.Standing.{is_up, up_free, shown_at, shown_in}
-use Rattle.law_run_recovers.specs.Demands.{shows_newer, newer_from, led_on, led_so_far, led_to}
-use Rattle.law_run_recovers.proofs.Found.{up_so, stored_so}
+use Rattle.law_run_recovers.specs.Standing.{up_in, is_up, shown_at, shown_in}
+use Rattle.law_run_recovers.specs.Demands.{shows_newer_by, newer_by, led_on, led_so_far_by, led_to_by}
+use Rattle.law_run_recovers.proofs.Found.{Answering}
 
 pub not_itself : (a : ℕ) → nat_lt a a ≡ false
 not_itself a = grind (arith, nat_tests)
 
 -- ---- step by step
 
-module _ (fixed : Fixed) (world : worlds.World) (suite : ℕ) where
+module _ (fixed : Fixed) (world : worlds.World) (answers : ℕ → Bool) (suite : ℕ) where
   -- one step more
-  pub one_step : (n : ℕ) (from p x : Prefix) → led_so_far n fixed world suite from ≡ p → newer_from fixed world suite p ≡ Some x → led_so_far (suc n) fixed world suite from ≡ x
+  pub one_step : (n : ℕ) (from p x : Prefix) → led_so_far_by n fixed world answers suite from ≡ p → newer_by fixed world answers suite p ≡ Some x → led_so_far_by (suc n) fixed world answers suite from ≡ x
   one_step zero from p x at newer =
-      ap (λ from. led_on from (newer_from fixed world suite from) (λ y. y)) at ∙ ap (λ found. led_on p found (λ y. y)) newer
-  one_step (suc n) from p x at newer = of (newer_from fixed world suite from) refl (λ y at. one_step n y p x at newer) at
+      ap (λ from. led_on from (newer_by fixed world answers suite from) (λ y. y)) at ∙ ap (λ found. led_on p found (λ y. y)) newer
+  one_step (suc n) from p x at newer = of (newer_by fixed world answers suite from) refl (λ y at. one_step n y p x at newer) at
     where
-      of : (found : Option Prefix) → newer_from fixed world suite from ≡ found
-          → ((y : Prefix) → led_so_far n fixed world suite y ≡ p → led_so_far (suc n) fixed world suite y ≡ x)
-          → led_on from found (λ y. led_so_far n fixed world suite y) ≡ p → led_on from found (λ y. led_so_far (suc n) fixed world suite y) ≡ x
-      of None is go at = absurd (none-some x (sym is ∙ ap (newer_from fixed world suite) at ∙ newer))
+      of : (found : Option Prefix) → newer_by fixed world answers suite from ≡ found
+          → ((y : Prefix) → led_so_far_by n fixed world answers suite y ≡ p → led_so_far_by (suc n) fixed world answers suite y ≡ x)
+          → led_on from found (λ y. led_so_far_by n fixed world answers suite y) ≡ p → led_on from found (λ y. led_so_far_by (suc n) fixed world answers suite y) ≡ x
+      of None is go at = absurd (none-some x (sym is ∙ ap (newer_by fixed world answers suite) at ∙ newer))
       of (Some y) is go at = go y at
 
-  pub stays : (n : ℕ) (from : Prefix) → newer_from fixed world suite from ≡ None → led_so_far n fixed world suite from ≡ from
+  pub stays : (n : ℕ) (from : Prefix) → newer_by fixed world answers suite from ≡ None → led_so_far_by n fixed world answers suite from ≡ from
   stays zero from none = refl
-  stays (suc n) from none = ap (λ found. led_on from found (λ y. led_so_far n fixed world suite y)) none
+  stays (suc n) from none = ap (λ found. led_on from found (λ y. led_so_far_by n fixed world answers suite y)) none
 
   -- wherever none is newer is one end
-  pub one_end : (n m : ℕ) (from : Prefix) → newer_from fixed world suite (led_so_far n fixed world suite from) ≡ None → newer_from fixed world suite (led_so_far m fixed world suite from) ≡ None
-      → led_so_far n fixed world suite from ≡ led_so_far m fixed world suite from
+  pub one_end : (n m : ℕ) (from : Prefix) → newer_by fixed world answers suite (led_so_far_by n fixed world answers suite from) ≡ None → newer_by fixed world answers suite (led_so_far_by m fixed world answers suite from) ≡ None
+      → led_so_far_by n fixed world answers suite from ≡ led_so_far_by m fixed world answers suite from
   one_end zero m from one other = sym (stays m from one)
   one_end (suc n) zero from one other = stays (suc n) from other
-  one_end (suc n) (suc m) from one other = of (newer_from fixed world suite from) (λ y one other. one_end n m y one other) one other
+  one_end (suc n) (suc m) from one other = of (newer_by fixed world answers suite from) (λ y one other. one_end n m y one other) one other
     where
       of : (found : Option Prefix)
-          → ((y : Prefix) → newer_from fixed world suite (led_so_far n fixed world suite y) ≡ None → newer_from fixed world suite (led_so_far m fixed world suite y) ≡ None
-          → led_so_far n fixed world suite y ≡ led_so_far m fixed world suite y)
-          → newer_from fixed world suite (led_on from found (λ y. led_so_far n fixed world suite y)) ≡ None
-          → newer_from fixed world suite (led_on from found (λ y. led_so_far m fixed world suite y)) ≡ None
-          → led_on from found (λ y. led_so_far n fixed world suite y) ≡ led_on from found (λ y. led_so_far m fixed world suite y)
+          → ((y : Prefix) → newer_by fixed world answers suite (led_so_far_by n fixed world answers suite y) ≡ None → newer_by fixed world answers suite (led_so_far_by m fixed world answers suite y) ≡ None
+          → led_so_far_by n fixed world answers suite y ≡ led_so_far_by m fixed world answers suite y)
+          → newer_by fixed world answers suite (led_on from found (λ y. led_so_far_by n fixed world answers suite y)) ≡ None
+          → newer_by fixed world answers suite (led_on from found (λ y. led_so_far_by m fixed world answers suite y)) ≡ None
+          → led_on from found (λ y. led_so_far_by n fixed world answers suite y) ≡ led_on from found (λ y. led_so_far_by m fixed world answers suite y)
       of None go one other = refl
       of (Some y) go one other = go y one other
 
@@ -108,8 +105,20 @@ module _ {X : Type 0} (f g : X → Bool) where
 
 -- ---- from one prefix to the next
 
-module _ (given : Opening) (z : ℕ) (w : World) (world : worlds.World) (inv : Inv (beginning z given) w) (shows : Shows z (home_in given) (servers_of given world) w)
-    (all : (i : ℕ) (st : State) → server_at world i ≡ Some st → IsConsistent st) (free : up_free world ≡ true) where
+-- a server that is up is there
+record IsUp (world : worlds.World) (i : ℕ) : Type 0 where
+  st : State
+  at : server_at world i ≡ Some st
+  up : st.up ≡ true
+
+up_so : (world : worlds.World) (i : ℕ) → is_up world i ≡ true → IsUp world i
+up_so world i up = of (server_at world i) refl up
+  where
+    of : (found : Option State) → server_at world i ≡ found → up_in found ≡ true → IsUp world i
+    of None at up = absurd (false≢true up)
+    of (Some st) at up = record { st = st; at = at; up = up }
+
+module _ (given : Opening) (z : ℕ) (w : World) (world : worlds.World) (inv : Inv (beginning z given) w) (answers : ℕ → Bool) (answering : Answering (fixed_of given) world z w answers) where
   -- the servers that are up and show a newer one
   abbrev above : Prefix → State → Bool
   above prefix st = st.up && nat_lt prefix.pver (copy_of st.store z).prefix.pver
@@ -122,19 +131,19 @@ module _ (given : Opening) (z : ℕ) (w : World) (world : worlds.World) (inv : I
     shown : (copy_of st.store z).prefix ≡ next
     greater : nat_lt prefix.pver next.pver ≡ true
 
-  newer : (prefix next : Prefix) → newer_from (fixed_of given) world z prefix ≡ Some next → Newer prefix next
-  newer prefix next is = of (find (shows_newer (fixed_of given) world z prefix) prefix.votes.reps) refl is
+  newer : (prefix next : Prefix) → newer_by (fixed_of given) world answers z prefix ≡ Some next → Newer prefix next
+  newer prefix next is = of (find (shows_newer_by (fixed_of given) world answers z prefix) prefix.votes.reps) refl is
     where
-      of : (found : Option Representative) → find (shows_newer (fixed_of given) world z prefix) prefix.votes.reps ≡ found → option_map (λ (rep : Representative). shown_at (fixed_of given) world z rep.0) found ≡ Some next → Newer prefix next
+      of : (found : Option Representative) → find (shows_newer_by (fixed_of given) world answers z prefix) prefix.votes.reps ≡ found → option_map (λ (rep : Representative). shown_at (fixed_of given) world z rep.0) found ≡ Some next → Newer prefix next
       of None found is = absurd (none-some next is)
       of (Some rep) found is =
-          let test = (find_some (shows_newer (fixed_of given) world z prefix) prefix.votes.reps rep found).1 in
-          let parts = and_parts (nat_lt 0 rep.1 && is_up world rep.0) (nat_lt prefix.pver (shown_at (fixed_of given) world z rep.0).pver) test in
-          let up = (and_parts (nat_lt 0 rep.1) (is_up world rep.0) parts.0).1 in
-          let up' = up_so given z w world inv shows all free rep.0 up in
+          let test = (find_some (shows_newer_by (fixed_of given) world answers z prefix) prefix.votes.reps rep found).1 in
+          let parts = and_parts (nat_lt 0 rep.1 && answers rep.0) (nat_lt prefix.pver (shown_at (fixed_of given) world z rep.0).pver) test in
+          let up = (and_parts (nat_lt 0 rep.1) (answers rep.0) parts.0).1 in
+          let up' = up_so world rep.0 (answering.up rep.0 up) in
           let shown : shown_at (fixed_of given) world z rep.0 ≡ next = same_Some (shown_at (fixed_of given) world z rep.0) next is in
           record {
-            was = subst (WasPrefix (beginning z given) w.log) (stored_so given z w world inv shows all free rep.0 up ∙ shown) (inv.current.were rep.0).0;
+            was = subst (WasPrefix (beginning z given) w.log) (answering.stored rep.0 up ∙ shown) (inv.current.were rep.0).0;
             st = up'.st;
             has = at_has world.servers rep.0 up'.st up'.at;
             up = up'.up;
@@ -157,21 +166,21 @@ module _ (given : Opening) (z : ℕ) (w : World) (world : worlds.World) (inv : I
 
   pub record Led (prefix : Prefix) : Type 0 where
     pub was : WasPrefix (beginning z given) w.log prefix
-    pub last : newer_from (fixed_of given) world z prefix ≡ None
+    pub last : newer_by (fixed_of given) world answers z prefix ≡ None
 
-  leads : (more : ℕ) (prefix : Prefix) → WasPrefix (beginning z given) w.log prefix → length (filter (above prefix) world.servers) ≤ more → Led (led_so_far more (fixed_of given) world z prefix)
-  leads zero prefix was few = record { was = was; last = of (newer_from (fixed_of given) world z prefix) refl }
+  leads : (more : ℕ) (prefix : Prefix) → WasPrefix (beginning z given) w.log prefix → length (filter (above prefix) world.servers) ≤ more → Led (led_so_far_by more (fixed_of given) world answers z prefix)
+  leads zero prefix was few = record { was = was; last = of (newer_by (fixed_of given) world answers z prefix) refl }
     where
-      of : (found : Option Prefix) → newer_from (fixed_of given) world z prefix ≡ found → newer_from (fixed_of given) world z prefix ≡ None
+      of : (found : Option Prefix) → newer_by (fixed_of given) world answers z prefix ≡ found → newer_by (fixed_of given) world answers z prefix ≡ None
       of None is = is
       of (Some next) is = let some = some_left prefix next (newer prefix next is) in absurd (omega (arith, few, some))
-  leads (suc more) prefix was few = of (newer_from (fixed_of given) world z prefix) refl (λ next was few. leads more next was few)
+  leads (suc more) prefix was few = of (newer_by (fixed_of given) world answers z prefix) refl (λ next was few. leads more next was few)
     where
-      of : (found : Option Prefix) → newer_from (fixed_of given) world z prefix ≡ found
-          → ((next : Prefix) → WasPrefix (beginning z given) w.log next → length (filter (above next) world.servers) ≤ more → Led (led_so_far more (fixed_of given) world z next))
-          → Led (led_on prefix found (λ newer. led_so_far more (fixed_of given) world z newer))
+      of : (found : Option Prefix) → newer_by (fixed_of given) world answers z prefix ≡ found
+          → ((next : Prefix) → WasPrefix (beginning z given) w.log next → length (filter (above next) world.servers) ≤ more → Led (led_so_far_by more (fixed_of given) world answers z next))
+          → Led (led_on prefix found (λ newer. led_so_far_by more (fixed_of given) world answers z newer))
       of None is go = record { was = was; last = is }
       of (Some next) is go = let new = newer prefix next is in let less = less_left prefix next new in go next new.was (omega (arith, few, less))
 
-  pub led : (start : Prefix) → WasPrefix (beginning z given) w.log start → Led (led_to (fixed_of given) world z start)
+  pub led : (start : Prefix) → WasPrefix (beginning z given) w.log start → Led (led_to_by (fixed_of given) world answers z start)
   led start was = leads (length world.servers) start was (within (above start) (above start) world.servers)

@@ -50,3 +50,12 @@ pub mod Tries
 pub mod Again
 pub mod InTime
 pub mod Promised
+pub mod Open
+pub mod Stand
+pub mod Keeps
+pub mod OpenRows
+pub mod Untaken
+pub mod AtWork
+pub mod Unfixed
+pub mod Unrobbed
+pub mod NearRows

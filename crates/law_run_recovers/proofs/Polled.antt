@@ -23,8 +23,8 @@ use Rattle.suite_collect.specs.Collecting.{Collector, Asked, Poll, Upgrade, requ
 use Rattle.rep_core.specs.State.{State}
 use Rattle.txn_core.specs.Doing.{Fixed}
 use Rattle.run_core.specs.Worlds.{World}
-use Rattle.law_run_recovers.specs.Standing.{is_up, shown_at}
-use Rattle.law_run_recovers.specs.Demands.{shows_newer, newer_from}
+use Rattle.law_run_recovers.specs.Standing.{shown_at}
+use Rattle.law_run_recovers.specs.Demands.{shows_newer_by, newer_by}
 use Rattle.law_run_recovers.proofs.Leading.{not_itself}
 use Rattle.law_run_recovers.proofs.Picks.{find_nobody, find_fails, three, votes_alike}
 
@@ -93,31 +93,31 @@ at_short c had wanting busy is = of (nat_le (needed c) (got c)) (find (is_left c
 still_not : (before after n : ℕ) → nat_lt before after ≡ true → nat_lt before n ≡ false → nat_lt after n ≡ false
 still_not before after n less not = grind (arith, nat_tests)
 
-module _ (fixed : Fixed) (world : World) (suite : ℕ) where
+module _ (fixed : Fixed) (world : World) (answers : ℕ → Bool) (suite : ℕ) where
   abbrev shown : ℕ → Prefix
   shown server = shown_at fixed world suite server
 
   -- a server that is up answers a poll or upgrade with what it shows, one that is down that it is
   abbrev pub Answers : ℕ → Reply → Type 0
-  Answers server (reply.Held prefix dver) = (is_up world server ≡ true) × (prefix ≡ shown_at fixed world suite server)
-  Answers server reply.Down = is_up world server ≡ false
+  Answers server (reply.Held prefix dver) = (answers server ≡ true) × (prefix ≡ shown_at fixed world suite server)
+  Answers server reply.Down = answers server ≡ false
   Answers server other = ⊥
 
   abbrev pub IsAnswered : Collector → Reply → Type 0
   IsAnswered c answer = (server : ℕ) (asked : Asked) → next c ≡ Ask server asked → Answers server answer
 
   -- so does a server that is up or down as it was, has stored what it showed, and has no lock in the way
-  pub answers_so : (server t : ℕ) (st : State) → st.up ≡ is_up world server
-      → (is_up world server ≡ true → (copy_of st.store suite).prefix ≡ shown_at fixed world suite server)
-      → (is_up world server ≡ true → (mode : LockMode) → in_the_way t suite mode st.locks ≡ None)
-      → (asked : Asked) → (asked ≡ Upgrade → is_up world server ≡ true → has_lock t suite st.locks ≡ true)
+  pub answers_so : (server t : ℕ) (st : State) → st.up ≡ answers server
+      → (answers server ≡ true → (copy_of st.store suite).prefix ≡ shown_at fixed world suite server)
+      → (answers server ≡ true → (mode : LockMode) → in_the_way t suite mode st.locks ≡ None)
+      → (asked : Asked) → (asked ≡ Upgrade → answers server ≡ true → has_lock t suite st.locks ≡ true)
       → Answers server (reply_of st (request_for t suite asked))
-  answers_so server t st up stored free asked own = of (is_up world server) refl asked own
+  answers_so server t st up stored free asked own = of (answers server) refl asked own
     where
-      serves_it : (b : Bool) (asked : Request) → is_up world server ≡ b → reply_of st asked ≡ cond b (reply_up st asked) (reply_down asked)
+      serves_it : (b : Bool) (asked : Request) → answers server ≡ b → reply_of st asked ≡ cond b (reply_up st asked) (reply_down asked)
       serves_it b asked is = ap (λ b. cond b (reply_up st asked) (reply_down asked)) (up ∙ is)
 
-      of : (b : Bool) → is_up world server ≡ b → (asked : Asked) → (asked ≡ Upgrade → is_up world server ≡ true → has_lock t suite st.locks ≡ true) → Answers server (reply_of st (request_for t suite asked))
+      of : (b : Bool) → answers server ≡ b → (asked : Asked) → (asked ≡ Upgrade → answers server ≡ true → has_lock t suite st.locks ≡ true) → Answers server (reply_of st (request_for t suite asked))
       of true is (Poll mode) own =
           subst (Answers server) (sym (serves_it true (request_for t suite (Poll mode)) is ∙ ap (λ found. locking_reply found (copy_of st.store suite)) (free is mode))) (is, stored is)
       of true is Upgrade own =
@@ -128,9 +128,9 @@ module _ (fixed : Fixed) (world : World) (suite : ℕ) where
       of false is Upgrade own = subst (Answers server) (sym (serves_it false (request_for t suite Upgrade) is)) is
 
   abbrev pub RightSaid : ℕ → Said → Type 0
-  RightSaid server (Held prefix dver) = (is_up world server ≡ true) × (prefix ≡ shown_at fixed world suite server)
+  RightSaid server (Held prefix dver) = (answers server ≡ true) × (prefix ≡ shown_at fixed world suite server)
   RightSaid server (Busy holder) = ⊥
-  RightSaid server Down = is_up world server ≡ false
+  RightSaid server Down = answers server ≡ false
 
   abbrev pub AllRight : List Told → Type 0
   AllRight [] = Unit {0}
@@ -147,7 +147,7 @@ module _ (fixed : Fixed) (world : World) (suite : ℕ) where
 
   -- a server that said it held is up, and shows none that is newer than the newest since
   said_up : (server : ℕ) (said : Said) (before : Prefix) → RightSaid server said → is_held said ≡ true
-      → (is_up world server ≡ true) × (nat_lt (newer before said).pver (shown server).pver ≡ false)
+      → (answers server ≡ true) × (nat_lt (newer before said).pver (shown server).pver ≡ false)
   said_up server (Busy holder) before right held = absurd right
   said_up server Down before right held = absurd (false≢true held)
   said_up server (Held prefix dver) before right held = (right.0, of (nat_lt before.pver prefix.pver) refl)
@@ -157,14 +157,14 @@ module _ (fixed : Fixed) (world : World) (suite : ℕ) where
       of false less = ap (λ (p : Prefix). nat_lt before.pver p.pver) (sym right.1) ∙ less
 
   pub held_up : (start : Prefix) (told : List Told) → AllRight told → (mode : LockMode) (server : ℕ) → holds mode told server ≡ true
-      → (is_up world server ≡ true) × (nat_lt (newest start told).pver (shown server).pver ≡ false)
+      → (answers server ≡ true) × (nat_lt (newest start told).pver (shown server).pver ≡ false)
   held_up start [] right mode server is = absurd (false≢true is)
   held_up start (one ∷ told) right mode server is =
       elim (or_cases ((one.server == server) && (is_held one.said && serves one.mode mode)) (holds mode told server) is) [
         | inl now ↦
             let parts = and_parts (one.server == server) (is_held one.said && serves one.mode mode) now in
             let held = (and_parts (is_held one.said) (serves one.mode mode) parts.1).0 in
-            subst (λ server. (is_up world server ≡ true) × (nat_lt (newer (newest start told) one.said).pver (shown server).pver ≡ false)) (eqb-true one.server server parts.0)
+            subst (λ server. (answers server ≡ true) × (nat_lt (newer (newest start told) one.said).pver (shown server).pver ≡ false)) (eqb-true one.server server parts.0)
             (said_up one.server one.said (newest start told) right.0 held)
         | inr before ↦
             let rest = held_up start told right.1 mode server before in
@@ -172,18 +172,18 @@ module _ (fixed : Fixed) (world : World) (suite : ℕ) where
       ]
 
   -- one that refused is down
-  said_down : (server : ℕ) (said : Said) → RightSaid server said → not (is_held said) ≡ true → is_up world server ≡ false
+  said_down : (server : ℕ) (said : Said) → RightSaid server said → not (is_held said) ≡ true → answers server ≡ false
   said_down server (Busy holder) right is = absurd right
   said_down server Down right is = right
   said_down server (Held prefix dver) right is = absurd (false≢true is)
 
-  pub refused_down : (told : List Told) → AllRight told → (server : ℕ) → has_refused told server ≡ true → is_up world server ≡ false
+  pub refused_down : (told : List Told) → AllRight told → (server : ℕ) → has_refused told server ≡ true → answers server ≡ false
   refused_down [] right server is = absurd (false≢true is)
   refused_down (one ∷ told) right server is =
       elim (or_cases ((one.server == server) && not (is_held one.said)) (has_refused told server) is) [
         | inl now ↦
             let parts = and_parts (one.server == server) (not (is_held one.said)) now in
-            subst (λ server. is_up world server ≡ false) (eqb-true one.server server parts.0) (said_down one.server one.said right.0 parts.1)
+            subst (λ server. answers server ≡ false) (eqb-true one.server server parts.0) (said_down one.server one.said right.0 parts.1)
         | inr before ↦ refused_down told right.1 server before
       ]
 
@@ -220,45 +220,45 @@ module _ (fixed : Fixed) (world : World) (suite : ℕ) where
 
   -- one that is up and shows a newer one than the newest is left
   pub newer_left : (start : Prefix) (mode : LockMode) (told : List Told) → AllRight told → (rep : Representative)
-      → shows_newer fixed world suite (newest start told) rep ≡ true → is_left (gathering start mode told) rep ≡ true
+      → shows_newer_by fixed world answers suite (newest start told) rep ≡ true → is_left (gathering start mode told) rep ≡ true
   newer_left start mode told right rep is =
-      let parts = and_parts (nat_lt 0 rep.1 && is_up world rep.0) (nat_lt (newest start told).pver (shown rep.0).pver) is in
-      let votes = and_parts (nat_lt 0 rep.1) (is_up world rep.0) parts.0 in
+      let parts = and_parts (nat_lt 0 rep.1 && answers rep.0) (nat_lt (newest start told).pver (shown rep.0).pver) is in
+      let votes = and_parts (nat_lt 0 rep.1) (answers rep.0) parts.0 in
       three (nat_lt 0 rep.1) (holds mode told rep.0) (has_refused told rep.0) votes.0
       (false_from_ne_true (holds mode told rep.0) (λ has. false≢true (sym (held_up start told right mode rep.0 has).1 ∙ parts.1)))
       (false_from_ne_true (has_refused told rep.0) (λ has. false≢true (sym (refused_down told right rep.0 has) ∙ votes.1)))
 
   -- where nobody is left, none shows a newer one
   pub none_shows : (start : Prefix) (mode : LockMode) (told : List Told) → AllRight told → find (is_left (gathering start mode told)) (newest start told).votes.reps ≡ None
-      → newer_from fixed world suite (newest start told) ≡ None
+      → newer_by fixed world answers suite (newest start told) ≡ None
   none_shows start mode told right none =
       ap (option_map (λ (rep : Representative). shown_at fixed world suite rep.0))
-      (find_nobody (is_left (gathering start mode told)) (shows_newer fixed world suite (newest start told)) (newer_left start mode told right) (newest start told).votes.reps none)
+      (find_nobody (is_left (gathering start mode told)) (shows_newer_by fixed world answers suite (newest start told)) (newer_left start mode told right) (newest start told).votes.reps none)
 
   -- and those that are held are those that are up, of the voting members
   pub held_are_up : (start : Prefix) (mode : LockMode) (told : List Told) → AllRight told → find (is_left (gathering start mode told)) (newest start told).votes.reps ≡ None
-      → votes_in (newest start told).votes.reps (holds mode told) ≡ votes_in (newest start told).votes.reps (is_up world)
+      → votes_in (newest start told).votes.reps (holds mode told) ≡ votes_in (newest start told).votes.reps answers
   held_are_up start mode told right none =
-      votes_alike (newest start told).votes.reps (holds mode told) (is_up world)
+      votes_alike (newest start told).votes.reps (holds mode told) answers
       (λ rep has some. of rep (find_fails (is_left (gathering start mode told)) (newest start told).votes.reps none rep has) some (holds mode told rep.0) (has_refused told rep.0) refl refl)
     where
-      of : (rep : Representative) → is_left (gathering start mode told) rep ≡ false → nat_lt 0 rep.1 ≡ true → (m r : Bool) → holds mode told rep.0 ≡ m → has_refused told rep.0 ≡ r → holds mode told rep.0 ≡ is_up world rep.0
+      of : (rep : Representative) → is_left (gathering start mode told) rep ≡ false → nat_lt 0 rep.1 ≡ true → (m r : Bool) → holds mode told rep.0 ≡ m → has_refused told rep.0 ≡ r → holds mode told rep.0 ≡ answers rep.0
       of rep fails some true r member refused = member ∙ sym (held_up start told right mode rep.0 member).0
       of rep fails some false true member refused = member ∙ sym (refused_down told right rep.0 refused)
       of rep fails some false false member refused = absurd (false≢true (sym fails ∙ three (nat_lt 0 rep.1) (holds mode told rep.0) (has_refused told rep.0) some member refused))
 
   -- a server whose lock is to become exclusive is up
-  pub upgrade_up : (start : Prefix) (mode : LockMode) (told : List Told) → AllRight told → (server : ℕ) → next (gathering start mode told) ≡ Ask server Upgrade → is_up world server ≡ true
+  pub upgrade_up : (start : Prefix) (mode : LockMode) (told : List Told) → AllRight told → (server : ℕ) → next (gathering start mode told) ≡ Ask server Upgrade → answers server ≡ true
   upgrade_up start mode told right server is =
       of (nat_le (needed (gathering start mode told)) (got (gathering start mode told))) (find (is_left (gathering start mode told)) (newest start told).votes.reps) is
     where
-      by : (rep : Representative) (b : Bool) → holds Shared told rep.0 ≡ b → Ask rep.0 (cond b Upgrade (Poll mode)) ≡ Ask server Upgrade → is_up world server ≡ true
-      by rep true has is = ap (is_up world) (sym (ap server_of is)) ∙ (held_up start told right Shared rep.0 has).0
+      by : (rep : Representative) (b : Bool) → holds Shared told rep.0 ≡ b → Ask rep.0 (cond b Upgrade (Poll mode)) ≡ Ask server Upgrade → answers server ≡ true
+      by rep true has is = ap answers (sym (ap server_of is)) ∙ (held_up start told right Shared rep.0 has).0
       by rep false has is = cc
 
       of : (b : Bool) (found : Option Representative)
           → cond b (Current (newest start told) (version (gathering start mode told)) (members_of (newest start told).votes (holds mode told))) (ask_or_short (gathering start mode told) found) ≡ Ask server Upgrade
-          → is_up world server ≡ true
+          → answers server ≡ true
       of true found is = cc
       of false None is = cc
       of false (Some rep) is = by rep (holds Shared told rep.0) refl is

@@ -37,7 +37,7 @@ use Rattle.law_run_alone.proofs.Unhindered.{all_consistent}
 use Rattle.law_run_recovers.specs.Standing.{is_up, up_free}
 use Rattle.law_run_recovers.specs.Demands.{Demand, demand, is_met, led_to, votes_of_row, locks_asked, votes_set, MayStart}
 use Rattle.law_run_recovers.specs.Laws.{MetDemandsAreRows}
-use Rattle.law_run_recovers.proofs.Found.{found_is_row}
+use Rattle.law_run_recovers.proofs.Found.{all_answer, found_is_row}
 use Rattle.law_run_recovers.proofs.Leading.{led}
 
 -- tests that hold of one image hold of another
@@ -57,7 +57,7 @@ row_votes given events can z None is =
     let none = (versions.none given events kept z is).0 in
     ap (λ (prefix : Prefix). prefix.votes) (sym inv.logged.own.0.1 ∙ ap (prefix_at (beginning z given) (machine_of given z events).log) none ∙ inv.logged.never.1)
 
-module _ (given : Opening) (events : List Event) (can : CanBe given events) (free : up_free (run given events) ≡ true) (z : ℕ) where
+module _ (given : Opening) (events : List Event) (can : CanBe given events) (z : ℕ) where
   abbrev world : worlds.World
   world = run given events
 
@@ -82,18 +82,20 @@ module _ (given : Opening) (events : List Event) (can : CanBe given events) (fre
           of_suite : (entry : Entry) → is_of site z entry ≡ true → entry.suite ≡ z
           of_suite entry is = grind (arith, nat_tests)
 
-  met_row : (agent site : ℕ) (actor : Actor) (start : Prefix) → actor_at (run given events) agent ≡ Some actor → MayStart (fixed_of given) actor.agent.cache site z start → (mode : LockMode)
-      → is_met (demand (run given events) z mode (led_to (fixed_of given) (run given events) z start).votes) ≡ true
-      → is_met (demand (run given events) z mode (votes_of_row (fixed_of given) (row_of (table_of given events).rows z))) ≡ true
-  met_row agent site actor start there may mode met =
-      let shows = (effects.follows given events kept z).shows in
-      let end = led given z (machine_of given z events) (run given events) inv shows (all_consistent given events) free start (start_was agent site actor start there may) in
-      let is = found_is_row given z (machine_of given z events) (run given events) inv shows (all_consistent given events) free (led_to (fixed_of given) (run given events) z start) end.was end.last (quorum mode met) in
-      subst (λ votes. is_met (demand (run given events) z mode votes) ≡ true) (ap (λ (prefix : Prefix). prefix.votes) is ∙ row_votes given events can z (row_at given events z) refl) met
-    where
-      quorum : (mode : LockMode) → is_met (demand (run given events) z mode (led_to (fixed_of given) (run given events) z start).votes) ≡ true → IsQuorum (led_to (fixed_of given) (run given events) z start).votes (is_up (run given events))
-      quorum Shared met = inl met
-      quorum Exclusive met = inr met
+  module _ (free : up_free (run given events) ≡ true) where
+    met_row : (agent site : ℕ) (actor : Actor) (start : Prefix) → actor_at (run given events) agent ≡ Some actor → MayStart (fixed_of given) actor.agent.cache site z start → (mode : LockMode)
+        → is_met (demand (run given events) z mode (led_to (fixed_of given) (run given events) z start).votes) ≡ true
+        → is_met (demand (run given events) z mode (votes_of_row (fixed_of given) (row_of (table_of given events).rows z))) ≡ true
+    met_row agent site actor start there may mode met =
+        let shows = (effects.follows given events kept z).shows in
+        let all = all_answer given z (machine_of given z events) (run given events) inv shows (all_consistent given events) free in
+        let end = led given z (machine_of given z events) (run given events) inv (is_up (run given events)) all start (start_was agent site actor start there may) in
+        let is = found_is_row given z (machine_of given z events) (run given events) inv (is_up (run given events)) all (led_to (fixed_of given) (run given events) z start) end.was end.last (quorum mode met) in
+        subst (λ votes. is_met (demand (run given events) z mode votes) ≡ true) (ap (λ (prefix : Prefix). prefix.votes) is ∙ row_votes given events can z (row_at given events z) refl) met
+      where
+        quorum : (mode : LockMode) → is_met (demand (run given events) z mode (led_to (fixed_of given) (run given events) z start).votes) ≡ true → IsQuorum (led_to (fixed_of given) (run given events) z start).votes (is_up (run given events))
+        quorum Shared met = inl met
+        quorum Exclusive met = inr met
 
 pub met_demands_are_rows : MetDemandsAreRows
 met_demands_are_rows given events can t caller site ops agent actor start free there may met =
@@ -103,5 +105,5 @@ met_demands_are_rows given events can t caller site ops agent actor start free t
     let of_row : ℕ × LockMode → Demand = λ one. demand (run given events) one.0 one.1 (votes_of_row (fixed_of given) (row_of (table_of given events).rows one.0)) in
     let parts = and_parts (list_all is_met (map found asked)) (list_all is_met set) (sym (list_all-append is_met (map found asked) set) ∙ met) in
     list_all-append is_met (map of_row asked) set
-    ∙ ap (λ b. b && list_all is_met set) (all_alike {X = ℕ × LockMode} is_met found of_row (λ one met. met_row given events can free one.0 agent site actor (start one.0) there (may one.0) one.1 met) asked parts.0)
+    ∙ ap (λ b. b && list_all is_met set) (all_alike {X = ℕ × LockMode} is_met found of_row (λ one met. met_row given events can one.0 free agent site actor (start one.0) there (may one.0) one.1 met) asked parts.0)
     ∙ parts.1

@@ -15,7 +15,7 @@ use Rattle.weak_cache.specs.Cache.{hint}
 use Rattle.txn_core.specs.Doing.{Fixed}
 use Rattle.run_core.specs.Worlds.{World}
 use Rattle.law_run_recovers.specs.Standing.{is_up, shown_at}
-use Rattle.law_run_recovers.specs.Demands.{Demand, demand, demands, all_met, shows_newer, newer_from, led_on, led_so_far, led_to, locks_asked, votes_set, MayStart, VotesAreUp}
+use Rattle.law_run_recovers.specs.Demands.{Demand, demand, demands, all_met, shows_newer_by, newer_from, led_on, led_so_far_by, led_to, locks_asked, votes_set, MayStart, VotesAreUp}
 use Rattle.law_run_recovers.proofs.Leading.{stays}
 use Rattle.law_run_recovers.proofs.Picks.{votes_alike}
 use Rattle.law_run_recovers.proofs.Unmoved.{map_alike}
@@ -34,7 +34,7 @@ abbrev pub HintsLed : Fixed → World → Cache → ℕ → Cache → Type 0
 HintsLed fixed world cache site now = (z : ℕ) (prefix : Prefix) → hint now site z ≡ Some prefix → (hint cache site z ≡ Some prefix) ⊎ LeadsFrom fixed world cache site z prefix
 
 module _ (fixed : Fixed) (before after : World) (many : length after.servers ≡ length before.servers) (up : (i : ℕ) → is_up after i ≡ is_up before i) (shown : (z i : ℕ) → is_up before i ≡ true → shown_at fixed after z i ≡ shown_at fixed before z i) where
-  same_test : (z : ℕ) (prefix : Prefix) (rep : Representative) → shows_newer fixed after z prefix rep ≡ shows_newer fixed before z prefix rep
+  same_test : (z : ℕ) (prefix : Prefix) (rep : Representative) → shows_newer_by fixed after (is_up after) z prefix rep ≡ shows_newer_by fixed before (is_up before) z prefix rep
   same_test z prefix rep =
       ap (λ b. nat_lt 0 rep.1 && b && nat_lt prefix.pver (shown_at fixed after z rep.0).pver) (up rep.0) ∙ of (nat_lt 0 rep.1) (is_up before rep.0) refl
     where
@@ -45,28 +45,28 @@ module _ (fixed : Fixed) (before after : World) (many : length after.servers ≡
 
   same_newer : (z : ℕ) (prefix : Prefix) → newer_from fixed after z prefix ≡ newer_from fixed before z prefix
   same_newer z prefix =
-      ap (option_map (λ (rep : Representative). shown_at fixed after z rep.0)) (find_alike (shows_newer fixed after z prefix) (shows_newer fixed before z prefix) (same_test z prefix) prefix.votes.reps)
-      ∙ of (find (shows_newer fixed before z prefix) prefix.votes.reps) refl
+      ap (option_map (λ (rep : Representative). shown_at fixed after z rep.0)) (find_alike (shows_newer_by fixed after (is_up after) z prefix) (shows_newer_by fixed before (is_up before) z prefix) (same_test z prefix) prefix.votes.reps)
+      ∙ of (find (shows_newer_by fixed before (is_up before) z prefix) prefix.votes.reps) refl
     where
-      of : (found : Option Representative) → find (shows_newer fixed before z prefix) prefix.votes.reps ≡ found
+      of : (found : Option Representative) → find (shows_newer_by fixed before (is_up before) z prefix) prefix.votes.reps ≡ found
           → option_map (λ (rep : Representative). shown_at fixed after z rep.0) found ≡ option_map (λ (rep : Representative). shown_at fixed before z rep.0) found
       of None is = refl
       of (Some rep) is =
-          let test = (find_some (shows_newer fixed before z prefix) prefix.votes.reps rep is).1 in
+          let test = (find_some (shows_newer_by fixed before (is_up before) z prefix) prefix.votes.reps rep is).1 in
           let parts = and_parts (nat_lt 0 rep.1 && is_up before rep.0) (nat_lt prefix.pver (shown_at fixed before z rep.0).pver) test in
           ap (λ (p : Prefix). Some p) (shown z rep.0 (and_parts (nat_lt 0 rep.1) (is_up before rep.0) parts.0).1)
 
-  same_so_far : (n z : ℕ) (prefix : Prefix) → led_so_far n fixed after z prefix ≡ led_so_far n fixed before z prefix
+  same_so_far : (n z : ℕ) (prefix : Prefix) → led_so_far_by n fixed after (is_up after) z prefix ≡ led_so_far_by n fixed before (is_up before) z prefix
   same_so_far zero z prefix = refl
-  same_so_far (suc n) z prefix = ap (λ found. led_on prefix found (λ newer. led_so_far n fixed after z newer)) (same_newer z prefix) ∙ of (newer_from fixed before z prefix) (same_so_far n z)
+  same_so_far (suc n) z prefix = ap (λ found. led_on prefix found (λ newer. led_so_far_by n fixed after (is_up after) z newer)) (same_newer z prefix) ∙ of (newer_from fixed before z prefix) (same_so_far n z)
     where
-      of : (found : Option Prefix) → ((prefix : Prefix) → led_so_far n fixed after z prefix ≡ led_so_far n fixed before z prefix)
-          → led_on prefix found (λ newer. led_so_far n fixed after z newer) ≡ led_on prefix found (λ newer. led_so_far n fixed before z newer)
+      of : (found : Option Prefix) → ((prefix : Prefix) → led_so_far_by n fixed after (is_up after) z prefix ≡ led_so_far_by n fixed before (is_up before) z prefix)
+          → led_on prefix found (λ newer. led_so_far_by n fixed after (is_up after) z newer) ≡ led_on prefix found (λ newer. led_so_far_by n fixed before (is_up before) z newer)
       of None go = refl
       of (Some newer) go = go newer
 
   pub same_led : (z : ℕ) (prefix : Prefix) → led_to fixed after z prefix ≡ led_to fixed before z prefix
-  same_led z prefix = ap (λ n. led_so_far n fixed after z prefix) many ∙ same_so_far (length before.servers) z prefix
+  same_led z prefix = ap (λ n. led_so_far_by n fixed after (is_up after) z prefix) many ∙ same_so_far (length before.servers) z prefix
 
   same_votes_up : (votes : Configuration) → votes_in votes.reps (is_up after) ≡ votes_in votes.reps (is_up before)
   same_votes_up votes = votes_alike votes.reps (is_up after) (is_up before) (λ rep has some. up rep.0)
@@ -123,7 +123,7 @@ module _ (fixed : Fixed) (before after : World) (many : length after.servers ≡
           (λ (new : LeadsFrom fixed before cache site z (start' z)). record {
             start = new.start;
             may = new.may;
-            same = ap (led_to fixed before z) new.is ∙ stays fixed before z (length before.servers) (led_to fixed before z new.start) (last z new.start new.may);
+            same = ap (led_to fixed before z) new.is ∙ stays fixed before (is_up before) z (length before.servers) (led_to fixed before z new.start) (last z new.start new.may);
           })
           (hints z (start' z) hinted))
           (may z)

@@ -47,7 +47,7 @@ use Rattle.law_run_recovers.proofs.VotesSet.{IsSet}
 
 -- of each suite, what a prefix from which it is looked for leads to; Was says what a prefix is said to be, as that the suite had it
 pub record Ground (fixed : Fixed) (world : World) (cache : Cache) (site : ℕ) (Was : ℕ → Prefix → Type 0) : Type 0 where
-  pub rules : (z : ℕ) (start : Prefix) → MayStart fixed cache site z start → Rules fixed world z (Was z) start
+  pub rules : (z : ℕ) (start : Prefix) → MayStart fixed cache site z start → Rules fixed world (is_up world) z (Was z) start
   pub valid : (z : ℕ) (prefix : Prefix) → Was z prefix → IsValid prefix.votes
 
 -- what a transaction needs on a table, and what its operations come to there
@@ -134,7 +134,7 @@ module _ (fixed : Fixed) (world : World) (table : PlainTable) (task : Task) (cac
   -- a suite is looked for from where it may be, and what was told of it is right
   pub record IsRight (z : ℕ) (suite : Suite) : Type 0 where
     pub may : MayStart fixed cache task.site z suite.collector.start
-    pub right : AllRight fixed world z (all_told suite.collector)
+    pub right : AllRight fixed world (is_up world) z (all_told suite.collector)
 
   -- a lock that was had
   pub record IsHad (suites : Suites) (one : ℕ × LockMode) : Type 0 where
@@ -246,7 +246,7 @@ module _ (fixed : Fixed) (world : World) (table : PlainTable) (task : Task) (cac
     pub record IsFound (z : ℕ) (suite : Suite) : Type 0 where
       pub start : Prefix
       pub may : MayStart fixed cache task.site z start
-      pub reached : Reached fixed world z (Was z) start (ground.rules z start may) suite.collector
+      pub reached : Reached fixed world (is_up world) z (Was z) start (ground.rules z start may) suite.collector
       pub led : (first : ReadPoint) → suite.first ≡ Some first → first.prefix ≡ led_to fixed world z start
 
     pub found_start : (z : ℕ) (suite : Suite) (found : IsFound z suite) → suite.collector.start ≡ found.start
@@ -255,7 +255,7 @@ module _ (fixed : Fixed) (world : World) (table : PlainTable) (task : Task) (cac
     pub found_right : (z : ℕ) (suite : Suite) → IsFound z suite → IsRight z suite
     found_right z suite found = record {
       may = subst (MayStart fixed cache task.site z) (sym (found_start z suite found)) found.may;
-      right = subst (AllRight fixed world z) (sym (ap all_told found.reached.is)) found.reached.going.right;
+      right = subst (AllRight fixed world (is_up world) z) (sym (ap all_told found.reached.is)) found.reached.going.right;
     }
 
     -- and that had a Current: some server holds a lock on it

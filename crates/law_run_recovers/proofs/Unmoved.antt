@@ -30,6 +30,7 @@ use Rattle.law_run_alone.proofs.Unhindered.{all_consistent}
 use Rattle.law_run_recovers.specs.Standing.{is_up, up_free}
 use Rattle.law_run_recovers.specs.Demands.{Demand, demand, demands, demands_of_rows, is_met, all_met, first_short, led_to, votes_of_row, locks_asked, votes_set, MayStartAll}
 use Rattle.law_run_recovers.specs.Laws.{HasFirstVotes, VotesNeverMoved, ending_of, ending_by, answer_on, EndsAreByVotes, DecidedWhereVotesAre}
+use Rattle.law_run_recovers.proofs.Found.{all_answer}
 use Rattle.law_run_recovers.proofs.Leading.{led}
 use Rattle.law_run_recovers.proofs.Rows.{start_was}
 
@@ -70,7 +71,7 @@ module _ (given : Opening) (events : List Event) (can : CanBe given events) (fre
   found_first : (z agent site : ℕ) (actor : Actor) (start : ℕ → Prefix) → actor_at (run given events) agent ≡ Some actor → MayStartAll (fixed_of given) actor.agent.cache site start → (led_to (fixed_of given) (run given events) z (start z)).votes ≡ given.c0
   found_first z agent site actor start there may =
       let kept = all_keep given events can in
-      let end = led given z (machine_of given z events) (run given events) (effects.inv given events kept z) (effects.follows given events kept z).shows (all_consistent given events) free (start z) (start_was given events can free z agent site actor (start z) there (may z)) in
+      let end = led given z (machine_of given z events) (run given events) (effects.inv given events kept z) (is_up (run given events)) (all_answer given z (machine_of given z events) (run given events) (effects.inv given events kept z) (effects.follows given events kept z).shows (all_consistent given events) free) (start z) (start_was given events can z agent site actor (start z) there (may z)) in
       first_votes z (led_to (fixed_of given) (run given events) z (start z)) end.was
 
   same_demands : (t : ℕ) (caller : Identity) (ops : List Op) (agent site : ℕ) (actor : Actor) (start : ℕ → Prefix) → actor_at (run given events) agent ≡ Some actor → MayStartAll (fixed_of given) actor.agent.cache site start

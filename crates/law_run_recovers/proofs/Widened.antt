@@ -82,13 +82,13 @@ same_mode t number Upgrade = refl
 
 module _ (fixed : Fixed) (world : World) (suite : ℕ) where
   -- whatever the server that is asked answers is said
-  pub hears : (c : Collector) → AllRight fixed world suite (all_told c) → (server : ℕ) (asked : Asked) → next c ≡ Ask server asked → (answer : Reply) → Answers fixed world suite server answer → (said : Said) × (said_to asked answer ≡ Some said)
+  pub hears : (c : Collector) → AllRight fixed world (is_up world) suite (all_told c) → (server : ℕ) (asked : Asked) → next c ≡ Ask server asked → (answer : Reply) → Answers fixed world (is_up world) suite server answer → (said : Said) × (said_to asked answer ≡ Some said)
   hears c right server asked is answer so = says asked answer so (λ upgrade. up (is ∙ ap (λ asked. Ask server asked) upgrade))
     where
       up : next c ≡ Ask server Upgrade → is_up world server ≡ true
-      up is = (held_up fixed world suite (absent_prefix fixed.service.c0) (all_told c) right Shared server (upgrade_holds c server is)).0
+      up is = (held_up fixed world (is_up world) suite (absent_prefix fixed.service.c0) (all_told c) right Shared server (upgrade_holds c server is)).0
 
-      says : (asked : Asked) (answer : Reply) → Answers fixed world suite server answer → (asked ≡ Upgrade → is_up world server ≡ true) → (said : Said) × (said_to asked answer ≡ Some said)
+      says : (asked : Asked) (answer : Reply) → Answers fixed world (is_up world) suite server answer → (asked ≡ Upgrade → is_up world server ≡ true) → (said : Said) × (said_to asked answer ≡ Some said)
       says asked (reply.Held prefix dver) so up = (Held prefix dver, refl)
       says (Poll mode) reply.Down so up = (Down, refl)
       says Upgrade reply.Down so up = absurd (false≢true (sym so ∙ up refl))
@@ -101,20 +101,20 @@ module _ (fixed : Fixed) (world : World) (suite : ℕ) where
       says asked (reply.Locked locks) so up = absurd so
 
   -- and what it was told stays right
-  pub right_more : (c : Collector) → AllRight fixed world suite (all_told c) → (answer : Reply) (one : Told) → ((server : ℕ) (asked : Asked) → next c ≡ Ask server asked → Answers fixed world suite server answer)
-      → told_by (next c) answer ≡ Some one → AllRight fixed world suite (all_told (tell one c))
-  right_more c right answer one so is = subst (AllRight fixed world suite) (sym (all_told-tell one c)) ((told_is fixed world suite (next c) answer one is so).0, right)
+  pub right_more : (c : Collector) → AllRight fixed world (is_up world) suite (all_told c) → (answer : Reply) (one : Told) → ((server : ℕ) (asked : Asked) → next c ≡ Ask server asked → Answers fixed world (is_up world) suite server answer)
+      → told_by (next c) answer ≡ Some one → AllRight fixed world (is_up world) suite (all_told (tell one c))
+  right_more c right answer one so is = subst (AllRight fixed world (is_up world) suite) (sym (all_told-tell one c)) ((told_is fixed world (is_up world) suite (next c) answer one is so).0, right)
 
   -- where nobody is left to be asked, the members that are held are those that are up
-  held_are_up : (reps : List Representative) (mode : LockMode) (told : List Told) → AllRight fixed world suite told
+  held_are_up : (reps : List Representative) (mode : LockMode) (told : List Told) → AllRight fixed world (is_up world) suite told
       → find (λ (rep : Representative). nat_lt 0 rep.1 && not (holds mode told rep.0) && not (has_refused told rep.0)) reps ≡ None → votes_in reps (holds mode told) ≡ votes_in reps (is_up world)
   held_are_up reps mode told right none =
       votes_alike reps (holds mode told) (is_up world)
       (λ rep has some. of rep (find_fails (λ (rep : Representative). nat_lt 0 rep.1 && not (holds mode told rep.0) && not (has_refused told rep.0)) reps none rep has) some (holds mode told rep.0) (has_refused told rep.0) refl refl)
     where
       of : (rep : Representative) → (nat_lt 0 rep.1 && not (holds mode told rep.0) && not (has_refused told rep.0)) ≡ false → nat_lt 0 rep.1 ≡ true → (m r : Bool) → holds mode told rep.0 ≡ m → has_refused told rep.0 ≡ r → holds mode told rep.0 ≡ is_up world rep.0
-      of rep fails some true r member refused = member ∙ sym (held_up fixed world suite (absent_prefix fixed.service.c0) told right mode rep.0 member).0
-      of rep fails some false true member refused = member ∙ sym (refused_down fixed world suite told right rep.0 refused)
+      of rep fails some true r member refused = member ∙ sym (held_up fixed world (is_up world) suite (absent_prefix fixed.service.c0) told right mode rep.0 member).0
+      of rep fails some false true member refused = member ∙ sym (refused_down fixed world (is_up world) suite told right rep.0 refused)
       of rep fails some false false member refused = absurd (false≢true (sym fails ∙ three (nat_lt 0 rep.1) (holds mode told rep.0) (has_refused told rep.0) some member refused))
 
   -- ---- widened
@@ -128,7 +128,7 @@ module _ (fixed : Fixed) (world : World) (suite : ℕ) where
     pub too_few : nat_le votes.w (votes_in votes.reps (is_up world)) ≡ false
     pub not_busy : busy ≡ None
 
-  pub widened_short : (c : Collector) (votes : Configuration) (since : List Told) → AllRight fixed world suite (since ++ c.told) → (had wanting : ℕ) (busy : Option (ℕ × ℕ)) → next (by_votes c votes since) ≡ Short had wanting busy → WidenedShort votes had wanting busy
+  pub widened_short : (c : Collector) (votes : Configuration) (since : List Told) → AllRight fixed world (is_up world) suite (since ++ c.told) → (had wanting : ℕ) (busy : Option (ℕ × ℕ)) → next (by_votes c votes since) ≡ Short had wanting busy → WidenedShort votes had wanting busy
   widened_short c votes since right had wanting busy is =
       let at = at_short (by_votes c votes since) had wanting busy is in
       let up = held_are_up votes.reps Exclusive (since ++ c.told) right at.nobody in
@@ -136,14 +136,14 @@ module _ (fixed : Fixed) (world : World) (suite : ℕ) where
         had_is = sym at.had_is ∙ up;
         wanting_is = sym at.wanting_is;
         too_few = ap (nat_le votes.w) (sym up) ∙ at.too_few;
-        not_busy = sym (short_busy (by_votes c votes since) had wanting busy is) ∙ nobody_busy fixed world suite (since ++ c.told) right;
+        not_busy = sym (short_busy (by_votes c votes since) had wanting busy is) ∙ nobody_busy fixed world (is_up world) suite (since ++ c.told) right;
       }
 
-  pub widened_current : (c : Collector) (votes : Configuration) (since : List Told) → AllRight fixed world suite (since ++ c.told) → (prefix : Prefix) (dver : ℕ) (members : List ℕ) → next (by_votes c votes since) ≡ Current prefix dver members
+  pub widened_current : (c : Collector) (votes : Configuration) (since : List Told) → AllRight fixed world (is_up world) suite (since ++ c.told) → (prefix : Prefix) (dver : ℕ) (members : List ℕ) → next (by_votes c votes since) ≡ Current prefix dver members
       → nat_le votes.w (votes_in votes.reps (is_up world)) ≡ true
   widened_current c votes since right prefix dver members is =
       up_to votes.w (votes_in votes.reps (holds Exclusive (since ++ c.told))) (votes_in votes.reps (is_up world)) (at_current (by_votes c votes since) prefix dver members is).enough
-      (votes_in-wider votes.reps (holds Exclusive (since ++ c.told)) (is_up world) (λ server has. (held_up fixed world suite (absent_prefix fixed.service.c0) (since ++ c.told) right Exclusive server has).0))
+      (votes_in-wider votes.reps (holds Exclusive (since ++ c.told)) (is_up world) (λ server has. (held_up fixed world (is_up world) suite (absent_prefix fixed.service.c0) (since ++ c.told) right Exclusive server has).0))
     where
       up_to : (a b c : ℕ) → nat_le a b ≡ true → b ≤ c → nat_le a c ≡ true
       up_to a b c le more = grind (arith, nat_tests)

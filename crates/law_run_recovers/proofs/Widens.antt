@@ -16,6 +16,7 @@ use Rattle.txn_core.specs.Doing.{Fixed, Task, Granted}
 use Rattle.txn_core.specs.Transactions.{Step, short_cause, votes_then, widened, widen_by, widen_one, widen_all, locked_at}
 use Rattle.txn_core.proofs.Gathers.{self, with_at, each_but, each_with}
 use Rattle.run_core.specs.Worlds.{World}
+use Rattle.law_run_recovers.specs.Standing.{is_up}
 use Rattle.law_run_recovers.specs.Demands.{is_met}
 use Rattle.law_run_recovers.proofs.Polled.{AllRight}
 use Rattle.law_run_recovers.proofs.Widened.{WidenedShort, widened_short, widened_current}
@@ -24,9 +25,9 @@ use Rattle.law_run_recovers.proofs.Stands.{Ground, of_votes, EndsRight, ends_sho
 
 -- ---- a collector that is widened
 
-module _ (fixed : Fixed) (world : World) (z : ℕ) (c : Collector) (w : Widening) (is : c.widening ≡ Some w) (right : AllRight fixed world z (all_told c)) where
-  right_since : AllRight fixed world z (w.told ++ c.told)
-  right_since = subst (λ o. AllRight fixed world z (told_since o ++ c.told)) is right
+module _ (fixed : Fixed) (world : World) (z : ℕ) (c : Collector) (w : Widening) (is : c.widening ≡ Some w) (right : AllRight fixed world (is_up world) z (all_told c)) where
+  right_since : AllRight fixed world (is_up world) z (w.told ++ c.told)
+  right_since = subst (λ o. AllRight fixed world (is_up world) z (told_since o ++ c.told)) is right
 
   pub by_short : (had wanting : ℕ) (busy : Option (ℕ × ℕ)) → next c ≡ Short had wanting busy → WidenedShort fixed world z w.votes had wanting busy
   by_short had wanting busy short = widened_short fixed world z c w.votes w.told right_since had wanting busy (sym (ap (λ o. next (record c { widening = o })) is) ∙ short)

@@ -30,25 +30,32 @@ use Rattle.law_run_recovers.specs.Standing.{is_up, shown_at}
 -- Who looks for a suite has some prefix of it, which may be old, and asks the servers that have a vote by it. One that shows a newer prefix tells of newer
 -- votes, and then the servers are asked that have a vote by those.
 
--- what the first of the voting members of a prefix shows, in listed order, that is up and shows a newer one
-abbrev pub shows_newer : Fixed → World → ℕ → Prefix → Representative → Bool
-shows_newer fixed world suite prefix rep = nat_lt 0 rep.1 && is_up world rep.0 && nat_lt prefix.pver (shown_at fixed world suite rep.0).pver
+-- what the first of the voting members of a prefix shows, in listed order, that answers and shows a newer one
+abbrev pub shows_newer_by : Fixed → World → (ℕ → Bool) → ℕ → Prefix → Representative → Bool
+shows_newer_by fixed world answers suite prefix rep = nat_lt 0 rep.1 && answers rep.0 && nat_lt prefix.pver (shown_at fixed world suite rep.0).pver
 
-abbrev pub newer_from : Fixed → World → ℕ → Prefix → Option Prefix
-newer_from fixed world suite prefix = option_map (λ (rep : Representative). shown_at fixed world suite rep.0) (find (shows_newer fixed world suite prefix) prefix.votes.reps)
+abbrev pub newer_by : Fixed → World → (ℕ → Bool) → ℕ → Prefix → Option Prefix
+newer_by fixed world answers suite prefix = option_map (λ (rep : Representative). shown_at fixed world suite rep.0) (find (shows_newer_by fixed world answers suite prefix) prefix.votes.reps)
 
--- From a prefix to the one that is so shown, and so on, until none that is up shows a newer one: at most as often as there are servers, since each is
+-- From a prefix to the one that is so shown, and so on, until none that answers shows a newer one: at most as often as there are servers, since each is
 -- newer than the one before, and a server shows one.
 abbrev pub led_on : Prefix → Option Prefix → (Prefix → Prefix) → Prefix
 led_on prefix (Some newer) go_on = go_on newer
 led_on prefix None go_on = prefix
 
-abbrev pub led_so_far : ℕ → Fixed → World → ℕ → Prefix → Prefix
-led_so_far zero fixed world suite prefix = prefix
-led_so_far (suc more) fixed world suite prefix = led_on prefix (newer_from fixed world suite prefix) (λ newer. led_so_far more fixed world suite newer)
+abbrev pub led_so_far_by : ℕ → Fixed → World → (ℕ → Bool) → ℕ → Prefix → Prefix
+led_so_far_by zero fixed world answers suite prefix = prefix
+led_so_far_by (suc more) fixed world answers suite prefix = led_on prefix (newer_by fixed world answers suite prefix) (λ newer. led_so_far_by more fixed world answers suite newer)
+
+abbrev pub led_to_by : Fixed → World → (ℕ → Bool) → ℕ → Prefix → Prefix
+led_to_by fixed world answers suite start = led_so_far_by (length world.servers) fixed world answers suite start
+
+-- where all servers answer that are up
+abbrev pub newer_from : Fixed → World → ℕ → Prefix → Option Prefix
+newer_from fixed world suite prefix = newer_by fixed world (is_up world) suite prefix
 
 abbrev pub led_to : Fixed → World → ℕ → Prefix → Prefix
-led_to fixed world suite start = led_so_far (length world.servers) fixed world suite start
+led_to fixed world suite start = led_to_by fixed world (is_up world) suite start
 
 -- ---- what is locked
 
@@ -94,8 +101,11 @@ pub record Demand : Type 0 where
   pub needed : ℕ
 
 -- what it takes to lock a suite in a mode, by these votes: votes to read for a shared lock, votes to write for an exclusive one
+abbrev pub demand_by : (ℕ → Bool) → ℕ → LockMode → Configuration → Demand
+demand_by answers suite mode votes = record { suite = suite; got = votes_in votes.reps answers; needed = needed_of mode votes }
+
 abbrev pub demand : World → ℕ → LockMode → Configuration → Demand
-demand world suite mode votes = record { suite = suite; got = votes_in votes.reps (is_up world); needed = needed_of mode votes }
+demand world suite mode votes = demand_by (is_up world) suite mode votes
 
 abbrev pub is_met : Demand → Bool
 is_met demand = nat_le demand.needed demand.got

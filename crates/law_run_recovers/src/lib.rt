@@ -27,6 +27,7 @@
 mod promises;
 
 ghost use Rattle.law_run_recovers.specs.Laws.{EndsAreByVotes, EndsInTime, MetDemandsAreRows, DecidedWhereVotesAre, HomesGoRound, OneOfThemIsDecided, DecidedHadVotesUp};
+ghost use Rattle.law_run_recovers.specs.Local.{NearVotesAreRows, OpenVotesAreRows};
 ghost use Rattle.law_run_recovers.specs.InTime.{RunsEndByTheBounds};
 ghost use Rattle.law_run_recovers.specs.Sweeping.{SweepsLeaveDoubts, SweepsKeepEffects, OnlyDoubtsAreLeft, NoLockIsLeft, AllIsStored, TakenAwayAreNeverDecided};
 ghost use Rattle.law_run_recovers.specs.Worked.{SomeRunsRecover};
@@ -64,6 +65,18 @@ pub fn decided_had_votes_up()
 /// that it sets, they have enough by the votes of the table's own rows. It does nothing.
 pub fn met_demands_are_rows()
     ensures { MetDemandsAreRows }
+{}
+
+/// A law: so it is by the votes of servers that are open to a transaction that begins, which are up and have no lock in its
+/// way, whatever locks there are. It does nothing.
+pub fn open_votes_are_rows()
+    ensures { OpenVotesAreRows }
+{}
+
+/// A law: and by the votes of servers that are up, where no lock is in its way at those that it may ask, whatever locks
+/// others have. It does nothing.
+pub fn near_votes_are_rows()
+    ensures { NearVotesAreRows }
 {}
 
 /// A law: where votes were never moved, such a transaction is decided exactly where its home and the votes of the rows are

@@ -1,0 +1,219 @@
+-- A transaction that nobody robs: until its end is fixed the locks that it was told of stand, whatever others do.
+use Rattle.std.proofs.Common.{◌≡◌, ◌⊎◌, inl, inr, ⊎_elim, ℕ, Bool, true, false, List, [], ◌∷◌, ◌++◌, append_assoc, append-nil, Option, Some, None, refl, sym, ap, subst, ◌∙◌, arith}
+use Rattle.std.specs.Prelude.{◌==◌, ◌&&◌, ◌||◌, not}
+use Rattle.std.proofs.lemmas.Bool.{false≢true, eqb-true}
+use Rattle.std.proofs.lemmas.Bool.Decides.{nat_tests}
+use Rattle.std.proofs.lemmas.Option.{none-some, same_Some}
+use Rattle.acl_core.specs.Identity.{Identity}
+use Rattle.suite_prefix.specs.SettingsRules.{Opening, IsAccepted}
+use Rattle.file_ops.specs.declared.operation.Op.{Op}
+use Rattle.rep_core.specs.declared.request.Request.{Request}
+use Rattle.rep_core.specs.declared.request.Request.TheVariants as request
+use Rattle.rep_core.specs.State.{State}
+use Rattle.txn_core.specs.declared.job.Job.TheVariants.{Transaction}
+use Rattle.txn_core.specs.Suites.{Suites, suite_of}
+use Rattle.txn_core.specs.Writing.{parts_at}
+use Rattle.txn_core.specs.Doing.{Fixed, Task, home_of, Phase, Gathering, Fetching, Widening, Preparing, Deciding, Finishing, Doing, Running, RunningSweep}
+use Rattle.txn_core.specs.Transactions.{request_in, changes_of, decision_of}
+use Rattle.txn_core.specs.Agents.{fixed_of, begin, forget, next_in, next_of}
+use Rattle.txn_core.proofs.Asks.{asks_same, asked_as, fetched_as}
+use Rattle.run_core.specs.declared.done.Served.{Served}
+use Rattle.run_core.specs.declared.event.Event.{Event}
+use Rattle.run_core.specs.declared.event.Event.TheVariants.{Begin, Step, Crash, Return, Forget, Lack}
+use Rattle.run_core.specs.Worlds.{Actor, World, server_at, actor_at}
+use Rattle.run_core.specs.Runs.{run}
+use Rattle.law_runs.specs.Naming.{names, may_sweep}
+use Rattle.law_runs.proofs.Begun.{agents_ask_for_themselves}
+use Rattle.law_suite_machine.specs.Machine as machine
+use Rattle.law_run_machine.specs.Machines.{machine_of}
+use Rattle.law_one_table.proofs.Running.{machine_one}
+use Rattle.law_headline.specs.Premises.{CanBe}
+use Rattle.law_headline.proofs.Keeping.{holds_after}
+use Rattle.law_run_alone.specs.Alone.{begins_job}
+use Rattle.law_run_alone.proofs.Holding as holding
+use Rattle.law_run_alone.proofs.Owns.{IsMine}
+use Rattle.law_run_alone.proofs.Reached.{can_front}
+use Rattle.law_run_alone.proofs.Standing.{Stands, releases}
+use Rattle.law_run_alone.proofs.Turns.{doing_of}
+use Rattle.law_run_alone.proofs.Untold.{begun_stands, started_untold}
+use Rattle.law_run_alone.proofs.Unswept.{is_resolve, never_resolves}
+use Rattle.law_run_alone.proofs.Whole.{Carried, carried_by}
+use Rattle.law_run_recovers.specs.Unmet.{runs, is_telling, world_after, takes, drops, up_and, of_up, robs, bereaves, hinders_itself, ToldAsAtItsBegin}
+use Rattle.law_run_recovers.proofs.Keeps.{IsAtWork, Works, works, step_asks, operates_it, becomes_none, lacks_none, run_at, at_work_before}
+use Rattle.law_run_recovers.proofs.Still.{IsOpen, IsOpenPhase}
+use Rattle.law_run_recovers.proofs.Untaken.{TakesNothing, untaken_stands}
+
+-- ---- what is asked by agents
+
+-- until its end is fixed a transaction asks for nothing that takes a lock away
+open_releases : (fixed : Fixed) (task : Task) (suites : Suites) (phase : Phase) (server : ℕ) (asked : Request) → request_in fixed task suites phase ≡ Some (server, asked) → IsOpenPhase phase → releases asked ≡ false
+open_releases fixed task suites (Gathering number) server asked is open' = asked_as releases false task number (suite_of suites number) server asked (λ mode. refl) refl is
+open_releases fixed task suites (Fetching number) server asked is open' = fetched_as releases false task number (suite_of suites number) server asked refl is
+open_releases fixed task suites (Widening [] granted) server asked is open' = cc
+open_releases fixed task suites (Widening (number ∷ left) granted) server asked is open' = asked_as releases false task number (suite_of suites number) server asked (λ mode. refl) refl is
+open_releases fixed task suites (Preparing [] outcome) server asked is open' = cc
+open_releases fixed task suites (Preparing (now ∷ left) outcome) server asked is open' = ap releases (sym (asks_same now server (request.Prepare task.t (parts_at suites (changes_of outcome) now)) asked is))
+open_releases fixed task suites (Deciding outcome) server asked is open' = ap releases (sym (asks_same (home_of fixed.service task.t) server (request.Decide task.t (decision_of task outcome)) asked is))
+open_releases fixed task suites (Finishing servers v ending) server asked is open' = absurd open'
+
+module _ (t : ℕ) (st : State) where
+  -- what takes no lock away and resolves nothing takes nothing
+  takes_none : (asked : Request) → releases asked ≡ false → is_resolve asked ≡ false → (takes t st asked ≡ false) × (drops t st asked ≡ false)
+  takes_none (request.Poll u suite mode) none other = (refl, refl)
+  takes_none (request.Upgrade u suite) none other = (refl, refl)
+  takes_none (request.Fetch u suite) none other = (refl, refl)
+  takes_none (request.Prepare u parts) none other = (refl, refl)
+  takes_none (request.Decide u decided) none other = (refl, refl)
+  takes_none request.Locks none other = (refl, refl)
+  takes_none request.Return none other = (refl, refl)
+  takes_none (request.Resolve u) none other = absurd (false≢true (sym other))
+  takes_none (request.Finish u v) none other = absurd (false≢true (sym none))
+  takes_none (request.Break u suite) none other = absurd (false≢true (sym none))
+  takes_none request.Crash none other = absurd (false≢true (sym none))
+
+  -- no agent asks a server to crash
+  drops_none : (u : ℕ) (asked : Request) → (names u asked ≡ true) ⊎ (may_sweep asked ≡ true) → drops t st asked ≡ false
+  drops_none u (request.Poll v suite mode) so = refl
+  drops_none u (request.Upgrade v suite) so = refl
+  drops_none u (request.Fetch v suite) so = refl
+  drops_none u (request.Prepare v parts) so = refl
+  drops_none u (request.Decide v decided) so = refl
+  drops_none u (request.Resolve v) so = refl
+  drops_none u (request.Finish v ended) so = refl
+  drops_none u (request.Break v suite) so = refl
+  drops_none u request.Locks so = refl
+  drops_none u request.Return so = refl
+  drops_none u request.Crash so = absurd (⊎_elim false≢true false≢true so)
+
+-- ---- one event
+
+robbed : (a c d e h k : Bool) → a ≡ false → c ≡ false → d ≡ true → (h || ((not a && not c && (d && e)) || k)) ≡ false → e ≡ false
+robbed a c d e h k apart told up calm = grind (arith, nat_tests)
+
+bereft : (c d e : Bool) → c ≡ false → d ≡ true → (not c && (d && e)) ≡ false → e ≡ false
+bereft c d e told up calm = grind (arith, nat_tests)
+
+module _ (given : Opening) (accepted : IsAccepted given) (all : List Event) (agent t : ℕ) (at_work : IsAtWork (run given all) agent t) where
+  abbrev w : World
+  w = run given all
+
+  abbrev Spared : Event → Type 0
+  Spared event = (hinders_itself given agent w event || (robs given agent t w event || bereaves given agent t w event)) ≡ false
+
+  of_value : (event : Event) (asked : Request) (what : Served) (st : State) → what.request.value ≡ asked → (takes t st asked ≡ false) × (drops t st asked ≡ false) → (takes t st what.request.value ≡ false) × (drops t st what.request.value ≡ false)
+  of_value event asked what st is none = subst (λ asked. (takes t st asked ≡ false) × (drops t st asked ≡ false)) (sym is) none
+
+  pub takes_nothing : (event : Event) → Spared event → TakesNothing given t w event
+  takes_nothing (Begin i job) calm what st served at up = absurd (none-some what (sym (becomes_none w i (λ agent. begin (fixed_of given) agent job) (actor_at w i)) ∙ served))
+  takes_nothing (Forget i site) calm what st served at up = absurd (none-some what (sym (becomes_none w i (λ agent. forget agent site) (actor_at w i)) ∙ served))
+  takes_nothing (Lack i why) calm what st served at up = absurd (none-some what (sym (lacks_none (fixed_of given) w i why (actor_at w i)) ∙ served))
+  takes_nothing (Return server) calm what st served at up = of_value (Return server) request.Return what st (operates_it w server request.Return (server_at w server) what served) (refl, refl)
+  takes_nothing (Crash server) calm what st served at up =
+      let is = operates_it w server request.Crash (server_at w server) what served in
+      of_value (Crash server) request.Crash what st is
+      (refl, ap (drops t st) (sym is)
+      ∙ bereft (is_telling w agent) st.up (drops t st what.request.value) at_work.untold up
+      (sym (ap (λ found. not (is_telling w agent) && found) (ap (of_up (drops t) w) served ∙ ap (up_and (drops t) what.request.value) at)) ∙ calm))
+  takes_nothing (Step other) calm what st served at up = of (other == agent) refl
+    where
+      asks : (actor : Actor) × (actor_at w other ≡ Some actor) × (next_of (fixed_of given) actor.agent ≡ Some (what.server, what.request.value))
+      asks = step_asks (fixed_of given) w other (actor_at w other) what served
+
+      here : Works w agent t
+      here = works w agent t at_work
+
+      own : (doing : Option Doing) → IsOpen doing → next_in (fixed_of given) doing ≡ Some (what.server, what.request.value) → (takes t st what.request.value ≡ false) × (drops t st what.request.value ≡ false)
+      own None open' next = absurd open'
+      own (Some (RunningSweep sweep_run)) open' next = absurd open'
+      own (Some (Running txn_run)) open' next =
+          takes_none t st what.request.value (open_releases (fixed_of given) txn_run.task txn_run.suites txn_run.phase what.server what.request.value next open')
+          (never_resolves (fixed_of given) txn_run.task txn_run.suites txn_run.phase what.server what.request.value next)
+
+      of : (b : Bool) → (other == agent) ≡ b → (takes t st what.request.value ≡ false) × (drops t st what.request.value ≡ false)
+      of true same =
+          let who : asks.0 ≡ here.actor = same_Some asks.0 here.actor (sym asks.1 ∙ ap (actor_at w) (eqb-true other agent same) ∙ here.there) in
+          own asks.0.agent.doing (subst (λ (actor : Actor). IsOpen actor.agent.doing) (sym who) here.is_open) asks.2
+      of false apart = (
+        robbed (other == agent) (is_telling w agent) st.up (takes t st what.request.value) (hinders_itself given agent w (Step other)) false apart at_work.untold up
+            (sym (ap (λ found. hinders_itself given agent w (Step other) || ((not (other == agent) && not (is_telling w agent) && found) || false))
+            (ap (of_up (takes t) w) served ∙ ap (up_and (takes t) what.request.value) at)) ∙ calm),
+        ⊎_elim (λ self. drops_none t st self.task.t what.request.value (inl self.named)) (λ sweeps. drops_none t st 0 what.request.value (inr sweeps.swept))
+            (agents_ask_for_themselves given accepted all other asks.0 what.server what.request.value asks.1 asks.2),
+      )
+
+-- ---- all along
+
+early : (w : machine.World) (t : ℕ) (doing : Option Doing) → IsOpen doing → holding.DoingStands w t doing → Stands w t
+early w t None open' stands = absurd open'
+early w t (Some (RunningSweep sweep_run)) open' stands = absurd open'
+early w t (Some (Running txn_run)) open' stands = of txn_run.phase open' stands
+  where
+    of : (phase : Phase) → IsOpenPhase phase → holding.PhaseStands w t phase → Stands w t
+    of (Gathering number) open' stands = stands
+    of (Fetching number) open' stands = stands
+    of (Widening left granted) open' stands = stands
+    of (Preparing left outcome) open' stands = stands
+    of (Deciding outcome) open' stands = stands
+    of (Finishing left v ended) open' stands = absurd open'
+
+mine_where : (t : ℕ) (doing : Option Doing) → runs t doing ≡ true → IsMine t doing
+mine_where t None is = tt
+mine_where t (Some (RunningSweep sweep_run)) is = absurd (false≢true is)
+mine_where t (Some (Running txn_run)) is = eqb-true txn_run.task.t t is
+
+module _ (given : Opening) (events later : List Event) (agent t : ℕ) (caller : Identity) (site : ℕ) (ops : List Op) (actor : Actor)
+    (can : CanBe given (events ++ Begin agent (Transaction caller site ops) ∷ later)) (there : actor_at (run given events) agent ≡ Some actor)
+    (begins_so : begins_job given (run given events) (Begin agent (Transaction caller site ops)) ≡ Some (t, Transaction caller site ops))
+    (spares : (so_far rest : List Event) (event : Event) → later ≡ so_far ++ event ∷ rest → IsAtWork (world_after given events agent caller site ops so_far) agent t →
+    let w = world_after given events agent caller site ops so_far in (hinders_itself given agent w event || (robs given agent t w event || bereaves given agent t w event)) ≡ false) where
+  abbrev world_at : List Event → World
+  world_at so_far = world_after given events agent caller site ops so_far
+
+  -- all events so far
+  abbrev pub all_of : List Event → List Event
+  all_of so_far = events ++ Begin agent (Transaction caller site ops) ∷ so_far
+
+  is_run : (so_far : List Event) → world_at so_far ≡ run given (all_of so_far)
+  is_run = run_at given events later agent t caller site ops actor can there begins_so
+
+  can_then : (so_far rest : List Event) → later ≡ so_far ++ rest → CanBe given (all_of so_far ++ rest)
+  can_then so_far rest is = subst (CanBe given) (ap (λ later. events ++ Begin agent (Transaction caller site ops) ∷ later) is ∙ sym (append_assoc events (Begin agent (Transaction caller site ops) ∷ so_far) rest)) can
+
+  -- as it begins it was told of nothing
+  stands_first : IsAtWork (world_at []) agent t → (z : ℕ) → Stands (machine_of given z (all_of [])) t
+  stands_first at z =
+      let here = works (world_at []) agent t at in
+      let carried : Carried given (λ z. machine_of given z (all_of [])) (world_at []) later =
+      subst (λ w. Carried given (λ z. machine_of given z (all_of [])) w later) (sym (is_run [])) (carried_by given (all_of []) later (can_then [] later refl)) in
+      early (machine_of given z (all_of [])) t here.actor.agent.doing here.is_open
+      (begun_stands given (λ z. machine_of given z (all_of [])) (world_at []) later t agent (subst (IsMine t) (sym (ap doing_of here.there)) (mine_where t here.actor.agent.doing here.runs_it)) carried
+      (started_untold given (run given events) agent t caller site ops (actor_at (run given events) agent) refl begins_so) z here.actor here.there)
+
+  stands_next : (so_far rest : List Event) (event : Event) → later ≡ so_far ++ event ∷ rest → IsAtWork (world_at so_far) agent t → (z : ℕ) → Stands (machine_of given z (all_of so_far)) t → Stands (machine_of given z (all_of (so_far ++ event ∷ []))) t
+  stands_next so_far rest event is at z stands =
+      let can' = can_front given (all_of so_far) (event ∷ rest) (can_then so_far (event ∷ rest) is) in
+      let at' = subst (λ w. IsAtWork w agent t) (is_run so_far) at in
+      let calm = subst (λ w. (hinders_itself given agent w event || (robs given agent t w event || bereaves given agent t w event)) ≡ false) (is_run so_far) (spares so_far rest event is at) in
+      subst (λ all. Stands (machine_of given z all) t) (append_assoc events (Begin agent (Transaction caller site ops) ∷ so_far) (event ∷ []))
+      (subst (λ w. Stands w t) (sym (machine_one given z (all_of so_far) event))
+      (untaken_stands given z t (machine_of given z (all_of so_far)) (run given (all_of so_far)) (holds_after given (all_of so_far) can' z).shows stands event (takes_nothing given can.accepted (all_of so_far) agent t at' event calm)))
+
+  stands_along : (todo so_far rest : List Event) → later ≡ (so_far ++ todo) ++ rest → IsAtWork (world_at (so_far ++ todo)) agent t → (z : ℕ) → Stands (machine_of given z (all_of so_far)) t → Stands (machine_of given z (all_of (so_far ++ todo))) t
+  stands_along [] so_far rest is at z stands = subst (λ so_far. Stands (machine_of given z (all_of so_far)) t) (sym (append-nil so_far)) stands
+  stands_along (event ∷ todo) so_far rest is at z stands =
+      let more : (so_far ++ event ∷ []) ++ todo ≡ so_far ++ event ∷ todo = append_assoc so_far (event ∷ []) todo in
+      let now = at_work_before given events later agent t caller site ops actor can there begins_so so_far (event ∷ todo) at in
+      let next = stands_next so_far (todo ++ rest) event (is ∙ append_assoc so_far (event ∷ todo) rest) now z stands in
+      subst (λ so_far. Stands (machine_of given z (all_of so_far)) t) more
+      (stands_along todo (so_far ++ event ∷ []) rest (is ∙ ap (λ so_far. so_far ++ rest) (sym more)) (subst (λ so_far. IsAtWork (world_at so_far) agent t) (sym more) at) z next)
+
+  -- So at each moment at which it is at work its locks stand, in the machine of each suite.
+  pub locks_stand : (so_far rest : List Event) → later ≡ so_far ++ rest → IsAtWork (world_at so_far) agent t → (z : ℕ) → Stands (machine_of given z (all_of so_far)) t
+  locks_stand so_far rest is at z =
+      stands_along so_far [] rest is at z (stands_first (at_work_before given events later agent t caller site ops actor can there begins_so [] so_far at) z)
+
+-- of law 3's premise
+pub told_locks_stand : (given : Opening) (events later : List Event) (agent t : ℕ) (caller : Identity) (site : ℕ) (ops : List Op) (actor : Actor) → ToldAsAtItsBegin given events later agent t caller site ops actor
+    → (so_far rest : List Event) → later ≡ so_far ++ rest → IsAtWork (world_after given events agent caller site ops so_far) agent t → (z : ℕ) → Stands (machine_of given z (events ++ Begin agent (Transaction caller site ops) ∷ so_far)) t
+told_locks_stand given events later agent t caller site ops actor goes =
+    locks_stand given events later agent t caller site ops actor goes.can goes.there goes.begins (λ so_far rest event is at. goes.free_hand so_far rest event is at.running at.untold)

@@ -1,0 +1,410 @@
+-- While a transaction goes among locks that stay, and until its end is fixed, what near servers have stored of its suites stays where they are open to it.
+use Rattle.std.proofs.Common.{◌≡◌, ℕ, ◌+◌, ◌≤◌, Bool, true, false, cond, List, [], ◌∷◌, ◌++◌, append_assoc, append-nil, Option, Some, None, refl, sym, ap, subst, ◌∙◌, arith}
+use Rattle.std.specs.Prelude.{◌*◌, ◌==◌, ◌&&◌, ◌||◌, not, nat_lt, option_map, Contains}
+use Rattle.std.specs.List.{list_any}
+use Rattle.std.proofs.lemmas.Bool.{false≢true, eqb-true, eq-eqb}
+use Rattle.std.proofs.lemmas.Bool.Decides.{nat_tests}
+use Rattle.std.proofs.lemmas.Option.{none-some, same_Some}
+use Rattle.acl_core.specs.Identity.{Identity}
+use Rattle.suite_prefix.specs.SettingsRules.{Opening}
+use Rattle.suite_prefix.specs.declared.copies.Replica.{Replica}
+use Rattle.suite_prefix.specs.declared.lock_mode.LockMode.{LockMode}
+use Rattle.suite_prefix.specs.declared.lock_mode.LockMode.TheVariants.{Exclusive}
+use Rattle.file_ops.specs.declared.operation.Op.{Op}
+use Rattle.rep_core.specs.declared.lock.Lock.{Lock}
+use Rattle.rep_core.specs.declared.reply.Verdict.{Verdict}
+use Rattle.rep_core.specs.declared.request.Request.{Request}
+use Rattle.rep_core.specs.declared.request.Request.TheVariants as request
+use Rattle.rep_core.specs.declared.stamped.Lack.{Lack as Why}
+use Rattle.rep_core.specs.Locks.{in_the_way}
+use Rattle.rep_core.specs.Store.{copy_of}
+use Rattle.rep_core.specs.State.{State}
+use Rattle.rep_core.specs.Serving.{is_full, answer_of}
+use Rattle.txn_core.specs.declared.job.Job.{Job}
+use Rattle.txn_core.specs.declared.job.Job.TheVariants.{Transaction}
+use Rattle.txn_core.specs.declared.response.Response.{Response}
+use Rattle.txn_core.specs.declared.response.Response.TheVariants.{Lacked}
+use Rattle.txn_core.specs.Doing.{Fixed, Doing, Running, RunningSweep, Phase, Gathering, Fetching, Widening, Preparing, Deciding, Finishing}
+use Rattle.txn_core.specs.Undecided.{is_finish}
+use Rattle.txn_core.specs.Agents.{Agent, fixed_of, is_idle, has_sense, max_jobs, begin, started, forget, take, take_in, next_of}
+use Rattle.run_core.specs.declared.done.Served.{Served}
+use Rattle.run_core.specs.declared.event.Event.{Event}
+use Rattle.run_core.specs.declared.event.Event.TheVariants.{Begin, Step, Crash, Return, Forget, Lack}
+use Rattle.run_core.specs.Worlds.{Actor, World, Stepped, server_at, actor_at, becomes, serve, operated, operates, asks_at, asks, answered, steps_once, lacks_for, lacks, step}
+use Rattle.run_core.specs.Worlds as worlds
+use Rattle.run_core.specs.Decisions.{Decided, decisions}
+use Rattle.run_core.specs.Runs.{after, run}
+use Rattle.law_runs.proofs.Agents.{IsAt, take_keeps}
+use Rattle.law_runs.proofs.Conclusions.{holds_of}
+use Rattle.law_runs.proofs.Each.{new_of, each_event}
+use Rattle.law_runs.proofs.Worlds.{agent_of, agent_at}
+use Rattle.law_headline.specs.Premises.{CanBe}
+use Rattle.law_run_alone.specs.Alone.{begins_job}
+use Rattle.law_run_alone.proofs.Unhindered.{all_consistent}
+use Rattle.law_run_recovers.specs.Near.{asks_for, is_open_way, way_in, is_open_at}
+use Rattle.law_run_recovers.specs.Unmet.{runs, running_in, is_running, is_told, tells, telling_in, is_telling, world_after, takes, up_and, of_up, robs, hinders_itself, shows_same, SameWay, told_as_first, AsAtItsBegin, GoesAmongLocks}
+use Rattle.law_run_recovers.proofs.Serves.{Serves}
+use Rattle.law_run_recovers.proofs.Still.{IsOpen, IsOpenPhase, open_before, open_next}
+use Rattle.law_run_recovers.proofs.Open.{begun_there, begun_servers, its_begin}
+use Rattle.law_run_recovers.proofs.Stand.{Spares, event_stands}
+
+-- ---- an agent that runs a transaction ran it before, where it began none since
+
+abbrev Back : Agent → Agent → Type 0
+Back old new = (old.count ≤ new.count) × (new.count ≡ old.count → IsOpen new.doing → IsOpen old.doing)
+
+back_same : (agent : Agent) → Back agent agent
+back_same agent = (omega arith, λ same open'. open')
+
+back_begin : (fixed : Fixed) (agent : Agent) (job : Job) → Back agent (begin fixed agent job)
+back_begin fixed agent job =
+    elim (is_idle agent.doing && has_sense fixed job && nat_lt agent.count max_jobs) as (λ b. Back agent (cond b (record (started fixed agent job) { count = agent.count + 1 }) agent)) [
+      | true ↦ (omega arith, λ same open'. absurd (omega (arith, same)))
+      | false ↦ back_same agent
+    ]
+
+back_forget : (agent : Agent) (site : ℕ) → Back agent (forget agent site)
+back_forget agent site = (omega arith, λ same open'. open')
+
+open_take : (fixed : Fixed) (agent : Agent) (response : Response) → IsOpen (take fixed agent response).agent.doing → IsOpen agent.doing
+open_take fixed agent response = of (next_of fixed agent) refl
+  where
+    none : (doing : Option Doing) → IsOpen (take_in fixed agent response doing None).agent.doing → IsOpen agent.doing
+    none None open' = open'
+    none (Some (Running txn_run)) open' = open'
+    none (Some (RunningSweep sweep_run)) open' = open'
+
+    of : (asked : Option (ℕ × Request)) → next_of fixed agent ≡ asked → IsOpen (take_in fixed agent response agent.doing asked).agent.doing → IsOpen agent.doing
+    of None is open' = none agent.doing open'
+    of (Some asked) is open' = open_before fixed agent response agent.doing asked is open'
+
+back_take : (fixed : Fixed) (agent : Agent) (response : Response) → Back agent (take fixed agent response).agent
+back_take fixed agent response =
+    let same : (take fixed agent response).agent.count ≡ agent.count = (take_keeps fixed agent response agent.doing (next_of fixed agent)).1 in
+    (omega (arith, same), λ _ open'. open_take fixed agent response open')
+
+back_on : (a b c : Agent) → Back a b → Back b c → Back a c
+back_on a b c first then' =
+    let one = first.0 in
+    let two = then'.0 in
+    (omega (arith, one, two), λ same open'. first.1 (omega (arith, one, two, same)) (then'.1 (omega (arith, one, two, same)) open'))
+
+back_all : (fixed : Fixed) (i : ℕ) (events : List Event) (w : World) (old : Agent) → agent_at w i ≡ Some old → (new : Agent) × (agent_at (after fixed w events) i ≡ Some new) × Back old new
+back_all fixed i [] w old is = (old, is, back_same old)
+back_all fixed i (event ∷ events) w old is =
+    let next = new_of Back old (agent_at w i) (agent_at (step fixed w event).world i) is (each_event fixed Back back_same (back_begin fixed) back_forget (back_take fixed) w event i) in
+    let rest = back_all fixed i events (step fixed w event).world next.0 next.1 in
+    (rest.0, rest.1, back_on old next.0 rest.0 next.2 rest.2)
+
+-- ---- in the words of the premise
+
+open_of : (t : ℕ) (doing : Option Doing) → runs t doing ≡ true → tells doing ≡ false → IsOpen doing
+open_of t None runs told = absurd (false≢true runs)
+open_of t (Some (RunningSweep sweep_run)) runs told = absurd (false≢true runs)
+open_of t (Some (Running txn_run)) runs told = of txn_run.phase told
+  where
+    of : (phase : Phase) → is_told phase ≡ false → IsOpenPhase phase
+    of (Gathering number) told = tt
+    of (Fetching number) told = tt
+    of (Widening numbers granted) told = tt
+    of (Preparing servers outcome) told = tt
+    of (Deciding outcome) told = tt
+    of (Finishing servers v ending) told = absurd (false≢true (sym told))
+
+untold : (phase : Phase) → IsOpenPhase phase → is_told phase ≡ false
+untold (Gathering number) open' = refl
+untold (Fetching number) open' = refl
+untold (Widening numbers granted) open' = refl
+untold (Preparing servers outcome) open' = refl
+untold (Deciding outcome) open' = refl
+untold (Finishing servers v ending) open' = absurd open'
+
+-- the agent runs the transaction, and its end is not fixed
+pub record IsAtWork (w : World) (agent t : ℕ) : Type 0 where
+  pub running : is_running w agent t ≡ true
+  pub untold : is_telling w agent ≡ false
+
+-- and who does
+pub record Works (w : World) (agent t : ℕ) : Type 0 where
+  pub actor : Actor
+  pub there : actor_at w agent ≡ Some actor
+  pub is_open : IsOpen actor.agent.doing
+  pub runs_it : runs t actor.agent.doing ≡ true
+
+pub works : (w : World) (agent t : ℕ) → IsAtWork w agent t → Works w agent t
+works w agent t at = of (actor_at w agent) refl at.running at.untold
+  where
+    of : (found : Option Actor) → actor_at w agent ≡ found → running_in t found ≡ true → telling_in found ≡ false → Works w agent t
+    of None is running told = absurd (false≢true running)
+    of (Some actor) is running told = record { actor = actor; there = is; is_open = open_of t actor.agent.doing running told; runs_it = running }
+
+at_work : (w : World) (agent t : ℕ) (actor : Actor) → actor_at w agent ≡ Some actor → IsOpen actor.agent.doing → runs t actor.agent.doing ≡ true → IsAtWork w agent t
+at_work w agent t actor there open' runs = record { running = ap (running_in t) there ∙ runs; untold = ap telling_in there ∙ of actor.agent.doing open' }
+  where
+    of : (doing : Option Doing) → IsOpen doing → tells doing ≡ false
+    of None open' = absurd open'
+    of (Some (RunningSweep sweep_run)) open' = absurd open'
+    of (Some (Running txn_run)) open' = untold txn_run.phase open'
+
+-- a transaction that an agent runs is the last that it began
+pub last_of : (ds : List Decided) (i count t : ℕ) (doing : Option Doing) → IsAt ds i count doing → runs t doing ≡ true → t + 64 ≡ 64 * count + i
+last_of ds i count t None at is = absurd (false≢true is)
+last_of ds i count t (Some (RunningSweep sweep_run)) at is = absurd (false≢true is)
+last_of ds i count t (Some (Running txn_run)) at is = let numbered = at.numbered in let last = at.last in let same = eqb-true txn_run.task.t t is in omega (arith, numbered, last, same)
+
+is_last : (ds : List Decided) (i count t : ℕ) (doing : Option Doing) → IsAt ds i count doing → IsOpen doing → t + 64 ≡ 64 * count + i → runs t doing ≡ true
+is_last ds i count t None at open' last' = absurd open'
+is_last ds i count t (Some (RunningSweep sweep_run)) at open' last' = absurd open'
+is_last ds i count t (Some (Running txn_run)) at open' last' = let numbered = at.numbered in let last = at.last in eq-eqb txn_run.task.t t (omega (arith, numbered, last, last'))
+
+-- ---- what is asked in an event
+
+-- what a step asks is what its agent asks next
+pub step_asks : (fixed : Fixed) (w : World) (i : ℕ) (found : Option Actor) (what : Served) → (steps_once fixed w i found).done.served ≡ Some what
+    → (actor : Actor) × (found ≡ Some actor) × (next_of fixed actor.agent ≡ Some (what.server, what.request.value))
+step_asks fixed w i None what is = absurd (none-some what is)
+step_asks fixed w i (Some actor) what is = of (next_of fixed actor.agent) refl is
+  where
+    Next : Type 0
+    Next = (other : Actor) × (Some actor ≡ Some other) × (next_of fixed other.agent ≡ Some (what.server, what.request.value))
+
+    by : (asked : ℕ × Request) (st : State) → next_of fixed actor.agent ≡ Some asked → (answered fixed w i actor st (serve asked.0 st (record { stamp = actor.stamp; value = asked.1 }))).done.served ≡ Some what → Next
+    by asked st next =
+        elim (is_full st (record { stamp = actor.stamp; value = asked.1 })) as
+        (λ b. (answered fixed w i actor st (cond b None (Some (record { server = asked.0; request = record { stamp = actor.stamp; value = asked.1 }; reply = answer_of st (record { stamp = actor.stamp; value = asked.1 }) })))).done.served ≡ Some what → Next) [
+          | true ↦ λ is. absurd (none-some what is)
+          | false ↦ λ is. (actor, refl, next ∙ ap (λ (what : Served). Some (what.server, what.request.value)) (same_Some _ what is))
+        ]
+
+    at : (asked : ℕ × Request) (found : Option State) → next_of fixed actor.agent ≡ Some asked → (asks_at fixed w i actor asked found).done.served ≡ Some what → Next
+    at asked None next is = absurd (none-some what is)
+    at asked (Some st) next is = by asked st next is
+
+    of : (asked : Option (ℕ × Request)) → next_of fixed actor.agent ≡ asked → (asks fixed w i actor asked).done.served ≡ Some what → Next
+    of None next is = absurd (none-some what is)
+    of (Some asked) next is = at asked (server_at w asked.0) next is
+
+pub operates_it : (w : World) (server : ℕ) (asked : Request) (found : Option State) (what : Served) → (operates w server asked found).done.served ≡ Some what → what.request.value ≡ asked
+operates_it w server asked None what is = absurd (none-some what is)
+operates_it w server asked (Some st) what is =
+    elim (is_full st (record { stamp = 0; value = asked })) as
+    (λ b. (operated w st (cond b None (Some (record { server = server; request = record { stamp = 0; value = asked }; reply = answer_of st (record { stamp = 0; value = asked }) })))).done.served ≡ Some what → what.request.value ≡ asked) [
+      | true ↦ λ is. absurd (none-some what is)
+      | false ↦ λ is. ap (λ (what : Served). what.request.value) (sym (same_Some _ what is))
+    ] is
+
+pub becomes_none : (w : World) (i : ℕ) (change : Agent → Agent) (found : Option Actor) → (becomes w i change found).done.served ≡ None
+becomes_none w i change None = refl
+becomes_none w i change (Some actor) = refl
+
+pub lacks_none : (fixed : Fixed) (w : World) (i : ℕ) (why : Why) (found : Option Actor) → (lacks fixed w i (Lacked why) found).done.served ≡ None
+lacks_none fixed w i why None = refl
+lacks_none fixed w i why (Some actor) = of (next_of fixed actor.agent)
+  where
+    of : (asked : Option (ℕ × Request)) → (lacks_for fixed w i actor (Lacked why) asked).done.served ≡ None
+    of None = refl
+    of (Some asked) = refl
+
+-- ---- no event takes a lock of it where it is at work
+
+pub rest_of : (a c d e h : Bool) → a ≡ false → c ≡ false → d ≡ true → (h || (not a && not c && (d && e))) ≡ false → e ≡ false
+rest_of a c d e h apart told up calm = grind (arith, nat_tests)
+
+no_finish : (asked : Request) (named : ℕ) (v : Verdict) → is_finish asked ≡ false → asked ≡ request.Finish named v → ⊥
+no_finish asked named v other is = false≢true (sym other ∙ ap is_finish is)
+
+event_spares : (given : Opening) (agent t : ℕ) (w : World) (event : Event) → IsAtWork w agent t → (hinders_itself given agent w event || robs given agent t w event) ≡ false
+    → (st : State) → st.up ≡ true → (serves : Serves w (step (fixed_of given) w event)) → server_at w serves.target ≡ Some st → Spares t st serves.asked.value
+event_spares given agent t w (Begin i job) at calm st up serves there named v is = absurd (none-some _ (sym (becomes_none w i (λ agent. begin (fixed_of given) agent job) (actor_at w i)) ∙ serves.done))
+event_spares given agent t w (Crash server) at calm st up serves there named v is =
+    absurd (no_finish request.Crash named v refl (sym (operates_it w server request.Crash (server_at w server) _ serves.done) ∙ is))
+event_spares given agent t w (Return server) at calm st up serves there named v is =
+    absurd (no_finish request.Return named v refl (sym (operates_it w server request.Return (server_at w server) _ serves.done) ∙ is))
+event_spares given agent t w (Forget i site) at calm st up serves there named v is = absurd (none-some _ (sym (becomes_none w i (λ agent. forget agent site) (actor_at w i)) ∙ serves.done))
+event_spares given agent t w (Lack i why) at calm st up serves there named v is = absurd (none-some _ (sym (lacks_none (fixed_of given) w i why (actor_at w i)) ∙ serves.done))
+event_spares given agent t w (Step other) at calm st up serves there named v is = of (other == agent) refl
+  where
+    works_here : Works w agent t
+    works_here = works w agent t at
+
+    of : (b : Bool) → (other == agent) ≡ b → ((named == t) && list_any (λ (lock : Lock). lock.t == t) st.locks) ≡ false
+    of true same =
+        let asks = step_asks (fixed_of given) w other (actor_at w other) _ serves.done in
+        let who : asks.0 ≡ works_here.actor = same_Some asks.0 works_here.actor (sym asks.1 ∙ ap (actor_at w) (eqb-true other agent same) ∙ works_here.there) in
+        absurd (no_finish serves.asked.value named v
+        (open_next (fixed_of given) asks.0.agent.doing (serves.target, serves.asked.value) asks.2 (subst (λ (actor : Actor). IsOpen actor.agent.doing) (sym who) works_here.is_open)) is)
+    of false apart =
+        ap (takes t st) (sym is)
+        ∙ rest_of (other == agent) (is_telling w agent) st.up (takes t st serves.asked.value) (hinders_itself given agent w (Step other)) apart at.untold up
+        (sym (ap (λ found. hinders_itself given agent w (Step other) || (not (other == agent) && not (is_telling w agent) && found))
+        (ap (of_up (takes t) w) serves.done ∙ ap (up_and (takes t) serves.asked.value) there)) ∙ calm)
+
+-- ---- all along
+
+pub after_append : (fixed : Fixed) (xs ys : List Event) (w : World) → after fixed w (xs ++ ys) ≡ after fixed (after fixed w xs) ys
+after_append fixed [] ys w = refl
+after_append fixed (x ∷ xs) ys w = after_append fixed xs ys (step fixed w x).world
+
+module _ (given : Opening) (events later : List Event) (agent t : ℕ) (caller : Identity) (site : ℕ) (ops : List Op) (actor : Actor)
+    (can : CanBe given (events ++ Begin agent (Transaction caller site ops) ∷ later)) (there : actor_at (run given events) agent ≡ Some actor)
+    (begins_so : begins_job given (run given events) (Begin agent (Transaction caller site ops)) ≡ Some (t, Transaction caller site ops)) where
+  abbrev job : Job
+  job = Transaction caller site ops
+
+  abbrev pub world_at : List Event → World
+  world_at so_far = world_after given events agent caller site ops so_far
+
+  pub run_at : (so_far : List Event) → world_at so_far ≡ run given (events ++ Begin agent job ∷ so_far)
+  run_at so_far = sym (after_append (fixed_of given) events (Begin agent job ∷ so_far) (worlds.opening given))
+
+  -- its agent, as it began
+  first_agent : agent_at (world_at []) agent ≡ Some (begin (fixed_of given) actor.agent job)
+  first_agent = ap agent_of (begun_there given events later agent t caller site ops actor can there begins_so)
+
+  first_last : t + 64 ≡ 64 * (begin (fixed_of given) actor.agent job).count + agent
+  first_last =
+      let so = its_begin given events later agent t caller site ops actor can there begins_so in
+      let count : (begin (fixed_of given) actor.agent job).count ≡ actor.agent.count + 1 = ap (λ b. (cond b (record (started (fixed_of given) actor.agent job) { count = actor.agent.count + 1 }) actor.agent).count) so.1 in
+      let number = so.0 in
+      omega (arith, count, number)
+
+  at_of : (so_far : List Event) (a : Agent) → agent_at (world_at so_far) agent ≡ Some a → IsAt (decisions given (events ++ Begin agent job ∷ so_far)) agent a.count a.doing
+  at_of so_far a is = (holds_of given can.accepted (events ++ Begin agent job ∷ so_far)).agents.at agent a (ap (λ w. agent_at w agent) (sym (run_at so_far)) ∙ is)
+
+  -- at each moment before one at which it is at work it is so too
+  pub at_work_before : (so_far more : List Event) → IsAtWork (world_at (so_far ++ more)) agent t → IsAtWork (world_at so_far) agent t
+  at_work_before so_far more at =
+      let mid = back_all (fixed_of given) agent so_far (world_at []) (begin (fixed_of given) actor.agent job) first_agent in
+      let end = back_all (fixed_of given) agent more (world_at so_far) mid.0 mid.1 in
+      let now = works (world_at (so_far ++ more)) agent t at in
+      let same : end.0 ≡ now.actor.agent = same_Some end.0 now.actor.agent (sym end.1 ∙ ap (λ w. agent_at w agent) (sym (after_append (fixed_of given) so_far more (world_at []))) ∙ ap agent_of now.there) in
+      let last' = last_of (decisions given (events ++ Begin agent job ∷ (so_far ++ more))) agent now.actor.agent.count t now.actor.agent.doing (at_of (so_far ++ more) now.actor.agent (ap agent_of now.there)) now.runs_it in
+      let counts : end.0.count ≡ now.actor.agent.count = ap (λ (a : Agent). a.count) same in
+      let start = first_last in
+      let one = mid.2.0 in
+      let two = end.2.0 in
+      let still : end.0.count ≡ mid.0.count = omega (arith, last', counts, start, one, two) in
+      let mid_last : t + 64 ≡ 64 * mid.0.count + agent = omega (arith, last', counts, still) in
+      let open' = end.2.1 still (subst (λ (a : Agent). IsOpen a.doing) (sym same) now.is_open) in
+      of (actor_at (world_at so_far) agent) refl mid.0 mid.1 open' mid_last
+    where
+      of : (found : Option Actor) → actor_at (world_at so_far) agent ≡ found → (a : Agent) → agent_at (world_at so_far) agent ≡ Some a → IsOpen a.doing → t + 64 ≡ 64 * a.count + agent → IsAtWork (world_at so_far) agent t
+      of None is a at_it open' last' = absurd (none-some a (sym (ap agent_of is) ∙ at_it))
+      of (Some now) is a at_it open' last' =
+          let same : now.agent ≡ a = same_Some now.agent a (sym (ap agent_of is) ∙ at_it) in
+          at_work (world_at so_far) agent t now is (subst (λ (a : Agent). IsOpen a.doing) (sym same) open')
+          (is_last (decisions given (events ++ Begin agent job ∷ so_far)) agent now.agent.count t now.agent.doing (at_of so_far now.agent (ap agent_of is)) (subst (λ (a : Agent). IsOpen a.doing) (sym same) open')
+          (subst (λ (a : Agent). t + 64 ≡ 64 * a.count + agent) (sym same) last'))
+
+module _ (given : Opening) (events later : List Event) (agent t : ℕ) (caller : Identity) (site : ℕ) (ops : List Op) (actor : Actor) (goes : GoesAmongLocks given events later agent t caller site ops actor) where
+  abbrev job_of : Job
+  job_of = Transaction caller site ops
+
+  abbrev first : World
+  first = run given events
+
+  abbrev asked : List (ℕ × LockMode)
+  asked = asks_for given events t caller ops
+
+  abbrev world_then : List Event → World
+  world_then so_far = world_after given events agent caller site ops so_far
+
+  up_where : (w : World) (server : ℕ) (one : ℕ × LockMode) (st : State) → server_at w server ≡ Some st → is_open_at w t one.0 one.1 server ≡ true → st.up ≡ true
+  up_where w server one st at open' = of st.up (option_map (λ (lock : Lock). lock.t) (in_the_way t one.0 one.1 st.locks)) (ap (λ found. is_open_way (way_in t one.0 one.1 found)) (sym at) ∙ open')
+    where
+      of : (b : Bool) (other : Option ℕ) → is_open_way (cond b (Some other) None) ≡ true → b ≡ true
+      of true other is = refl
+      of false other is = is
+
+  -- who is open is there
+  there_where : (w : World) (server : ℕ) (one : ℕ × LockMode) → is_open_at w t one.0 one.1 server ≡ true → (st : State) × (server_at w server ≡ Some st)
+  there_where w server one = of (server_at w server) refl
+    where
+      of : (found : Option State) → server_at w server ≡ found → is_open_way (way_in t one.0 one.1 found) ≡ true → (st : State) × (server_at w server ≡ Some st)
+      of None is open' = absurd (false≢true open')
+      of (Some st) is open' = (st, is)
+
+  -- ---- what is stored stays
+
+  module _ (server : ℕ) (one : ℕ × LockMode) (near : goes.near server ≡ true) (has : Contains asked one) (open' : is_open_at first t one.0 one.1 server ≡ true) where
+    open_at : (so_far rest : List Event) → later ≡ so_far ++ rest → IsAtWork (world_then so_far) agent t → is_open_at (world_then so_far) t one.0 one.1 server ≡ true
+    open_at so_far rest is at = ap is_open_way ((goes.stays so_far rest is at.running).way server one near has) ∙ open'
+
+    abbrev Same : World → Type 0
+    Same w = (st old : State) → server_at w server ≡ Some st → server_at first server ≡ Some old → copy_of st.store one.0 ≡ copy_of old.store one.0
+
+    same_first : Same (world_then [])
+    same_first st old at was =
+        ap (λ (st : State). copy_of st.store one.0)
+        (same_Some st old (sym at ∙ begun_servers given events later agent t caller site ops actor goes.can goes.there goes.begins server ∙ was))
+
+    -- one event
+    same_next : (so_far rest : List Event) (event : Event) → later ≡ so_far ++ event ∷ rest → IsAtWork (world_then so_far) agent t → Same (world_then so_far) → Same (step (fixed_of given) (world_then so_far) event).world
+    same_next so_far rest event is at same new old now was =
+        let w = world_then so_far in
+        let is_open = open_at so_far (event ∷ rest) is at in
+        let here = there_where w server one is_open in
+        event_stands (fixed_of given) w event server t one.0 one.1 here.0 new here.1 now
+        (all_consistent given (events ++ Begin agent job_of ∷ so_far) server here.0 (ap (λ w. server_at w server) (sym (run_at given events later agent t caller site ops actor goes.can goes.there goes.begins so_far)) ∙ here.1)) is_open
+        (λ serves target. event_spares given agent t w event at (goes.free_hand so_far rest event is at.running) here.0 (up_where w server one here.0 here.1 is_open) serves (ap (server_at w) target ∙ here.1))
+        ∙ same here.0 old here.1 was
+
+    same_along : (todo so_far rest : List Event) → later ≡ (so_far ++ todo) ++ rest → IsAtWork (world_then (so_far ++ todo)) agent t → Same (world_then so_far) → Same (world_then (so_far ++ todo))
+    same_along [] so_far rest is at same = subst (λ so_far. Same (world_then so_far)) (sym (append-nil so_far)) same
+    same_along (event ∷ todo) so_far rest is at same =
+        let more : (so_far ++ event ∷ []) ++ todo ≡ so_far ++ event ∷ todo = append_assoc so_far (event ∷ []) todo in
+        let next = same_next so_far (todo ++ rest) event (is ∙ append_assoc so_far (event ∷ todo) rest) (at_work_before given events later agent t caller site ops actor goes.can goes.there goes.begins so_far (event ∷ todo) at) same in
+        subst (λ so_far. Same (world_then so_far)) more
+        (same_along todo (so_far ++ event ∷ []) rest (is ∙ ap (λ so_far. so_far ++ rest) (sym more)) (subst (λ so_far. IsAtWork (world_then so_far) agent t) (sym more) at)
+        (subst Same (sym (after_append (fixed_of given) so_far (event ∷ []) (world_then []))) next))
+
+    -- what an open near server had stored of a suite that it asks for it has stored still
+    pub open_stands : (so_far rest : List Event) → later ≡ so_far ++ rest → IsAtWork (world_then so_far) agent t → Same (world_then so_far)
+    open_stands so_far rest is at = same_along so_far [] rest is at same_first
+
+  -- So a near server tells it of such a suite what it would have told at its begin.
+  pub same_way : (so_far rest : List Event) → later ≡ so_far ++ rest → IsAtWork (world_then so_far) agent t → (server : ℕ) (one : ℕ × LockMode) → goes.near server ≡ true → Contains asked one
+      → SameWay first (world_then so_far) server t one.0 one.1
+  same_way so_far rest is at server one near has =
+      let stays = goes.stays so_far rest is at.running in
+      record {
+        way = stays.way server one near has;
+        shown = λ open'.
+            of (server_at (world_then so_far) server) (server_at first server) (λ st old now was.
+            open_stands server one near has (ap is_open_way (sym (stays.way server one near has)) ∙ open') so_far rest is at st old now was) refl refl;
+      }
+    where
+      of : (found was : Option State)
+          → ((st old : State) → server_at (world_then so_far) server ≡ Some st → server_at first server ≡ Some old → copy_of st.store one.0 ≡ copy_of old.store one.0)
+          → server_at (world_then so_far) server ≡ found → server_at first server ≡ was → shows_same found was one.0
+      of None was same now then' = tt
+      of (Some st) None same now then' = tt
+      of (Some st) (Some old) same now then' = let copy = same st old now then' in (ap (λ (copy : Replica). copy.prefix) copy, ap (λ (copy : Replica). copy.dver) copy)
+
+  -- ---- law 3's clause of what it asks
+
+  -- what it asks is of a near server; its locks are in its own name, of what it asks for
+  abbrev pub OfAsked : Request → Type 0
+  OfAsked (request.Poll named suite mode) = (named ≡ t) × Contains asked (suite, mode)
+  OfAsked (request.Upgrade named suite) = (named ≡ t) × Contains asked (suite, Exclusive)
+  OfAsked other = Unit {0}
+
+  told_so : (w : World) (server : ℕ) (question : Request) → OfAsked question → ((one : ℕ × LockMode) → Contains asked one → SameWay first w server t one.0 one.1) → told_as_first first w server question
+  told_so w server (request.Poll named suite mode) of_it same = subst (λ t. SameWay first w server t suite mode) (sym of_it.0) (same (suite, mode) of_it.1)
+  told_so w server (request.Upgrade named suite) of_it same = subst (λ t. SameWay first w server t suite Exclusive) (sym of_it.0) (same (suite, Exclusive) of_it.1)
+  told_so w server (request.Fetch named suite) of_it same = tt
+  told_so w server (request.Prepare named parts) of_it same = tt
+  told_so w server (request.Decide named decision) of_it same = tt
+  told_so w server (request.Resolve named) of_it same = tt
+  told_so w server (request.Finish named v) of_it same = tt
+  told_so w server (request.Break named suite) of_it same = tt
+  told_so w server request.Locks of_it same = tt
+  told_so w server request.Crash of_it same = tt
+  told_so w server request.Return of_it same = tt
+
+  pub as_at_its_begin : (so_far rest : List Event) → later ≡ so_far ++ rest → IsAtWork (world_then so_far) agent t → (server : ℕ) (question : Request) → goes.near server ≡ true → OfAsked question
+      → AsAtItsBegin given events later agent t caller site ops (world_then so_far) server question
+  as_at_its_begin so_far rest is at server question near of_it = record {
+    up = (goes.stays so_far rest is at.running).up server near;
+    told = told_so (world_then so_far) server question of_it (λ one has. same_way so_far rest is at server one near has);
+  }

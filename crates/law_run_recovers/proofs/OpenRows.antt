@@ -1,0 +1,242 @@
+-- What servers show that are open to a transaction is in effect. So its votes as it finds them are those of the rows, whatever locks others have.
+use Rattle.std.proofs.Common.{◌≡◌, inl, inr, ⊎_elim, ℕ, ◌≤◌, Bool, true, false, cond, List, [], ◌∷◌, ◌++◌, Option, Some, None, refl, sym, ap, subst, ◌∙◌, arith}
+use Rattle.std.specs.Prelude.{◌==◌, ◌&&◌, ◌||◌, not, nat_le, find, map, option_map, unwrap_or}
+use Rattle.std.specs.List.{list_all}
+use Rattle.std.specs.Ordering.{nat_cmp}
+use Rattle.std.proofs.lemmas.Bool.{false≢true, and_parts, eqb-true, eq-eqb}
+use Rattle.std.proofs.lemmas.Bool.Decides.{nat_tests}
+use Rattle.sorted_map.specs.SortedMap.{get}
+use Rattle.acl_core.specs.Identity.{Identity}
+use Rattle.vote_core.specs.Quorums.{Configuration, votes_in}
+use Rattle.vote_core.proofs.QuorumLemmas.{votes_in-wider}
+use Rattle.suite_prefix.specs.SettingsRules.{Opening}
+use Rattle.suite_prefix.specs.declared.copies.Prefix.{Prefix}
+use Rattle.suite_prefix.specs.declared.copies.Replica.{Replica}
+use Rattle.suite_prefix.specs.declared.lock_mode.LockMode.{LockMode}
+use Rattle.suite_prefix.specs.declared.lock_mode.LockMode.TheVariants.{Shared, Exclusive}
+use Rattle.suite_prefix.specs.LockModes.{is_exclusive, serves}
+use Rattle.file_ops.specs.declared.operation.Op.{Op}
+use Rattle.file_ops.specs.Rows.{row_of}
+use Rattle.file_exec.specs.declared.need.Need.{Need}
+use Rattle.file_exec.specs.declared.need.Need.TheVariants.{Hold, Know}
+use Rattle.file_exec.specs.Following.{needs}
+use Rattle.file_exec.specs.Operations.{transaction}
+use Rattle.rep_core.specs.declared.lock.Lock.{Lock}
+use Rattle.rep_core.specs.Consistency.{IsConsistent}
+use Rattle.rep_core.specs.Intentions as server
+use Rattle.rep_core.specs.Locks.{conflicts, in_the_way}
+use Rattle.rep_core.specs.State as state
+use Rattle.rep_core.specs.State.{State}
+use Rattle.rep_core.specs.Store.{copy_of}
+use Rattle.rep_core.proofs.Members.{Has, has_from, find_none}
+use Rattle.suite_collect.specs.Collecting.{needed_of}
+use Rattle.txn_core.specs.Agents.{fixed_of}
+use Rattle.run_core.specs.declared.event.Event.{Event}
+use Rattle.run_core.specs.declared.event.Event.TheVariants.{Begin}
+use Rattle.txn_core.specs.declared.job.Job.TheVariants.{Transaction}
+use Rattle.run_core.specs.Worlds as worlds
+use Rattle.run_core.specs.Worlds.{Actor, actor_at, server_at}
+use Rattle.run_core.specs.Runs.{run}
+use Rattle.run_core.specs.TableOfRun.{table_of}
+use Rattle.law_suite_machine.specs.Machine.{World, IsQuorum, in_effect, effect}
+use Rattle.law_server_moves.specs.Views.{plan_of, Shows}
+use Rattle.law_run_machine.specs.Machines.{servers_of, home_in, machine_of}
+use Rattle.law_one_table.specs.Tables.{AllKeepSides}
+use Rattle.law_one_table.specs.Versions.{row_at}
+use Rattle.law_one_table.proofs.Effects as effects
+use Rattle.law_headline.specs.Premises.{CanBe}
+use Rattle.law_headline.proofs.Keeping.{all_keep}
+use Rattle.law_run_alone.specs.Alone.{begins_job}
+use Rattle.law_run_alone.proofs.Named.{no_lock}
+use Rattle.law_run_alone.proofs.Unhindered.{all_consistent}
+use Rattle.law_run_recovers.specs.Standing.{up_in, shown_at, shown_in}
+use Rattle.law_run_recovers.specs.Demands.{demand_by, is_met, led_to_by, has_asked, not_asked, locks_asked, votes_set, votes_of_row, MayStart}
+use Rattle.law_run_recovers.specs.Near.{is_open_way, way_in, is_open_at}
+use Rattle.law_run_recovers.specs.OpenDemands.{Want, mode_or, first_mode, open_demand}
+use Rattle.law_run_recovers.specs.Local.{OpenVotesAreRows}
+use Rattle.law_run_recovers.proofs.Found.{Answering, found_is_row}
+use Rattle.law_run_recovers.proofs.Leading.{led}
+use Rattle.law_run_recovers.proofs.Picks.{find_nobody}
+use Rattle.law_run_recovers.proofs.Rows.{row_votes, start_was}
+use Rattle.law_run_recovers.proofs.Stand.{free_where, in_conflict}
+
+-- ---- what an open server shows is in effect
+
+not_same : (a b : ℕ) → (a ≡ b → ⊥) → (a == b) ≡ false
+not_same a b apart = of (a == b) refl
+  where
+    of : (c : Bool) → (a == b) ≡ c → c ≡ false
+    of true is = absurd (apart (eqb-true a b is))
+    of false is = refl
+
+pub up_of : (t z : ℕ) (mode : LockMode) (found : Option State) → is_open_way (way_in t z mode found) ≡ true → up_in found ≡ true
+up_of t z mode None is = absurd (false≢true is)
+up_of t z mode (Some st) is = of st.up (option_map (λ (lock : Lock). lock.t) (in_the_way t z mode st.locks)) is
+  where
+    of : (b : Bool) (other : Option ℕ) → is_open_way (cond b (Some other) None) ≡ true → b ≡ true
+    of true other is = refl
+    of false other is = is
+
+module _ (given : Opening) (z : ℕ) (w : World) (world : worlds.World) (shows : Shows z (home_in given) (servers_of given world) w)
+    (all : (i : ℕ) (st : State) → server_at world i ≡ Some st → IsConsistent st) (t : ℕ) (none : (i : ℕ) (st : State) → server_at world i ≡ Some st → (lock : Lock) → Has st.locks lock → lock.t ≡ t → ⊥) (mode : LockMode) where
+  -- an intention there would have its lock in the way
+  no_intention : (i : ℕ) (st : State) → server_at world i ≡ Some st → in_the_way t z mode st.locks ≡ None → (found : Option server.Intention) → get nat_cmp st.store.intentions z ≡ found → get nat_cmp st.store.intentions z ≡ None
+  no_intention i st at free None is = is
+  no_intention i st at free (Some intention) is =
+      let beside = (all i st at).locked z intention is in
+      let has = has_from st.locks beside.lock beside.there in
+      absurd (false≢true
+      (sym (find_none (conflicts t z mode) st.locks beside.lock free has)
+      ∙ in_conflict t z mode beside.lock beside.on_it (not_same beside.lock.t t (none i st at beside.lock has)) beside.exclusive))
+
+  open_stored : (i : ℕ) (found : Option State) → server_at world i ≡ found → is_open_way (way_in t z mode found) ≡ true → (effect w i).prefix ≡ shown_at (fixed_of given) world z i
+  open_stored i None at is = absurd (false≢true is)
+  open_stored i (Some st) at is =
+      let same : servers_of given world i ≡ st = ap (λ found. unwrap_or found (state.opening i given)) at in
+      let plan = (shows.at i).plan ∙ ap (λ (st : State). plan_of (get nat_cmp st.store.intentions z) (copy_of st.store z)) same
+      ∙ ap (λ found. plan_of found (copy_of st.store z)) (no_intention i st at (free_where t z mode st is) (get nat_cmp st.store.intentions z) refl) in
+      ap (λ plan. (in_effect w.verdict plan (w.copy i)).prefix) plan
+      ∙ ap (λ (copy : Replica). copy.prefix) (shows.at i).copy
+      ∙ ap (λ (st : State). (copy_of st.store z).prefix) same
+      ∙ sym (ap (λ found. shown_in (fixed_of given) found z) at)
+
+  -- so open servers answer
+  pub open_answer : Answering (fixed_of given) world z w (is_open_at world t z mode)
+  open_answer = record { up = λ i is. up_of t z mode (server_at world i) is; stored = λ i is. open_stored i (server_at world i) refl is }
+
+-- ---- open in a stronger mode
+
+more_conflicts : (t z : ℕ) (m k : LockMode) → serves m k ≡ true → (lock : Lock) → conflicts t z k lock ≡ true → conflicts t z m lock ≡ true
+more_conflicts t z Shared Shared is lock so = so
+more_conflicts t z Exclusive Exclusive is lock so = so
+more_conflicts t z Shared Exclusive is lock so = absurd (false≢true is)
+more_conflicts t z Exclusive Shared is lock so = of (lock.suite == z) (lock.t == t) (is_exclusive lock.mode) so
+  where
+    of : (a b c : Bool) → (a && not b && (false || c)) ≡ true → (a && not b && (true || c)) ≡ true
+    of a b c so = grind (arith, nat_tests)
+
+pub open_wider : (world : worlds.World) (t z : ℕ) (m k : LockMode) → serves m k ≡ true → (i : ℕ) → is_open_at world t z m i ≡ true → is_open_at world t z k i ≡ true
+open_wider world t z m k stronger i = of (server_at world i)
+  where
+    of : (found : Option State) → is_open_way (way_in t z m found) ≡ true → is_open_way (way_in t z k found) ≡ true
+    of None is = absurd (false≢true is)
+    of (Some st) is =
+        let free = find_nobody (conflicts t z m) (conflicts t z k) (more_conflicts t z m k stronger) st.locks (free_where t z m st is) in
+        ap (λ b. is_open_way (cond b (Some (option_map (λ (lock : Lock). lock.t) (in_the_way t z k st.locks))) None)) (up_of t z m (Some st) is)
+        ∙ ap (λ found. is_open_way (Some (option_map (λ (lock : Lock). lock.t) found))) free
+
+-- ---- a suite is asked for in its first mode, or a stronger one
+
+serves_itself : (mode : LockMode) → serves mode mode ≡ true
+serves_itself Shared = refl
+serves_itself Exclusive = refl
+
+must_be : (m k : LockMode) → serves m k ≡ false → serves k m ≡ true
+must_be Shared Shared is = absurd (false≢true (sym is))
+must_be Shared Exclusive is = refl
+must_be Exclusive Shared is = absurd (false≢true (sym is))
+must_be Exclusive Exclusive is = absurd (false≢true (sym is))
+
+or_none : (a b : Bool) → (a || b) ≡ false → (a ≡ false) × (b ≡ false)
+or_none false b is = (refl, is)
+or_none true b is = absurd (false≢true (sym is))
+
+and_none : (a b : Bool) → (a && b) ≡ false → a ≡ true → b ≡ false
+and_none true b is so = is
+and_none false b is so = absurd (false≢true so)
+
+-- what is asked for was not asked for before
+not_had : (asked : List (ℕ × LockMode)) (left : List Need) (one : ℕ × LockMode) → Has (not_asked asked left) one → has_asked asked one.0 one.1 ≡ false
+not_had asked [] one has = absurd has
+not_had asked (Know suite ∷ left) one has = not_had asked left one has
+not_had asked (Hold suite mode ∷ left) one has = of (has_asked asked suite mode) refl (not_had asked left one) (not_had ((suite, mode) ∷ asked) left one) has
+  where
+    of : (b : Bool) → has_asked asked suite mode ≡ b → (Has (not_asked asked left) one → has_asked asked one.0 one.1 ≡ false) → (Has (not_asked ((suite, mode) ∷ asked) left) one → has_asked ((suite, mode) ∷ asked) one.0 one.1 ≡ false)
+        → Has (cond b (not_asked asked left) ((suite, mode) ∷ not_asked ((suite, mode) ∷ asked) left)) one → has_asked asked one.0 one.1 ≡ false
+    of true is go more has = go has
+    of false is go more has =
+        ⊎_elim (λ same. ap (λ (one : ℕ × LockMode). has_asked asked one.0 one.1) (sym same) ∙ is) (λ has. (or_none ((suite == one.0) && serves mode one.1) (has_asked asked one.0 one.1) (more has)).1) has
+
+pub weaker_first : (asked : List (ℕ × LockMode)) (left : List Need) (one : ℕ × LockMode) → Has (not_asked asked left) one → serves one.1 (first_mode (not_asked asked left) one.0) ≡ true
+weaker_first asked [] one has = absurd has
+weaker_first asked (Know suite ∷ left) one has = weaker_first asked left one has
+weaker_first asked (Hold suite mode ∷ left) one has = of (has_asked asked suite mode) (weaker_first asked left one) (weaker_first ((suite, mode) ∷ asked) left one) has
+  where
+    rest : List (ℕ × LockMode)
+    rest = not_asked ((suite, mode) ∷ asked) left
+
+    by : (b : Bool) → (suite == one.0) ≡ b → Has rest one → (Has rest one → serves one.1 (first_mode rest one.0) ≡ true) → serves one.1 (mode_or Shared (cond b (Some (suite, mode)) (find (λ (other : ℕ × LockMode). other.0 == one.0) rest))) ≡ true
+    by true same has more =
+        let had = not_had ((suite, mode) ∷ asked) left one has in
+        must_be mode one.1 (and_none (suite == one.0) (serves mode one.1) (or_none ((suite == one.0) && serves mode one.1) (has_asked asked one.0 one.1) had).0 same)
+    by false other has more = more has
+
+    of : (b : Bool) → (Has (not_asked asked left) one → serves one.1 (first_mode (not_asked asked left) one.0) ≡ true) → (Has rest one → serves one.1 (first_mode rest one.0) ≡ true)
+        → Has (cond b (not_asked asked left) ((suite, mode) ∷ rest)) one → serves one.1 (first_mode (cond b (not_asked asked left) ((suite, mode) ∷ rest)) one.0) ≡ true
+    of true go more has = go has
+    of false go more has =
+        ⊎_elim
+        (λ (same : (suite, mode) ≡ one).
+        ap (λ b. serves one.1 (mode_or Shared (cond b (Some (suite, mode)) (find (λ (other : ℕ × LockMode). other.0 == one.0) rest)))) (eq-eqb suite one.0 (ap (λ (one : ℕ × LockMode). one.0) same))
+        ∙ ap (serves one.1) (ap (λ (one : ℕ × LockMode). one.1) same) ∙ serves_itself one.1)
+        (λ has. by (suite == one.0) refl has more) has
+
+-- ---- in a run
+
+-- tests that hold of one image hold of another, in front of the same others
+module _ {X Y Z : Type 0} where
+  fronts_alike : (p : Z → Bool) (h : Y → Z) (f g : X → Y) (others : List Y) (xs : List X) → ((x : X) → Has xs x → p (h (f x)) ≡ true → p (h (g x)) ≡ true)
+      → list_all p (map h (map f xs ++ others)) ≡ true → list_all p (map h (map g xs ++ others)) ≡ true
+  fronts_alike p h f g others [] so is = is
+  fronts_alike p h f g others (x ∷ xs) so is =
+      let parts = and_parts (p (h (f x))) (list_all p (map h (map f xs ++ others))) is in
+      ap (λ b. b && list_all p (map h (map g xs ++ others))) (so x (inl refl) parts.0) ∙ fronts_alike p h f g others xs (λ x has. so x (inr has)) parts.1
+
+pub up_to : (a b c : ℕ) → nat_le a b ≡ true → b ≤ c → nat_le a c ≡ true
+up_to a b c le more = grind (arith, nat_tests)
+
+module _ (given : Opening) (events : List Event) (can : CanBe given events) (agent t : ℕ) (caller : Identity) (site : ℕ) (ops : List Op) (actor : Actor) (there : actor_at (run given events) agent ≡ Some actor)
+    (begins : begins_job given (run given events) (Begin agent (Transaction caller site ops)) ≡ Some (t, Transaction caller site ops)) (z : ℕ) where
+  abbrev kept : AllKeepSides given events
+  kept = all_keep given events can
+
+  abbrev open_in : LockMode → ℕ → Bool
+  open_in mode = is_open_at (run given events) t z mode
+
+  answer : (mode : LockMode) → Answering (fixed_of given) (run given events) z (machine_of given z events) (is_open_at (run given events) t z mode)
+  answer mode =
+      open_answer given z (machine_of given z events) (run given events) (effects.follows given events kept z).shows (all_consistent given events) t
+      (no_lock given can.accepted events agent t (Transaction caller site ops) begins) mode
+
+  -- where a demand is met in a mode as the votes are found in a weaker one, those are the row's
+  pub open_row : (start : Prefix) → MayStart (fixed_of given) actor.agent.cache site z start → (mode first : LockMode) → serves mode first ≡ true
+      → is_met (demand_by (open_in mode) z mode (led_to_by (fixed_of given) (run given events) (open_in first) z start).votes) ≡ true
+      → is_met (demand_by (open_in mode) z mode (votes_of_row (fixed_of given) (row_of (table_of given events).rows z))) ≡ true
+  open_row start may mode first stronger met =
+      let end = led given z (machine_of given z events) (run given events) (effects.inv given events kept z) (open_in first) (answer first) start (start_was given events can z agent site actor start there may) in
+      let is = found_is_row given z (machine_of given z events) (run given events) (effects.inv given events kept z) (open_in first) (answer first) found end.was end.last (quorum mode met) in
+      subst (λ votes. is_met (demand_by (open_in mode) z mode votes) ≡ true) (ap (λ (prefix : Prefix). prefix.votes) is ∙ row_votes given events can z (row_at given events z) refl) met
+    where
+      found : Prefix
+      found = led_to_by (fixed_of given) (run given events) (is_open_at (run given events) t z first) z start
+
+      enough : (needed : ℕ) → nat_le needed (votes_in found.votes.reps (is_open_at (run given events) t z mode)) ≡ true → nat_le needed (votes_in found.votes.reps (is_open_at (run given events) t z first)) ≡ true
+      enough needed met =
+          up_to needed (votes_in found.votes.reps (is_open_at (run given events) t z mode)) (votes_in found.votes.reps (is_open_at (run given events) t z first)) met
+          (votes_in-wider found.votes.reps (is_open_at (run given events) t z mode) (is_open_at (run given events) t z first) (open_wider (run given events) t z mode first stronger))
+
+      quorum : (m : LockMode) → nat_le (needed_of m found.votes) (votes_in found.votes.reps (is_open_at (run given events) t z mode)) ≡ true → IsQuorum found.votes (is_open_at (run given events) t z first)
+      quorum Shared met = inl (enough found.votes.r met)
+      quorum Exclusive met = inr (enough found.votes.w met)
+
+pub open_votes_are_rows : OpenVotesAreRows
+open_votes_are_rows given events can agent t caller site ops actor start there begins may met =
+    let world = run given events in
+    let table = table_of given events in
+    let asked : List (ℕ × LockMode) = locks_asked table t caller ops in
+    let set : List Want = map (λ (one : ℕ × Configuration). record { suite = one.0; mode = Exclusive; votes = one.1 }) (votes_set table t caller ops) in
+    let found : ℕ × LockMode → Want = λ one. record { suite = one.0; mode = one.1; votes = (led_to_by (fixed_of given) world (is_open_at world t one.0 (first_mode asked one.0)) one.0 (start one.0)).votes } in
+    let of_row : ℕ × LockMode → Want = λ one. record { suite = one.0; mode = one.1; votes = votes_of_row (fixed_of given) (row_of table.rows one.0) } in
+    fronts_alike is_met (open_demand world t) found of_row set asked
+    (λ one has. open_row given events can agent t caller site ops actor there begins one.0 (start one.0) (may one.0) one.1 (first_mode asked one.0) (weaker_first [] (needs (row_of table.rows) [] (transaction table.service t caller ops)) one has))
+    met

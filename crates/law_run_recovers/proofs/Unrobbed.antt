@@ -1,0 +1,107 @@
+-- What a transaction that nobody robs finds at each moment at which it is at work: no server has it recorded, its locks are there, and what it knows is so on the table of that moment.
+use Rattle.std.proofs.Common.{◌≡◌, ◌≢◌, ℕ, List, [], ◌∷◌, ◌++◌, append_assoc, append-nil, Option, Some, None, refl, sym, ap, subst, ◌∙◌}
+use Rattle.std.specs.Prelude.{false, ◌||◌}
+use Rattle.std.specs.Ordering.{nat_cmp}
+use Rattle.sorted_map.specs.SortedMap.{IsOrdered}
+use Rattle.acl_core.specs.Identity.{Identity}
+use Rattle.suite_prefix.specs.SettingsRules.{Opening}
+use Rattle.file_ops.specs.declared.operation.Op.{Op}
+use Rattle.file_ops.specs.Rows.{row_of}
+use Rattle.file_exec.specs.Known.{AgreesWith}
+use Rattle.rep_core.specs.declared.reply.Verdict.{Verdict}
+use Rattle.rep_core.specs.declared.request.Request.{Request}
+use Rattle.rep_core.specs.State.{State, record_of}
+use Rattle.txn_core.specs.declared.job.Job.TheVariants.{Transaction}
+use Rattle.txn_core.specs.Suites.{known_of}
+use Rattle.txn_core.specs.Doing.{TransactionRun, Running}
+use Rattle.txn_core.specs.Agents.{fixed_of, next_of}
+use Rattle.run_core.specs.declared.event.Event.{Event}
+use Rattle.run_core.specs.declared.event.Event.TheVariants.{Begin}
+use Rattle.run_core.specs.Worlds.{Actor, World, server_at, actor_at, step}
+use Rattle.run_core.specs.Runs.{run}
+use Rattle.run_core.specs.TableOfRun.{table_of}
+use Rattle.law_suite_machine.specs.Machine.{Answered}
+use Rattle.law_run_machine.specs.Machines.{machine_of}
+use Rattle.law_headline.specs.Premises.{CanBe}
+use Rattle.law_run_alone.specs.Alone.{begins_job}
+use Rattle.law_run_alone.proofs.Holding.{doing_any}
+use Rattle.law_run_alone.proofs.Named.{no_record}
+use Rattle.law_run_alone.proofs.Reached.{can_front}
+use Rattle.law_run_alone.proofs.Requests.{Finds, finds}
+use Rattle.law_run_alone.proofs.Standing.{Stands}
+use Rattle.law_run_alone.proofs.Whole.{Carried, carried_by}
+use Rattle.law_run_recovers.specs.Unmet.{world_after, robs, bereaves, hinders_itself}
+use Rattle.law_run_recovers.proofs.AtWork.{locks_stand}
+use Rattle.law_run_recovers.proofs.Keeps.{IsAtWork, after_append, run_at, at_work_before}
+use Rattle.law_run_recovers.proofs.Knew.{unanswered, knows_table}
+use Rattle.law_run_recovers.proofs.Open.{begun_servers}
+use Rattle.law_run_recovers.proofs.Unfixed.{unrecorded_next}
+
+module _ (given : Opening) (events later : List Event) (agent t : ℕ) (caller : Identity) (site : ℕ) (ops : List Op) (actor : Actor)
+    (can : CanBe given (events ++ Begin agent (Transaction caller site ops) ∷ later)) (there : actor_at (run given events) agent ≡ Some actor)
+    (begins_so : begins_job given (run given events) (Begin agent (Transaction caller site ops)) ≡ Some (t, Transaction caller site ops))
+    (spares : (so_far rest : List Event) (event : Event) → later ≡ so_far ++ event ∷ rest → IsAtWork (world_after given events agent caller site ops so_far) agent t →
+    let w = world_after given events agent caller site ops so_far in (hinders_itself given agent w event || (robs given agent t w event || bereaves given agent t w event)) ≡ false) where
+  abbrev world_at : List Event → World
+  world_at so_far = world_after given events agent caller site ops so_far
+
+  abbrev so_all : List Event → List Event
+  so_all so_far = events ++ Begin agent (Transaction caller site ops) ∷ so_far
+
+  is_run : (so_far : List Event) → world_at so_far ≡ run given (so_all so_far)
+  is_run = run_at given events later agent t caller site ops actor can there begins_so
+
+  abbrev Unrecorded : World → Type 0
+  Unrecorded w = (i : ℕ) (st : State) → server_at w i ≡ Some st → record_of st t ≡ None
+
+  unrecorded_first : Unrecorded (world_at [])
+  unrecorded_first i st at = of (record_of st t) refl
+    where
+      of : (found : Option Verdict) → record_of st t ≡ found → record_of st t ≡ None
+      of None is = is
+      of (Some v) is = absurd (no_record given can.accepted events agent t (Transaction caller site ops) begins_so i st (sym (begun_servers given events later agent t caller site ops actor can there begins_so i) ∙ at) v is)
+
+  work_before : (so_far more : List Event) → IsAtWork (world_at (so_far ++ more)) agent t → IsAtWork (world_at so_far) agent t
+  work_before = at_work_before given events later agent t caller site ops actor can there begins_so
+
+  unrecorded_then : (so_far rest : List Event) (event : Event) → later ≡ so_far ++ event ∷ rest → IsAtWork (world_at (so_far ++ event ∷ [])) agent t → Unrecorded (world_at so_far) → Unrecorded (world_at (so_far ++ event ∷ []))
+  unrecorded_then so_far rest event is at none =
+      let now = subst (λ w. IsAtWork w agent t) (is_run so_far) (work_before so_far (event ∷ []) at) in
+      let calm = subst (λ w. (hinders_itself given agent w event || (robs given agent t w event || bereaves given agent t w event)) ≡ false) (is_run so_far) (spares so_far rest event is (work_before so_far (event ∷ []) at)) in
+      let next : world_at (so_far ++ event ∷ []) ≡ (step (fixed_of given) (run given (so_all so_far)) event).world = after_append (fixed_of given) so_far (event ∷ []) (world_at []) ∙ ap (λ w. (step (fixed_of given) w event).world) (is_run so_far) in
+      subst Unrecorded (sym next)
+      (unrecorded_next given can.accepted (so_all so_far) agent t now (subst Unrecorded (is_run so_far) none) event calm (subst (λ w. IsAtWork w agent t) next at))
+
+  unrecorded_along : (todo so_far rest : List Event) → later ≡ (so_far ++ todo) ++ rest → IsAtWork (world_at (so_far ++ todo)) agent t → Unrecorded (world_at so_far) → Unrecorded (world_at (so_far ++ todo))
+  unrecorded_along [] so_far rest is at none = subst (λ so_far. Unrecorded (world_at so_far)) (sym (append-nil so_far)) none
+  unrecorded_along (event ∷ todo) so_far rest is at none =
+      let more : (so_far ++ event ∷ []) ++ todo ≡ so_far ++ event ∷ todo = append_assoc so_far (event ∷ []) todo in
+      let at' = subst (λ so_far. IsAtWork (world_at so_far) agent t) (sym more) at in
+      let next = unrecorded_then so_far (todo ++ rest) event (is ∙ append_assoc so_far (event ∷ todo) rest) (work_before (so_far ++ event ∷ []) todo at') none in
+      subst (λ so_far. Unrecorded (world_at so_far)) more (unrecorded_along todo (so_far ++ event ∷ []) rest (is ∙ ap (λ so_far. so_far ++ rest) (sym more)) at' next)
+
+  -- no server has it recorded
+  pub unrecorded_at : (so_far rest : List Event) → later ≡ so_far ++ rest → IsAtWork (world_at so_far) agent t → Unrecorded (world_at so_far)
+  unrecorded_at so_far rest is at = unrecorded_along so_far [] rest is at unrecorded_first
+
+  -- what it knows is so on the table of that moment, whatever others have decided since it began
+  pub knows_then : (so_far rest : List Event) → later ≡ so_far ++ rest → IsAtWork (world_at so_far) agent t → (here : Actor) (txn_run : TransactionRun) → actor_at (world_at so_far) agent ≡ Some here → here.agent.doing ≡ Some (Running txn_run)
+      → IsOrdered nat_cmp txn_run.suites → txn_run.task.t ≡ t → AgreesWith (known_of txn_run.suites) (row_of (table_of given (so_all so_far)).rows)
+  knows_then so_far rest is at here txn_run there' running ordered number =
+      let can' : CanBe given (so_all so_far) =
+      can_front given (so_all so_far) rest (subst (CanBe given) (ap (λ later. events ++ Begin agent (Transaction caller site ops) ∷ later) is ∙ sym (append_assoc events (Begin agent (Transaction caller site ops) ∷ so_far) rest)) can) in
+      knows_table given (so_all so_far) can' agent here txn_run (ap (λ w. actor_at w agent) (sym (is_run so_far)) ∙ there') running ordered
+      (λ z. subst (Stands (machine_of given z (so_all so_far))) (sym number) (locks_stand given events later agent t caller site ops actor can there begins_so spares so_far rest is at z))
+      (λ z. subst (λ t. (machine_of given z (so_all so_far)).verdict t ≢ Some Answered) (sym number) (unanswered given (so_all so_far) can' t (subst Unrecorded (is_run so_far) (unrecorded_at so_far rest is at)) z))
+
+  -- and what its requests stand on is there
+  pub finds_then : (so_far rest : List Event) → later ≡ so_far ++ rest → IsAtWork (world_at so_far) agent t → (here : Actor) (txn_run : TransactionRun) → actor_at (world_at so_far) agent ≡ Some here → here.agent.doing ≡ Some (Running txn_run) → txn_run.task.t ≡ t
+      → (asked : ℕ × Request) → next_of (fixed_of given) here.agent ≡ Some asked → (st : State) → server_at (world_at so_far) asked.0 ≡ Some st → Finds st asked.1
+  finds_then so_far rest is at here txn_run there' running number asked next st found =
+      finds given can.c0 (world_at so_far) rest (λ z. machine_of given z (so_all so_far))
+      (subst (λ w. Carried given (λ z. machine_of given z (so_all so_far)) w rest) (sym (is_run so_far))
+      (carried_by given (so_all so_far) rest (subst (CanBe given) (ap (λ later. events ++ Begin agent (Transaction caller site ops) ∷ later) is ∙ sym (append_assoc events (Begin agent (Transaction caller site ops) ∷ so_far) rest)) can)))
+      agent here txn_run there' running
+      (λ z. doing_any (machine_of given z (so_all so_far)) txn_run.task.t (Some (Running txn_run))
+      (subst (Stands (machine_of given z (so_all so_far))) (sym number) (locks_stand given events later agent t caller site ops actor can there begins_so spares so_far rest is at z)))
+      asked next st found
