@@ -242,7 +242,8 @@ const Model = (() => {
         if (nothing) return { agent: place, text: `${words[0]}${nothing}` };
         const job = begunBy(event, place);
         const front = `job ${job.number} (t ${job.t})`;
-        return { agent: place, text: job.user === null ? `${front} ${job.text}` : `${front}, user ${job.user}: ${job.text}` };
+        const user = job.user === null ? " " : `, user ${job.user}: `;
+        return { agent: place, text: `${front}${user}${job.text}` };
       }
       default: return nothing ? { agent: place, text: `${words[0]}${nothing}` } : null;
     }
@@ -255,7 +256,8 @@ const Model = (() => {
     const about = ["poll", "upgrade", "break"].includes(request.asks) ? ` ${request.suite}` : "";
     const word = request.asks === "upgrade" ? "poll" : request.asks;
     const whose = ["finish", "break"].includes(word) ? ` ${request.t}` : "";
-    return ["poll", "prepare", "finish", "break"].includes(word) ? `${event.line} ${event.agent} ${word}${about}${whose}` : null;
+    const folds = ["poll", "prepare", "finish", "break"].includes(word);
+    return folds ? `${event.line} ${event.agent} ${word}${about}${whose}` : null;
   }
 
   const GOOD = ["held", "prepared", "done"];
@@ -287,8 +289,8 @@ const Model = (() => {
         const row = { kind: "request", event: place, agent: event.agent };
         const last = rows[rows.length - 1];
         if (own !== null && own === key) {
-          if (last.kind === "request") rows[rows.length - 1] = { kind: "group", event: last.event, agent: event.agent, rows: [last, row] };
-          else last.rows.push(row);
+          if (last.kind === "group") last.rows.push(row);
+          else rows[rows.length - 1] = { kind: "group", event: last.event, agent: event.agent, rows: [last, row] };
         } else {
           rows.push(row);
         }
@@ -312,8 +314,8 @@ const Model = (() => {
   function lifeOf(run, suite) {
     const life = [];
     run.events.forEach((event, place) => {
-      const told = event.kind === "opening" ? event.servers.flatMap((server) => server.copies.map((copy) => [server.server, copy]))
-        : ((event.at && event.at.copies) || []).map((copy) => [event.at.server, copy]);
+      const at = event.kind === "opening" ? event.servers : event.at && event.at.copies ? [event.at] : [];
+      const told = at.flatMap((server) => server.copies.map((copy) => [server.server, copy]));
       for (const [server, copy] of told) {
         const before = place === 0 ? null : run.worlds[place - 1].servers[server].copies[suite];
         const isSame = before && before.prefix === copy.prefix && before.content === copy.content;
@@ -333,7 +335,7 @@ const Model = (() => {
     return { events, worlds, paths, rows: rowsOf(events, paths), last: events.length - 1 };
   }
 
-  return { read, behind, votesOf, lifeOf, pathOf, askedWords, repliedWords, shortList, shownBytes, readVotes, verdictWord };
+  return { read, behind, votesOf, lifeOf, pathOf, askedWords, repliedWords, shortList, shownBytes };
 })();
 
 if (typeof module !== "undefined") module.exports = Model;
