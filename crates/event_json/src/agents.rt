@@ -1,5 +1,8 @@
 //! What agents do, and what their caches have.
 
+ghost use Rattle.std.specs.Prelude.{◌≡◌};
+ghost use Rattle.event_json.specs.Agents.{asked_word};
+
 use crate::strings::push_member;
 use rep_core::Request;
 use std::alloc::AllocError;
@@ -25,7 +28,9 @@ pub fn push_agent(
 }
 
 /// What is asked, in a word.
-fn asked_word(request: &Request) -> &'static [u8] {
+fn asked_word(request: &Request) -> &'static [u8]
+    ensures { result.now ≡ asked_word request.now }
+{
     match request {
         Request::Poll { .. } => b"poll",
         Request::Upgrade { .. } => b"upgrade",

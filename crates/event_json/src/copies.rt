@@ -1,11 +1,16 @@
 //! Prefixes, contents and copies.
 
+ghost use Rattle.std.specs.Prelude.{◌≡◌, ◌++◌, OnOk, codes};
+ghost use Rattle.std.specs.List.{flat_map};
+ghost use Rattle.event_json.specs.Copies.{content_text, copy_text, kind_text, name_text, prefix_text, replica_text};
+ghost use Rattle.event_json.specs.Strings.{listed};
+
 use crate::strings::{push_hex, push_member};
 use acl_text::append_short;
 use script_text::push_number;
 use std::alloc::{AllocError, Global};
 use suite_content::{Content, Name};
-use suite_prefix::{Prefix, PrefixKind, StoredCopy};
+use suite_prefix::{Prefix, PrefixKind, Replica, StoredCopy};
 use suite_script::push_votes;
 
 /// A copy of a suite: its prefix, and its content with that version.
@@ -14,7 +19,9 @@ pub fn push_copy(
     text: &mut Vec<u8>,
     suite: u64,
     copy: &StoredCopy,
-) -> Result<(), AllocError> {
+) -> Result<(), AllocError>
+    ensures { OnOk result (text.new.items ≡ text.old.items ++ copy_text suite copy.now.copy) }
+{
     let (prefix, _) = copy.head(alloc)?;
     let (dver, content) = copy.given(alloc)?;
     push_member(text, b"{\"suite\":", suite)?;
@@ -26,8 +33,24 @@ pub fn push_copy(
     text.extend_from_slice(b"}")
 }
 
+/// The members of a copy.
+pub(crate) fn push_replica(
+    alloc: Global,
+    text: &mut Vec<u8>,
+    copy: &Replica,
+) -> Result<(), AllocError>
+    ensures { OnOk result (text.new.items ≡ text.old.items ++ replica_text copy.now) }
+{
+    push_prefix(text, &copy.prefix)?;
+    push_member(text, b",\"content\":", copy.dver)?;
+    text.extend_from_slice(b",")?;
+    push_content(alloc, text, &copy.content)
+}
+
 /// The members of a prefix.
-pub(crate) fn push_prefix(text: &mut Vec<u8>, prefix: &Prefix) -> Result<(), AllocError> {
+pub(crate) fn push_prefix(text: &mut Vec<u8>, prefix: &Prefix) -> Result<(), AllocError>
+    ensures { OnOk result (text.new.items ≡ text.old.items ++ prefix_text prefix.now) }
+{
     text.extend_from_slice(kind_word(prefix.kind))?;
     push_member(text, b",\"prefix\":", prefix.pver)?;
     push_member(text, b",\"owner\":", u64::from(prefix.owner))?;
@@ -39,7 +62,9 @@ pub(crate) fn push_prefix(text: &mut Vec<u8>, prefix: &Prefix) -> Result<(), All
     text.extend_from_slice(b"\"")
 }
 
-fn kind_word(kind: PrefixKind) -> &'static [u8] {
+fn kind_word(kind: PrefixKind) -> &'static [u8]
+    ensures { result.now ≡ kind_text kind }
+{
     match kind {
         PrefixKind::Absent => b"\"kind\":\"absent\"",
         PrefixKind::File => b"\"kind\":\"file\"",
@@ -52,7 +77,9 @@ pub(crate) fn push_content(
     alloc: Global,
     text: &mut Vec<u8>,
     content: &Content,
-) -> Result<(), AllocError> {
+) -> Result<(), AllocError>
+    ensures { OnOk result (text.new.items ≡ text.old.items ++ content_text content.now) }
+{
     match content {
         Content::Bytes(bytes) => {
             text.extend_from_slice(b"\"bytes\":\"")?;
@@ -67,19 +94,29 @@ pub(crate) fn push_content(
     }
 }
 
-fn push_names(text: &mut Vec<u8>, names: &[(Name, u64)]) -> Result<(), AllocError> {
+fn push_names(text: &mut Vec<u8>, names: &[(Name, u64)]) -> Result<(), AllocError>
+    ensures { OnOk result (text.new.items ≡ text.old.items ++ listed name_text names.now) }
+{
     let [first, more @ ..] = names else {
         return Ok(());
     };
     push_name(text, first)?;
-    for entry in more {
+    push_more_names(text, more)
+}
+
+fn push_more_names(text: &mut Vec<u8>, names: &[(Name, u64)]) -> Result<(), AllocError>
+    ensures { OnOk result (text.new.items ≡ text.old.items ++ flat_map (λ next. codes "," ++ name_text next) names.now) }
+{
+    for entry in names {
         text.extend_from_slice(b",")?;
         push_name(text, entry)?;
     }
     Ok(())
 }
 
-fn push_name(text: &mut Vec<u8>, entry: &(Name, u64)) -> Result<(), AllocError> {
+fn push_name(text: &mut Vec<u8>, entry: &(Name, u64)) -> Result<(), AllocError>
+    ensures { OnOk result (text.new.items ≡ text.old.items ++ name_text entry.now) }
+{
     text.extend_from_slice(b"\"")?;
     text.extend_from_slice(entry.0.as_bytes())?;
     text.extend_from_slice(b"\":")?;

@@ -1,5 +1,8 @@
 //! Replies, and how transactions end.
 
+ghost use Rattle.std.specs.Prelude.{◌≡◌, ◌++◌, OnOk};
+ghost use Rattle.event_json.specs.Replies.{decided_text, decision_text, ended_text, reply_text, verdict_text};
+
 use crate::copies::{push_content, push_prefix};
 use crate::locks::push_locks;
 use crate::strings::{push_member, truth};
@@ -8,7 +11,9 @@ use std::alloc::{AllocError, Global};
 use suite_script::{push_answered, push_refused};
 
 /// What a server answers.
-pub fn push_reply(alloc: Global, text: &mut Vec<u8>, reply: &Reply) -> Result<(), AllocError> {
+pub fn push_reply(alloc: Global, text: &mut Vec<u8>, reply: &Reply) -> Result<(), AllocError>
+    ensures { OnOk result (text.new.items ≡ text.old.items ++ reply_text reply.now) }
+{
     match reply {
         Reply::Held { prefix, dver } => {
             text.extend_from_slice(b"{\"says\":\"held\",")?;
@@ -46,18 +51,22 @@ pub fn push_reply(alloc: Global, text: &mut Vec<u8>, reply: &Reply) -> Result<()
 }
 
 /// How a transaction ended, as `play` tells it.
-pub fn push_verdict(
-    alloc: Global,
-    text: &mut Vec<u8>,
-    verdict: &Verdict,
-) -> Result<(), AllocError> {
+pub fn push_verdict(alloc: Global, text: &mut Vec<u8>, verdict: &Verdict) -> Result<(), AllocError>
+    ensures { OnOk result (text.new.items ≡ text.old.items ++ verdict_text verdict.now) }
+{
     text.extend_from_slice(b"\"")?;
-    match verdict {
-        Verdict::Answered(answers) => push_answered(alloc, text, answers.as_slice())?,
-        Verdict::Refused(refusal) => push_refused(text, *refusal)?,
-        Verdict::Aborted => text.extend_from_slice(b"aborted")?,
-    }
+    push_ended(alloc, text, verdict)?;
     text.extend_from_slice(b"\"")
+}
+
+fn push_ended(alloc: Global, text: &mut Vec<u8>, verdict: &Verdict) -> Result<(), AllocError>
+    ensures { OnOk result (text.new.items ≡ text.old.items ++ ended_text verdict.now) }
+{
+    match verdict {
+        Verdict::Answered(answers) => push_answered(alloc, text, answers.as_slice()),
+        Verdict::Refused(refusal) => push_refused(text, *refusal),
+        Verdict::Aborted => text.extend_from_slice(b"aborted"),
+    }
 }
 
 /// How a transaction is to be decided, as `play` tells it.
@@ -65,11 +74,19 @@ pub(crate) fn push_decision(
     alloc: Global,
     text: &mut Vec<u8>,
     decision: &Decision,
-) -> Result<(), AllocError> {
+) -> Result<(), AllocError>
+    ensures { OnOk result (text.new.items ≡ text.old.items ++ decision_text decision.now) }
+{
     text.extend_from_slice(b"\"")?;
-    match decision {
-        Decision::Answered(answers) => push_answered(alloc, text, answers.as_slice())?,
-        Decision::Refused { uid: _, refusal } => push_refused(text, *refusal)?,
-    }
+    push_decided(alloc, text, decision)?;
     text.extend_from_slice(b"\"")
+}
+
+fn push_decided(alloc: Global, text: &mut Vec<u8>, decision: &Decision) -> Result<(), AllocError>
+    ensures { OnOk result (text.new.items ≡ text.old.items ++ decided_text decision.now) }
+{
+    match decision {
+        Decision::Answered(answers) => push_answered(alloc, text, answers.as_slice()),
+        Decision::Refused { uid: _, refusal } => push_refused(text, *refusal),
+    }
 }

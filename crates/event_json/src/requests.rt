@@ -1,6 +1,11 @@
 //! Requests.
 
-use crate::copies::{push_content, push_prefix};
+ghost use Rattle.std.specs.Prelude.{◌≡◌, ◌++◌, OnOk, codes};
+ghost use Rattle.std.specs.List.{flat_map};
+ghost use Rattle.event_json.specs.Requests.{about_text, asked_text, part_text, request_text, take_text};
+ghost use Rattle.event_json.specs.Strings.{listed};
+
+use crate::copies::{push_prefix, push_replica};
 use crate::locks::mode_word;
 use crate::replies::{push_decision, push_verdict};
 use crate::strings::push_member;
@@ -8,61 +13,76 @@ use rep_core::{Part, Request, Take};
 use std::alloc::{AllocError, Global};
 
 /// What a server is asked.
-pub fn push_request(
-    alloc: Global,
-    text: &mut Vec<u8>,
-    request: &Request,
-) -> Result<(), AllocError> {
+pub fn push_request(alloc: Global, text: &mut Vec<u8>, request: &Request) -> Result<(), AllocError>
+    ensures { OnOk result (text.new.items ≡ text.old.items ++ request_text request.now) }
+{
+    push_asked(alloc, text, request)?;
+    text.extend_from_slice(b"}")
+}
+
+/// A request but for its end.
+fn push_asked(alloc: Global, text: &mut Vec<u8>, request: &Request) -> Result<(), AllocError>
+    ensures { OnOk result (text.new.items ≡ text.old.items ++ asked_text request.now) }
+{
     match request {
         Request::Poll { t, suite, mode } => {
             push_about(text, b"{\"asks\":\"poll\",\"t\":", *t, *suite)?;
-            text.extend_from_slice(mode_word(*mode))?;
+            text.extend_from_slice(mode_word(*mode))
         }
         Request::Upgrade { t, suite } => {
-            push_about(text, b"{\"asks\":\"upgrade\",\"t\":", *t, *suite)?
+            push_about(text, b"{\"asks\":\"upgrade\",\"t\":", *t, *suite)
         }
         Request::Fetch { t, suite } => {
-            push_about(text, b"{\"asks\":\"fetch\",\"t\":", *t, *suite)?
+            push_about(text, b"{\"asks\":\"fetch\",\"t\":", *t, *suite)
         }
         Request::Break { t, suite } => {
-            push_about(text, b"{\"asks\":\"break\",\"t\":", *t, *suite)?
+            push_about(text, b"{\"asks\":\"break\",\"t\":", *t, *suite)
         }
         Request::Prepare { t, parts } => {
             push_member(text, b"{\"asks\":\"prepare\",\"t\":", *t)?;
             text.extend_from_slice(b",\"parts\":[")?;
             push_parts(alloc, text, parts.as_slice())?;
-            text.extend_from_slice(b"]")?;
+            text.extend_from_slice(b"]")
         }
         Request::Decide { t, decision } => {
             push_member(text, b"{\"asks\":\"decide\",\"t\":", *t)?;
             text.extend_from_slice(b",\"decision\":")?;
-            push_decision(alloc, text, decision)?;
+            push_decision(alloc, text, decision)
         }
-        Request::Resolve { t } => push_member(text, b"{\"asks\":\"resolve\",\"t\":", *t)?,
+        Request::Resolve { t } => push_member(text, b"{\"asks\":\"resolve\",\"t\":", *t),
         Request::Finish { t, verdict } => {
             push_member(text, b"{\"asks\":\"finish\",\"t\":", *t)?;
             text.extend_from_slice(b",\"verdict\":")?;
-            push_verdict(alloc, text, verdict)?;
+            push_verdict(alloc, text, verdict)
         }
-        Request::Locks => text.extend_from_slice(b"{\"asks\":\"locks\"")?,
-        Request::Crash => text.extend_from_slice(b"{\"asks\":\"crash\"")?,
-        Request::Return => text.extend_from_slice(b"{\"asks\":\"return\"")?,
+        Request::Locks => text.extend_from_slice(b"{\"asks\":\"locks\""),
+        Request::Crash => text.extend_from_slice(b"{\"asks\":\"crash\""),
+        Request::Return => text.extend_from_slice(b"{\"asks\":\"return\""),
     }
-    text.extend_from_slice(b"}")
 }
 
 /// What is asked, by which transaction, and of which suite.
-fn push_about(text: &mut Vec<u8>, what: &[u8], t: u64, suite: u64) -> Result<(), AllocError> {
+fn push_about(text: &mut Vec<u8>, what: &[u8], t: u64, suite: u64) -> Result<(), AllocError>
+    ensures { OnOk result (text.new.items ≡ text.old.items ++ about_text what.now t suite) }
+{
     push_member(text, what, t)?;
     push_member(text, b",\"suite\":", suite)
 }
 
-fn push_parts(alloc: Global, text: &mut Vec<u8>, parts: &[Part]) -> Result<(), AllocError> {
+fn push_parts(alloc: Global, text: &mut Vec<u8>, parts: &[Part]) -> Result<(), AllocError>
+    ensures { OnOk result (text.new.items ≡ text.old.items ++ listed part_text parts.now) }
+{
     let [first, more @ ..] = parts else {
         return Ok(());
     };
     push_part(alloc, text, first)?;
-    for part in more {
+    push_more_parts(alloc, text, more)
+}
+
+fn push_more_parts(alloc: Global, text: &mut Vec<u8>, parts: &[Part]) -> Result<(), AllocError>
+    ensures { OnOk result (text.new.items ≡ text.old.items ++ flat_map (λ next. codes "," ++ part_text next) parts.now) }
+{
+    for part in parts {
         text.extend_from_slice(b",")?;
         push_part(alloc, text, part)?;
     }
@@ -70,14 +90,18 @@ fn push_parts(alloc: Global, text: &mut Vec<u8>, parts: &[Part]) -> Result<(), A
 }
 
 /// A suite, the lock on it, and what is left of it.
-fn push_part(alloc: Global, text: &mut Vec<u8>, part: &Part) -> Result<(), AllocError> {
+fn push_part(alloc: Global, text: &mut Vec<u8>, part: &Part) -> Result<(), AllocError>
+    ensures { OnOk result (text.new.items ≡ text.old.items ++ part_text part.now) }
+{
     push_member(text, b"{\"suite\":", part.suite)?;
     text.extend_from_slice(mode_word(part.mode))?;
     push_take(alloc, text, &part.take)?;
     text.extend_from_slice(b"}")
 }
 
-fn push_take(alloc: Global, text: &mut Vec<u8>, take: &Take) -> Result<(), AllocError> {
+fn push_take(alloc: Global, text: &mut Vec<u8>, take: &Take) -> Result<(), AllocError>
+    ensures { OnOk result (text.new.items ≡ text.old.items ++ take_text take.now) }
+{
     match take {
         Take::Keep => text.extend_from_slice(b",\"takes\":\"nothing\""),
         Take::Prefix(prefix) => {
@@ -86,10 +110,7 @@ fn push_take(alloc: Global, text: &mut Vec<u8>, take: &Take) -> Result<(), Alloc
         }
         Take::Whole(replica) => {
             text.extend_from_slice(b",\"takes\":\"whole\",")?;
-            push_prefix(text, &replica.prefix)?;
-            push_member(text, b",\"content\":", replica.dver)?;
-            text.extend_from_slice(b",")?;
-            push_content(alloc, text, &replica.content)
+            push_replica(alloc, text, replica)
         }
     }
 }

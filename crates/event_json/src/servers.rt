@@ -1,5 +1,10 @@
 //! What servers have, and what changed there.
 
+ghost use Rattle.std.specs.Prelude.{◌≡◌, ◌++◌, OnOk, codes};
+ghost use Rattle.std.specs.List.{flat_map};
+ghost use Rattle.event_json.specs.Servers.{denials_text, item_text};
+ghost use Rattle.event_json.specs.Strings.{listed};
+
 use crate::copies::push_copy;
 use crate::locks::push_locks;
 use crate::strings::{push_member, truth};
@@ -118,18 +123,37 @@ fn push_up(text: &mut Vec<u8>, number: u8, server: &Server) -> Result<(), AllocE
 }
 
 /// A list of denials.
-pub fn push_denials(text: &mut Vec<u8>, items: &[AuditItem]) -> Result<(), AllocError> {
+pub fn push_denials(text: &mut Vec<u8>, items: &[AuditItem]) -> Result<(), AllocError>
+    ensures { OnOk result (text.new.items ≡ text.old.items ++ denials_text items.now) }
+{
     text.extend_from_slice(b"[")?;
-    let mut between: &[u8] = b"";
-    for item in items {
-        text.extend_from_slice(between)?;
-        push_item(text, item)?;
-        between = b",";
-    }
+    push_items(text, items)?;
     text.extend_from_slice(b"]")
 }
 
-fn push_item(text: &mut Vec<u8>, item: &AuditItem) -> Result<(), AllocError> {
+fn push_items(text: &mut Vec<u8>, items: &[AuditItem]) -> Result<(), AllocError>
+    ensures { OnOk result (text.new.items ≡ text.old.items ++ listed item_text items.now) }
+{
+    let [first, more @ ..] = items else {
+        return Ok(());
+    };
+    push_item(text, first)?;
+    push_more_items(text, more)
+}
+
+fn push_more_items(text: &mut Vec<u8>, items: &[AuditItem]) -> Result<(), AllocError>
+    ensures { OnOk result (text.new.items ≡ text.old.items ++ flat_map (λ next. codes "," ++ item_text next) items.now) }
+{
+    for item in items {
+        text.extend_from_slice(b",")?;
+        push_item(text, item)?;
+    }
+    Ok(())
+}
+
+fn push_item(text: &mut Vec<u8>, item: &AuditItem) -> Result<(), AllocError>
+    ensures { OnOk result (text.new.items ≡ text.old.items ++ item_text item.now) }
+{
     push_member(text, b"{\"t\":", item.t)?;
     push_member(text, b",\"uid\":", u64::from(item.uid))?;
     text.extend_from_slice(b",\"denied\":\"")?;
