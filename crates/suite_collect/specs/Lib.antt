@@ -1,5 +1,6 @@
 pub mod Telling
 pub mod Collecting
 pub mod Answering
+pub mod Alike
 pub mod Laws
 pub mod code

@@ -3,3 +3,5 @@ pub mod Adding
 pub mod HeardFields
 pub mod Dues
 pub mod CollectFields
+pub mod Widenings
+pub mod Equality

@@ -20,3 +20,4 @@ pub mod Telling
 pub mod Passing
 pub mod Reaching
 pub mod Equality
+pub mod Same

@@ -66,6 +66,7 @@ mod phase;
 mod plan;
 mod resources;
 mod response;
+mod same;
 mod servers;
 mod sorting;
 mod suites;

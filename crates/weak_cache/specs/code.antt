@@ -3,3 +3,4 @@ pub mod CacheView
 pub mod Beside
 pub mod Counts
 pub mod Shelved
+pub mod Equality

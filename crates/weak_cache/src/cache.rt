@@ -1,6 +1,6 @@
 //! The cache of an agent's sites.
 
-ghost use Rattle.std.specs.Prelude.{◌≡◌, ◌<◌, ◌≤◌, IfOk, OnOk, OnErr, IsOk, IsSome, IsTrue, None, [], false};
+ghost use Rattle.std.specs.Prelude.{◌≡◌, ◌<◌, ◌≤◌, IfOk, OnOk, OnErr, IsOk, IsSome, IsTrue, None, [], false, true};
 ghost use Rattle.std.specs.Option.{option_copied, SomeIff};
 ghost use Rattle.std.specs.Borrow.{sem};
 ghost use Rattle.weak_cache.specs.Entries.{is_of};
@@ -49,7 +49,7 @@ impl Model for WeakCache {
 
 impl WeakCache {
     ghost use Rattle.weak_cache.specs.Cache.{IsWithin, hint, has_room, put, searched, content_at};
-    ghost use Rattle.weak_cache.specs.Entries.{size_of, keys_of, forgotten, entry_of, entry_with, max_sites};
+    ghost use Rattle.weak_cache.specs.Entries.{size_of, keys_of, forgotten, keeps, entry_of, entry_with, max_sites};
     ghost use Rattle.weak_cache.specs.Loans.{EndsWith};
     ghost use Rattle.weak_cache.specs.code.Beside.{room_beside};
 
@@ -217,6 +217,23 @@ impl WeakCache {
             return None;
         }
         size_within(content, self.budget.min(self.quota))
+    }
+
+    /// Whether a site keeps anything.
+    pub fn keeps(&self, site: u8) -> bool
+        ensures { result ≡ keeps site self.now.entries }
+    {
+        self.entries().any(|(own, _)| own == site)
+    }
+
+    /// Whether it is the same cache as another: in limits, and in entries and their order.
+    pub fn same(&self, other: &WeakCache) -> bool
+        ensures { result ≡ true → self.now ≡ other.now }
+    {
+        self.budget == other.budget
+            && self.quota == other.quota
+            && self.slots == other.slots
+            && self.entries.same(&other.entries)
     }
 
     /// Lets go what a site keeps.
