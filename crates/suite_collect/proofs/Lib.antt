@@ -8,3 +8,4 @@ pub mod Staying
 pub mod Dues
 pub mod Counts
 pub mod Refusals
+pub mod Alike
