@@ -1,7 +1,7 @@
 -- When what is set of a suite is the same: where all its parts are.
-use Rattle.std.specs.Prelude.{◌≡◌, ◌==◌, Bool, ◌&&◌}
+use Rattle.std.specs.Prelude.{◌≡◌, ◌==◌, Bool, true, false, ◌&&◌}
 use Rattle.std.specs.Bool.{Decides}
-use Rattle.std.proofs.Common.{ap}
+use Rattle.std.proofs.Common.{refl, ap}
 use Rattle.std.proofs.lemmas.Bool.Decides.{Decides-eqb, Decides-and, Decides-like}
 use Rattle.acl_core.specs.Pairs.{same_lists}
 use Rattle.acl_core.proofs.ListsEquality.{same_lists_decides}
@@ -10,13 +10,19 @@ use Rattle.suite_content.specs.Contents.{same_content}
 use Rattle.suite_content.specs.code.ContentEquality.{same_content_decides}
 use Rattle.file_ops.specs.Rows.{Row}
 use Rattle.file_exec.specs.declared.changes.Change.{Change}
-use Rattle.rep_core.specs.code.Equality.{same_bool, same_bool_decides}
+use Rattle.rep_core.specs.code.Equality.{same_bool}
 
 abbrev pub same_row : Row → Row → Bool
 same_row a b = (a.owner == b.owner) && ((a.group == b.group) && (same_lists a.acl b.acl && (same_votes a.votes b.votes && same_content a.content b.content)))
 
 abbrev pub same_change : Change → Change → Bool
 same_change a b = same_bool a.made b.made && (same_bool a.acl b.acl && (same_bool a.votes b.votes && (same_bool a.content b.content && same_row a.row b.row)))
+
+same_bool_decides : (a b : Bool) → Decides (same_bool a b) (a ≡ b)
+same_bool_decides true true = (λ same. refl, λ same. refl)
+same_bool_decides true false = (λ same. cc, λ same. cc)
+same_bool_decides false true = (λ same. cc, λ same. cc)
+same_bool_decides false false = (λ same. refl, λ same. refl)
 
 pub same_row_decides : (a b : Row) → Decides (same_row a b) (a ≡ b)
 same_row_decides a b =

@@ -1,0 +1,19 @@
+use Rattle.std.proofs.Common.{rules, ◌≡◌, ℕ, ◌<◌, IfOk, IfErr, IfSome, IsTrue, OnErr, None, Some, false, true, ◌+◌, ◌-◌, ◌*◌, ◌≤◌, length, ◌/◌, ◌%◌, Bool, nat_eq, nat_lt, List, [], ◌∷◌, ◌++◌, slice_index_or, slice_set, bit_and, bit_or, Fits, w8, w32, w64, Bor, MutBor}
+use Rattle.std.specs.FinSet.{contains}
+use Rattle.std.specs.Option.{option_copied, option_or}
+use Rattle.rep_core.specs.Fits.{is_held}
+use Rattle.rep_core.specs.Store.{is_used_up}
+use Rattle.suite_prefix.specs.LockModes.{serves}
+use Rattle.suite_collect.specs.Answering.{Comes}
+use Rattle.suite_collect.specs.Collecting as spec
+use Rattle.txn_core.specs.Alike.{AreSuitesAlike, IsSuiteAlike}
+use Rattle.txn_core.specs.code.Hearing.{Hears, IsFirstAfter, IsSound, SettlesBy}
+use Rattle.txn_core.specs.code.Plans.{takes_in}
+use Rattle.txn_core.specs.code.Seeing.{settled_with, suite_view_of, view_of_suite}
+use Rattle.txn_core.specs.Suites as gathering
+use Rattle.txn_core.specs.code.Unused.{GaveUnused, first_unused, shows_unused, says_unused}
+use Rattle.txn_core.proofs.suites.Suite.is_alike.Goals as goal
+
+-- src/suites.rt:79:5
+pub returns-then-eq-3 : goal.returns-then-eq-3
+returns-then-eq-3 c = ?
