@@ -8,4 +8,3 @@ pub mod Staying
 pub mod Dues
 pub mod Counts
 pub mod Refusals
-pub mod Alike

@@ -1,6 +1,5 @@
 pub mod Telling
 pub mod Collecting
 pub mod Answering
-pub mod Alike
 pub mod Laws
 pub mod code

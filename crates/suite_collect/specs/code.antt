@@ -3,5 +3,3 @@ pub mod Adding
 pub mod HeardFields
 pub mod Dues
 pub mod CollectFields
-pub mod Widenings
-pub mod Equality

@@ -21,7 +21,7 @@ use crate::members::{members_of, votes_with};
 use crate::next::{Members, Next};
 use crate::read_point::ReadPoint;
 use crate::told::{Said, Saying, Spoken, Told};
-use crate::widening::{Widening, are_alike};
+use crate::widening::Widening;
 use rep_core::Reply;
 use std::alloc::AllocError;
 use std::marker::Model;
@@ -59,7 +59,6 @@ impl Model for Collect {
 }
 
 impl Collect {
-    ghost use Rattle.suite_collect.specs.Alike.{AreCollectorsAlike};
     ghost use Rattle.suite_collect.specs.Telling.{newest};
     ghost use Rattle.suite_collect.specs.Answering.{Comes, Hears, Tells, asked_in, read_point, shows_lock};
 
@@ -264,17 +263,6 @@ impl Collect {
             dver,
             source,
         })
-    }
-
-    /// Whether nothing tells it from another from now on: what they were told comes to the same.
-    pub fn is_alike(&self, other: &Collect) -> bool
-        ensures { result ≡ true → AreCollectorsAlike self.now.collector other.now.collector }
-    {
-        self.mode == other.mode
-            && self.start == other.start
-            && self.newest() == other.newest()
-            && self.told.is_alike(&other.told)
-            && are_alike(&self.widening, &other.widening)
     }
 
     /// The mode in which locks are wanted before a widening.

@@ -2,7 +2,6 @@
 
 ghost use Rattle.std.specs.Prelude.{◌≡◌, ℕ, ◌<◌, ◌==◌, find, true, false, None, [], ◌∷◌};
 ghost use Rattle.std.specs.FinSet.{contains};
-ghost use Rattle.suite_collect.specs.Alike.{AreToldAlike};
 ghost use Rattle.suite_collect.specs.code.Sayings.{said_of, told_of};
 ghost use Rattle.suite_collect.specs.Telling as telling;
 
@@ -65,17 +64,6 @@ impl Heard {
             busy: self.busy,
             told: self.told.same(),
         }
-    }
-
-    /// Whether it comes to the same as another list.
-    pub(crate) fn is_alike(&self, other: &Heard) -> bool
-        ensures { result ≡ true → AreToldAlike self.now other.now }
-    {
-        self.held == other.held
-            && self.exclusive == other.exclusive
-            && self.refused == other.refused
-            && self.shown == other.shown
-            && self.busy == other.busy
     }
 
     /// Adds what is told last.

@@ -10,15 +10,3 @@ pub struct ReadPoint {
     pub dver: u64,
     pub source: u8,
 }
-
-impl PartialEq for ReadPoint {
-    ghost use Rattle.suite_collect.specs.code.Equality.{same_point, same_point_partial_laws};
-
-    ghost eq = { same_point };
-
-    ghost laws = { same_point_partial_laws };
-
-    fn eq(&self, other: &ReadPoint) -> bool {
-        self.dver == other.dver && self.source == other.source && self.prefix == other.prefix
-    }
-}

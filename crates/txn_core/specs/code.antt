@@ -20,4 +20,3 @@ pub mod Telling
 pub mod Passing
 pub mod Reaching
 pub mod Equality
-pub mod Same

@@ -4,7 +4,6 @@ ghost use Rattle.std.specs.Prelude.{◌≡◌, ◌<◌, ◌≤◌, IfOk, IfErr, 
 ghost use Rattle.std.specs.Option.{option_or};
 ghost use Rattle.weak_cache.specs.Cache.{Limits};
 ghost use Rattle.weak_cache.specs.Entries.{keeps};
-ghost use Rattle.txn_core.specs.Alike.{AreAlike, AreDoingsAlike};
 ghost use Rattle.txn_core.specs.code.AgentFields.{doing_of};
 ghost use Rattle.txn_core.specs.Agents as agents;
 ghost use Rattle.txn_core.specs.Standing.{FitsAsked, response_of};
@@ -51,18 +50,6 @@ pub struct Agent {
     count: u64,
     resources: Resources,
     doing: Option<Doing>,
-}
-
-/// Whether nothing tells apart what two agents do, if they were asked the same.
-fn are_doings_alike(own: &Option<Doing>, other: &Option<Doing>) -> bool
-    ensures { result ≡ true → AreDoingsAlike (option_map doing_of own.now) (option_map doing_of other.now) }
-{
-    match (own, other) {
-        (None, None) => true,
-        (Some(Doing::Running(own)), Some(Doing::Running(other))) => own.is_alike(other),
-        (Some(Doing::RunningSweep(own)), Some(Doing::RunningSweep(other))) => own.same(other),
-        _ => false,
-    }
 }
 
 impl Model for Agent {
@@ -300,17 +287,6 @@ impl Agent {
         ensures { result ≡ keeps site self.now.state.cache }
     {
         self.resources.cache.keeps(site)
-    }
-
-    /// Whether nothing tells it from another agent from now on, if they were asked the same. What they were asked is
-    /// not compared.
-    pub fn is_alike(&self, other: &Agent) -> bool
-        ensures { result ≡ true → AreAlike self.now.state other.now.state }
-    {
-        self.index == other.index
-            && self.count == other.count
-            && self.resources.cache.same(&other.resources.cache)
-            && are_doings_alike(&self.doing, &other.doing)
     }
 
     /// Whether it does no job.

@@ -1,7 +1,7 @@
 //! Servers that are asked one after the other.
 
 ghost use Rattle.std.specs.FinSet.{contains};
-ghost use Rattle.std.specs.Prelude.{◌≡◌, ℕ, drop, slice_get, true};
+ghost use Rattle.std.specs.Prelude.{◌≡◌, ℕ, drop, slice_get};
 ghost use Rattle.txn_core.specs.code.Passing.{is_none};
 ghost use Rattle.txn_core.specs.Suites as gathering;
 ghost use Rattle.txn_core.specs.Transactions as txn_run;
@@ -29,13 +29,6 @@ impl Model for Servers {
 }
 
 impl Servers {
-    /// Whether the same servers are left.
-    pub(crate) fn same(&self, other: &Servers) -> bool
-        ensures { result ≡ true → self.now ≡ other.now }
-    {
-        self.all.as_slice()[self.asked..] == other.all.as_slice()[other.asked..]
-    }
-
     /// The server to be asked now.
     pub(crate) fn first(&self) -> Option<u8>
         ensures { result ≡ slice_get self.now 0 }

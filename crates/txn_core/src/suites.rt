@@ -8,7 +8,6 @@ ghost use Rattle.rep_core.specs.Store.{is_used_up};
 ghost use Rattle.suite_prefix.specs.LockModes.{serves};
 ghost use Rattle.suite_collect.specs.Answering.{Comes};
 ghost use Rattle.suite_collect.specs.Collecting as spec;
-ghost use Rattle.txn_core.specs.Alike.{AreSuitesAlike, IsSuiteAlike};
 ghost use Rattle.txn_core.specs.code.Hearing.{Hears, IsFirstAfter, IsSound, SettlesBy};
 ghost use Rattle.txn_core.specs.code.Plans.{takes_in};
 ghost use Rattle.txn_core.specs.code.Seeing.{settled_with, suite_view_of, view_of_suite};
@@ -73,17 +72,6 @@ impl Suite {
         };
         let gathered = Box::new(alloc, gathered)?;
         Ok(Suite { gathered })
-    }
-
-    /// Whether nothing tells it from another from now on.
-    pub(crate) fn is_alike(&self, other: &Suite) -> bool
-        ensures { result ≡ true → IsSuiteAlike self.now other.now }
-    {
-        let (own, other) = (&self.gathered, &other.gathered);
-        own.mode == other.mode
-            && own.first == other.first
-            && own.content == other.content
-            && own.collect.is_alike(&other.collect)
     }
 
     /// What its first quorum gave.
@@ -249,21 +237,4 @@ fn keep_first(first: &mut Option<ReadPoint>, given: Option<ReadPoint>)
     if first.is_none() {
         *first = given;
     }
-}
-
-/// Whether nothing tells suites from others from now on.
-pub(crate) fn are_alike(own: &[(u64, Suite)], other: &[(u64, Suite)]) -> bool
-    ensures { result ≡ true → AreSuitesAlike own.now other.now }
-{
-    let (mut own, mut other) = (own, other);
-    while let (Some(((number, suite), left)), Some(((place, twin), rest))) =
-        (own.split_first(), other.split_first())
-    {
-        if number != place || !suite.is_alike(twin) {
-            return false;
-        }
-        own = left;
-        other = rest;
-    }
-    own.is_empty() && other.is_empty()
 }

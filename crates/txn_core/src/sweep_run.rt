@@ -37,23 +37,8 @@ enum Asking {
     Break(Lock),
 }
 
-impl Asking {
-    /// Whether it is the same as another.
-    fn same(&self, other: &Asking) -> bool
-        ensures { result ≡ true → self.now ≡ other.now }
-    {
-        match (self, other) {
-            (Asking::Locks, Asking::Locks) => true,
-            (Asking::Resolve(own), Asking::Resolve(t)) => own == t,
-            (Asking::Finish(own, verdict), Asking::Finish(t, told)) => own == t && verdict == told,
-            (Asking::Break(own), Asking::Break(lock)) => own == lock,
-            _ => false,
-        }
-    }
-}
-
 /// What a sweep counts.
-#[derive(Clone, Copy, PartialEq, Eq)]
+#[derive(Clone, Copy)]
 struct Counts {
     broken: u64,
     finished: u64,
@@ -96,16 +81,6 @@ impl SweepRun {
             asking: Asking::Locks,
             locks: VecDeque::new(alloc),
         }
-    }
-
-    /// Whether it has come as far as another.
-    pub(crate) fn same(&self, other: &SweepRun) -> bool
-        ensures { result ≡ true → self.now ≡ other.now }
-    {
-        self.server == other.server
-            && self.counts == other.counts
-            && self.asking.same(&other.asking)
-            && self.locks == other.locks
     }
 
     /// Of which server is asked next, and what, which is put into its place. Only to tell answers again it

@@ -5,7 +5,6 @@ ghost use Rattle.std.specs.Ordering.{nat_cmp};
 ghost use Rattle.sorted_map.specs.SortedMap.{IsOrdered};
 ghost use Rattle.rep_core.specs.Fits.{is_held};
 ghost use Rattle.weak_cache.specs.Entries.{Cache};
-ghost use Rattle.txn_core.specs.Alike.{AreRunsAlike};
 ghost use Rattle.txn_core.specs.Doing as doing;
 ghost use Rattle.txn_core.specs.code.Goings.{Begins, CompletesBy, GoesBy, IsReady, IsStep, IsUntouched, IsWidenedFrom, Keeps, begun, executed, fixed_by, gathers, given_by, held_where_asked, replied};
 ghost use Rattle.txn_core.specs.code.Hearing.{HearsFrom, IsSound, SettlesBy, ShowsUnused, asks_in};
@@ -28,7 +27,7 @@ use crate::pending_quorum::PendingQuorum;
 use crate::phase::Phase;
 use crate::resources::Resources;
 use crate::servers::locked_at;
-use crate::suites::{Suite, are_alike};
+use crate::suites::Suite;
 use crate::task::Task;
 use rep_core::Reply;
 use sorted_map::RoomyMap;
@@ -57,14 +56,6 @@ impl Model for TransactionRun {
 }
 
 impl TransactionRun {
-    /// Whether nothing tells it from another from now on, if they were asked the same.
-    pub(crate) fn is_alike(&self, other: &TransactionRun) -> bool
-        ensures { result ≡ true → AreRunsAlike self.now other.now }
-    {
-        self.phase.same(&other.phase)
-            && are_alike(self.suites.as_slice(), other.suites.as_slice())
-    }
-
     /// A transaction begins: its run, unless it is at its end at once. An error leaves the cache as it
     /// was.
     pub(crate) fn begin(

@@ -3,4 +3,3 @@ pub mod CacheView
 pub mod Beside
 pub mod Counts
 pub mod Shelved
-pub mod Equality

@@ -1,6 +1,6 @@
 //! The cache of an agent's sites.
 
-ghost use Rattle.std.specs.Prelude.{◌≡◌, ◌<◌, ◌≤◌, IfOk, OnOk, OnErr, IsOk, IsSome, IsTrue, None, [], false, true};
+ghost use Rattle.std.specs.Prelude.{◌≡◌, ◌<◌, ◌≤◌, IfOk, OnOk, OnErr, IsOk, IsSome, IsTrue, None, [], false};
 ghost use Rattle.std.specs.Option.{option_copied, SomeIff};
 ghost use Rattle.std.specs.Borrow.{sem};
 ghost use Rattle.weak_cache.specs.Entries.{is_of};
@@ -224,16 +224,6 @@ impl WeakCache {
         ensures { result ≡ keeps site self.now.entries }
     {
         self.entries().any(|(own, _)| own == site)
-    }
-
-    /// Whether it is the same cache as another: in limits, and in entries and their order.
-    pub fn same(&self, other: &WeakCache) -> bool
-        ensures { result ≡ true → self.now ≡ other.now }
-    {
-        self.budget == other.budget
-            && self.quota == other.quota
-            && self.slots == other.slots
-            && self.entries.same(&other.entries)
     }
 
     /// Lets go what a site keeps.

@@ -40,22 +40,6 @@ impl Model for SizedEntry {
     ghost invariant = { λ fields. fields.size ≡ size_of fields.content };
 }
 
-impl PartialEq for SizedEntry {
-    ghost use Rattle.weak_cache.specs.code.Equality.{same_entry, same_entry_partial_laws};
-
-    ghost eq = { same_entry };
-
-    ghost laws = { same_entry_partial_laws };
-
-    fn eq(&self, other: &SizedEntry) -> bool {
-        self.site == other.site
-            && self.suite == other.suite
-            && self.dver == other.dver
-            && self.prefix == other.prefix
-            && self.content == other.content
-    }
-}
-
 impl SizedEntry {
     /// Whether it is of this site.
     pub(crate) fn is_at(&self, site: u8) -> bool

@@ -1,6 +1,6 @@
 //! The entries of a cache, the newest first, as its calls see them. Nothing else knows how they are kept.
 
-ghost use Rattle.std.specs.Prelude.{◌≡◌, ◌↔◌, ◌==◌, ◌&&◌, ◌≤◌, ◌<◌, ◌+◌, ◌^◌, ◌∷◌, [], length, IfOk, OnOk, OnErr, IsOk, IsSome, IsTrue, slice_get, is_some, false, true};
+ghost use Rattle.std.specs.Prelude.{◌≡◌, ◌↔◌, ◌==◌, ◌&&◌, ◌≤◌, ◌<◌, ◌+◌, ◌^◌, ◌∷◌, [], length, IfOk, OnOk, OnErr, IsOk, IsSome, IsTrue, slice_get, is_some, false};
 ghost use Rattle.std.specs.Option.{option_copied};
 ghost use Rattle.recency.specs.Order.{last_of};
 ghost use Rattle.weak_cache.specs.Entries.{Cache, size_of, sum_of, list_of, forgotten, entry_of, without, keys_of};
@@ -100,31 +100,6 @@ impl Stock {
             shelf,
             first: shelf.newest(),
         }
-    }
-
-    /// Whether these are the entries of another, in the same order.
-    pub(crate) fn same(&self, other: &Stock) -> bool
-        ensures { result ≡ true → self.now ≡ other.now }
-    {
-        let (own, theirs) = (&self.kept.shelf, &other.kept.shelf);
-        own.is_valid();
-        theirs.is_valid();
-        let mut next = own.newest();
-        let mut beside = theirs.newest();
-        while let Some(slot) = next {
-            let Some(place) = beside else {
-                return false;
-            };
-            let (Some(entry), Some(twin)) = (own.get(slot), theirs.get(place)) else {
-                return false;
-            };
-            if entry != twin {
-                return false;
-            }
-            next = own.older(slot);
-            beside = theirs.older(place);
-        }
-        beside.is_none()
     }
 
     /// What a site keeps of a suite.
