@@ -65,6 +65,73 @@ const Model = (() => {
     return known;
   }
 
+  // ---- caches
+
+  // The limits of each agent's cache, which a line of the script's header tells.
+  function limitsOf(script) {
+    const line = script.map((text) => text.trim().split(/\s+/)).find((words) => words[0] === "cache") || [];
+    const [budget, quota, slots] = line.slice(1).map(Number);
+    return { budget, quota, slots };
+  }
+
+  function sizeOf(told) {
+    if (told.names === undefined) return told.bytes.length / 2;
+    return Object.keys(told.names).reduce((sum, name) => sum + name.length + 9, 2);
+  }
+
+  const isOf = (entry, site, suite) => entry.site === site && entry.suite === suite;
+
+  // The entries, the newest first, once one is put: its site's oldest go while it is above the quota, and the oldest of
+  // all while they are above the budget or the slots.
+  function put(cache, entry, limits) {
+    if (entry.size > Math.min(limits.budget, limits.quota) || limits.slots === 0) {
+      return cache.filter((own) => !isOf(own, entry.site, entry.suite));
+    }
+    let quota = limits.quota;
+    let isOver = false;
+    const left = [entry, ...cache.filter((own) => !isOf(own, entry.site, entry.suite))].filter((own) => {
+      if (own.site !== entry.site) return true;
+      isOver = isOver || own.size > quota;
+      quota -= own.size;
+      return !isOver;
+    });
+    let budget = limits.budget;
+    const end = left.findIndex((own, place) => {
+      budget -= own.size;
+      return budget < 0 || place >= limits.slots;
+    });
+    return end < 0 ? left : left.slice(0, end);
+  }
+
+  // What was looked for at this version, and found, is the newest.
+  function searched(cache, site, suite, content) {
+    const found = cache.find((own) => isOf(own, site, suite) && own.content === content);
+    return found ? [found, ...cache.filter((own) => own !== found)] : cache;
+  }
+
+  // What the first quorum of a suite gave: the newest prefix and content that it saw.
+  function firstOf(suite) {
+    const votes = votesOf(suite);
+    if (!votes || votes.got < votes.of) return null;
+    const held = Object.values(suite.held);
+    const most = (part) => Math.max(...held.map((one) => one[part]));
+    return { prefix: most("prefix"), content: most("content") };
+  }
+
+  // A cache once a job heard a reply: a first quorum looks into it, and a content that was fetched is put there.
+  function cacheAfter(cache, before, job, event, limits) {
+    const { request, reply } = event;
+    if (!job || !request || job.site === null) return cache;
+    const own = job.suites[request.suite];
+    const was = before && before.suites[request.suite];
+    if (reply.says === "held" && own.first && !(was && was.first) && own.first.content > 0) {
+      return searched(cache, job.site, request.suite, own.first.content);
+    }
+    if (request.asks !== "fetch" || reply.says !== "given") return cache;
+    const entry = { site: job.site, suite: request.suite, content: reply.content, size: sizeOf(reply) };
+    return put(cache, { ...entry, prefix: own.first ? own.first.prefix : 0 }, limits);
+  }
+
   // ---- worlds
 
   const bySuite = (copies) => Object.fromEntries(copies.map((copy) => [copy.suite, copy]));
@@ -77,7 +144,7 @@ const Model = (() => {
 
   function opening(event) {
     const servers = event.servers.map((server) => ({ ...server, copies: bySuite(server.copies) }));
-    const agents = event.agents.map((agent) => ({ jobs: agent.jobs, cache: agent.cache || [], job: null, end: null }));
+    const agents = event.agents.map((agent) => ({ jobs: agent.jobs, cache: [], job: null, end: null }));
     let newest = {};
     for (const server of event.servers) {
       for (const copy of server.copies) newest = raised(newest, copy.suite, copy.prefix, copy.content);
@@ -105,6 +172,7 @@ const Model = (() => {
       t: AGENTS * (event.by.jobs - 1) + agent,
       text: isSweep ? `sweeps server ${words[2]}` : words.slice(5).join(" "),
       user: isSweep ? null : words[2],
+      site: isSweep ? null : Number(words[4]),
       line: event.line, suites: {}, parts: null, prepared: [], decided: null, told: [],
     };
   }
@@ -122,6 +190,7 @@ const Model = (() => {
       } else {
         now.refused[server] = reply.says;
       }
+      if (!now.first) now.first = firstOf(now);
       return { ...job, suites: { ...job.suites, [request.suite]: now } };
     }
     if (request.asks === "fetch" && reply.says === "given") {
@@ -151,7 +220,14 @@ const Model = (() => {
     return newest;
   }
 
-  function after(world, event) {
+  // The cache behind an event.
+  function cacheOf(cache, before, job, event, limits) {
+    if (event.kind === "request") return cacheAfter(cache, before, job, event, limits);
+    const words = event.text.trim().split(/\s+/);
+    return words[0] === "forget" ? cache.filter((own) => own.site !== Number(words[2])) : cache;
+  }
+
+  function after(world, event, limits) {
     if (event.kind === "standing") return world;
     let { servers, agents, newest } = world;
     if (event.at) {
@@ -166,8 +242,9 @@ const Model = (() => {
       if (event.kind === "request") job = heard(job, event.server, event.request, event.reply);
       newest = inEffect(newest, job, event);
       const end = event.end ? event.end : before.end;
+      const cache = cacheOf(before.cache, before.job, job, event, limits);
       agents = replaced(agents, number, {
-        jobs: event.by.jobs, next: event.by.next, of: event.by.of, cache: event.by.cache || before.cache,
+        jobs: event.by.jobs, next: event.by.next, of: event.by.of, cache,
         job: event.end ? null : job, end, last: event.end ? job : before.last,
       });
     }
@@ -327,10 +404,12 @@ const Model = (() => {
 
   // ---- a run
 
-  function read(lines) {
+  // The run that events tell, of a script in lines.
+  function read(lines, script) {
     const events = lines.map((line) => JSON.parse(line));
+    const limits = limitsOf(script);
     const worlds = [opening(events[0])];
-    for (const event of events.slice(1)) worlds.push(after(worlds[worlds.length - 1], event));
+    for (const event of events.slice(1)) worlds.push(after(worlds[worlds.length - 1], event, limits));
     const paths = pathsOf(events);
     return { events, worlds, paths, rows: rowsOf(events, paths), last: events.length - 1 };
   }

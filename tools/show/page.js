@@ -3,7 +3,7 @@
 
 const Page = (() => {
   const given = JSON.parse(document.getElementById("given").textContent);
-  const run = Model.read(given.events);
+  const run = Model.read(given.events, given.script);
   const find = (name) => document.getElementById(name);
   const [slider, moment, world, script, hint, life] = ["slider", "moment", "world", "script", "hint", "life"].map(find);
   let here = 0;
@@ -22,7 +22,8 @@ const Page = (() => {
 
   // A word with what it means, where that is known.
   function word(text, key = text) {
-    return given.meanings[key] ? make("span", { "data-hint": key, tabindex: "0" }, text) : document.createTextNode(text);
+    if (!given.meanings[key]) return document.createTextNode(text);
+    return make("span", { "data-hint": key, tabindex: "0" }, text);
   }
 
   // A line as `play` prints it, with its words and codes explained.
@@ -43,7 +44,8 @@ const Page = (() => {
   function contentOf(copy) {
     if (copy.names === undefined) return Model.shownBytes(copy.bytes);
     const names = Object.keys(copy.names);
-    return names.length ? `names ${names.slice(0, 12).join(" ")}${names.length > 12 ? ` … (${names.length})` : ""}` : "no names";
+    const more = names.length > 12 ? ` … (${names.length})` : "";
+    return names.length ? `names ${names.slice(0, 12).join(" ")}${more}` : "no names";
   }
 
   function copyPart(state, copy) {
@@ -73,7 +75,8 @@ const Page = (() => {
     if (server.locks.length) card.append(make("div", {}, ...server.locks.map(lockPart)));
     if (server.denials.length) {
       const last = server.denials[server.denials.length - 1];
-      card.append(make("div", { class: "small bad" }, `${server.denials.length} denied; last t ${last.t}: ${last.denied}`));
+      const told = `${server.denials.length} denied; last t ${last.t}: ${last.denied}`;
+      card.append(make("div", { class: "small bad" }, told));
     }
     return card;
   }
@@ -87,7 +90,8 @@ const Page = (() => {
       const refused = Object.entries(own.refused).map(([server, says]) => ` s${server} ${says}`).join("");
       const count = votes ? `${votes.got} of ${votes.of} votes` : "no votes";
       const read = own.fetched === null || own.fetched === undefined ? "" : `, content c${own.fetched}`;
-      return make("div", { class: "small" }, `${pathOf(Number(suite))} ${own.mode}: ${count} (${where}${refused})${read}`);
+      const told = `${pathOf(Number(suite))} ${own.mode}: ${count} (${where}${refused})${read}`;
+      return make("div", { class: "small" }, told);
     });
     const named = (servers) => servers.map((one) => `s${one}`).join(" ");
     const add = (kind, ...told) => parts.push(make("div", { class: kind }, ...told));
@@ -255,7 +259,7 @@ const Page = (() => {
   const KEYS = { Home: WAYS.first, ArrowLeft: WAYS.back, ArrowRight: WAYS.on, End: WAYS.end, " ": play };
 
   function onKey(event) {
-    const isOwn = event.target.closest("select, dialog") || (event.key === " " && event.target.closest("button, input"));
+    const isOwn = event.target.closest(event.key === " " ? "select, dialog, button, input" : "select, dialog");
     if (KEYS[event.key] && !isOwn && !event.ctrlKey && !event.metaKey && !event.altKey) {
       event.preventDefault();
       KEYS[event.key]();

@@ -1,4 +1,4 @@
-//! What agents do, and what their caches have.
+//! What agents do, and what they keep.
 
 ghost use Rattle.std.specs.Prelude.{◌≡◌};
 ghost use Rattle.event_json.specs.Agents.{asked_word};
@@ -7,7 +7,7 @@ use crate::strings::push_member;
 use rep_core::Request;
 use std::alloc::AllocError;
 use txn_core::Agent;
-use weak_cache::WeakCache;
+use weak_cache::MAX_SITES;
 
 /// The number of an agent, how many jobs it began, and what it asks next of which server, where it has a job: that is
 /// put into a place of the caller's.
@@ -46,31 +46,15 @@ fn asked_word(request: &Request) -> &'static [u8]
     }
 }
 
-/// The entries of a cache, the newest first: of which site and suite, and the versions of the prefix and of the content.
-pub fn push_cache(text: &mut Vec<u8>, cache: &WeakCache) -> Result<(), AllocError> {
-    text.extend_from_slice(b"[")?;
+/// Of which sites an agent keeps something.
+pub fn push_keeps(text: &mut Vec<u8>, agent: &Agent) -> Result<(), AllocError> {
+    text.extend_from_slice(b",\"keeps\":[")?;
     let mut between: &[u8] = b"";
-    for (site, suite) in cache.entries() {
-        text.extend_from_slice(between)?;
-        push_entry(text, cache, site, suite)?;
-        between = b",";
+    for site in 0..MAX_SITES {
+        if agent.keeps(site) {
+            push_member(text, between, u64::from(site))?;
+            between = b",";
+        }
     }
     text.extend_from_slice(b"]")
-}
-
-fn push_entry(
-    text: &mut Vec<u8>,
-    cache: &WeakCache,
-    site: u8,
-    suite: u64,
-) -> Result<(), AllocError> {
-    push_member(text, b"{\"site\":", u64::from(site))?;
-    push_member(text, b",\"suite\":", suite)?;
-    if let Some(prefix) = cache.hint(site, suite) {
-        push_member(text, b",\"prefix\":", prefix.pver)?;
-    }
-    if let Some(dver) = cache.version(site, suite) {
-        push_member(text, b",\"content\":", dver)?;
-    }
-    text.extend_from_slice(b"}")
 }

@@ -18,7 +18,7 @@ mod requests;
 mod servers;
 mod strings;
 
-pub use agents::{push_agent, push_cache};
+pub use agents::{push_agent, push_keeps};
 pub use copies::push_copy;
 pub use locks::push_locks;
 pub use replies::{push_reply, push_verdict};

@@ -1,7 +1,7 @@
 //! What happens, as objects of JSON, one a line.
 
 use event_json::{
-    Before, push_agent, push_cache, push_denials, push_reply, push_request, push_server,
+    Before, push_agent, push_denials, push_keeps, push_reply, push_request, push_server,
     push_string,
 };
 use file_ops::AuditItem;
@@ -20,7 +20,6 @@ pub(crate) struct Events {
     line: u64,
     before: Before,
     asked: Request,
-    caches: Vec<Vec<u8>>,
 }
 
 impl Events {
@@ -32,7 +31,6 @@ impl Events {
             line: 0,
             before: Before::new(alloc),
             asked: Request::Locks,
-            caches: Vec::new(alloc),
         }
     }
 
@@ -62,9 +60,6 @@ impl Events {
         agents: u8,
         servers: u8,
     ) -> Result<(), AllocError> {
-        for _ in 0..agents {
-            self.caches.push(Vec::new(self.alloc))?;
-        }
         self.tell_all(text, world, (agents, servers), b"opening")
     }
 
@@ -76,9 +71,6 @@ impl Events {
         agents: u8,
         servers: u8,
     ) -> Result<(), AllocError> {
-        for told in &mut self.caches {
-            told.clear();
-        }
         self.tell_all(text, world, (agents, servers), b"standing")
     }
 
@@ -102,7 +94,7 @@ impl Events {
         for number in 0..agents {
             if let Some(agent) = world.agent(number) {
                 text.extend_from_slice(before)?;
-                self.push_by(text, number, agent)?;
+                self.push_by(text, number, agent, true)?;
                 before = b",";
             }
         }
@@ -148,7 +140,7 @@ impl Events {
             Event::Begin { agent, .. }
             | Event::Step { agent }
             | Event::Forget { agent, .. }
-            | Event::Lack { agent, .. } => self.push_agent_of(text, world, *agent)?,
+            | Event::Lack { agent, .. } => self.push_agent_of(text, world, *agent, true)?,
             Event::Crash { .. } | Event::Return { .. } => (),
         }
         if let Some(served) = &done.served {
@@ -173,7 +165,7 @@ impl Events {
             (None, Some(server)) => push_full(text, server)?,
             (None, None) => (),
         }
-        self.push_agent_of(text, world, agent)?;
+        self.push_agent_of(text, world, agent, is_fetched(done))?;
         self.end(text, done)
     }
 
@@ -209,32 +201,33 @@ impl Events {
         }
     }
 
-    /// What an agent does next, and what its cache has, where that changed.
+    /// What an agent does next, and what it keeps, where that may have changed.
     fn push_agent_of(
         &mut self,
         text: &mut Vec<u8>,
         world: &World,
         number: u8,
+        changes: bool,
     ) -> Result<(), AllocError> {
         match world.agent(number) {
             Some(agent) => {
                 text.extend_from_slice(b",\"by\":")?;
-                self.push_by(text, number, agent)
+                self.push_by(text, number, agent, changes)
             }
             None => Ok(()),
         }
     }
 
-    fn push_by(&mut self, text: &mut Vec<u8>, number: u8, agent: &Agent) -> Result<(), AllocError> {
+    fn push_by(
+        &mut self,
+        text: &mut Vec<u8>,
+        number: u8,
+        agent: &Agent,
+        changes: bool,
+    ) -> Result<(), AllocError> {
         push_agent(text, number, agent, &mut self.asked)?;
-        let mut now = Vec::new(self.alloc);
-        push_cache(&mut now, agent.cache())?;
-        if let Some(told) = self.caches.get_mut(usize::from(number))
-            && *told != now
-        {
-            text.extend_from_slice(b",\"cache\":")?;
-            text.extend_from_slice(&now)?;
-            *told = now;
+        if changes {
+            push_keeps(text, agent)?;
         }
         text.extend_from_slice(b"}")
     }
@@ -271,6 +264,14 @@ impl Events {
         text.extend_from_slice(b",\"denials\":")?;
         push_denials(text, items)?;
         text.extend_from_slice(b"}}\n")
+    }
+}
+
+/// Whether a content was asked for, which the agent may keep.
+fn is_fetched(done: &Done) -> bool {
+    match &done.served {
+        Some(served) => matches!(served.request.value, Request::Fetch { .. }),
+        None => false,
     }
 }
 
