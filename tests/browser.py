@@ -75,13 +75,7 @@ class Browser:
 
     def ask(self, method: str, how: dict | None = None) -> dict:
         """Asks the browser for something, and waits for its answer. Faults of the page are kept."""
-        self.number += 1
-        asked = {"id": self.number, "method": method, "params": how or {}}
-        if self.session:
-            asked["sessionId"] = self.session
-        told = json.dumps(asked).encode() + b"\0"
-        while told:
-            told = told[os.write(self.out, told):]
+        self.tell(method, how)
         for said in self.messages():
             if said.get("id") == self.number:
                 if "error" in said:
@@ -89,6 +83,16 @@ class Browser:
                 return said["result"]
             self.hear(said)
         raise ConnectionError
+
+    def tell(self, method: str, how: dict | None = None) -> None:
+        """Asks the browser for something whose answer nobody waits for."""
+        self.number += 1
+        asked = {"id": self.number, "method": method, "params": how or {}}
+        if self.session:
+            asked["sessionId"] = self.session
+        told = json.dumps(asked).encode() + b"\0"
+        while told:
+            told = told[os.write(self.out, told):]
 
     def hear(self, said: dict) -> None:
         what, about = said.get("method"), said.get("params", {})
@@ -115,9 +119,9 @@ class Browser:
 
     def press(self, key: str, times: int = 1) -> None:
         how = {"key": key, "code": "Space" if key == " " else key, "windowsVirtualKeyCode": KEYS[key], **({"text": " "} if key == " " else {})}
-        for _ in range(times):
-            self.ask("Input.dispatchKeyEvent", {"type": "keyDown", **how})
-            self.ask("Input.dispatchKeyEvent", {"type": "keyUp", **how})
+        for place in range(times):
+            self.tell("Input.dispatchKeyEvent", {"type": "keyDown", **how})
+            (self.ask if place % 16 == 15 or place == times - 1 else self.tell)("Input.dispatchKeyEvent", {"type": "keyUp", **how})
 
     def click(self, selector: str) -> None:
         """Clicks the middle of an element."""

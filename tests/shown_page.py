@@ -33,6 +33,8 @@ STORIES = os.path.join(played.TOP, "examples", "play")
 HEADER = ["servers 3", "agents 2", "votes 1,1,1/2/2", "root 1000 100 777", "cache 4096 4096 16"]
 COPY = re.compile(r"    suite (\d+) \w+ prefix (\d+) content (\d+) votes")
 LOCK = re.compile(r"    t (\d+) suite (\d+) (shared|exclusive)( prepared)?$")
+# Stories that are gone through moment by moment, of the others three moments and the end: a key takes two frames.
+STEPPED = ("revocation.script", "swept-clean.script", "votes-moved.script")
 # The most bytes of the page of a story, and the most milliseconds of a step.
 MOST_BYTES, MOST_STEP = 250_000, 40
 # What the page shows: of each server whether it is up, its copies and its locks; and the lines of `play` up to here.
@@ -154,7 +156,12 @@ def whole(judge: Judge, pages: Pages) -> None:
         lines = trace.traced(script.encode())
         begun = pages.seen()
         judge.holds(begun["here"] == 0 and begun["told"] == [], name, "it begins", begun)
-        pages.driver.press("ArrowRight", begun["last"])
+        if name in STEPPED:
+            pages.driver.press("ArrowRight", begun["last"])
+        else:
+            pages.driver.press("ArrowRight", 3)
+            judge.holds(pages.seen()["here"] == 3, name, "a key leads a moment on")
+            pages.driver.press("End")
         seen = pages.seen()
         judge.holds(seen["here"] == seen["last"], name, "keys lead to the end")
         judge.holds(seen["servers"] == ended(lines), name, "servers", seen["servers"], ended(lines))

@@ -45,14 +45,14 @@ TIPS = """<defs>
 <marker id="b" markerWidth="7" markerHeight="6" refX="7" refY="3" orient="auto"><path d="M0 0L7 3L0 6z" fill="#888"/></marker>
 </defs>"""
 # What signs mean, at the foot of a picture, for which so much room is kept; and how much a sign has.
-LEGEND, SIGN = 90, 38
+LEGEND, SIGN = 90, 26
 SIGNS = (
     ("a request", '<path d="M0 0H14" stroke="#345"/><path d="M20 0l-7 -3v6z" fill="#345"/>'),
     ("its reply", '<path d="M20 0H6" stroke="#888" stroke-dasharray="4 3"/><path d="M0 0l7 -3v6z" fill="#888"/>'),
     ("decided", '<path d="M10 -6l6 6l-6 6l-6 -6z" fill="#176b2c"/>'),
     ("a line of the script", '<circle cx="10" cy="0" r="3" fill="#222"/>'),
     ("the server is down", '<path d="M3 -7h14v14h-14z" fill="#ddd"/>'),
-    ("versions of the list and of the content", '<text y="4" class="key">p2 c1</text>'),
+    ("p2 c1: versions of the list and of the content", ""),
 )
 # What folds: a request for locks on a suite, or one of which each server gets its own; and replies that say yes.
 FOLDS = re.compile(r"(?:t (\d+) )?(?:(poll|upgrade) suite (\d+)|(prepare|finish|break)\b)")
@@ -84,6 +84,7 @@ class Picture:
             at = max(self.x.values(), default=at) + GAP
         self.width = max([x + RIGHT for x in self.x.values()] + [NARROW])
         self.y, self.named, self.parts, self.greys, self.down, self.last = HEAD + 14, [20], [], [], {}, {}
+        self.foot = None
 
     def label(self, x, y, words, room, style):
         """A text right of a place, or left of it where the room is negative. What has no room is cut."""
@@ -150,13 +151,15 @@ class Picture:
     def legend(self):
         """What all signs mean."""
         self.names_again(LEGEND)
+        self.foot = self.y - 6
         x, y = LEFT // 2, self.y + 8
         for words, sign in SIGNS:
-            if x + SIGN + len(words) * LETTER > self.width - EDGE:
+            begin = SIGN if sign else 0
+            if x + begin + len(words) * LETTER > self.width - EDGE:
                 x, y = LEFT // 2, y + 18
-            self.parts.append(f'<g transform="translate({x} {y})">{sign}</g>')
-            self.label(x + SIGN, y + 4, words, self.width - x - SIGN - EDGE, "key")
-            x += 2 * SIGN + int(len(words) * LETTER)
+            self.parts += [f'<g transform="translate({x} {y})">{sign}</g>'] if sign else []
+            self.label(x + begin, y + 4, words, self.width - x - begin - EDGE, "key")
+            x += begin + int(len(words) * LETTER) + SIGN
         self.y = y + 18
 
     def ended(self, agent, words):
@@ -172,10 +175,10 @@ class Picture:
     def told(self):
         """The whole picture."""
         width, height = self.width, self.y + 10
-        for server in list(self.down):
-            self.grey(server, False)
+        foot = self.foot or height
+        self.greys += [(server, top, foot) for server, top in self.down.items()]
         lines = [f'<svg xmlns="http://www.w3.org/2000/svg" viewBox="0 0 {width} {height}" width="{width}" height="{height}">', STYLE, TIPS, '<rect width="100%" height="100%" fill="#fff"/>']
-        lines += [f'<path d="M{x} {HEAD}V{height}" class="life"/>' for x in self.x.values()]
+        lines += [f'<path d="M{x} {HEAD}V{foot}" class="life"/>' for x in self.x.values()]
         lines += [f'<rect x="{self.x[server] - 7}" y="{top}" width="14" height="{bottom - top}" class="down"/>' for server, top, bottom in self.greys]
         lines += [f'<rect x="0" y="{top - 14}" width="{width}" height="20" class="names"/>' for top in self.named]
         names = [f'<text x="{x}" y="{top}" class="name" text-anchor="middle">{name}</text>' for top in self.named for name, x in self.x.items()]
