@@ -14,6 +14,10 @@ class Stop(Exception):
     """Ends a tool with a sentence."""
 
 
+class Bad(Exception):
+    """Ends a tool with a sentence: its words ask for nothing."""
+
+
 class Teller:
     """Says how far a build is: one line that changes in a terminal, else a line a step."""
 
@@ -75,15 +79,20 @@ def tail(text, lines=20):
 
 
 def run(main, when_stopped):
-    """Runs a tool: status 0, or what `main` answers; 1 with a sentence where it cannot do its work; 130 where it is stopped."""
+    """Runs a tool: status 0, or what `main` answers; 1 with a sentence where it cannot do its work, 2 where its
+    words ask for nothing; 130 where it is stopped."""
     for number in (signal.SIGTERM, signal.SIGHUP):
         signal.signal(number, signal.default_int_handler)
     try:
         status = main()
-        sys.stdout.flush()
+        if sys.stdout:
+            sys.stdout.flush()
     except Stop as why:
         Teller().say(str(why))
         status = 1
+    except Bad as why:
+        Teller().say(str(why))
+        status = 2
     except BrokenPipeError:
         # nobody reads any more: what is left to be written goes nowhere
         os.dup2(os.open(os.devnull, os.O_WRONLY), sys.stdout.fileno())
