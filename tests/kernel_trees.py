@@ -19,7 +19,7 @@ from machine.people import Caller
 UIDS, GIDS = [1001, 1002, 1003, 65534], [200, 201, 202, 203]
 NOTHING = 0xFFFFFFFF
 FLAGS = ["ro", "noexec", "nodev", "nosymfollow"]
-GRANTED, DENIED, UNREAD = "granted", "denied", "unread"
+GRANTED, DENIED, UNREAD, FULL = "granted", "denied", "unread", "full"
 # What says that something is not let, and not that it is not there.
 DENIALS = (errno.EACCES, errno.EPERM, errno.EROFS)
 # As root a file is written to at its end alone where it is append only, so all are.
@@ -67,6 +67,9 @@ class Tree:
             self.paths.append(link)
             if os.path.isdir(target):
                 self.paths += [os.path.join(link, name) for name in os.listdir(target)]
+        for path in self.paths:
+            if self.dice.random() < 0.05 and not os.path.islink(path):
+                subprocess.run(["chattr", self.dice.choice(["+i", "+a"]), path], stderr=subprocess.DEVNULL)
         for path in self.mounted:
             self.flag(path)
         self.paths += [os.path.join(dice.choice(folders), "missing"), os.path.join(dice.choice(folders), "..", dice.choice(os.listdir(top)))]
@@ -105,8 +108,6 @@ class Tree:
             self.paths.append(path)
             if is_folder:
                 self.fill(path, depth + 1)
-            if self.dice.random() < 0.05:
-                subprocess.run(["chattr", self.dice.choice(["+i", "+a"]), path], stderr=subprocess.DEVNULL)
 
     def make(self, path: str, mode: int, is_folder: bool) -> None:
         kind = self.dice.random()
@@ -132,6 +133,8 @@ def outcome(call: Callable[[], object]) -> str:
     except OSError as error:
         if error.errno in (errno.ENXIO, errno.ENOEXEC, errno.ETXTBSY, errno.ELIBBAD):
             return GRANTED
+        if error.errno in (errno.ENOTEMPTY, errno.EBUSY):
+            return FULL
         return DENIED if error.errno in DENIALS or error.errno == errno.ELOOP else UNREAD
 
 
@@ -216,7 +219,8 @@ def taken(path: str, is_folder: bool) -> str:
 
 
 def kept(path: str) -> Optional[Callable[[], None]]:
-    """What puts a name back as it was; none where it cannot be told."""
+    """What puts a name back as it was."""
+    path = os.path.join(os.path.realpath(os.path.dirname(path)), os.path.basename(path))
     found = os.lstat(path)
     if stat.S_ISLNK(found.st_mode):
         target = os.readlink(path)

@@ -156,13 +156,10 @@ def of_paths(given: argparse.Namespace) -> int:
     for path in given.words:
         found = way(path, wanted)
         try:
-            lines, why = changes.tell_change(callers, change, path, found) if change else everybody.tell_who(callers, wanted, path, found)
-        except Bad as error:
-            lines, why = [], f"{quoted(path)}: {error}"
-        for one in lines:
-            say(one)
-        if why:
-            say(why, "stderr")
+            for one in changes.tell_change(callers, change, path, found) if change else everybody.tell_who(callers, wanted, path, found):
+                say(one)
+        except (Bad, Unread) as error:
+            say(str(error) if isinstance(error, Unread) else f"{quoted(path)}: {error}", "stderr")
             status = UNREAD
     return status
 

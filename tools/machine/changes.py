@@ -3,11 +3,12 @@ from __future__ import annotations
 
 import grp
 import pwd
-from typing import NamedTuple, Optional
+from typing import NamedTuple
 
 from machine import everybody, linux
 from machine.lists import (
-    BITS, GROUP, GROUP_OBJ, MASK, OTHER, USER, USER_OBJ, Bad, Entry, List, find, has_names, in_order, letters, list_text, perms_of, quoted, union,
+    BITS, GROUP, GROUP_OBJ, MASK, OTHER, USER, USER_OBJ, Bad, Entry, List, Unread, find, has_names, in_order, letters, list_text,
+    perms_of, quoted, union,
 )
 from machine.people import Caller, likenesses, number
 from machine.program import answers, question
@@ -88,29 +89,35 @@ def granted_bits(callers: list[Caller], place: Place) -> list[int]:
     return [sum(bit for _, bit in BITS if linux.of_place(place, caller, next(given), bit).grants) for caller in callers]
 
 
-def tell_change(callers: list[Caller], change: Change, path: str, found: Way) -> tuple[list[str], Optional[str]]:
-    """Who gains and who loses what by a change of a file's list, a line each; and why it cannot be said, where it cannot."""
+def stopped_at(firsts: list[Caller], places: list[Place]) -> set[int]:
+    """Which callers do not come to the last of some places."""
+    ends = everybody.ends(firsts, places[:-1]) if len(places) > 1 else []
+    unjudged = next((end.said.why for end in ends if end.said.grants is None), places[-1].mount.unjudged(places[-1].path))
+    if unjudged:
+        raise Unread(unjudged)
+    return {at for at, end in enumerate(ends) if not end.said.grants}
+
+
+def tell_change(callers: list[Caller], change: Change, path: str, found: Way) -> list[str]:
+    """Who gains and who loses what by a change of a file's list, a line each. A way may lead twice through the folder that is changed."""
     if found.end:
-        return [], found.end
+        raise Unread(found.end)
     place = found.places[-1]
     changed = after(place, change.of(place.entries))
-    where = [*everybody.asked_of(found.places), (changed.owner, changed.group, changed.entries)]
-    parts = likenesses(callers, where)
+    places = [after(one, changed.entries) if one.path == place.path else one for one in found.places]
+    parts = likenesses(callers, [*everybody.asked_of(found.places), (changed.owner, changed.group, changed.entries)])
     firsts = [part[0] for part in parts]
-    on_the_way = everybody.ends(firsts, found.places[:-1]) if len(found.places) > 1 else []
-    unjudged = next((end.said.why for end in on_the_way if end.said.grants is None), place.mount.unjudged(place.path))
-    if unjudged:
-        return [], unjudged
-    stopped = {at for at, end in enumerate(on_the_way) if not end.said.grants}
+    before, later = stopped_at(firsts, found.places), stopped_at(firsts, places)
     moved: dict[str, list[Caller]] = {}
     for at, (part, old, new) in enumerate(zip(parts, granted_bits(firsts, place), granted_bits(firsts, changed))):
+        old, new = 0 if at in before else old, 0 if at in later else new
         for word, perms in (("gains", new & ~old), ("loses", old & ~new)):
-            if perms and at not in stopped:
+            if perms:
                 moved.setdefault(f"{word} {letters(perms).replace('-', '')}", []).extend(part)
     lines = [f"{quoted(path)}  {list_text(place.entries)}  would be  {list_text(changed.entries)}"]
     lines += [f"  {what}: {everybody.names(part)}" for what, part in sorted(moved.items())]
     lines += ["  nobody gains or loses"] * (not moved)
-    away = [one for at in sorted(stopped) for one in parts[at]]
+    away = [one for at in sorted(before & later) for one in parts[at]]
     lines += [f"  stopped on the way, and so left out: {everybody.names(away)}"] * bool(away and len(away) <= 20)
     lines += [f"  stopped on the way, and so left out: {len(away)} users"] * (len(away) > 20)
-    return lines, None
+    return lines

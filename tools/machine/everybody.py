@@ -1,10 +1,10 @@
 """Who may? Everybody with an account here, by the entry that grants or denies."""
 from __future__ import annotations
 
-from typing import Iterable, NamedTuple, Optional
+from typing import Iterable, NamedTuple
 
 from machine import linux
-from machine.lists import List, entry_text, letters, mask_of, name_of, quoted, who
+from machine.lists import List, Unread, entry_text, letters, mask_of, name_of, quoted, who
 from machine.people import Caller, likenesses
 from machine.program import answers, decider, granting, question
 from machine.ways import Place, Way
@@ -67,16 +67,16 @@ def names(part: Iterable[Caller]) -> str:
     return ", ".join(quoted(one.name) for one in part)
 
 
-def tell_who(callers: list[Caller], wanted: int, path: str, found: Way) -> tuple[list[str], Optional[str]]:
-    """Who may and who may not, a line each, by what grants or denies; and why it cannot be said, where it cannot."""
+def tell_who(callers: list[Caller], wanted: int, path: str, found: Way) -> list[str]:
+    """Who may and who may not, a line each, by what grants or denies."""
     if found.end:
-        return [], found.end
+        raise Unread(found.end)
     parts = likenesses(callers, asked_of(found.places))
     firsts = [part[0] for part in parts]
     every, last = ends(firsts, found.places), found.places[-1]
     unjudged = next((end.said.why for end in every if end.said.grants is None), None)
     if unjudged:
-        return [], unjudged
+        raise Unread(unjudged)
     may = [at for at, end in enumerate(every) if end.said.grants]
     by = dict(zip(may, granted_by([firsts[at] for at in may], last)))
     grants: dict[str, list[Caller]] = {}
@@ -92,4 +92,4 @@ def tell_who(callers: list[Caller], wanted: int, path: str, found: Way) -> tuple
     for where, part in stops.items():
         at, _, why = where.partition("|")
         lines.append(f"  {at}: {names(part)}{why}")
-    return lines, None
+    return lines
