@@ -155,7 +155,7 @@ def ask_changes(dice: Dice, tree: Tree, count: int) -> Count:
         wanted |= {f"loses {lists.letters(old & ~new)} {caller.name}" for caller, old, new in zip(callers, before, after) if old & ~new}
         told = {f"{word} {lists.letters(lists.perms_of(perms))} {name}" for line in lines for word, perms, rest in [line.replace(":", "").split(None, 2)]
                 if word in ("gains", "loses") for name in rest.split(", ")}
-        if told != wanted or lists.list_text(kept) != lines[0].rpartition("  would be  ")[2]:
+        if told != wanted or lists.list_text(kept, lists.name_of) != lines[0].rpartition("  would be  ")[2]:
             wrong += differs(f"{text} {path}", f"{sorted(told)}", f"{sorted(wanted)}, {lists.list_text(kept)}", lines)
         asked += len(callers) * 3
     return asked, wrong

@@ -8,7 +8,7 @@ from typing import NamedTuple
 from machine import everybody, linux
 from machine.lists import (
     BITS, GROUP, GROUP_OBJ, MASK, OTHER, USER, USER_OBJ, Bad, Entry, List, Unread, find, has_names, in_order, letters, list_text,
-    perms_of, quoted, union,
+    name_of, perms_of, quoted, union,
 )
 from machine.people import Caller, likenesses, number
 from machine.program import answers, question
@@ -114,7 +114,7 @@ def tell_change(callers: list[Caller], change: Change, path: str, found: Way) ->
         for word, perms in (("gains", new & ~old), ("loses", old & ~new)):
             if perms:
                 moved.setdefault(f"{word} {letters(perms).replace('-', '')}", []).extend(part)
-    lines = [f"{quoted(path)}  {list_text(place.entries)}  would be  {list_text(changed.entries)}"]
+    lines = [f"{quoted(path)}  {list_text(place.entries, name_of)}  would be  {list_text(changed.entries, name_of)}"]
     lines += [f"  {what}: {everybody.names(part)}" for what, part in sorted(moved.items())]
     lines += ["  nobody gains or loses"] * (not moved)
     away = [one for at in sorted(before & later) for one in parts[at]]

@@ -122,8 +122,8 @@ def entry_text(entry: Entry, name: Callable[[Entry], str] = number_of) -> str:
     return f"{WORDS[entry.tag]}{named}{letters(entry.perms)}"
 
 
-def list_text(entries: Iterable[Entry]) -> str:
-    return ",".join(entry_text(entry) for entry in entries)
+def list_text(entries: Iterable[Entry], name: Callable[[Entry], str] = number_of) -> str:
+    return ",".join(entry_text(entry, name) for entry in entries)
 
 
 # ---- parts of a list
