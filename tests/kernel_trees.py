@@ -1,4 +1,5 @@
-"""Random trees of files, folders, links, pipes and devices with random lists, and what this Linux lets users do there."""
+"""Random trees of files, folders, links, pipes and devices with random lists, and what this Linux lets users do
+there."""
 from __future__ import annotations
 
 import ctypes
@@ -9,7 +10,7 @@ import random
 import stat
 import subprocess
 import sys
-from typing import Callable, Optional
+from typing import Callable
 
 TOP = os.path.join(os.path.dirname(os.path.abspath(__file__)), "..")
 sys.path.insert(0, os.path.join(TOP, "tools"))
@@ -33,9 +34,16 @@ class Dice(random.Random):
     def value(self) -> bytes:
         """A valid list, as the kernel takes it: in the order of its tags and numbers."""
         entries = [(tag, self.perms(), NOTHING) for tag in (lists.USER_OBJ, lists.GROUP_OBJ, lists.OTHER)]
-        named = [(tag, self.perms(), one) for tag, ids in ((lists.USER, UIDS), (lists.GROUP, GIDS))
-                 for one in self.sample(ids, self.choice([0, 0, 1, 2]))]
-        mask = [(lists.MASK, self.choice([0, 4, 5, 7, 7, self.randrange(8)]), NOTHING)] if named or self.random() < 0.2 else []
+        named = [
+            (tag, self.perms(), one)
+            for tag, ids in ((lists.USER, UIDS), (lists.GROUP, GIDS))
+            for one in self.sample(ids, self.choice([0, 0, 1, 2]))
+        ]
+        mask = (
+            [(lists.MASK, self.choice([0, 4, 5, 7, 7, self.randrange(8)]), NOTHING)]
+            if named or self.random() < 0.2
+            else []
+        )
         all_of_it = sorted(entries + named + mask, key=lambda entry: (entry[0], entry[2]))
         return lists.HEAD.pack(lists.VERSION) + b"".join(lists.ENTRY.pack(*entry) for entry in all_of_it)
 
@@ -50,7 +58,8 @@ class Dice(random.Random):
 
 
 class Tree:
-    """A random tree, and the paths in it, links and missing names too; a part of it may be a mount with flags of its own."""
+    """A random tree, and the paths in it, links and missing names too; a part of it may be a mount with flags of its
+    own."""
 
     def __init__(self, dice: Dice, top: str, mounts: bool) -> None:
         self.dice, self.top, self.paths, self.mounted = dice, top, list[str](), list[str]()
@@ -72,7 +81,10 @@ class Tree:
                 subprocess.run(["chattr", self.dice.choice(["+i", "+a"]), path], stderr=subprocess.DEVNULL)
         for path in self.mounted:
             self.flag(path)
-        self.paths += [os.path.join(dice.choice(folders), "missing"), os.path.join(dice.choice(folders), "..", dice.choice(os.listdir(top)))]
+        self.paths += [
+            os.path.join(dice.choice(folders), "missing"),
+            os.path.join(dice.choice(folders), "..", dice.choice(os.listdir(top))),
+        ]
 
     def mount(self, path: str) -> None:
         os.mkdir(path, 0o755)
@@ -149,6 +161,7 @@ def checked(path: str, wanted: int) -> str:
         if libc.access(os.fsencode(path), wanted) != 0:
             number = ctypes.get_errno()
             raise OSError(number, os.strerror(number))
+
     return outcome(call)
 
 
@@ -173,8 +186,18 @@ def done(path: str, wanted: int) -> str:
         said = [checked(path, wanted)]
         said += [opened(path, os.O_RDONLY)] if wanted == 4 else []
     else:
-        said = [opened(path, flags) for flags in ([os.O_RDWR | WRITES] if wanted & 6 == 6 else [os.O_WRONLY | WRITES] if wanted & 2 else
-                                                   [os.O_RDONLY] if wanted & 4 else [])]
+        said = [
+            opened(path, flags)
+            for flags in (
+                [os.O_RDWR | WRITES]
+                if wanted & 6 == 6
+                else [os.O_WRONLY | WRITES]
+                if wanted & 2
+                else [os.O_RDONLY]
+                if wanted & 4
+                else []
+            )
+        ]
         said += [executed(path)] if wanted & 1 else []
     return next((one for one in (UNREAD, DENIED) if one in said), GRANTED)
 
@@ -218,13 +241,18 @@ def taken(path: str, is_folder: bool) -> str:
     return outcome(lambda: os.rmdir(path) if is_folder else os.unlink(path))
 
 
-def kept(path: str) -> Optional[Callable[[], None]]:
+def kept(path: str) -> Callable[[], None]:
     """What puts a name back as it was."""
     path = os.path.join(os.path.realpath(os.path.dirname(path)), os.path.basename(path))
     found = os.lstat(path)
     if stat.S_ISLNK(found.st_mode):
         target = os.readlink(path)
-        return lambda: (os.symlink(target, path), os.lchown(path, found.st_uid, found.st_gid)) and None
+
+        def link_back() -> None:
+            os.symlink(target, path)
+            os.lchown(path, found.st_uid, found.st_gid)
+
+        return link_back
     values = {name: os.getxattr(path, name) for name in os.listxattr(path)}
     text = b""
     if stat.S_ISREG(found.st_mode):
@@ -243,4 +271,5 @@ def kept(path: str) -> Optional[Callable[[], None]]:
         os.chmod(path, stat.S_IMODE(found.st_mode))
         for name, value in values.items():
             os.setxattr(path, name, value)
+
     return put_back

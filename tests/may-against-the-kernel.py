@@ -1,13 +1,17 @@
 #!/usr/bin/env python3
 """tests/may-against-the-kernel.py [--questions N] [--seed SEED] [--form FORM] [--mounts] [--if-possible] [PROGRAM]
 
-Compares what `./suites may` tells with what this Linux does, on random trees of files, folders, links, pipes, devices and
-scripts with random lists and default lists. Each question is put to `may`, and then tried as that user, in a process that
-takes its groups and its number: by opening, executing, making and taking away, of a folder by access(2). PROGRAM is a build
+Compares what `./suites may` tells with what this Linux does, on random trees of files, folders, links, pipes,
+devices and
+scripts with random lists and default lists. Each question is put to `may`, and then tried as that user, in a process
+that
+takes its groups and its number: by opening, executing, making and taking away, of a folder by access(2). PROGRAM is
+a build
 of the program `may`. FORM is one of user, names, who, under, change, lint; without it all are asked, N questions each.
 With --mounts a part of each tree is a mount with random flags of ro, noexec, nodev and nosymfollow.
 
-Status 1 where anything differs. It needs root and a file system with lists, here /dev/shm (tmpfs). With --if-possible it
+Status 1 where anything differs. It needs root and a file system with lists, here /dev/shm (tmpfs). With
+--if-possible it
 says where these are wanting, and ends well: so `./suites --test` runs some questions.
 """
 from __future__ import annotations
@@ -49,7 +53,9 @@ def ask_users(dice: Dice, tree: Tree, count: int) -> Count:
         for (path, wanted), said in zip(some, tried(caller, some)):
             told = telling.judge(caller, wanted, path)
             if ANSWERS[told.status] != said:
-                wrong += differs(f"{path} {lists.letters(wanted)} {caller}", ANSWERS[told.status], said, [*told.lines, told.last])
+                wrong += differs(
+                    f"{path} {lists.letters(wanted)} {caller}", ANSWERS[told.status], said, [*told.lines, told.last]
+                )
         asked += len(some)
     return asked, wrong
 
@@ -61,7 +67,9 @@ def ask_names(dice: Dice, tree: Tree, count: int) -> Count:
         caller, path = dice.caller(), dice.choice(tree.paths)
         is_there = os.path.lexists(path)
         if is_there and dice.random() < 0.7:
-            told, is_folder = names.judge_name(caller, names.DELETE, path), os.path.isdir(path) and not os.path.islink(path)
+            told, is_folder = names.judge_name(caller, names.DELETE, path), os.path.isdir(path) and not os.path.islink(
+                path
+            )
             put_back = trees.kept(path) if told.status != telling.UNREAD else None
             said = str(trees.as_user(caller, lambda: trees.taken(path, is_folder)))
             if not os.path.lexists(path) and put_back:
@@ -69,7 +77,11 @@ def ask_names(dice: Dice, tree: Tree, count: int) -> Count:
             # a folder with names is told as such
             said = DENIED if said == trees.FULL else said
         else:
-            path = path if is_there and dice.random() < 0.3 else os.path.join(path if os.path.isdir(path) else os.path.dirname(path), "new")
+            path = (
+                path
+                if is_there and dice.random() < 0.3
+                else os.path.join(path if os.path.isdir(path) else os.path.dirname(path), "new")
+            )
             told = names.judge_name(caller, names.CREATE, path)
             said = str(trees.as_user(caller, lambda: trees.made(path)))
             if said == GRANTED:
@@ -108,7 +120,11 @@ def ask_under(dice: Dice, tree: Tree, count: int) -> Count:
     asked, wrong = 0, 0
     while asked < count:
         caller, wanted = dice.caller(), dice.choice([1, 2, 4, 6])
-        rows = [row for row in under.rows_under(caller, wanted, tree.top, under.tree_of(tree.top, wanted)) if row.may is not None]
+        rows = [
+            row
+            for row in under.rows_under(caller, wanted, tree.top, under.tree_of(tree.top, wanted))
+            if row.may is not None
+        ]
         for row, said in zip(rows, tried(caller, [(row.path, wanted) for row in rows])):
             told = GRANTED if row.may else DENIED
             said = DENIED if said == trees.UNREAD and "a script for" in row.by else said
@@ -119,7 +135,12 @@ def ask_under(dice: Dice, tree: Tree, count: int) -> Count:
 
 
 def bits_of(caller: Caller, path: str) -> int:
-    said = trees.as_user(caller, lambda: [trees.checked(path, 1) if bit == 1 and os.path.isfile(path) else trees.done(path, bit) for _, bit in BITS])
+    said = trees.as_user(
+        caller,
+        lambda: [
+            trees.checked(path, 1) if bit == 1 and os.path.isfile(path) else trees.done(path, bit) for _, bit in BITS
+        ],
+    )
     assert isinstance(said, list)
     return sum(bit for (_, bit), one in zip(BITS, said) if one == GRANTED)
 
@@ -129,10 +150,17 @@ def ask_changes(dice: Dice, tree: Tree, count: int) -> Count:
     asked, wrong = 0, 0
     while asked < count:
         path = dice.choice(tree.paths)
-        if os.path.islink(path) or not os.path.exists(path) or way(path, 4).end or way(path, 4).places[-1].attributes & FIXED:
+        if (
+            os.path.islink(path)
+            or not os.path.exists(path)
+            or way(path, 4).end
+            or way(path, 4).places[-1].attributes & FIXED
+        ):
             continue
         is_put, computes = dice.random() < 0.6, dice.random() < 0.7
-        text = dice.choice([f"u:{dice.choice(trees.UIDS)}", f"g:{dice.choice(trees.GIDS)}"] + ["m:", "u:", "g:", "o:"] * is_put)
+        text = dice.choice(
+            [f"u:{dice.choice(trees.UIDS)}", f"g:{dice.choice(trees.GIDS)}"] + ["m:", "u:", "g:", "o:"] * is_put
+        )
         text += f":{lists.letters(dice.perms())}" * is_put
         callers = [dice.caller()._replace(name=f"n{number}") for number in range(6)]
         try:
@@ -143,18 +171,37 @@ def ask_changes(dice: Dice, tree: Tree, count: int) -> Count:
         before = [bits_of(caller, path) for caller in callers]
         value = os.getxattr(path, lists.ACCESS) if lists.ACCESS in os.listxattr(path) else None
         mode = os.stat(path).st_mode & 0o7777
-        done = subprocess.run(["setfacl", *([] if computes else ["-n"]), "-m" if is_put else "-x", text, path], stderr=subprocess.PIPE, text=True)
+        done = subprocess.run(
+            ["setfacl", *([] if computes else ["-n"]), "-m" if is_put else "-x", text, path],
+            stderr=subprocess.PIPE,
+            text=True,
+        )
         if done.returncode != 0:
             continue
         after = [bits_of(caller, path) for caller in callers]
         kept = lists.of_file(path, os.stat(path).st_mode)
-        _ = os.removexattr(path, lists.ACCESS) if lists.ACCESS in os.listxattr(path) else None
+        if lists.ACCESS in os.listxattr(path):
+            os.removexattr(path, lists.ACCESS)
         os.chmod(path, mode)
-        _ = os.setxattr(path, lists.ACCESS, value) if value is not None else None
-        wanted = {f"gains {lists.letters(new & ~old)} {caller.name}" for caller, old, new in zip(callers, before, after) if new & ~old}
-        wanted |= {f"loses {lists.letters(old & ~new)} {caller.name}" for caller, old, new in zip(callers, before, after) if old & ~new}
-        told = {f"{word} {lists.letters(lists.perms_of(perms))} {name}" for line in lines for word, perms, rest in [line.replace(":", "").split(None, 2)]
-                if word in ("gains", "loses") for name in rest.split(", ")}
+        if value is not None:
+            os.setxattr(path, lists.ACCESS, value)
+        wanted = {
+            f"gains {lists.letters(new & ~old)} {caller.name}"
+            for caller, old, new in zip(callers, before, after)
+            if new & ~old
+        }
+        wanted |= {
+            f"loses {lists.letters(old & ~new)} {caller.name}"
+            for caller, old, new in zip(callers, before, after)
+            if old & ~new
+        }
+        told = {
+            f"{word} {lists.letters(lists.perms_of(perms))} {name}"
+            for line in lines
+            for word, perms, rest in [line.replace(":", "").split(None, 2)]
+            if word in ("gains", "loses")
+            for name in rest.split(", ")
+        }
         if told != wanted or lists.list_text(kept, lists.name_of) != lines[0].rpartition("  would be  ")[2]:
             wrong += differs(f"{text} {path}", f"{sorted(told)}", f"{sorted(wanted)}, {lists.list_text(kept)}", lines)
         asked += len(callers) * 3
@@ -162,7 +209,8 @@ def ask_changes(dice: Dice, tree: Tree, count: int) -> Count:
 
 
 def ask_lint(dice: Dice, tree: Tree, count: int) -> Count:
-    """What is to be mended? Whom an entry does not reach is tried, and whom none is told of reaches the file's folder."""
+    """What is to be mended? Whom an entry does not reach is tried, and whom none is told of reaches the file's
+    folder."""
     asked, wrong = 0, 0
     while asked < count:
         callers = [Caller(f"n{uid}", uid, dice.choice(trees.GIDS), ()) for uid in trees.UIDS]
@@ -172,13 +220,21 @@ def ask_lint(dice: Dice, tree: Tree, count: int) -> Count:
             told, _ = lint.lint(tree.top)
         finally:
             lint.accounts = people_of
-        stopped = {(line.split(": ", 1)[0], line.split(": ", 1)[1].split(" reaches nobody")[0]) for line in told if " reaches nobody" in line}
+        stopped = {
+            (line.split(": ", 1)[0], line.split(": ", 1)[1].split(" reaches nobody")[0])
+            for line in told
+            if " reaches nobody" in line
+        }
         for path in tree.paths:
             if os.path.islink(path) or not os.path.exists(path) or path != os.path.realpath(path):
                 continue
             entries = lists.of_file(path, os.stat(path).st_mode)
             for entry in entries:
-                whom = [one for one in callers if entry.tag == lists.USER and one.uid == entry.id or entry.tag == lists.GROUP and one.has(entry.id)]
+                whom = [
+                    one
+                    for one in callers
+                    if entry.tag == lists.USER and one.uid == entry.id or entry.tag == lists.GROUP and one.has(entry.id)
+                ]
                 if not whom or not entry.perms & (lists.mask_of(entries) or 0):
                     continue
                 reach = [trees.as_user(one, lambda: trees.checked(os.path.dirname(path), 1)) == GRANTED for one in whom]
@@ -193,7 +249,12 @@ def ask_lint(dice: Dice, tree: Tree, count: int) -> Count:
 
 
 FORMS: dict[str, Callable[[Dice, Tree, int], Count]] = {
-    "user": ask_users, "names": ask_names, "who": ask_who, "under": ask_under, "change": ask_changes, "lint": ask_lint,
+    "user": ask_users,
+    "names": ask_names,
+    "who": ask_who,
+    "under": ask_under,
+    "change": ask_changes,
+    "lint": ask_lint,
 }
 
 
@@ -216,8 +277,9 @@ def ask(form: str, given: argparse.Namespace) -> Count:
         tree = None
         try:
             tree = Tree(dice, top, given.mounts and form in ("user", "under", "who"))
-            for one in (mounts.mounts, mounts.by_id, mounts.points):
-                one.cache_clear()
+            mounts.mounts.cache_clear()
+            mounts.by_id.cache_clear()
+            mounts.points.cache_clear()
             some, bad = FORMS[form](dice, tree, min(OF_A_TREE, given.questions - asked))
             asked, wrong = asked + some, wrong + bad
         finally:

@@ -1,9 +1,12 @@
 #!/usr/bin/env python3
 """tests/may.py [PROGRAM]
 
-Plays rows of the program `may` (lines of questions, and the status and the output that are wanted), and `./suites may` on
-a few files of its own. Looks whether the Rust code that README shows stands in crates/may/src, which the gate proves. PROGRAM
-is a build of `may`; where none is named, that which `./suites may` takes. Prints what differs; status 1 where something does.
+Plays rows of the program `may` (lines of questions, and the status and the output that are wanted), and `./suites
+may` on
+a few files of its own. Looks whether the Rust code that README shows stands in crates/may/src, which the gate
+proves. PROGRAM
+is a build of `may`; where none is named, that which `./suites may` takes. Prints what differs; status 1 where
+something does.
 """
 from __future__ import annotations
 
@@ -27,7 +30,11 @@ ROWS = [
     (f"1000 100 1000 7 rw {LIST}", 0, "granted\n"),
     (f"1000 100 1001 7 r {LIST}\r\n", 0, "granted\n"),
     (f"\t1000  100 1001 7 rw {LIST} \n", 0, "denied rw- by mask::\n"),
-    (f"1000 100 1001 7 wr {LIST}\n1000 100 1002 7,100 -w- {LIST}\n", 0, "denied rw- by mask::\ndenied -w- by group::\n"),
+    (
+        f"1000 100 1001 7 wr {LIST}\n1000 100 1002 7,100 -w- {LIST}\n",
+        0,
+        "denied rw- by mask::\ndenied -w- by group::\n",
+    ),
     (f"1000 100 4294967295 {MANY} r {LIST}\n", 0, "denied r-- by other::\n"),
     ("1 1 1 1 x user::rwx\\ngroup::-,other::-\n".replace("\\n", ","), 0, "granted\n"),
     ("1 1 2 1 x u::rw,g::rw,o::x,d:u::rwx,d:g::rwx,d:o::rwx\n", 0, "denied --x by group::\n"),
@@ -62,7 +69,10 @@ class Tests:
 def plays_rows(tests: Tests) -> None:
     for given, status, printed in ROWS:
         done = subprocess.run([program.program()], input=given.encode(), stdout=subprocess.PIPE)
-        tests.holds((done.returncode, done.stdout.decode()) == (status, printed), f"{given!r}: {done.returncode} {done.stdout!r}, and not {status} {printed!r}")
+        tests.holds(
+            (done.returncode, done.stdout.decode()) == (status, printed),
+            f"{given!r}: {done.returncode} {done.stdout!r}, and not {status} {printed!r}",
+        )
     for words, status, printed in ((["--help"], 0, "Answers questions"), (["-x"], 2, "fault command line\n")):
         done = subprocess.run([program.program(), *words], stdin=subprocess.DEVNULL, stdout=subprocess.PIPE)
         tests.holds(done.returncode == status and done.stdout.decode().startswith(printed), f"{words}: {done}")
@@ -77,11 +87,15 @@ def asks(tests: Tests, words: list[str], status: int, last: str, strict: bool = 
     """The command, its status, and what its last line has."""
     env = {**os.environ, **({"PYTHONIOENCODING": "utf-8:strict", "LC_ALL": "C"} if strict else {})}
     command = [sys.executable, os.path.join(TOP, "tools", "may.py"), *words]
-    done = subprocess.run(command, env=env, stdin=subprocess.DEVNULL, stdout=subprocess.PIPE, stderr=subprocess.PIPE, text=True)
+    done = subprocess.run(
+        command, env=env, stdin=subprocess.DEVNULL, stdout=subprocess.PIPE, stderr=subprocess.PIPE, text=True
+    )
     # a checked build says so
     lines = [line for line in (done.stdout + done.stderr).splitlines() if not line.startswith("suites: checked build")]
-    tests.holds(done.returncode == status and lines and last in lines[-1],
-                f"may {words}: {done.returncode}, and not {status} with {last!r}: {lines}")
+    tests.holds(
+        done.returncode == status and lines and last in lines[-1],
+        f"may {words}: {done.returncode}, and not {status} with {last!r}: {lines}",
+    )
 
 
 def asks_of_files(tests: Tests) -> None:
@@ -94,7 +108,9 @@ def asks_of_files(tests: Tests) -> None:
         os.chmod(folder, 0o700)
         os.symlink("../f", os.path.join(folder, "l"))
         other = ["--groups", "65000", "65000"]
-        asks(tests, [*other, "r", file], 1, f"65000 (65000; groups 65000) may not r: {file} wants r--, other grants ---")
+        asks(
+            tests, [*other, "r", file], 1, f"65000 (65000; groups 65000) may not r: {file} wants r--, other grants ---"
+        )
         asks(tests, [*other, "r", os.path.join(folder, "l")], 1, f"{folder} wants --x, other grants ---")
         asks(tests, ["--groups", str(os.stat(file).st_gid), "65000", "r", file], 0, f"may r: {file}")
         os.chmod(folder, 0o711)
@@ -105,9 +121,25 @@ def asks_of_files(tests: Tests) -> None:
         asks(tests, ["0", "rw", file], 0, "Linux lets root pass")
         asks(tests, ["0", "x", file], 1, "Linux lets root execute no file that nobody may execute")
         asks(tests, ["0", "x", folder, "--under", room], 2, "a user and what it wants are told")
-    bad = ([], ["root", "r"], ["root", "q", "/"], ["no one", "r", "/"], ["--groups", "a", "1", "r", "/"], ["--json", "root", "r", "/"],
-           ["--who", "r"], ["--who", "q", "/"], ["--with", "u:1", "/"], ["--without", "u::", "/"], ["--with", "x:1:r", "/"], ["--denied", "0", "r", "/"],
-           ["--lint", "/", "/"], ["--no-mask", "0", "r", "/"], ["--who", "r", "--lint", "/"], ["--with", "m:7:r", "/"], ["--without", "u:no one", "/"])
+    bad: tuple[list[str], ...] = (
+        [],
+        ["root", "r"],
+        ["root", "q", "/"],
+        ["no one", "r", "/"],
+        ["--groups", "a", "1", "r", "/"],
+        ["--json", "root", "r", "/"],
+        ["--who", "r"],
+        ["--who", "q", "/"],
+        ["--with", "u:1", "/"],
+        ["--without", "u::", "/"],
+        ["--with", "x:1:r", "/"],
+        ["--denied", "0", "r", "/"],
+        ["--lint", "/", "/"],
+        ["--no-mask", "0", "r", "/"],
+        ["--who", "r", "--lint", "/"],
+        ["--with", "m:7:r", "/"],
+        ["--without", "u:no one", "/"],
+    )
     for words in bad:
         asks(tests, list(words), 2, "(./suites may --help)")
 
@@ -146,12 +178,19 @@ def value_of(entries: list[tuple[int, int, int]]) -> bytes:
 
 def base(perms: int = 0) -> list[tuple[int, int, int]]:
     nobody = 0xFFFFFFFF
-    return [(lists.USER_OBJ, 6, nobody), (lists.GROUP_OBJ, perms, nobody), (lists.MASK, 7, nobody), (lists.OTHER, 0, nobody)]
+    return [
+        (lists.USER_OBJ, 6, nobody),
+        (lists.GROUP_OBJ, perms, nobody),
+        (lists.MASK, 7, nobody),
+        (lists.OTHER, 0, nobody),
+    ]
 
 
 def asks_of_lists(tests: Tests) -> None:
     """Lists that are not judged here, beside one that is; lists of others that are, by what denies or grants."""
-    callers = [Caller(f"n{uid}", uid, gid, ()) for uid, gid in ((0, 0), (1001, 300), (1002, 200), (1003, 300), (1004, 200))]
+    callers = [
+        Caller(f"n{uid}", uid, gid, ()) for uid, gid in ((0, 0), (1001, 300), (1002, 200), (1003, 300), (1004, 200))
+    ]
     with tempfile.TemporaryDirectory(prefix="suites-", dir="/dev/shm" if os.path.isdir("/dev/shm") else None) as room:
         os.chmod(room, 0o755)
         many, plain_one, twice = (os.path.join(room, name) for name in ("many", "one", "twice"))
@@ -159,8 +198,21 @@ def asks_of_lists(tests: Tests) -> None:
             open(path, "w").close()
         os.chmod(plain_one, 0o644)
         try:
-            os.setxattr(many, lists.ACCESS, value_of(sorted([*base(), *((lists.USER, 4, 2000 + one) for one in range(150))], key=lambda one: (one[0], one[2]))))
-            os.setxattr(twice, lists.ACCESS, value_of([*base()[:1], (lists.USER, 4, 1001), *base(4)[1:2], (lists.GROUP, 4, 200), *base()[2:]]))
+            os.setxattr(
+                many,
+                lists.ACCESS,
+                value_of(
+                    sorted(
+                        [*base(), *((lists.USER, 4, 2000 + one) for one in range(150))],
+                        key=lambda one: (one[0], one[2]),
+                    )
+                ),
+            )
+            os.setxattr(
+                twice,
+                lists.ACCESS,
+                value_of([*base()[:1], (lists.USER, 4, 1001), *base(4)[1:2], (lists.GROUP, 4, 200), *base()[2:]]),
+            )
         except OSError:
             print("no lists here, so they are not asked of")
             return
@@ -168,7 +220,10 @@ def asks_of_lists(tests: Tests) -> None:
         asks(tests, [*other, "r", plain_one, many], 3, f"{many}: not judged here: its list has 154 entries")
         asks(tests, [*other, "r", many, plain_one], 3, f"{many}: not judged here")
         told = everybody.tell_who(callers, 4, twice, way(twice, 4))
-        wanted = [f"{twice}  r--  n0 (Linux lets root pass); n1001 by user:1001; n1002, n1004 by group:200", f"  denied at {twice}: n1003 by other::---"]
+        wanted = [
+            f"{twice}  r--  n0 (Linux lets root pass); n1001 by user:1001; n1002, n1004 by group:200",
+            f"  denied at {twice}: n1003 by other::---",
+        ]
         tests.holds(told == wanted, f"who: {told}")
         change = changes.Change(changes.read_entry("g:200", False), False, True)
         told = changes.tell_change(callers, change, twice, way(twice, 4))
@@ -185,16 +240,29 @@ def asks_of_lists(tests: Tests) -> None:
         tests.holds(any(f"{many}: its list has 154 entries" in line for line in found), f"lint: {found[:3]}")
         tests.holds(any(f"{twice}: user:1001:r-- reaches nobody" in line for line in stopped), f"lint: {stopped[-3:]}")
         os.chmod(room, 0o755)
-    tests.holds(lists.fault(tuple(lists.Entry(lists.USER, 7, 4) for _ in range(2))) == "its list names user 7 twice", "a user twice")
+    tests.holds(
+        lists.fault(tuple(lists.Entry(lists.USER, 7, 4) for _ in range(2))) == "its list names user 7 twice",
+        "a user twice",
+    )
 
 
 def reads_mounts(tests: Tests) -> None:
     """Mounts, as /proc/self/mountinfo tells them."""
-    text = ("22 27 0:21 / /proc rw,relatime - proc proc rw,hidepid=2\n30 27 0:5 / /a\\040b ro,noexec,idmapped shared:1 - ext4 /dev/x rw\n"
-            "31 27 0:6 / /f rw - fuse.sshfs x rw,user_id=0\n32 27 0:7 / /n rw - nfs4 x rw\n33 27 0:8 / /t rw,nosymfollow - tmpfs x rw\n")
+    text = "\n".join(
+        [
+            "22 27 0:21 / /proc rw,relatime - proc proc rw,hidepid=2",
+            r"30 27 0:5 / /a\040b ro,noexec,idmapped shared:1 - ext4 /dev/x rw",
+            "31 27 0:6 / /f rw - fuse.sshfs x rw,user_id=0",
+            "32 27 0:7 / /n rw - nfs4 x rw",
+            "33 27 0:8 / /t rw,nosymfollow - tmpfs x rw",
+        ]
+    )
     found = mounts.read_mounts(text)
     tests.holds([one.point for one in found] == ["/proc", "/a b", "/f", "/n", "/t"], f"mounts: {found}")
-    tests.holds([bool(one.unjudged(f"{one.point}/x")) for one in found] == [True, True, True, True, False], "mounts that are not judged")
+    tests.holds(
+        [bool(one.unjudged(f"{one.point}/x")) for one in found] == [True, True, True, True, False],
+        "mounts that are not judged",
+    )
     tests.holds(found[1].has("noexec") and found[1].has("ro") and found[4].has("nosymfollow"), "flags of mounts")
     tests.holds(people.caller_of("0", "5,6") == Caller("root", 0, 5, (6,)), "a caller by its number")
 

@@ -31,14 +31,15 @@ What Linux does otherwise than lists say is told, and the status is that of Linu
   - links in sticky folders (fs.protected_symlinks); sticky folders, of `delete`; the interpreter of a script
 Told as not judged: idmapped mounts, FUSE, NFS, SMB and other file systems whose servers decide, what is of processes or
 settings in /proc, all of /proc with hidepid, /sys and its kind, lists of more than 128 entries or with a user twice.
-Not looked at: capabilities of others than root, security modules, user namespaces, quotas, locks, interpreters of ELF files.
-A path that does not begin with / is taken from the current folder, whose own path is looked at too. Names with line ends,
-quotes, backslashes or bytes that are no text are shown as `ls -Q` does.
+Not looked at: capabilities of others than root, security modules, user namespaces, quotas, locks, ELF interpreters.
+A path that does not begin with / is taken from the current folder, whose own path is looked at too. Names with
+line ends, quotes, backslashes or bytes that are no text are shown as `ls -Q` does.
 """
 from __future__ import annotations
 
 import argparse
 import errno
+import io
 import os
 import sys
 from typing import NoReturn
@@ -77,7 +78,9 @@ def read(words: list[str]) -> argparse.Namespace:
         forms.add_argument(form, dest=form.strip("-").replace("with", "with_") if form == "--with" else form.strip("-"))
     parser.add_argument("words", nargs="*")
     given = parser.parse_args(words)
-    given.form = next((form for form in ("who", "without", "with_", "lint") if getattr(given, form) is not None), "user")
+    given.form = next(
+        (form for form in ("who", "without", "with_", "lint") if getattr(given, form) is not None), "user"
+    )
     if given.form != "user" and (given.groups is not None or given.under is not None or given.denied or given.zero):
         raise Bad("--groups, --under, --denied and -0 go with a user")
     if given.no_mask and given.form not in ("without", "with_"):
@@ -115,7 +118,9 @@ def of_user(given: argparse.Namespace) -> int:
             told = telling.judge(caller, wanted, path, given.v)
             missing = told.status == UNREAD and wanted & WRITE and told.last.endswith(os.strerror(errno.ENOENT))
             if missing:
-                told = told._replace(last=f"{told.last} (whether it may be made: ./suites may {user} create {quoted(path)})")
+                told = told._replace(
+                    last=f"{told.last} (whether it may be made: ./suites may {user} create {quoted(path)})"
+                )
         else:
             told = names.judge_name(caller, verb, path, given.v)
         status = max(status, tell(told))
@@ -152,11 +157,17 @@ def of_paths(given: argparse.Namespace) -> int:
     is_put = given.form == "with_"
     change = None
     if given.form != "who":
-        change = changes.Change(changes.read_entry(given.with_ if is_put else given.without, is_put), is_put, not given.no_mask)
+        change = changes.Change(
+            changes.read_entry(given.with_ if is_put else given.without, is_put), is_put, not given.no_mask
+        )
     for path in given.words:
         found = way(path, wanted)
         try:
-            for one in changes.tell_change(callers, change, path, found) if change else everybody.tell_who(callers, wanted, path, found):
+            for one in (
+                changes.tell_change(callers, change, path, found)
+                if change
+                else everybody.tell_who(callers, wanted, path, found)
+            ):
                 say(one)
         except (Bad, Unread) as error:
             say(str(error) if isinstance(error, Unread) else f"{quoted(path)}: {error}", "stderr")
@@ -182,7 +193,8 @@ def main() -> int:
         print((__doc__ or "").strip())
         return GRANTED
     for stream in (sys.stdout, sys.stderr):
-        stream.reconfigure(errors="backslashreplace")
+        if isinstance(stream, io.TextIOWrapper):
+            stream.reconfigure(errors="backslashreplace")
     try:
         given = read(words)
         form = {"user": of_tree if given.under is not None else of_user, "lint": of_lint}.get(given.form, of_paths)
@@ -197,7 +209,11 @@ def main() -> int:
         return UNREAD
     except (Unread, OSError) as error:
         sys.stdout.flush()
-        said = error if isinstance(error, Unread) or not error.filename else f"{quoted(os.fsdecode(error.filename))}: {error.strerror}"
+        said = (
+            error
+            if isinstance(error, Unread) or not error.filename
+            else f"{quoted(os.fsdecode(error.filename))}: {error.strerror}"
+        )
         print(f"suites: {said}", file=sys.stderr)
         return UNREAD
 

@@ -7,8 +7,26 @@ from typing import NamedTuple
 
 from machine import everybody, linux
 from machine.lists import (
-    BITS, GROUP, GROUP_OBJ, MASK, OTHER, USER, USER_OBJ, Bad, Entry, List, Unread, find, has_names, in_order, letters, list_text,
-    name_of, perms_of, quoted, union,
+    BITS,
+    GROUP,
+    GROUP_OBJ,
+    MASK,
+    OTHER,
+    USER,
+    USER_OBJ,
+    Bad,
+    Entry,
+    List,
+    Unread,
+    find,
+    has_names,
+    in_order,
+    letters,
+    list_text,
+    name_of,
+    perms_of,
+    quoted,
+    union,
 )
 from machine.people import Caller, likenesses, number
 from machine.program import answers, question
@@ -92,14 +110,17 @@ def granted_bits(callers: list[Caller], place: Place) -> list[int]:
 def stopped_at(firsts: list[Caller], places: list[Place]) -> set[int]:
     """Which callers do not come to the last of some places."""
     ends = everybody.ends(firsts, places[:-1]) if len(places) > 1 else []
-    unjudged = next((end.said.why for end in ends if end.said.grants is None), places[-1].mount.unjudged(places[-1].path))
+    unjudged = next(
+        (end.said.why for end in ends if end.said.grants is None), places[-1].mount.unjudged(places[-1].path)
+    )
     if unjudged:
         raise Unread(unjudged)
     return {at for at, end in enumerate(ends) if not end.said.grants}
 
 
 def tell_change(callers: list[Caller], change: Change, path: str, found: Way) -> list[str]:
-    """Who gains and who loses what by a change of a file's list, a line each. A way may lead twice through the folder that is changed."""
+    """Who gains and who loses what by a change of a file's list, a line each. A way may lead twice through the
+    folder that is changed."""
     if found.end:
         raise Unread(found.end)
     place = found.places[-1]

@@ -11,7 +11,8 @@ from machine.ways import Place, Way
 
 
 class Found(NamedTuple):
-    """Where a caller's way ends: at the place that denies or the last one, with the answer, and what Linux does there."""
+    """Where a caller's way ends: at the place that denies or the last one, with the answer, and what Linux does
+    there."""
 
     place: Place
     answer: str
@@ -54,13 +55,21 @@ def granted_by(callers: list[Caller], place: Place) -> list[str]:
     """By what each caller that is granted may, as a line says it."""
     asked = [caller for caller in callers if not linux_alone(caller, place)]
     entries = iter(granting([question(place, caller) for caller in asked]))
-    return [" (Linux lets root pass)" if caller.uid == 0 else " (its mask is ---)" if linux_alone(caller, place) else f" by {who(next(entries))}"
-            for caller in callers]
+    return [
+        " (Linux lets root pass)"
+        if caller.uid == 0
+        else " (its mask is ---)"
+        if linux_alone(caller, place)
+        else f" by {who(next(entries))}"
+        for caller in callers
+    ]
 
 
 def linux_alone(caller: Caller, place: Place) -> bool:
     """Whether Linux does not look at the list for this caller."""
-    return caller.uid == 0 or (caller.uid != place.owner and mask_of(place.entries) is not None and not place.mode & 0o070)
+    return caller.uid == 0 or (
+        caller.uid != place.owner and mask_of(place.entries) is not None and not place.mode & 0o070
+    )
 
 
 def names(part: Iterable[Caller]) -> str:
@@ -86,10 +95,12 @@ def tell_who(callers: list[Caller], wanted: int, path: str, found: Way) -> list[
             grants.setdefault(by[at], []).extend(part)
         else:
             on_the_way = end.place is not last
-            stops.setdefault(f"{'stopped at' if on_the_way else 'denied at'} {end.place.shown}|{by_entry(end)}", []).extend(part)
+            stops.setdefault(
+                f"{'stopped at' if on_the_way else 'denied at'} {end.place.shown}|{by_entry(end)}", []
+            ).extend(part)
     told = "; ".join(f"{names(part)}{why}" for why, part in grants.items())
     lines = [f"{quoted(path)}  {letters(wanted)}  {told or 'nobody with an account here'}"]
     for where, part in stops.items():
-        at, _, why = where.partition("|")
-        lines.append(f"  {at}: {names(part)}{why}")
+        place_told, _, why = where.partition("|")
+        lines.append(f"  {place_told}: {names(part)}{why}")
     return lines

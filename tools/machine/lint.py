@@ -10,7 +10,22 @@ from typing import Iterator
 
 from machine import linux, lists
 from machine.lists import (
-    GROUP, GROUP_OBJ, LIMITED, MASK, OTHER, USER, Entry, Unread, entry_text, fault, find, letters, mask_of, name_of, union, who,
+    GROUP,
+    GROUP_OBJ,
+    LIMITED,
+    MASK,
+    OTHER,
+    USER,
+    Entry,
+    Unread,
+    entry_text,
+    fault,
+    find,
+    letters,
+    mask_of,
+    name_of,
+    union,
+    who,
 )
 from machine.people import Caller, accounts
 from machine.program import Question, answers, is_granted, question
@@ -43,7 +58,11 @@ def of_mask(place: Place) -> Iterator[str]:
     if mask == 0 and named:
         other = find(place.entries, OTHER)
         perms = other.perms if other else 0
-        what = f"its mask is ---, so that Linux gives others::{letters(perms)} to whom it names" if perms else "its mask is ---, and takes all from whom it names"
+        what = (
+            f"its mask is ---, so that Linux gives others::{letters(perms)} to whom it names"
+            if perms
+            else "its mask is ---, and takes all from whom it names"
+        )
         yield line(place.path, what, command(place.path, f"-m m::{letters(union(place.entries))}"))
         return
     for entry in named:
@@ -167,4 +186,3 @@ def lint(top: str) -> tuple[list[str], list[str]]:
                 tree.unread.append(f"{row.place.shown}: {error.strerror}")
     told += Reach(top, tree).lines()
     return told, tree.unread
-

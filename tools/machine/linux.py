@@ -38,10 +38,18 @@ def follows_all_links() -> bool:
 def of_link(place: Place, caller: Caller) -> Said:
     """Whether a link is followed."""
     if place.mount.has("nosymfollow"):
-        return Said(False, f"{place.shown} is a link, and none is followed on {quoted(place.mount.point)} (nosymfollow)")
+        return Said(
+            False, f"{place.shown} is a link, and none is followed on {quoted(place.mount.point)} (nosymfollow)"
+        )
     folder = place.folder
-    if folder is not None and not follows_all_links() and folder.st_mode & stat.S_ISVTX and folder.st_mode & 0o002 \
-            and caller.uid != place.owner and folder.st_uid != place.owner:
+    if (
+        folder is not None
+        and not follows_all_links()
+        and folder.st_mode & stat.S_ISVTX
+        and folder.st_mode & 0o002
+        and caller.uid != place.owner
+        and folder.st_uid != place.owner
+    ):
         return Said(False, f"{place.shown} is another's link in a sticky folder (fs.protected_symlinks)")
     return Said(True)
 
@@ -72,7 +80,9 @@ def by_list(place: Place, caller: Caller, wanted: int, answer: str) -> Said:
     if caller.uid != place.owner and mask_of(place.entries) is not None and not place.mode & 0o070:
         is_in = caller.has(place.group)
         perms = 0 if is_in else place.mode & 7
-        return Said(wanted & ~perms == 0, f"its mask is ---, so Linux takes {'group' if is_in else 'other'}::{letters(perms)}")
+        return Said(
+            wanted & ~perms == 0, f"its mask is ---, so Linux takes {'group' if is_in else 'other'}::{letters(perms)}"
+        )
     return Said(is_granted(answer))
 
 
@@ -106,5 +116,3 @@ def interpreter_of(path: str) -> Optional[str]:
         raise Unread(f"{quoted(path)}: {error.strerror}, so whether it is a script is not known") from None
     words = head.split(b"\n", 1)[0][2:].split(None, 1) if head.startswith(b"#!") else []
     return os.fsdecode(words[0]) if words else None
-
-

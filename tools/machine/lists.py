@@ -40,13 +40,24 @@ class Bad(Exception):
 
 
 def quoted(name: str) -> str:
-    """A name as one line shows it: as it is, or as `ls -Q` quotes it where it has what is not printed, a quote or a backslash."""
+    """A name as one line shows it: as it is, or as `ls -Q` quotes it where it has what is not printed, a quote or a
+    backslash."""
     if name and name.isprintable() and not set(name) & set("\"\\"):
         return name
     shown = []
     for byte in os.fsencode(name):
         letter = chr(byte)
-        short = {"\n": "\\n", "\t": "\\t", "\r": "\\r", "\a": "\\a", "\b": "\\b", "\f": "\\f", "\v": "\\v", '"': '\\"', "\\": "\\\\"}
+        short = {
+            "\n": "\\n",
+            "\t": "\\t",
+            "\r": "\\r",
+            "\a": "\\a",
+            "\b": "\\b",
+            "\f": "\\f",
+            "\v": "\\v",
+            '"': '\\"',
+            "\\": "\\\\",
+        }
         shown.append(short.get(letter, letter if 32 <= byte < 127 else f"\\{byte:03o}"))
     return f'"{"".join(shown)}"'
 
@@ -66,7 +77,7 @@ def kept(path: str, which: str) -> Optional[List]:
         raise
     if len(value) < HEAD.size or HEAD.unpack_from(value)[0] != VERSION or (len(value) - HEAD.size) % ENTRY.size:
         raise Unread(f"{quoted(path)}: its list is of no known form")
-    parts = ENTRY.iter_unpack(value[HEAD.size:])
+    parts = ENTRY.iter_unpack(value[HEAD.size :])
     return tuple(Entry(tag, number if tag in (USER, GROUP) else 0, perms & 7) for tag, perms, number in parts)
 
 
@@ -89,6 +100,7 @@ def fault(entries: List) -> Optional[str]:
 
 
 # ---- texts
+
 
 def letters(perms: int) -> str:
     return "".join(letter if perms & bit else "-" for letter, bit in BITS)
@@ -127,6 +139,7 @@ def list_text(entries: Iterable[Entry], name: Callable[[Entry], str] = number_of
 
 
 # ---- parts of a list
+
 
 def find(entries: Iterable[Entry], tag: int, number: int = 0) -> Optional[Entry]:
     return next((entry for entry in entries if entry.tag == tag and entry.id == number), None)

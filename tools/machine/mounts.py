@@ -12,10 +12,34 @@ IMMUTABLE, APPEND = 0x10, 0x20
 MOUNT_ID = 0x1000
 AT_FDCWD, NOT_FOLLOWED = -100, 0x100
 # Kinds of file systems whose servers or whose code decide by rules of their own.
-ELSEWHERE = {"nfs": "NFS", "nfs4": "NFS", "cifs": "SMB", "smb3": "SMB", "9p": "9P", "ceph": "Ceph", "afs": "AFS", "lustre": "Lustre",
-             "gfs2": "GFS2", "ocfs2": "OCFS2", "coda": "Coda", "vboxsf": "VirtualBox", "virtiofs": "virtiofs"}
-OF_KERNEL = {"sysfs": "/sys", "cgroup": "cgroups", "cgroup2": "cgroups", "debugfs": "debugfs", "tracefs": "tracefs", "securityfs": "securityfs",
-             "configfs": "configfs", "selinuxfs": "selinuxfs", "efivarfs": "efivarfs", "bpf": "bpf", "binfmt_misc": "binfmt_misc"}
+ELSEWHERE = {
+    "nfs": "NFS",
+    "nfs4": "NFS",
+    "cifs": "SMB",
+    "smb3": "SMB",
+    "9p": "9P",
+    "ceph": "Ceph",
+    "afs": "AFS",
+    "lustre": "Lustre",
+    "gfs2": "GFS2",
+    "ocfs2": "OCFS2",
+    "coda": "Coda",
+    "vboxsf": "VirtualBox",
+    "virtiofs": "virtiofs",
+}
+OF_KERNEL = {
+    "sysfs": "/sys",
+    "cgroup": "cgroups",
+    "cgroup2": "cgroups",
+    "debugfs": "debugfs",
+    "tracefs": "tracefs",
+    "securityfs": "securityfs",
+    "configfs": "configfs",
+    "selinuxfs": "selinuxfs",
+    "efivarfs": "efivarfs",
+    "bpf": "bpf",
+    "binfmt_misc": "binfmt_misc",
+}
 # In /proc these are of processes, or settings of the kernel.
 OF_PROCESSES = re.compile(r"/(?:[0-9]+|self|thread-self|sys|net|mounts)(?:/|$)")
 
@@ -43,8 +67,10 @@ class Mount(NamedTuple):
             return f"{self.point} is of {ELSEWHERE[self.kind]}: its server decides"
         if self.kind in OF_KERNEL:
             return f"{self.point} is of {OF_KERNEL[self.kind]}: the kernel decides there by other rules"
-        if self.kind == "proc" and (any(flag.startswith("hidepid=") and flag not in ("hidepid=0", "hidepid=off") for flag in self.flags)
-                                    or OF_PROCESSES.match(path[len(self.point.rstrip("/")):])):
+        if self.kind == "proc" and (
+            any(flag.startswith("hidepid=") and flag not in ("hidepid=0", "hidepid=off") for flag in self.flags)
+            or OF_PROCESSES.match(path[len(self.point.rstrip("/")) :])
+        ):
             return f"{path} is of /proc: the kernel decides there by other rules"
         return None
 
@@ -91,8 +117,14 @@ def points() -> frozenset[str]:
 class Statx(ctypes.Structure):
     """The head of what statx(2) answers, as far as it is read here."""
 
-    _fields_ = [("mask", ctypes.c_uint32), ("blksize", ctypes.c_uint32), ("attributes", ctypes.c_uint64), ("middle", ctypes.c_uint8 * 128),
-                ("mount", ctypes.c_uint64), ("rest", ctypes.c_uint8 * 104)]
+    _fields_ = [
+        ("mask", ctypes.c_uint32),
+        ("blksize", ctypes.c_uint32),
+        ("attributes", ctypes.c_uint64),
+        ("middle", ctypes.c_uint8 * 128),
+        ("mount", ctypes.c_uint64),
+        ("rest", ctypes.c_uint8 * 104),
+    ]
 
 
 @functools.cache

@@ -1,4 +1,5 @@
-"""May this user make a name, or take one away? The folder decides: its w and x, its sticky bit, and what is there already."""
+"""May this user make a name, or take one away? The folder decides: its w and x, its sticky bit, and what is there
+already."""
 from __future__ import annotations
 
 import errno
@@ -77,7 +78,9 @@ def judge_name(caller: Caller, verb: str, path: str, verbose: bool = False) -> J
             raise Unread(f"{quoted(name[:40])}..: {os.strerror(errno.ENAMETOOLONG)}")
         one = folder if name in ("", ".", "..") else there(folder, name)
         if verb == DELETE and one is folder:
-            return Judged(told.lines, f"{caller.shown} may not {verb}: {quoted(path)} names no name in a folder", DENIED)
+            return Judged(
+                told.lines, f"{caller.shown} may not {verb}: {quoted(path)} names no name in a folder", DENIED
+            )
         no = no_create(path, one) if verb == CREATE else no_delete(caller, path, folder, one)
     except (Unread, OSError) as error:
         return Judged([], str(error) if isinstance(error, Unread) else str(unread(path, error)), UNREAD)

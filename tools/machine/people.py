@@ -75,7 +75,8 @@ def accounts() -> list[Caller]:
 
 
 def likenesses(callers: Iterable[Caller], named: Iterable[tuple[int, int, List]]) -> list[list[Caller]]:
-    """Callers by what lists can tell of them: those of a part have the same answers at each of some files, of which the owner, the
+    """Callers by what lists can tell of them: those of a part have the same answers at each of some files, of which
+    the owner, the
     group and the list are given. The first of each part stands for it."""
     users, groups = {0}, set()
     for owner, group, entries in named:
@@ -83,6 +84,9 @@ def likenesses(callers: Iterable[Caller], named: Iterable[tuple[int, int, List]]
         groups |= {group, *(entry.id for entry in entries if entry.tag == GROUP)}
     parts: dict[tuple[int, frozenset[int]], list[Caller]] = {}
     for caller in callers:
-        key = (caller.uid if caller.uid in users else -1, frozenset(one for one in (caller.gid, *caller.groups) if one in groups))
+        key = (
+            caller.uid if caller.uid in users else -1,
+            frozenset(one for one in (caller.gid, *caller.groups) if one in groups),
+        )
         parts.setdefault(key, []).append(caller)
     return list(parts.values())

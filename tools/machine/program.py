@@ -10,7 +10,19 @@ from typing import Iterable, NamedTuple
 
 import console
 from machine.lists import (
-    GROUP, GROUP_OBJ, MASK, OTHER, USER, USER_OBJ, Entry, List, Unread, fault, in_order, letters, list_text,
+    GROUP,
+    GROUP_OBJ,
+    MASK,
+    OTHER,
+    USER,
+    USER_OBJ,
+    Entry,
+    List,
+    Unread,
+    fault,
+    in_order,
+    letters,
+    list_text,
 )
 from machine.people import Caller
 from machine.ways import Place
@@ -35,7 +47,8 @@ class Question(NamedTuple):
     wanted: int
 
     def line(self) -> str:
-        """Its line. Groups that neither the list nor the file names decide nothing, and are left out where they are more than the
+        """Its line. Groups that neither the list nor the file names decide nothing, and are left out where they are
+        more than the
         program takes."""
         groups = list(self.caller.groups)
         if len(groups) > MOST_GROUPS:
@@ -70,7 +83,9 @@ def asked(lines: list[str]) -> dict[str, str]:
     told: dict[str, str] = {}
     left = list(dict.fromkeys(lines))
     while left:
-        done = subprocess.run([program()], input="".join(f"{line}\n" for line in left).encode(), stdout=subprocess.PIPE, env=ENV)
+        done = subprocess.run(
+            [program()], input="".join(f"{line}\n" for line in left).encode(), stdout=subprocess.PIPE, env=ENV
+        )
         given = done.stdout.decode().splitlines()
         faulty = re.fullmatch(r"fault line (\d+): (.*)", given[0]) if done.returncode == 3 and len(given) == 1 else None
         if faulty:
@@ -107,10 +122,11 @@ def is_granted(answer: str) -> bool:
 
 def fault_in(answer: str) -> str:
     """Why a question got no answer; nothing where it got one."""
-    return answer[len("fault "):] if answer.startswith("fault ") else ""
+    return answer[len("fault ") :] if answer.startswith("fault ") else ""
 
 
 # ---- which entry grants
+
 
 def without_grants(entries: List, kept: Iterable[Entry] = ()) -> List:
     """The list with no permission left but in these entries and in its mask."""
@@ -119,13 +135,21 @@ def without_grants(entries: List, kept: Iterable[Entry] = ()) -> List:
 
 
 def granting(questions: list[Question]) -> list[Entry]:
-    """Which entry grants each of some questions that are granted. The check names the entry of a denial: so the list is asked without
+    """Which entry grants each of some questions that are granted. The check names the entry of a denial: so the list
+    is asked without
     any permission, and where a group's entry is named, with those of one group after the other."""
     emptied = [one._replace(entries=without_grants(one.entries)) for one in questions]
     named = [decider(one.entries, answer) for one, answer in zip(questions, answers(emptied))]
-    tries = [(at, entry) for at, (one, found) in enumerate(zip(questions, named)) if found.tag in (GROUP_OBJ, GROUP)
-             for entry in in_order(one.entries) if entry.tag in (GROUP_OBJ, GROUP)]
-    said = answers(questions[at]._replace(entries=without_grants(questions[at].entries, [entry])) for at, entry in tries)
+    tries = [
+        (at, entry)
+        for at, (one, found) in enumerate(zip(questions, named))
+        if found.tag in (GROUP_OBJ, GROUP)
+        for entry in in_order(one.entries)
+        if entry.tag in (GROUP_OBJ, GROUP)
+    ]
+    said = answers(
+        questions[at]._replace(entries=without_grants(questions[at].entries, [entry])) for at, entry in tries
+    )
     for (at, entry), answer in reversed(list(zip(tries, said))):
         if is_granted(answer):
             named[at] = entry
@@ -135,5 +159,7 @@ def granting(questions: list[Question]) -> list[Entry]:
 def decider(entries: List, answer: str) -> Entry:
     """The entry of a list that a denial names."""
     kind, number = answer.rpartition(" by ")[2].split(":")[:2]
-    tag = {"user": USER if number else USER_OBJ, "group": GROUP if number else GROUP_OBJ, "mask": MASK, "other": OTHER}[kind]
+    tag = {"user": USER if number else USER_OBJ, "group": GROUP if number else GROUP_OBJ, "mask": MASK, "other": OTHER}[
+        kind
+    ]
     return next(entry for entry in entries if entry.tag == tag and (not number or entry.id == int(number)))

@@ -8,7 +8,7 @@ from machine import linux
 from machine.lists import LIMITED, Unread, entry_text, letters, mask_of, name_of, quoted, who
 from machine.linux import EXECUTE
 from machine.people import Caller
-from machine.program import answers, decider, is_granted, question
+from machine.program import Question, answers, decider, is_granted, question
 from machine.ways import Place, Way, way
 
 GRANTED, DENIED, BAD, UNREAD = 0, 1, 2, 3
@@ -55,7 +55,10 @@ def lines_of(place: Place, answer: str, said: linux.Said, wide: int) -> str:
     if place.is_link:
         return f"{place.shown:{wide}}  a link that is not followed"
     if answer.startswith("fault "):
-        return f"{place.shown:{wide}}  {letters(place.wanted)}  its list is not judged ({'granted' if said.grants else 'denied'} by Linux: {said.why})"
+        linux_says = "granted" if said.grants else "denied"
+        return (
+            f"{place.shown:{wide}}  {letters(place.wanted)}  its list is not judged ({linux_says} by Linux: {said.why})"
+        )
     differs = said.grants != is_granted(answer)
     note = f" ({'granted' if said.grants else 'denied'} by Linux: {said.why})" if differs else ""
     return f"{place.shown:{wide}}  {letters(place.wanted)}  {said_of(place, answer)}{note}"
@@ -65,14 +68,19 @@ def denial(place: Place, answer: str, said: linux.Said) -> str:
     """Why a place denies: Linux's own reason where there is one."""
     if not said.why:
         return why(place, answer)
-    return said.why if said.why.startswith((place.shown, quoted(place.mount.point))) else f"{place.shown} wants {letters(place.wanted)}, {said.why}"
+    return (
+        said.why
+        if said.why.startswith((place.shown, quoted(place.mount.point)))
+        else f"{place.shown} wants {letters(place.wanted)}, {said.why}"
+    )
 
 
 def judged(caller: Caller, wanted: int, path: str, verbose: bool, found: Way, given: Iterable[str]) -> Judged:
     """What is told of a path, where the places on the way and the answers of the program are known."""
     places = [place for place in found.places if not place.is_link]
     told_of = dict(zip(((place.path, place.wanted) for place in places), given))
-    wide, told = max((len(place.shown) for place in places), default=0), []
+    wide = max((len(place.shown) for place in places), default=0)
+    told: list[str] = []
     for place in found.places:
         answer = "" if place.is_link else told_of[place.path, place.wanted]
         said = linux.of_place(place, caller, answer)
@@ -97,7 +105,7 @@ def granted(caller: Caller, wanted: int, path: str, last: Place, told: list[str]
     return Judged(told, f"{caller.shown} may {short(wanted)}: {quoted(path)}{notes}", GRANTED)
 
 
-def questions_of(found: Way, caller: Caller) -> list:
+def questions_of(found: Way, caller: Caller) -> list[Question]:
     return [question(place, caller) for place in found.places if not place.is_link]
 
 
@@ -118,10 +126,12 @@ def judge(caller: Caller, wanted: int, path: str, verbose: bool = False) -> Judg
         below = way(name, EXECUTE)
         of_it = judged(caller, EXECUTE, name, verbose, below, answers(questions_of(below, caller)))
         if of_it.status != GRANTED:
-            last = of_it.last if of_it.status == UNREAD else f"{caller.shown} may not {short(wanted)}: {quoted(path)} is a script for " \
+            last = (
+                of_it.last
+                if of_it.status == UNREAD
+                else f"{caller.shown} may not {short(wanted)}: {quoted(path)} is a script for "
                 f"{quoted(name)}; {of_it.last.partition(' may not x: ')[2]}"
+            )
             return Judged(told.lines + of_it.lines, last, of_it.status)
         at = below.places[-1]
     return told
-
-

@@ -60,7 +60,11 @@ class Tree:
             else:
                 attributes = mounts.looked_at(path)[0] if self.has_attributes else 0
                 entries = lists.of_file(path, found.st_mode)
-                self.rows.append(Row(Place(path, 0, found.st_uid, found.st_gid, found.st_mode, entries, folder.mount, attributes), at))
+                self.rows.append(
+                    Row(
+                        Place(path, 0, found.st_uid, found.st_gid, found.st_mode, entries, folder.mount, attributes), at
+                    )
+                )
         except Unread as error:
             self.unread.append(str(error))
         except OSError as error:

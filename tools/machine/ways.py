@@ -18,7 +18,8 @@ SEARCH = 1
 
 
 class Place(NamedTuple):
-    """A file, a folder or a link on the way: its path, what is wanted of it, its owner, group, mode and list, the mount it lies on, its
+    """A file, a folder or a link on the way: its path, what is wanted of it, its owner, group, mode and list, the
+    mount it lies on, its
     attributes, and of a link the folder that it lies in."""
 
     path: str
@@ -56,14 +57,18 @@ def place_at(path: str, wanted: int) -> Place:
     except OSError as error:
         raise unread(path, error) from None
     attributes, number = mounts.looked_at(path)
-    return Place(path, wanted, found.st_uid, found.st_gid, found.st_mode, entries, mounts.mount_of(path, number), attributes)
+    return Place(
+        path, wanted, found.st_uid, found.st_gid, found.st_mode, entries, mounts.mount_of(path, number), attributes
+    )
 
 
 def link_at(path: str, found: os.stat_result, folder: str) -> Place:
     """A link that is followed: nothing of its own list is wanted."""
     _, number = mounts.looked_at(path)
     entries = lists.of_mode(0o777)
-    return Place(path, 0, found.st_uid, found.st_gid, found.st_mode, entries, mounts.mount_of(path, number), 0, os.lstat(folder))
+    return Place(
+        path, 0, found.st_uid, found.st_gid, found.st_mode, entries, mounts.mount_of(path, number), 0, os.lstat(folder)
+    )
 
 
 def parts_of(path: str) -> list[str]:
@@ -88,7 +93,8 @@ def links_too(at: str, below: str, found: os.stat_result) -> tuple[Place, str, l
 
 
 def places_to(path: str, wanted: int) -> Iterator[Place]:
-    """What Linux looks at on the way to a path, in its order: each folder wants x, and links are followed. Raises `Unread`
+    """What Linux looks at on the way to a path, in its order: each folder wants x, and links are followed. Raises
+    `Unread`
     where the way ends before."""
     rest, at, links = parts_of(path), "/", 0
     if not rest:
