@@ -80,7 +80,7 @@ STORIES = (
 ALONE = {
     "begin 0 1000 100 0 file /a 644 ; write /a 6869": ["operation 1: makes a file", "the mode of the list u::rw-,g::r--,o::r--", "the text hi"],
     "votes 1,1,1/2/2": ["1 of server 0", "a read collects 2, and a write 2"], "step 0 3": ["A, the number of an agent", "N, how many steps"],
-    "prefix": ["kind, owner, group, lists and votes"], "sweep": ["sweep A S", "sweep S"], "site": ["parts of an agent"], "home": ["decide"],
+    "prefix": ["kind, owner, group, lists and votes"], "sweep": ["sweep A S", "sweep S"], "site": ["a place for which an agent works"], "home": ["decide"],
     "may be lost   any 1": ["whichever they are"], "not found     {0,1}: got 1 of 2": ["votes that were moved"],
     "/etc/shadow  r--  denied by other::---": ["what its list says"], "1.0 1 swept 0 0 0": ["it took 1 request."],
     "nobody (65534; groups 65534) may not r: /etc/shadow wants r--, other grants ---": ["the entry that decides grants"],
@@ -92,7 +92,7 @@ MENDED = {
     "fault line 6: S1": "no fault S1 in line 6. The line is right as it is now.", "fault line 12: S1": "has no line 12. Was it changed",
     "fault line 4: G1": "The line is right as it is now",
 }
-SEEDS = 12
+SEEDS = 6
 NOT_FOUND = "Was it changed since?"
 WORDS = ("", "one", "two", "three", "four", "five", "six", "seven", "eight", "nine")
 

@@ -2,12 +2,14 @@
 
 The transactions before are played by `suites table`, and after them the list is asked for by its owner, who lets itself in.
 """
+import functools
 import os
 import re
 import subprocess
 import sys
 import typing
 
+import console
 import faulty
 
 TOOLS = os.path.dirname(os.path.abspath(__file__))
@@ -26,14 +28,20 @@ class Asked(typing.NamedTuple):
         return f"do {self.uid} {self.groups} {' ; '.join(self.operations)}"
 
 
+@functools.cache
+def program() -> str:
+    """The program that `./suites` runs; ends the tool where there is none."""
+    words = [sys.executable, os.path.join(TOOLS, "choose.py")]
+    chosen = subprocess.run(words, stdin=subprocess.DEVNULL, stdout=subprocess.PIPE, text=True)
+    if chosen.returncode != 0:
+        raise console.Stop("there is no program that plays the table")
+    return os.path.join(TOP, chosen.stdout.split()[-1])
+
+
 def table(lines: list[str]) -> list[str]:
     """What `suites table` prints of a script; nothing where it has a fault."""
-    chosen = subprocess.run([sys.executable, os.path.join(TOOLS, "choose.py")], stdin=subprocess.DEVNULL, stdout=subprocess.PIPE, text=True)
-    if chosen.returncode != 0:
-        return []
-    program = os.path.join(TOP, chosen.stdout.split()[-1])
     text = "".join(f"{line}\n" for line in lines)
-    done = subprocess.run([program, "table"], input=text.encode("latin1"), stdout=subprocess.PIPE, stderr=subprocess.DEVNULL)
+    done = subprocess.run([program(), "table"], input=text.encode("latin1"), stdout=subprocess.PIPE, stderr=subprocess.DEVNULL)
     return done.stdout.decode("latin1").splitlines() if done.returncode == 0 else []
 
 
