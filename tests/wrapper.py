@@ -153,6 +153,14 @@ def answers_at_once(copy):
     copy.holds(copy.at_once(["--is-fresh"])[0] == 1, "a program is fresh that is not there")
 
 
+def says_once_a_day(copy):
+    """A sentence that is said once a day is not said a second time."""
+    code = "import console, os\nfor _ in 'ab': console.say_once_a_day('told', 'hello')\nos.utime('told', (0, 0)); console.say_once_a_day('told', 'again')"
+    with tempfile.TemporaryDirectory(prefix="suites-") as room:
+        done = subprocess.run([sys.executable, "-c", code], cwd=room, env={**os.environ, "PYTHONPATH": os.path.join(copy.top, "tools")}, capture_output=True, text=True)
+    copy.holds(done.stderr == "suites: hello\nsuites: again\n", f"once a day is said: {done.stderr}")
+
+
 def tells_all_commands(copy):
     """Help tells each word that `./suites` knows."""
     with open(os.path.join(copy.top, "suites"), encoding="utf-8") as file:
@@ -230,6 +238,7 @@ def main():
         # what is not answered there would now be built
         if not copy.wrong:
             answers_at_once(copy)
+            says_once_a_day(copy)
             tells_all_commands(copy)
             tells_version(copy)
             runs_a_build(copy)

@@ -8,6 +8,7 @@ import sys
 import time
 
 STOPPED = 130
+DAY = 24 * 60 * 60
 
 
 class Stop(Exception):
@@ -41,6 +42,16 @@ class Teller:
         elif stays:
             sys.stderr.write(text + "\n")
         sys.stderr.flush()
+
+
+def say_once_a_day(path: str, text: str) -> None:
+    """Says a sentence, but not where it was said within a day, as this file tells; always where that cannot be written."""
+    with contextlib.suppress(OSError):
+        if 0 <= time.time() - os.stat(path).st_mtime < DAY:
+            return
+    with contextlib.suppress(OSError), open(path, "w", encoding="utf-8"):
+        pass
+    Teller().say(text)
 
 
 @contextlib.contextmanager

@@ -75,7 +75,8 @@ def program():
         choice = chosen.stdout.split()
     kind, path = choice
     if kind == "checked":
-        console.Teller().say("checked build of trace, not proved yet; ./suites --prove trace proves and builds it")
+        text = "checked build of trace, not proved yet; ./suites --prove trace proves and builds it"
+        console.say_once_a_day(os.path.join(TOP, "out", "trace-told"), text)
     return os.path.join(TOP, path)
 
 

@@ -74,7 +74,8 @@ def program() -> str:
         raise Unread("there is no program `may`")
     kind, path = chosen.stdout.split()
     if kind == "checked":
-        console.Teller().say("checked build of may, not proved yet; ./suites --prove may proves and builds it")
+        text = "checked build of may, not proved yet; ./suites --prove may proves and builds it"
+        console.say_once_a_day(os.path.join(TOP, "out", "may-told"), text)
     return os.path.join(TOP, path)
 
 
