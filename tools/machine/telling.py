@@ -88,8 +88,9 @@ def judged(caller: Caller, wanted: int, path: str, verbose: bool, found: Way, gi
             return Judged(told, said.why, UNREAD)
         differs = not place.is_link and said.grants != is_granted(answer)
         shows = not place.is_link and (verbose or differs or place.path != "/" or len(places) == 1)
-        if not said.grants or shows:
-            told.append(lines_of(place, answer, said, wide))
+        line = lines_of(place, answer, said, wide)
+        if (not said.grants or shows) and line not in told:
+            told.append(line)
             told.extend(listed(place) if verbose and not place.is_link else ())
         if not said.grants:
             return Judged(told, f"{caller.shown} may not {short(wanted)}: {denial(place, answer, said)}", DENIED)

@@ -124,17 +124,27 @@ def places_to(path: str, wanted: int) -> Iterator[Place]:
 
 
 class Way(NamedTuple):
-    """The places of a way, each once, and why it ends before the path, where it does."""
+    """The places of a way, each once and the path's own last, and why it ends before the path, where it does."""
 
     places: list[Place]
     end: Optional[str]
 
 
 def way(path: str, wanted: int) -> Way:
-    places: dict[tuple[str, int], Place] = {}
+    found: list[Place] = []
+    seen: set[tuple[str, int]] = set()
+    last: Optional[Place] = None
+    end = None
     try:
-        for place in places_to(path, wanted):
-            places.setdefault((place.path, place.wanted), place)
-    except (Unread, OSError) as error:
-        return Way(list(places.values()), str(error) if isinstance(error, Unread) else str(unread(path, error)))
-    return Way(list(places.values()), None)
+        for last in places_to(path, wanted):
+            if (last.path, last.wanted) not in seen:
+                found.append(last)
+                seen.add((last.path, last.wanted))
+    except Unread as error:
+        end = str(error)
+    except OSError as error:
+        end = str(unread(path, error))
+    # a path may end where its way has been before
+    if end is None and last is not None and found[-1] is not last:
+        found.append(last)
+    return Way(found, end)
