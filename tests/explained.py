@@ -264,7 +264,7 @@ def play_commands():
         for word, put in PUT.items():
             line = re.sub(rf"(?<![A-Z]){word}(?![A-Z])", put, line)
         # what a script is to be read for, and has none, is help
-        line = line if "<" in line or not re.fullmatch(r"\./suites (trace|draw|votes|play|table|acl)", line) else f"{line} --help"
+        line = line if "<" in line or not re.fullmatch(r"\./suites (trace|draw|show|votes|play|table|acl)", line) else f"{line} --help"
         done = subprocess.run(line, shell=True, cwd=TOP, stdin=subprocess.DEVNULL, stdout=subprocess.PIPE, stderr=subprocess.PIPE, text=True)
         if done.returncode != 0 or not done.stdout:
             wrong.append(f"{command} ends with {done.returncode}: {(done.stdout + done.stderr).strip()[:200]}")

@@ -1,5 +1,6 @@
 #!/usr/bin/env python3
 """./suites trace [--agent A] [--suite S] < SCRIPT
+./suites trace --json < SCRIPT
 
 Plays a script of events as `suites play` does, and prints all that happens: below each line of the script (`>`) each
 request with its server and its reply, the lines of `play` as `play` prints them, and at the end (`=`) what each server
@@ -7,6 +8,7 @@ has of each file and folder, with their versions, votes and locks, and where a c
 
     --agent A   only what agent A does, and what becomes of servers
     --suite S   only what is about a file or folder, by its path or its number
+    --json      alone: all events for other programs, an object of JSON a line (docs/EVENTS.md)
 
 Where it takes longer than two seconds it says on a terminal how far it is.
 """
@@ -493,6 +495,8 @@ def write_about(run, out, agent, suite):
 
 
 def main():
+    if sys.argv[1:] == ["--json"]:
+        os.execve(program(), [program(), "--json"], ENV)
     given = asked(sys.argv[1:], __doc__)
     with Run(script(given.agent)) as run:
         if given.suite is None:
