@@ -389,7 +389,7 @@ def asked(words):
 
 def main():
     given = asked(sys.argv[1:])
-    script = trace.script()
+    script = trace.script(given.agent)
     counts = [re.search(rb"^\s*%s\s+(\d+)" % word, script, re.M) for word in (b"agents", b"servers")]
     with trace.Run(script) as run:
         known = run.play()

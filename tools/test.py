@@ -95,7 +95,7 @@ PARTS = (
     Part("what explain says of damaged scripts", tool("tests/damaged-scripts.py", "--cases", "1000"), [PROGRAM]),
     Part("command lines of documents", tool("tests/typed.py"), [PROGRAM, TRACE]),
     Part("answers of may", tool("tests/may.py"), [MAY]),
-    Part("may against the kernel", tool("tests/may-against-the-kernel.py", "--questions", "300", "--if-possible"), [MAY]),
+    Part("may against the kernel", tool("tests/may-against-the-kernel.py", "--questions", "100", "--mounts", "--if-possible"), [MAY]),
     Part("what votes tells", tool("tests/votes.py"), [PROGRAM, TRACE]),
     Part("pictures", tool("tests/drawn.py"), [TRACE]),
     Part("events", tool("tests/events.py"), [TRACE]),

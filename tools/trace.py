@@ -33,6 +33,7 @@ REQUEST = re.compile(r"  (\d+) -> s(\d+)  (.*?) +: (.*)")
 OUTCOME = re.compile(r"(\d+)\.(\d+) (\d+) (.*)")
 SUITE = re.compile(r"\bsuite (\d+)\b")
 OF_TRANSACTION = re.compile(r"  t (\d+) ")
+AGENTS = re.compile(rb"^[ \t]*agents[ \t]+(\d+)", re.M)
 BETWEEN = re.compile(r"\n(?=[>=] )")
 COPY = re.compile(r"    suite (\d+) (\w+) prefix (\d+) content (\d+) votes (\S+)")
 NAMES = re.compile(r"suite (\d+)\b[^;:]*(?:: given, content \d+)? names((?: \S+=\d+)+)")
@@ -47,7 +48,6 @@ FEW = 4096
 PATIENCE, AGAIN = 2, 0.5
 # What a terminal is told where the program ends so (as `./suites` tells it of the other commands).
 EXPLAINED = {
-    3: "./suites explain 'THE LINE ABOVE' tells what it means",
     6: "the input is above 16 MiB, or a read or a write failed (./suites explain 'status 6')",
 }
 ENV = {**os.environ, "SUITES_PROGRAM": "trace"}
@@ -77,7 +77,8 @@ def program():
         choice = chosen.stdout.split()
     kind, path = choice
     if kind == "checked":
-        console.Teller().say("checked build of trace, not proved yet; ./suites --prove trace proves and builds it")
+        text = "checked build of trace, not proved yet; ./suites --prove trace proves and builds it"
+        console.say_once_a_day(os.path.join(TOP, "out", "trace-told"), text)
     return os.path.join(TOP, path)
 
 
@@ -159,7 +160,9 @@ class Run:
         self.progress.end()
         sys.stdout.write(text)
         sys.stdout.flush()
-        if sys.stderr.isatty() and self.process.returncode in EXPLAINED:
+        if sys.stderr.isatty() and self.process.returncode == 3:
+            console.Teller().say(f"./suites explain {shlex.quote(text.strip())} {script_name()} shows it")
+        elif sys.stderr.isatty() and self.process.returncode in EXPLAINED:
             console.Teller().say(EXPLAINED[self.process.returncode])
         sys.exit(self.process.returncode)
 
@@ -389,10 +392,13 @@ def asked(words, text, more=None):
     for word, how in (more or {}).items():
         read.add_argument(word, **how)
     read.add_argument("-h", "--help", action="store_true")
+    read.add_argument("file", nargs="?")
     given = read.parse_args(words)
     if given.help:
         print(text.strip())
         sys.exit(0)
+    if given.file is not None:
+        raise console.Bad(f"a script is read from standard input: {read.prog} < {given.file}")
     return given
 
 
@@ -406,10 +412,24 @@ def number_of(suite, known):
     return found[-1]
 
 
-def script():
+def script_name():
+    """The name of the file that standard input is, as a shell takes it; what stands for it where it is none."""
+    name = os.readlink("/proc/self/fd/0")
+    return shlex.quote(os.path.relpath(name)) if os.path.isfile(name) else "SCRIPT"
+
+
+def script(agent=None):
+    """The script that is read from standard input; ends the tool where it has no such agent."""
+    if sys.stdin is None:
+        console.Teller().say("a read failed: standard input is closed")
+        sys.exit(6)
     if sys.stdin.isatty() and sys.stderr.isatty():
         console.Teller().say("reading from the terminal, up to its end (Ctrl-D at the start of a line)")
-    return sys.stdin.buffer.read()
+    text = sys.stdin.buffer.read()
+    count = AGENTS.search(text)
+    if agent is not None and count and not 0 <= agent < int(count[1]):
+        raise console.Bad(f"there is no agent {agent}: the script has {int(count[1])}, and the first one is 0")
+    return text
 
 
 def text_of(lines):
@@ -478,7 +498,7 @@ def main():
     if sys.argv[1:] == ["--json"]:
         os.execve(program(), [program(), "--json"], ENV)
     given = asked(sys.argv[1:], __doc__)
-    with Run(script()) as run:
+    with Run(script(given.agent)) as run:
         if given.suite is None:
             write_all(run, sys.stdout.buffer, given.agent)
         else:
