@@ -248,7 +248,7 @@ def many(judge: Judge, pages: Pages, shots: str | None) -> None:
                                   " return (performance.now() - begun) / 200; })()")
         judge.holds(took < MOST_STEP, "milliseconds of a step", took)
         judge.holds(pages.driver.value("document.querySelectorAll('.row').length") < 100, "rows that nobody looks at are drawn")
-        print(f"{last} events: {size:,} bytes, {took:.1f} ms a step")
+        print(f"{last} events: {size:,} bytes, {took:.1f} ms a step", flush=True)
         for at in (last // 4, last // 2, last) if shots else ():
             pages.driver.value(f"Page.go({at})")
             pages.driver.shot(os.path.join(shots, f"many-{count}-{at}.png"))

@@ -25,6 +25,7 @@ import tempfile
 import time
 
 import console
+from known_paths import FEW, Paths, paths
 
 TOOLS = os.path.dirname(os.path.abspath(__file__))
 TOP = os.path.dirname(TOOLS)
@@ -36,14 +37,11 @@ OF_TRANSACTION = re.compile(r"  t (\d+) ")
 AGENTS = re.compile(rb"^[ \t]*agents[ \t]+(\d+)", re.M)
 BETWEEN = re.compile(r"\n(?=[>=] )")
 COPY = re.compile(r"    suite (\d+) (\w+) prefix (\d+) content (\d+) votes (\S+)")
-NAMES = re.compile(r"suite (\d+)\b[^;:]*(?:: given, content \d+)? names((?: \S+=\d+)+)")
 OF_SERVERS, BEGIN, STEP = ("crash", "return"), ("begin", "sweep"), ("step", "run")
 # Where the reply stands in a line with paths.
 REPLY_AT = 56
 # So much of a trace is read at once, and so many seconds pass before it is looked whether there is more.
 PIECE, PAUSE = 4 << 20, 0.02
-# How many texts are kept, so that they need not be read again.
-FEW = 4096
 # After how many seconds it is said how far a tool is, and after how many more again.
 PATIENCE, AGAIN = 2, 0.5
 # What a terminal is told where the program ends so (as `./suites` tells it of the other commands).
@@ -184,52 +182,6 @@ def traced(script):
     """The lines of the trace of a script, by the program `trace`; ends the tool as that ends where the script has a fault."""
     with Run(script) as run:
         return [line for place in run.pieces() for line in run.text(place).split("\n")[:-1]]
-
-
-class Paths:
-    """The paths of files and folders, by their numbers, so far as a folder with their names was told."""
-
-    def __init__(self):
-        self.known, self.placed, self.waiting, self.read = {0: "/"}, {0}, {}, set()
-
-    def learn(self, text):
-        """Takes what is told in lines of a trace."""
-        at = text.find(" names ")
-        while at >= 0:
-            begin, end = text.rfind("\n", 0, at) + 1, text.find("\n", at)
-            end = len(text) if end < 0 else end
-            names = text[at:end]
-            if names not in self.read and text.startswith("  ", begin):
-                if len(self.read) == FEW:
-                    self.read.clear()
-                self.read.add(names)
-                for folder, found in NAMES.findall(text[begin:end]):
-                    for word in found.split():
-                        name, _, suite = word.rpartition("=")
-                        self.place(int(folder), name, int(suite))
-            at = text.find(" names ", end)
-
-    def place(self, folder, name, suite):
-        """A suite is in a folder under a name. It is there for good: what is made later has another number."""
-        if suite in self.placed:
-            return
-        self.placed.add(suite)
-        found = [(folder, name, suite)]
-        while found:
-            folder, name, suite = found.pop()
-            if folder in self.known:
-                self.known[suite] = f"{self.known[folder].rstrip('/')}/{name}"
-                found += [(suite, *below) for below in self.waiting.pop(suite, ())]
-            else:
-                self.waiting.setdefault(folder, []).append((name, suite))
-
-
-def paths(lines):
-    """The paths of files and folders, by their numbers, so far as a folder with their names was told."""
-    found = Paths()
-    for line in lines:
-        found.learn(line)
-    return found.known
 
 
 def blocks(lines):

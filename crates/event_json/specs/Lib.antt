@@ -4,4 +4,3 @@ pub mod Locks
 pub mod Replies
 pub mod Requests
 pub mod Servers
-pub mod Agents

@@ -39,3 +39,17 @@ asked_text request.Return = codes "{\"asks\":\"return\""
 
 abbrev pub request_text : Request → List ℕ
 request_text request = asked_text request ++ codes "}"
+
+-- what is asked, in a word
+abbrev pub asked_word : Request → List ℕ
+asked_word (request.Poll t suite mode) = codes "poll"
+asked_word (request.Upgrade t suite) = codes "upgrade"
+asked_word (request.Fetch t suite) = codes "fetch"
+asked_word (request.Prepare t parts) = codes "prepare"
+asked_word (request.Decide t decision) = codes "decide"
+asked_word (request.Resolve t) = codes "resolve"
+asked_word (request.Finish t verdict) = codes "finish"
+asked_word (request.Break t suite) = codes "break"
+asked_word request.Locks = codes "locks"
+asked_word request.Crash = codes "crash"
+asked_word request.Return = codes "return"

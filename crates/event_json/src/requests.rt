@@ -2,7 +2,7 @@
 
 ghost use Rattle.std.specs.Prelude.{◌≡◌, ◌++◌, OnOk, codes};
 ghost use Rattle.std.specs.List.{flat_map};
-ghost use Rattle.event_json.specs.Requests.{about_text, asked_text, part_text, request_text, take_text};
+ghost use Rattle.event_json.specs.Requests.{about_text, asked_text, asked_word, part_text, request_text, take_text};
 ghost use Rattle.event_json.specs.Strings.{listed};
 
 use crate::copies::{push_prefix, push_replica};
@@ -11,6 +11,25 @@ use crate::replies::{push_decision, push_verdict};
 use crate::strings::push_member;
 use rep_core::{Part, Request, Take};
 use std::alloc::{AllocError, Global};
+
+/// What is asked, in a word.
+pub fn asked_word(request: &Request) -> &'static [u8]
+    ensures { result.now ≡ asked_word request.now }
+{
+    match request {
+        Request::Poll { .. } => b"poll",
+        Request::Upgrade { .. } => b"upgrade",
+        Request::Fetch { .. } => b"fetch",
+        Request::Prepare { .. } => b"prepare",
+        Request::Decide { .. } => b"decide",
+        Request::Resolve { .. } => b"resolve",
+        Request::Finish { .. } => b"finish",
+        Request::Break { .. } => b"break",
+        Request::Locks => b"locks",
+        Request::Crash => b"crash",
+        Request::Return => b"return",
+    }
+}
 
 /// What a server is asked.
 pub fn push_request(alloc: Global, text: &mut Vec<u8>, request: &Request) -> Result<(), AllocError>

@@ -1,9 +1,7 @@
 //! What happens, as objects of JSON, one a line.
 
-use event_json::{
-    Before, push_agent, push_denials, push_keeps, push_reply, push_request, push_server,
-    push_string,
-};
+use crate::agents::{push_agent, push_keeps};
+use event_json::{Before, push_denials, push_reply, push_request, push_server, push_string};
 use file_ops::AuditItem;
 use rep_core::Request;
 use run_core::{Done, EndedJob, Event, Served, World};

@@ -89,8 +89,11 @@ impl Teller {
         }
     }
 
-    /// Tells that steps of an agent come next.
-    pub(crate) fn steps(&mut self) -> Result<(), AllocError> {
+    /// Tells that steps of an agent come next: none, where it has no job.
+    pub(crate) fn steps(&mut self, agent: u8, is_idle: bool) -> Result<(), AllocError> {
+        if is_idle {
+            self.nothing(agent, b" has no job\n")?;
+        }
         match &mut self.events {
             Some(events) => events.close(&mut self.text),
             None => Ok(()),

@@ -1,17 +1,17 @@
-//! What agents do, and what they keep.
+//! What agents do, and what they keep, as JSON.
 
-ghost use Rattle.std.specs.Prelude.{◌≡◌};
-ghost use Rattle.event_json.specs.Agents.{asked_word};
-
-use crate::strings::push_member;
+use event_json::asked_word;
 use rep_core::Request;
+use script_text::push_number;
 use std::alloc::AllocError;
 use txn_core::Agent;
-use weak_cache::MAX_SITES;
+
+/// How many sites an agent has.
+const SITES: u8 = 16;
 
 /// The number of an agent, how many jobs it began, and what it asks next of which server, where it has a job: that is
 /// put into a place of the caller's.
-pub fn push_agent(
+pub(crate) fn push_agent(
     text: &mut Vec<u8>,
     number: u8,
     agent: &Agent,
@@ -27,34 +27,21 @@ pub fn push_agent(
     Ok(())
 }
 
-/// What is asked, in a word.
-fn asked_word(request: &Request) -> &'static [u8]
-    ensures { result.now ≡ asked_word request.now }
-{
-    match request {
-        Request::Poll { .. } => b"poll",
-        Request::Upgrade { .. } => b"upgrade",
-        Request::Fetch { .. } => b"fetch",
-        Request::Prepare { .. } => b"prepare",
-        Request::Decide { .. } => b"decide",
-        Request::Resolve { .. } => b"resolve",
-        Request::Finish { .. } => b"finish",
-        Request::Break { .. } => b"break",
-        Request::Locks => b"locks",
-        Request::Crash => b"crash",
-        Request::Return => b"return",
-    }
-}
-
 /// Of which sites an agent keeps something.
-pub fn push_keeps(text: &mut Vec<u8>, agent: &Agent) -> Result<(), AllocError> {
+pub(crate) fn push_keeps(text: &mut Vec<u8>, agent: &Agent) -> Result<(), AllocError> {
     text.extend_from_slice(b",\"keeps\":[")?;
     let mut between: &[u8] = b"";
-    for site in 0..MAX_SITES {
+    for site in 0..SITES {
         if agent.keeps(site) {
             push_member(text, between, u64::from(site))?;
             between = b",";
         }
     }
     text.extend_from_slice(b"]")
+}
+
+/// What stands before a number, and the number.
+fn push_member(text: &mut Vec<u8>, before: &[u8], number: u64) -> Result<(), AllocError> {
+    text.extend_from_slice(before)?;
+    push_number(text, number)
 }
