@@ -4,11 +4,10 @@ use Rattle.std.proofs.Common.{◌≡◌, ℕ, zero, suc, ◌+◌, ◌≤◌, Boo
 use Rattle.std.specs.Prelude.{length, is_some, Ok, Err}
 use Rattle.std.specs.Ordering.{nat_cmp}
 use Rattle.std.specs.BTreeMap.{is_at}
-use Rattle.std.specs.Map.{set_value}
 use Rattle.std.proofs.lemmas.Cmp.{nat_cmp_total}
 use Rattle.std.proofs.lemmas.Map.{length-set_value}
 use Rattle.std.proofs.lemmas.Option.{same_Some}
-use Rattle.sorted_map.specs.SortedMap.{IsOrdered, replace}
+use Rattle.sorted_map.specs.SortedMap.{replace}
 use Rattle.sorted_map.specs.Laws.{IsOrdered-insert}
 use Rattle.sorted_map.specs.Edits.{insert_present}
 use Rattle.suite_content.specs.declared.content.Content.{Content}
@@ -58,7 +57,7 @@ missing_set number (one ∷ suites) suite content there none = of (is_at (nat_cm
         → suc (missing (cond b ((one.0, new) ∷ suites) (one ∷ replace nat_cmp suites number new))) ≡ lacking one.1.content + missing suites
     of true there rest =
         let one_less : lacking one.1.content + missing suites ≡ 1 + missing suites =
-            ap (λ (suite : Suite). lacking suite.content + missing suites) (same_Some one.1 suite there) ∙ ap (λ content. lacking content + missing suites) none in
+        ap (λ (suite : Suite). lacking suite.content + missing suites) (same_Some one.1 suite there) ∙ ap (λ content. lacking content + missing suites) none in
         omega (arith, one_less)
     of false there rest = let less = rest there in omega (arith, less)
 

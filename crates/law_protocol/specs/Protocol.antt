@@ -1,12 +1,12 @@
 -- That a transaction goes by the moves of the protocol, and that they leave it no choice.
-use Rattle.std.specs.Prelude.{◌≡◌, ℕ, Option, None}
+use Rattle.std.specs.Prelude.{◌≡◌, ℕ, None}
 use Rattle.std.specs.Ordering.{nat_cmp}
 use Rattle.sorted_map.specs.SortedMap.{IsOrdered}
 use Rattle.rep_core.specs.declared.request.Request.{Request}
 use Rattle.weak_cache.specs.Entries.{Cache}
 use Rattle.txn_core.specs.Suites.{Suites, suite_of}
 use Rattle.txn_core.specs.declared.response.Response.{Response}
-use Rattle.txn_core.specs.Doing.{Fixed, Task, Phase, Fetching, TransactionRun}
+use Rattle.txn_core.specs.Doing.{Fixed, Task, Fetching, TransactionRun}
 use Rattle.txn_core.specs.Transactions.{Step, on_with, tell_end, finish, give_up, prepare, locked_at, widen_all, open_suite, execute, after_response}
 use Rattle.txn_core.specs.Moves.{Stage, Executes, Widens, Asks, Prepares, PreparesAt, GivesUp, Tells, TellsAt, Point, MovesTo, HearsTo}
 
