@@ -59,3 +59,5 @@ pub mod AtWork
 pub mod Unfixed
 pub mod Unrobbed
 pub mod NearRows
+pub mod Contending
+pub mod Blocking

@@ -31,6 +31,8 @@ ghost use Rattle.law_run_recovers.specs.Local.{NearVotesAreRows, OpenVotesAreRow
 ghost use Rattle.law_run_recovers.specs.InTime.{RunsEndByTheBounds};
 ghost use Rattle.law_run_recovers.specs.Sweeping.{SweepsLeaveDoubts, SweepsKeepEffects, OnlyDoubtsAreLeft, NoLockIsLeft, AllIsStored, TakenAwayAreNeverDecided};
 ghost use Rattle.law_run_recovers.specs.Worked.{SomeRunsRecover};
+ghost use Rattle.law_run_recovers.specs.Blocking.{BlockedByDoubts, SomeServerBlocks, OneCrashBlocks};
+ghost use Rattle.law_run_recovers.specs.Contending.{SomeRunsStarve};
 
 pub use promises::promise;
 
@@ -122,6 +124,24 @@ pub fn all_is_stored()
     ensures { AllIsStored }
 {}
 
+/// A law: after such sweeps enough votes are open for a lock just where those leave enough that are down, or that have a lock
+/// in doubt which is in the way. It does nothing.
+pub fn blocked_by_doubts()
+    ensures { BlockedByDoubts }
+{}
+
+/// A law: so where they are not enough some server with a vote is down, or has such a lock of a transaction that stands
+/// prepared there and whose home is down. It does nothing.
+pub fn some_server_blocks()
+    ensures { SomeServerBlocks }
+{}
+
+/// A law: where all servers are up, one crashes and the others are swept, too few votes are open only where it has one, or
+/// was the home of a transaction that stood prepared at a server with one and had a lock in the way. It does nothing.
+pub fn one_crash_blocks()
+    ensures { OneCrashBlocks }
+{}
+
 /// A law: a transaction whose locks at a server were taken away before it was decided is never decided. It does nothing.
 pub fn taken_away_are_never_decided()
     ensures { TakenAwayAreNeverDecided }
@@ -131,4 +151,10 @@ pub fn taken_away_are_never_decided()
 /// than to read, and an agent that stops for good. It does nothing.
 pub fn some_runs_recover()
     ensures { SomeRunsRecover }
+{}
+
+/// A law: runs in which two and three transactions that meet all end undecided, though all servers are up and nobody crashes
+/// or sweeps: so it is not promised that one of such is decided. It does nothing.
+pub fn some_runs_starve()
+    ensures { SomeRunsStarve }
 {}
