@@ -189,7 +189,7 @@ module _ (given : Opening) (events later : List Event) (agent t : ℕ) (caller :
       (begun_stands given (λ z. machine_of given z (all_of [])) (world_at []) later t agent (subst (IsMine t) (sym (ap doing_of here.there)) (mine_where t here.actor.agent.doing here.runs_it)) carried
       (started_untold given (run given events) agent t caller site ops (actor_at (run given events) agent) refl begins_so) z here.actor here.there)
 
-  stands_next : (so_far rest : List Event) (event : Event) → later ≡ so_far ++ event ∷ rest → IsAtWork (world_at so_far) agent t → (z : ℕ) → Stands (machine_of given z (all_of so_far)) t → Stands (machine_of given z (all_of (so_far ++ event ∷ []))) t
+  pub stands_next : (so_far rest : List Event) (event : Event) → later ≡ so_far ++ event ∷ rest → IsAtWork (world_at so_far) agent t → (z : ℕ) → Stands (machine_of given z (all_of so_far)) t → Stands (machine_of given z (all_of (so_far ++ event ∷ []))) t
   stands_next so_far rest event is at z stands =
       let can' = can_front given (all_of so_far) (event ∷ rest) (can_then so_far (event ∷ rest) is) in
       let at' = subst (λ w. IsAtWork w agent t) (is_run so_far) at in

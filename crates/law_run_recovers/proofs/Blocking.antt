@@ -1,7 +1,6 @@
 -- What blocks a suite after sweeps: whoever is down, and whoever has a lock on it in doubt.
 use Rattle.std.proofs.Common.{◌≡◌, ◌⊎◌, inl, inr, ⊎_elim, ℕ, ◌+◌, ◌<◌, ◌≤◌, Bool, true, false, cond, List, [], ◌∷◌, ◌++◌, Option, Some, None, is_some, refl, sym, ap, subst, ◌∙◌, arith}
 use Rattle.std.specs.Prelude.{◌%◌, ◌/◌, ◌==◌, ◌&&◌, ◌||◌, not, nat_lt, nat_le, option_map, Contains}
-use Rattle.std.specs.List.{list_any}
 use Rattle.std.proofs.Math.Nat.{mod-lt}
 use Rattle.std.proofs.lemmas.Bool.{false≢true, and_parts, and_from, eqb-true, eq-eqb}
 use Rattle.std.proofs.lemmas.Bool.Decides.{nat_tests}
@@ -27,14 +26,14 @@ use Rattle.txn_core.specs.Agents.{fixed_of}
 use Rattle.run_core.specs.declared.event.Event.{Event}
 use Rattle.run_core.specs.declared.event.Event.TheVariants.{Crash}
 use Rattle.run_core.specs.Worlds.{World, server_at, operates, operated, opening, step}
-use Rattle.run_core.specs.Runs.{after, run}
+use Rattle.run_core.specs.Runs.{run}
 use Rattle.run_core.proofs.Appending.{after-append}
 use Rattle.law_runs.proofs.Places.{same_or}
 use Rattle.law_runs.proofs.Worlds.{puts_in}
 use Rattle.law_run_alone.specs.Undisturbed.{all_up}
 use Rattle.law_run_recovers.specs.Standing.{up_in, is_up, locks_in, locks_at, is_in_doubt, in_doubt}
 use Rattle.law_run_recovers.specs.Near.{way_in, is_open_way, is_open_at}
-use Rattle.law_run_recovers.specs.OpenDemands.{Want, open_demand}
+use Rattle.law_run_recovers.specs.OpenDemands.{Want}
 use Rattle.law_run_recovers.specs.Sweeping.{sweeps}
 use Rattle.law_run_recovers.specs.Blocking.{blocks, SweepsAll, can_have, BlockedByDoubts, DoubtedAt, IsBlocker, SomeServerBlocks, WasItsHome, OneCrashBlocks}
 use Rattle.law_run_recovers.proofs.Free.{is_up_of}

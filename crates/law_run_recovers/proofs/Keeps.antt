@@ -138,7 +138,7 @@ works w agent t at = of (actor_at w agent) refl at.running at.untold
     of None is running told = absurd (false≢true running)
     of (Some actor) is running told = record { actor = actor; there = is; is_open = open_of t actor.agent.doing running told; runs_it = running }
 
-at_work : (w : World) (agent t : ℕ) (actor : Actor) → actor_at w agent ≡ Some actor → IsOpen actor.agent.doing → runs t actor.agent.doing ≡ true → IsAtWork w agent t
+pub at_work : (w : World) (agent t : ℕ) (actor : Actor) → actor_at w agent ≡ Some actor → IsOpen actor.agent.doing → runs t actor.agent.doing ≡ true → IsAtWork w agent t
 at_work w agent t actor there open' runs = record { running = ap (running_in t) there ∙ runs; untold = ap telling_in there ∙ of actor.agent.doing open' }
   where
     of : (doing : Option Doing) → IsOpen doing → tells doing ≡ false
@@ -330,7 +330,7 @@ module _ (given : Opening) (events later : List Event) (agent t : ℕ) (caller :
     open_at : (so_far rest : List Event) → later ≡ so_far ++ rest → IsAtWork (world_then so_far) agent t → is_open_at (world_then so_far) t one.0 one.1 server ≡ true
     open_at so_far rest is at = ap is_open_way ((goes.stays so_far rest is at.running).way server one near has) ∙ open'
 
-    abbrev Same : World → Type 0
+    abbrev pub Same : World → Type 0
     Same w = (st old : State) → server_at w server ≡ Some st → server_at first server ≡ Some old → copy_of st.store one.0 ≡ copy_of old.store one.0
 
     same_first : Same (world_then [])
@@ -339,7 +339,7 @@ module _ (given : Opening) (events later : List Event) (agent t : ℕ) (caller :
         (same_Some st old (sym at ∙ begun_servers given events later agent t caller site ops actor goes.can goes.there goes.begins server ∙ was))
 
     -- one event
-    same_next : (so_far rest : List Event) (event : Event) → later ≡ so_far ++ event ∷ rest → IsAtWork (world_then so_far) agent t → Same (world_then so_far) → Same (step (fixed_of given) (world_then so_far) event).world
+    pub same_next : (so_far rest : List Event) (event : Event) → later ≡ so_far ++ event ∷ rest → IsAtWork (world_then so_far) agent t → Same (world_then so_far) → Same (step (fixed_of given) (world_then so_far) event).world
     same_next so_far rest event is at same new old now was =
         let w = world_then so_far in
         let is_open = open_at so_far (event ∷ rest) is at in

@@ -1,7 +1,7 @@
 -- What blocks a suite once all servers that are up were swept: servers that are down, and locks in doubt that are on it.
 use Rattle.std.specs.Prelude.{◌≡◌, ◌⊎◌, ℕ, ◌+◌, Bool, true, false, ◌||◌, not, nat_le, is_some, List, [], ◌∷◌, ◌++◌, Contains}
 use Rattle.std.specs.List.{list_all}
-use Rattle.vote_core.specs.Quorums.{Configuration, votes_in, total_votes}
+use Rattle.vote_core.specs.Quorums.{votes_in, total_votes}
 use Rattle.vote_core.specs.Validity.{IsValid, IsAccepted}
 use Rattle.suite_prefix.specs.SettingsRules.{Opening}
 use Rattle.suite_prefix.specs.declared.lock_mode.LockMode.{LockMode}
