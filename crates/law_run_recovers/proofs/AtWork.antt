@@ -110,10 +110,12 @@ module _ (given : Opening) (accepted : IsAccepted given) (all : List Event) (age
   takes_nothing (Return server) calm what st served at up = of_value (Return server) request.Return what st (operates_it w server request.Return (server_at w server) what served) (refl, refl)
   takes_nothing (Crash server) calm what st served at up =
       let is = operates_it w server request.Crash (server_at w server) what served in
-      of_value (Crash server) request.Crash what st is
-      (refl, ap (drops t st) (sym is)
-      ∙ bereft (is_telling w agent) st.up (drops t st what.request.value) at_work.untold up
-      (sym (ap (λ found. not (is_telling w agent) && found) (ap (of_up (drops t) w) served ∙ ap (up_and (drops t) what.request.value) at)) ∙ calm))
+      of_value (Crash server) request.Crash what st is (
+        refl,
+        ap (drops t st) (sym is)
+            ∙ bereft (is_telling w agent) st.up (drops t st what.request.value) at_work.untold up
+            (sym (ap (λ found. not (is_telling w agent) && found) (ap (of_up (drops t) w) served ∙ ap (up_and (drops t) what.request.value) at)) ∙ calm),
+      )
   takes_nothing (Step other) calm what st served at up = of (other == agent) refl
     where
       asks : (actor : Actor) × (actor_at w other ≡ Some actor) × (next_of (fixed_of given) actor.agent ≡ Some (what.server, what.request.value))

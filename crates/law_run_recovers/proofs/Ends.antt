@@ -51,7 +51,6 @@ use Rattle.law_runs.proofs.Table.{service_stays}
 use Rattle.law_runs.proofs.Worlds.{agent_of}
 use Rattle.law_suite_machine.specs.Registers.{WasPrefix}
 use Rattle.law_suite_machine.specs.Machine as machine
-use Rattle.law_suite_machine.specs.Machine.{Answered}
 use Rattle.law_server_moves.specs.Laws.{beginning}
 use Rattle.law_run_machine.specs.Machines.{moved, machine_of}
 use Rattle.law_one_table.proofs.Effects as effects

@@ -30,7 +30,7 @@ use Rattle.txn_core.specs.Agents.{Agent, fixed_of, is_idle, has_sense, max_jobs,
 use Rattle.run_core.specs.declared.done.Served.{Served}
 use Rattle.run_core.specs.declared.event.Event.{Event}
 use Rattle.run_core.specs.declared.event.Event.TheVariants.{Begin, Step, Crash, Return, Forget, Lack}
-use Rattle.run_core.specs.Worlds.{Actor, World, Stepped, server_at, actor_at, becomes, serve, operated, operates, asks_at, asks, answered, steps_once, lacks_for, lacks, step}
+use Rattle.run_core.specs.Worlds.{Actor, World, server_at, actor_at, becomes, serve, operated, operates, asks_at, asks, answered, steps_once, lacks_for, lacks, step}
 use Rattle.run_core.specs.Worlds as worlds
 use Rattle.run_core.specs.Decisions.{Decided, decisions}
 use Rattle.run_core.specs.Runs.{after, run}

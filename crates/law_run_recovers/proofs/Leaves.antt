@@ -36,7 +36,7 @@ use Rattle.txn_core.specs.Doing.{Fixed, Task, Phase, Gathering, Fetching, Prepar
 use Rattle.txn_core.specs.Transactions.{Step as CourseStep, decision_of, changes_of, numbers_from, locked_at, tell_end, request_in, ending_by, verdict_in, cause_of_abort, after_reply}
 use Rattle.txn_core.specs.Writing.{parts_at}
 use Rattle.txn_core.specs.Agents as agents
-use Rattle.txn_core.specs.Agents.{Agent, fixed_of, next_in, next_of, left, with_step, begin, after_all}
+use Rattle.txn_core.specs.Agents.{Agent, fixed_of, next_in, next_of, left, with_step, begin}
 use Rattle.txn_core.specs.Laws.{Exchange, exchange_of, exchanges, was_held, says_held, locks, is_decide}
 use Rattle.txn_core.proofs.Asks.{asks_same, asked_as, fetched_as}
 use Rattle.txn_core.proofs.Locks as keeping

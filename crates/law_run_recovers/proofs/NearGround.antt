@@ -84,9 +84,12 @@ module _ (given : Opening) (events later : List Event) (agent t : ℕ) (caller :
       (start_was given events can_first z agent site actor start goes.there may) in
       record {
         begins = (base.begins, start_near given events t caller site ops actor goes.near goes.are_near (λ one server has near. open_first given events later agent t caller site ops actor goes server one near has) (z, one.0) one.1 start may);
-        goes = λ server up. (base.goes server up, λ x vote.
-            let parts = and_parts (goes.near server) (is_up (run given events) server) up in
-            goes.are_near.shown (z, one.0) server x one.1 parts.0 parts.1 vote);
+        goes = λ server up. (
+          base.goes server up,
+          λ x vote.
+              let parts = and_parts (goes.near server) (is_up (run given events) server) up in
+              goes.are_near.shown (z, one.0) server x one.1 parts.0 parts.1 vote,
+        );
         settled = λ mode prefix held known. base.settled mode prefix held known.0;
         last = base.last;
       }

@@ -23,7 +23,7 @@ use Rattle.txn_core.specs.declared.job.Job.TheVariants.{Transaction}
 use Rattle.txn_core.specs.Doing.{Fixed, Task, Doing, home_of}
 use Rattle.txn_core.specs.Transactions.{Step as CourseStep, execute}
 use Rattle.txn_core.specs.Agents as agents
-use Rattle.txn_core.specs.Agents.{Agent, fixed_of, is_idle, has_sense, max_jobs, next_in, next_of, left, end_of, take_in, take, begin, started, forget, after_all}
+use Rattle.txn_core.specs.Agents.{Agent, fixed_of, is_idle, next_of, left, take, begin, started, forget, after_all}
 use Rattle.run_core.specs.declared.event.Event.{Event}
 use Rattle.run_core.specs.declared.event.Event.TheVariants.{Begin}
 use Rattle.run_core.specs.Worlds.{Actor, World, server_at, actor_at, has_no_job, becomes, opening, step}
@@ -31,7 +31,6 @@ use Rattle.run_core.specs.Runs.{after, dones, outcomes, run}
 use Rattle.run_core.specs.Decisions.{decisions}
 use Rattle.run_core.specs.TableOfRun.{table_of, table_after_all}
 use Rattle.run_core.proofs.Appending as appending
-use Rattle.run_core.proofs.Appending.{dones-append, outcomes-append, decisions_from-append}
 use Rattle.law_runs.proofs.Agents.{take_keeps}
 use Rattle.law_runs.proofs.Lengths.{so_many}
 use Rattle.law_suite_machine.specs.Registers.{WasPrefix}
@@ -43,7 +42,7 @@ use Rattle.law_run_recovers.specs.Standing.{up_in, is_up, up_free, shown_in, sho
 use Rattle.law_run_recovers.specs.Alone.{own_steps}
 use Rattle.law_run_recovers.specs.Demands.{demands, first_short, VotesAreUp}
 use Rattle.law_run_recovers.specs.Laws as laws
-use Rattle.law_run_recovers.specs.Laws.{GoesAlone, EndsByVotes, ending_of, answer_on, again, goes_again, OneIsDecided, OneOfThemIsDecided}
+use Rattle.law_run_recovers.specs.Laws.{GoesAlone, EndsByVotes, ending_of, answer_on, OneIsDecided}
 use Rattle.law_run_alone.proofs.Clear.{at_has}
 use Rattle.law_run_recovers.proofs.Moments.{moment_first, first_all, first_here}
 use Rattle.law_run_recovers.proofs.Stands.{Ground, locks_on, EndsRight}

@@ -305,14 +305,11 @@ module _ (given : Opening) (events later : List Event) (agent t : ℕ) (caller :
         ap (λ (a : Agent). a.count) took.took
         ∙ (take_keeps (fixed_of given) c.here.agent (Replied said) c.here.agent.doing (next_of (fixed_of given) c.here.agent)).1 ∙ c.count
 
-    told_then : List agents.Event
+    abbrev told_then : List agents.Event
     told_then = c.told ++ agents.Take (Replied (reply_of took.st took.asked.1)) ∷ []
 
     is_then : took.new.agent ≡ after_all (fixed_of given) (begin (fixed_of given) actor.agent (Transaction caller site ops)) (c.told ++ agents.Take (Replied (reply_of took.st took.asked.1)) ∷ [])
     is_then = took.took ∙ ap (λ a. (take (fixed_of given) a (Replied said)).agent) c.is ∙ sym (after-append (fixed_of given) (begin (fixed_of given) actor.agent (Transaction caller site ops)) c.told (agents.Take (Replied said)))
-
-    all_then : List Event
-    all_then = events ++ Begin agent (Transaction caller site ops) ∷ (so_far ++ Step agent ∷ [])
 
     module _ (may : MayExecute r.txn_run.phase) (more : TransactionRun) (is : (step_of its_task).after ≡ GoesOn more) where
       running_on : took.new.agent.doing ≡ Some (Running more)

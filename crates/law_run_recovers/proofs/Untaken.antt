@@ -29,7 +29,7 @@ use Rattle.run_core.specs.declared.done.Served.{Served}
 use Rattle.run_core.specs.declared.event.Event.{Event}
 use Rattle.run_core.specs.declared.event.Event.TheVariants.{Begin, Step, Crash, Return, Forget, Lack}
 use Rattle.run_core.specs.Worlds as worlds
-use Rattle.run_core.specs.Worlds.{Actor, server_at, actor_at, serve, answered, asks_at, asks, steps_once, operated, operates, step}
+use Rattle.run_core.specs.Worlds.{Actor, server_at, actor_at, answered, asks_at, asks, steps_once, operated, operates, step}
 use Rattle.law_suite_machine.specs.Registers.{Beginning}
 use Rattle.law_suite_machine.specs.Machine.{Hold, Verdict, World}
 use Rattle.law_suite_machine.specs.Events as machine

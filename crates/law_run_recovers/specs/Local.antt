@@ -19,14 +19,13 @@ use Rattle.law_runs.specs.Numbers.{number_of}
 use Rattle.law_headline.specs.Premises.{CanBe}
 use Rattle.law_run_alone.specs.Alone.{begins_job}
 use Rattle.law_run_alone.specs.Undisturbed.{is_decided}
-use Rattle.law_run_recovers.specs.Standing.{is_up, locks_at}
+use Rattle.law_run_recovers.specs.Standing.{is_up}
 use Rattle.law_run_recovers.specs.Alone.{own_steps}
 use Rattle.law_run_recovers.specs.Demands.{demands, demands_of_rows, all_met, locks_asked, MayStartAll}
 use Rattle.law_run_recovers.specs.Laws.{EndsByVotes, HasFirstVotes}
-use Rattle.law_run_recovers.specs.Sweeping.{has_any}
 use Rattle.law_run_recovers.specs.Near.{AreNear, asks_for, in_its_way}
 use Rattle.law_run_recovers.specs.OpenDemands.{open_demands, wants, wants_of_rows}
-use Rattle.law_run_recovers.specs.Unmet.{is_running, begun_world, world_after, GoesUnmet}
+use Rattle.law_run_recovers.specs.Unmet.{begun_world, GoesUnmet}
 
 -- ---- what may come of it
 
@@ -76,17 +75,6 @@ UnmetAreDecidedWhereVotesAreAt given events =
 
 abbrev pub UnmetAreDecidedWhereVotesAre : Type 0
 UnmetAreDecidedWhereVotesAre = (given : Opening) (events : List Event) → UnmetAreDecidedWhereVotesAreAt given events
-
--- And once it has ended no server that is up has a lock of it.
-abbrev pub UnmetLeaveNoLockAt : Opening → List Event → Type 0
-UnmetLeaveNoLockAt given events =
-    (later : List Event) (agent t : ℕ) (caller : Identity) (site : ℕ) (ops : List Op) (actor : Actor)
-    → GoesUnmet given events later agent t caller site ops actor
-    → (so_far rest : List Event) → later ≡ so_far ++ rest → is_running (world_after given events agent caller site ops so_far) agent t ≡ false
-    → (server : ℕ) → is_up (world_after given events agent caller site ops so_far) server ≡ true → has_any t (locks_at (world_after given events agent caller site ops so_far) server) ≡ false
-
-abbrev pub UnmetLeaveNoLock : Type 0
-UnmetLeaveNoLock = (given : Opening) (events : List Event) → UnmetLeaveNoLockAt given events
 
 -- ---- votes that are found are the rows', whatever locks there are
 

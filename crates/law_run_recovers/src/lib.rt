@@ -9,8 +9,9 @@
 //!   decided had its votes up (`decided_had_votes_up`).
 //! - Votes that are found are those of the table's rows (`met_demands_are_rows`). Where votes were never moved,
 //!   they and the home say exactly what is decided (`decided_where_votes_are`).
-//! - One that nobody meets so ends too, whatever others do elsewhere (`unmet_end_by_votes`, `unmet_end_in_time`,
-//!   `unmet_are_decided_where_votes_are`). Its votes are those of the rows (`near_votes_are_rows`, `open_votes_are_rows`).
+//! - One that nobody meets so ends too, whatever others do elsewhere (`unmet_end_by_votes`,
+//!   `unmet_end_in_time`, `unmet_are_decided_where_votes_are`). Its votes are those of the rows
+//!   (`near_votes_are_rows`, `open_votes_are_rows`).
 //! - Homes go round. So where the votes are up, of as many tries as there are servers one is decided
 //!   (`homes_go_round`, `one_of_them_is_decided`).
 //! - Sweeps leave only locks in doubt, change no copy in effect, and with all servers up leave none
@@ -25,8 +26,9 @@
 //! **The caller owes** to `promise` a world that some events made of accepted settings (`IsOfRun`).
 //!
 //! **Files**: `lib`, `promises`. **Definitions** (`specs/`): `Standing`, `Alone`, `Demands`, `InTime`, `Laws`,
-//! `Sweeping`, `Promises`, `Worked`, `Near`, `Unmet`, `OpenDemands`, `Local`, `Blocking`, `Contending`. The proofs follow a transaction over its agent's steps (`proofs/Ends.antt`,
-//! `Stands.antt`, `Asking.antt`) and a sweep by its list (`Sweeps.antt`, `Swept.antt`, `Rounds.antt`).
+//! `Sweeping`, `Promises`, `Worked`, `Near`, `Unmet`, `OpenDemands`, `Local`, `Blocking`, `Contending`. The
+//! proofs follow a transaction over its agent's steps (`proofs/Ends.antt`, `Stands.antt`, `Asking.antt`; among others
+//! `UnmetCourse.antt`, `UnmetEnds.antt`) and a sweep by its list (`Sweeps.antt`, `Swept.antt`, `Rounds.antt`).
 #![tactic(auto)]
 
 mod promises;
