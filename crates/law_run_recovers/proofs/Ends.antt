@@ -66,11 +66,11 @@ use Rattle.law_run_alone.proofs.Unhindered.{all_consistent}
 use Rattle.law_run_alone.proofs.Unswept.{is_resolve}
 use Rattle.law_run_recovers.specs.Standing.{up_in, is_up}
 use Rattle.law_run_recovers.specs.Alone.{hinders, unhindered_from}
-use Rattle.law_run_recovers.specs.Demands.{demands, first_short}
+use Rattle.law_run_recovers.specs.Demands.{demands, first_short, MayStart}
 use Rattle.law_run_recovers.specs.Laws.{GoesAlone, EndsByVotes, EndsAreByVotes, ending_by, answer_on}
 use Rattle.law_run_recovers.proofs.Aside.{Aside, event_aside}
 use Rattle.law_run_recovers.proofs.Found.{all_answer}
-use Rattle.law_run_recovers.proofs.Led.{rules_of}
+use Rattle.law_run_recovers.proofs.Led.{Rules, rules_of}
 use Rattle.law_run_recovers.proofs.Polled.{Answers, answers_so}
 use Rattle.law_run_recovers.proofs.Rows.{start_was}
 use Rattle.law_run_recovers.proofs.Took.{OwnTook, own_took}
@@ -166,11 +166,16 @@ module _ (given : Opening) (events later : List Event) (agent t : ℕ) (caller :
   pub can : CanBe given events
   can = can_front given events (Begin agent job ∷ later) goes.can
 
+  pub all_rules : (z : ℕ) (start : Prefix) → MayStart (fixed_of given) actor.agent.cache site z start
+      → Rules (fixed_of given) (run given events) (is_up (run given events)) z (WasPrefix (beginning z given) (machine_of given z events).log) start
+  all_rules z start may =
+      rules_of given z (machine_of given z events) (run given events) (effects.inv given events (all_keep given events can) z) (is_up (run given events))
+      (all_answer given z (machine_of given z events) (run given events) (effects.inv given events (all_keep given events can) z) (effects.follows given events (all_keep given events can) z).shows (all_consistent given events) goes.free) start
+      (start_was given events can z agent site actor start goes.there may)
+
   pub ground : Ground (fixed_of given) (run given events) (is_up (run given events)) actor.agent.cache site (locks_on (table_of given events) task) (λ z. WasPrefix (beginning z given) (machine_of given z events).log)
   ground = record {
-    rules = λ z start asked may. rules_of given z (machine_of given z events) (run given events) (effects.inv given events (all_keep given events can) z) (is_up (run given events))
-        (all_answer given z (machine_of given z events) (run given events) (effects.inv given events (all_keep given events can) z) (effects.follows given events (all_keep given events can) z).shows (all_consistent given events) goes.free) start
-        (start_was given events can z agent site actor start goes.there may);
+    rules = λ z start asked may. all_rules z start may;
     valid = λ z prefix was. subst (λ (p : Prefix). IsValid p.votes) was.1 ((effects.inv given events (all_keep given events can) z).logged.valid prefix.pver);
   }
 

@@ -263,7 +263,7 @@ module _ (given : Opening) (events later : List Event) (agent t : ℕ) (caller :
       pub votes_then : (t' : ℕ) → VotesAreUp fixed first table actor.agent.cache t' site caller ops → VotesAreUp fixed last_world (table_of given last_events) last.now.m.here.agent.cache t' site caller ops
       votes_then t' votes =
           subst (λ table. VotesAreUp fixed last_world table last.now.m.here.agent.cache t' site caller ops) (sym table_same)
-          (still_up fixed first last_world many up_same shown_same table actor.agent.cache last.now.m.here.agent.cache t' site caller ops (λ z start may. (ground.rules z start may).last) last.still.led votes)
+          (still_up fixed first last_world many up_same shown_same table actor.agent.cache last.now.m.here.agent.cache t' site caller ops (λ z start may. (ends.all_rules given events later agent t caller site ops actor goes z start may).last) last.still.led votes)
 
       -- what is there then
       pub record Left : Type 0 where

@@ -164,6 +164,10 @@ module _ (given : Opening) (events later : List Event) (agent t : ℕ) (caller :
           of (Some st) at was =
               absurd (no_lock given goes.can.accepted events agent t (Transaction caller site ops) goes.begins server st at was.lock (subst (λ found. Has (locks_in found) was.lock) at was.has) was.of_it)
 
+  pub first_told : first_course.told ≡ []
+  unfolding first_course
+  first_told = refl
+
   -- ---- a step of its own
 
   module _ (so_far rest : List Event) (split : later ≡ so_far ++ Step agent ∷ rest) (c : Course given events later agent t caller site ops actor goes so_far)

@@ -36,7 +36,7 @@ use Rattle.law_run_recovers.proofs.Names.{itself, suites_named, names_for, Count
 use Rattle.law_run_recovers.proofs.NearGround.{its, answers, Known, ground, number}
 use Rattle.law_run_recovers.proofs.Took.{OwnTook, own_took}
 use Rattle.law_run_recovers.proofs.UnmetCourse.{Course, RunsIt, runs_it, next_is, unhindered, apart_on}
-use Rattle.law_run_recovers.proofs.UnmetEnds.{idle_before, first_course, own_on}
+use Rattle.law_run_recovers.proofs.UnmetEnds.{idle_before, first_course, first_told, own_on}
 
 module _ (given : Opening) (events later : List Event) (agent t : ℕ) (caller : Identity) (site : ℕ) (ops : List Op) (actor : Actor) (goes : GoesUnmet given events later agent t caller site ops actor) where
   abbrev begun : Agent
@@ -173,7 +173,7 @@ module _ (given : Opening) (events later : List Event) (agent t : ℕ) (caller :
 
   pub unmet_in_time : few_steps given events t caller ops < own_steps agent later → Ended given events later agent t caller site ops
   unmet_in_time more =
-      of (lasts later [] refl (first_course given events later agent t caller site ops actor goes) 0 (record { asks = refl; names = refl; many = refl }))
+      of (lasts later [] refl (first_course given events later agent t caller site ops actor goes) 0 (subst (λ told. Counted told 0) (sym (first_told given events later agent t caller site ops actor goes)) (record { asks = refl; names = refl; many = refl })))
     where
       over : (b n : ℕ) → b < n → 0 + n ≤ b → ⊥
       over b n less most = omega (arith, less, most)

@@ -22,7 +22,7 @@ use Rattle.law_run_alone.specs.Undisturbed.{is_decided}
 use Rattle.law_run_recovers.specs.Standing.{is_up}
 use Rattle.law_run_recovers.specs.Alone.{own_steps}
 use Rattle.law_run_recovers.specs.Demands.{demands, demands_of_rows, all_met, locks_asked, MayStartAll}
-use Rattle.law_run_recovers.specs.Laws.{EndsByVotes, HasFirstVotes}
+use Rattle.law_run_recovers.specs.Laws.{GoesAlone, EndsByVotes, HasFirstVotes}
 use Rattle.law_run_recovers.specs.Near.{AreNear, asks_for, in_its_way}
 use Rattle.law_run_recovers.specs.OpenDemands.{open_demands, wants, wants_of_rows}
 use Rattle.law_run_recovers.specs.Unmet.{begun_world, GoesUnmet}
@@ -46,6 +46,12 @@ abbrev pub few_steps : Opening → List Event → ℕ → Identity → List Op �
 few_steps given events t caller ops = length (locks_asked (table_of given events) t caller ops) * (2 * given.servers + 1) + 2 * given.servers + 1
 
 -- ---- what is promised where nobody meets it
+
+-- A transaction that goes alone is met by nobody.
+abbrev pub AloneAreUnmet : Type 0
+AloneAreUnmet =
+    (given : Opening) (events later : List Event) (agent t : ℕ) (caller : Identity) (site : ℕ) (ops : List Op) (actor : Actor)
+    → GoesAlone given events later agent t caller site ops actor → GoesUnmet given events later agent t caller site ops actor
 
 -- It ends as the votes say that are up, in time; and where votes were never moved it is decided just where its home and the votes of the rows are up.
 abbrev pub UnmetEndByVotesAt : Opening → List Event → Type 0

@@ -10,8 +10,8 @@
 //! - Votes that are found are those of the table's rows (`met_demands_are_rows`). Where votes were never moved,
 //!   they and the home say exactly what is decided (`decided_where_votes_are`).
 //! - One that nobody meets so ends too, whatever others do elsewhere (`unmet_end_by_votes`,
-//!   `unmet_end_in_time`, `unmet_are_decided_where_votes_are`). Its votes are those of the rows
-//!   (`near_votes_are_rows`, `open_votes_are_rows`).
+//!   `unmet_end_in_time`, `unmet_are_decided_where_votes_are`); what goes alone is one (`alone_are_unmet`). Its
+//!   votes are those of the rows (`near_votes_are_rows`, `open_votes_are_rows`).
 //! - Homes go round. So where the votes are up, of as many tries as there are servers one is decided
 //!   (`homes_go_round`, `one_of_them_is_decided`).
 //! - Sweeps leave only locks in doubt, change no copy in effect, and with all servers up leave none
@@ -34,7 +34,7 @@
 mod promises;
 
 ghost use Rattle.law_run_recovers.specs.Laws.{EndsAreByVotes, EndsInTime, MetDemandsAreRows, DecidedWhereVotesAre, HomesGoRound, OneOfThemIsDecided, DecidedHadVotesUp};
-ghost use Rattle.law_run_recovers.specs.Local.{NearVotesAreRows, OpenVotesAreRows, UnmetAreDecidedWhereVotesAre, UnmetEndByVotes, UnmetEndInTime};
+ghost use Rattle.law_run_recovers.specs.Local.{AloneAreUnmet, NearVotesAreRows, OpenVotesAreRows, UnmetAreDecidedWhereVotesAre, UnmetEndByVotes, UnmetEndInTime};
 ghost use Rattle.law_run_recovers.specs.InTime.{RunsEndByTheBounds};
 ghost use Rattle.law_run_recovers.specs.Sweeping.{SweepsLeaveDoubts, SweepsKeepEffects, OnlyDoubtsAreLeft, NoLockIsLeft, AllIsStored, TakenAwayAreNeverDecided};
 ghost use Rattle.law_run_recovers.specs.Worked.{SomeRunsRecover};
@@ -86,6 +86,12 @@ pub fn open_votes_are_rows()
 /// others have. It does nothing.
 pub fn near_votes_are_rows()
     ensures { NearVotesAreRows }
+{}
+
+/// A law: a transaction that goes alone is met by nobody: what is promised to one that nobody meets is promised to it. It
+/// does nothing.
+pub fn alone_are_unmet()
+    ensures { AloneAreUnmet }
 {}
 
 /// A law: a transaction that nobody meets ends as the votes say that are up when it begins, whatever others do elsewhere:
