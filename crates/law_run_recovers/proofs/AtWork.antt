@@ -38,7 +38,8 @@ use Rattle.law_run_alone.proofs.Turns.{doing_of}
 use Rattle.law_run_alone.proofs.Untold.{begun_stands, started_untold}
 use Rattle.law_run_alone.proofs.Unswept.{is_resolve, never_resolves}
 use Rattle.law_run_alone.proofs.Whole.{Carried, carried_by}
-use Rattle.law_run_recovers.specs.Unmet.{runs, is_telling, world_after, takes, drops, up_and, of_up, robs, bereaves, hinders_itself, ToldAsAtItsBegin}
+use Rattle.law_run_recovers.specs.Unmet.{runs, is_telling, world_after, takes, up_and, of_up, robs, hinders_itself}
+use Rattle.law_run_recovers.proofs.AmongLocks.{drops, bereaves, ToldAsAtItsBegin}
 use Rattle.law_run_recovers.proofs.Keeps.{IsAtWork, Works, works, step_asks, operates_it, becomes_none, lacks_none, run_at, at_work_before}
 use Rattle.law_run_recovers.proofs.Still.{IsOpen, IsOpenPhase}
 use Rattle.law_run_recovers.proofs.Untaken.{TakesNothing, untaken_stands}

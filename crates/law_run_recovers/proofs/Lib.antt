@@ -72,3 +72,4 @@ pub mod UnmetEnds
 pub mod UnmetLaws
 pub mod Names
 pub mod UnmetTime
+pub mod AmongLocks

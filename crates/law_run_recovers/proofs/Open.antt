@@ -40,7 +40,8 @@ use Rattle.law_run_recovers.specs.Standing.{up_in, is_up}
 use Rattle.law_run_recovers.specs.Alone.{hinders, unhindered_from}
 use Rattle.law_run_recovers.specs.Laws.{GoesAlone}
 use Rattle.law_run_recovers.specs.Near.{asks_for, way_in, is_way_met, in_its_way}
-use Rattle.law_run_recovers.specs.Unmet.{runs, running_in, is_running, is_telling, begun_world, world_after, takes, of_up, robs, hinders_itself, StandsOpen, StandsStill, GoesUnmet, GoesAmongLocks}
+use Rattle.law_run_recovers.specs.Unmet.{runs, running_in, is_running, is_telling, begun_world, world_after, takes, of_up, robs, hinders_itself, StandsOpen, GoesUnmet}
+use Rattle.law_run_recovers.proofs.AmongLocks.{StandsStill, GoesAmongLocks}
 use Rattle.law_run_recovers.proofs.Serves.{Serves, event_serves}
 use Rattle.law_run_recovers.proofs.Moments.{is_calm, moment_first}
 

@@ -36,7 +36,8 @@ use Rattle.law_run_alone.proofs.Reached.{can_front}
 use Rattle.law_run_alone.proofs.Requests.{Finds}
 use Rattle.law_run_recovers.specs.Standing.{up_in, is_up, shown_in, shown_at, locks_in, locks_at}
 use Rattle.law_run_recovers.specs.Near.{asks_for, is_way_met, way_in}
-use Rattle.law_run_recovers.specs.Unmet.{world_after, robs, bereaves, hinders_itself, GoesUnmet}
+use Rattle.law_run_recovers.specs.Unmet.{world_after, robs, hinders_itself, GoesUnmet}
+use Rattle.law_run_recovers.proofs.AmongLocks.{bereaves}
 use Rattle.law_run_recovers.proofs.Keeps.{IsAtWork, open_stands}
 use Rattle.law_run_recovers.proofs.NearGround.{answers, near_open}
 use Rattle.law_run_recovers.proofs.Open.{unmet_is_among_locks, near_among}

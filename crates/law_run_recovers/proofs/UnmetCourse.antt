@@ -43,7 +43,8 @@ use Rattle.law_runs.proofs.Conclusions.{holds_of}
 use Rattle.law_runs.proofs.Table.{service_stays}
 use Rattle.law_runs.proofs.Worlds.{agent_of, agent_at, puts_in}
 use Rattle.law_run_recovers.specs.Standing.{up_in, is_up, locks_in, locks_at}
-use Rattle.law_run_recovers.specs.Unmet.{runs, running_in, is_running, is_telling, begun_world, world_after, drops, up_and, of_up, robs, bereaves, hinders_itself, GoesUnmet}
+use Rattle.law_run_recovers.specs.Unmet.{runs, running_in, is_running, is_telling, begun_world, world_after, up_and, of_up, robs, hinders_itself, GoesUnmet}
+use Rattle.law_run_recovers.proofs.AmongLocks.{drops, bereaves}
 use Rattle.law_run_recovers.proofs.Apart.{Apart, hint_forgotten, event_apart}
 use Rattle.law_run_recovers.proofs.Keeps.{after_append, run_at, step_asks, operates_it, becomes_none, lacks_none}
 use Rattle.law_run_recovers.proofs.NearGround.{its, answers, Known, ground, number}

@@ -57,6 +57,7 @@ use Rattle.law_runs.specs.Claims.{ended}
 use Rattle.law_runs.specs.Numbers.{number_of}
 use Rattle.law_runs.proofs.Agents.{same_place, take_keeps}
 use Rattle.law_runs.proofs.Conclusions.{holds_of}
+use Rattle.law_runs.proofs.Standing.{append_has_left, append_has_right}
 use Rattle.law_runs.proofs.Worlds.{agent_of, agent_at}
 use Rattle.law_run_alone.proofs.Named.{no_lock}
 use Rattle.law_run_alone.proofs.Unswept.{is_resolve, never_resolves}
@@ -411,23 +412,14 @@ module _ (given : Opening) (events later : List Event) (agent t : ℕ) (caller :
 
   over_on : (so_far : List Event) (event : Event) → Over so_far → Over (so_far ++ event ∷ [])
   over_on so_far event over =
-      (over.0, subst (λ all. Has all over.0) (sym (ended_more so_far event)) (append_left (ended given (events ++ Begin agent (Transaction caller site ops) ∷ so_far)) _ over.0 over.1), over.2)
-    where
-      append_left : (xs ys : List EndedJob) (one : EndedJob) → Has xs one → Has (xs ++ ys) one
-      append_left (x ∷ xs) ys one (inl same) = inl same
-      append_left (x ∷ xs) ys one (inr has) = inr (append_left xs ys one has)
-      append_left [] ys one has = absurd has
+      (over.0, subst (λ all. Has all over.0) (sym (ended_more so_far event)) (append_has_left (ended given (events ++ Begin agent (Transaction caller site ops) ∷ so_far)) (cons_option (step (fixed_of given) (world_at so_far) event).done.outcome []) over.0 over.1), over.2)
 
   over_now : (so_far : List Event) (event : Event) (one : EndedJob) → (step (fixed_of given) (world_after given events agent caller site ops so_far) event).done.outcome ≡ Some one → number_of one ≡ t → Over (so_far ++ event ∷ [])
   over_now so_far event one is number = (
     one,
-    subst (λ all. Has all one) (sym (ended_more so_far event)) (append_right (ended given (events ++ Begin agent (Transaction caller site ops) ∷ so_far)) (subst (λ found. Has (cons_option found []) one) (sym is) (inl refl))),
+    subst (λ all. Has all one) (sym (ended_more so_far event)) (append_has_right (ended given (events ++ Begin agent (Transaction caller site ops) ∷ so_far)) (cons_option (step (fixed_of given) (world_at so_far) event).done.outcome []) one (subst (λ found. Has (cons_option found []) one) (sym is) (inl refl))),
     number,
   )
-    where
-      append_right : (xs : List EndedJob) → Has (cons_option (step (fixed_of given) (world_after given events agent caller site ops so_far) event).done.outcome []) one → Has (xs ++ cons_option (step (fixed_of given) (world_after given events agent caller site ops so_far) event).done.outcome []) one
-      append_right [] has = has
-      append_right (x ∷ xs) has = inr (append_right xs has)
 
   small_at : (so_far : List Event) (i : ℕ) (a : Agent) → agent_at (world_after given events agent caller site ops so_far) i ≡ Some a → i < 64
   small_at so_far i a at =

@@ -42,7 +42,8 @@ use Rattle.law_run_machine.specs.Deciding.{decision_by, own_events}
 use Rattle.law_run_machine.specs.Machines.{home_in, servers_of, answered_events, asked_at_events, asked_events, step_events, lacks_for_events, lack_events, begin_events, operated_events, operator_events, moved}
 use Rattle.law_run_machine.proofs.Joining.{run-append}
 use Rattle.law_run_alone.proofs.Standing.{StandsAs, Stands, Spares, AllSpare, stands_all, spare_begun, spare_own, spare_decision, spare_moves}
-use Rattle.law_run_recovers.specs.Unmet.{takes, drops}
+use Rattle.law_run_recovers.specs.Unmet.{takes}
+use Rattle.law_run_recovers.proofs.AmongLocks.{drops}
 
 -- ---- locks at a server
 
