@@ -51,6 +51,13 @@ entry_said (Err fault) = None
 abbrev pub said_in : List ℕ → Tables → List SidedEntry
 said_in text names = filter_map entry_said (readings text names)
 
+-- the entries that items say before the first faulty one
+abbrev pub said_before : List (Result (Option SidedEntry) ItemFault) → List SidedEntry
+said_before [] = []
+said_before (Ok None ∷ more) = said_before more
+said_before (Ok (Some said) ∷ more) = said ∷ said_before more
+said_before (Err fault ∷ more) = []
+
 -- the fault of the entries of a default list: without entries there is no list, and no fault
 abbrev pub default_fault : List Entry → Option TextFault
 default_fault [] = None

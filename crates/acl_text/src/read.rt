@@ -8,7 +8,7 @@ ghost use Rattle.acl_text.specs.code.Tallied.{AreTallied, ForTallied};
 ghost use Rattle.acl_text.specs.declared.item.SidedEntry.{SidedEntry};
 ghost use Rattle.acl_text.specs.declared.item.Side.TheVariants.{Access, Default};
 ghost use Rattle.acl_text.specs.Sides.{default_entries, default_of, entries_of, lists_of};
-ghost use Rattle.acl_text.specs.Texts.{SpellsLists, default_fault, fault, lists_fault, said_in};
+ghost use Rattle.acl_text.specs.Texts.{SpellsLists, default_fault, fault, lists_fault, readings, said_before, said_in};
 ghost use Rattle.acl_text.specs.declared.read.TextFault.TheVariants.{Memory};
 
 use crate::cut::Items;
@@ -134,14 +134,14 @@ impl Tallies {
 }
 
 /// The lists that a text spells: an access list, and a default list where an item is of one. A growth that
-/// is refused is answered at once, and nothing is then said of the rest of the text. A text whose items say
-/// no entry takes no memory, and so has its fault.
+/// is refused is answered at once, and nothing is then said of the rest of the text. Items that say no entry
+/// take no memory, so a fault before the first entry is told.
 pub fn read_acl(alloc: Global, text: &[u8], names: &Names) -> Result<Lists, TextFault>
     ensures spelled { IfOk result (SpellsLists text.now names.now) }
     ensures value { IfOk result (λ lists. lists ≡ lists_of (said_in text.now names.now)) }
     ensures faultless { OnOk result (fault text.now names.now ≡ None) }
     ensures refused { IfErr result (λ e. e ≢ TextFault.Memory → fault text.now names.now ≡ Some e) }
-    ensures memory { result ≡ Err TextFault.Memory → said_in text.now names.now ≢ [] }
+    ensures memory { result ≡ Err TextFault.Memory → said_before (readings text.now names.now) ≢ [] }
 {
     let mut tallies = Tallies::new(alloc);
     let mut number = 0;

@@ -48,6 +48,13 @@ impl Seat {
         })
     }
 
+    /// The agent.
+    pub(crate) fn agent(&self) -> &Agent
+        ensures { result.now ≡ record { fixed = self.now.fixed; state = self.now.actor.agent } }
+    {
+        &self.agent
+    }
+
     /// The last stamp that it was told.
     pub(crate) fn stamp(&self) -> u64
         ensures { result ≡ self.now.actor.stamp }

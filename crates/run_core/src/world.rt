@@ -1,6 +1,6 @@
 //! A world: the servers and the agents of a service, event by event.
 
-ghost use Rattle.std.specs.Prelude.{◌≡◌, ◌≤◌, ◌++◌, [], Some, take, is_some, length, IfOk, IfErr, IfSome, IsSome, IsTrue, OnOk, OnErr};
+ghost use Rattle.std.specs.Prelude.{◌≡◌, ◌≤◌, ◌++◌, [], Some, take, is_some, length, IfOk, IfErr, IfSome, IsSome, IsTrue, OnOk, OnErr, option_map};
 ghost use Rattle.std.specs.List.{cons_option};
 ghost use Rattle.txn_core.specs.Agents.{fixed_of};
 ghost use Rattle.run_core.specs.Asking.{asked_at};
@@ -21,6 +21,7 @@ use rep_core::Server;
 use std::alloc::{AllocError, Global};
 use std::marker::Model;
 use suite_prefix::{Form, Settings};
+use txn_core::Agent;
 
 /// Why events were not all played: memory ran out. The world is as after `done` of them.
 #[derive(Clone, Copy, Debug, PartialEq, Eq)]
@@ -181,6 +182,18 @@ impl World {
     {
         match self.servers.get(usize::from(number)) {
             Some(found) => Some(&found.server),
+            None => None,
+        }
+    }
+
+    /// The agent of a number, where there is one.
+    pub fn agent(&self, number: u8) -> Option<&Agent>
+        ensures there { is_some result ≡ is_some (worlds.actor_at self.now.world number) }
+        ensures fixed { IfSome result (λ agent. agent.now.fixed ≡ fixed_of self.now.given) }
+        ensures state { IfSome result (λ agent. option_map (λ actor. actor.agent) (worlds.actor_at self.now.world number) ≡ Some agent.now.state) }
+    {
+        match self.seats.get(usize::from(number)) {
+            Some(found) => Some(found.agent()),
             None => None,
         }
     }

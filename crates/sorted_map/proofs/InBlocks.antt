@@ -200,9 +200,10 @@ module _ {K V : Type 0} {cmp : K → K → Ordering} (o : IsTotalOrder cmp) (key
   in_place first [] zero blocks ordered within point = tt
   in_place first [] (suc i) blocks ordered within point = absurd (omega arith)
   in_place first (b ∷ bs) zero blocks ordered within point = above_all b.pairs (joined bs) (ordered_behind first.pairs (joined (b ∷ bs)) ordered) blocks.0.0 (point.1 0 b (omega arith) (omega arith))
-  in_place first (b ∷ bs) (suc i) blocks ordered within point =
-      (below_all first.pairs b.pairs (joined bs) ordered blocks.0.0 (point.0 0 b (omega arith) (omega arith)),
-      in_place b bs i blocks.1 (ordered_behind first.pairs (joined (b ∷ bs)) ordered) (omega arith) (λ k d low high. point.0 (suc k) d (omega arith) (omega arith), λ k d low high. point.1 (suc k) d (omega arith) (omega arith)))
+  in_place first (b ∷ bs) (suc i) blocks ordered within point = (
+    below_all first.pairs b.pairs (joined bs) ordered blocks.0.0 (point.0 0 b (omega arith) (omega arith)),
+    in_place b bs i blocks.1 (ordered_behind first.pairs (joined (b ∷ bs)) ordered) (omega arith) (λ k d low high. point.0 (suc k) d (omega arith) (omega arith), λ k d low high. point.1 (suc k) d (omega arith) (omega arith)),
+  )
 
   -- ---- a block behind the first, and the room
 
@@ -440,9 +441,22 @@ module _ {K V : Type 0} where
   room_parted first new (b ∷ bs) [] spare left false fewer full is = omega (arith, fewer, full)
   room_parted first new (b ∷ bs) (c ∷ cs) spare left false fewer full is = omega (arith, fewer, full)
 
+  pub none_in_front : (xs ys : List (K × V)) → xs ++ ys ≡ [] → xs ≡ []
+  none_in_front [] ys none = refl
+  none_in_front (e ∷ es) ys none = absurd (cc none)
+
   pub joined_parts : (xs ys zs : List (K × V)) → xs ++ (ys ++ zs) ≡ (xs ++ ys) ++ zs
   joined_parts [] ys zs = refl
   joined_parts (e ∷ es) ys zs = ap (λ l. e ∷ l) (joined_parts es ys zs)
+
+  -- the pairs of one block more at the end
+  pub joined_pushed : (bs : List (Roomy K V)) (b : Roomy K V) → joined (bs ++ b ∷ []) ≡ joined bs ++ b.pairs
+  joined_pushed [] b = append-nil b.pairs
+  joined_pushed (c ∷ bs) b = ap (λ l. c.pairs ++ l) (joined_pushed bs b) ∙ joined_parts c.pairs (joined bs) b.pairs
+
+  pub blocks_pushed : (bs : List (Roomy K V)) (b : Roomy K V) → AreBlocks bs → IsBlock b → AreBlocks (bs ++ b ∷ [])
+  blocks_pushed [] b blocks is = (is, blocks)
+  blocks_pushed (c ∷ bs) b blocks is = (blocks.0, blocks_pushed bs b blocks.1 is)
 
   -- one block more
   pub joined_more : (bs : List (Roomy K V)) (i : ℕ) (d : Roomy K V) → i < length bs → joined (take (suc i) bs) ≡ joined (take i bs) ++ (get_or bs i d).pairs

@@ -7,6 +7,7 @@ ghost use Rattle.sorted_map.specs.SortedMap.{IsOrdered, get, insert, remove};
 ghost use Rattle.sorted_map.specs.Roomy.{Roomy};
 ghost use Rattle.sorted_map.specs.Blocks.{joined, room_in, capacity_in, starts_by, first_from, AreBelow, AreBlocks, AreSpare, IsSpare, IsIn, CanTake, IsPut};
 
+use crate::block_copies::{append_all, copied_blocks};
 use crate::roomy::RoomyMap;
 use std::alloc::{AllocError, Global};
 use std::cmp::Ord;
@@ -48,6 +49,13 @@ impl<K: Ord, V> BlockMap<K, V> {
             rest: Vec::new(alloc),
             spare: Vec::new(alloc),
         }
+    }
+
+    /// Whether there is no pair.
+    pub fn is_empty(&self) -> bool
+        ensures { IsTrue result ↔ (self.now.pairs ≡ []) }
+    {
+        self.first.is_empty() && self.rest.is_empty()
     }
 
     /// The value at a key.
@@ -140,6 +148,22 @@ impl<K: Ord, V> BlockMap<K, V> {
     }
 }
 
+impl<K: Ord + Copy, V: Clone> BlockMap<K, V> {
+    /// An equal map, but for its room. The values' clones are equal to them.
+    pub fn copied(&self, alloc: Global) -> Result<Self, AllocError>
+        requires equal { (value copy : V) → V.is_clone value copy → copy ≡ value }
+        ensures { IfOk result (λ map. map.pairs ≡ self.now.pairs) }
+    {
+        let first = self.first.copied(alloc)?;
+        let rest = copied_blocks(alloc, &self.rest)?;
+        Ok(BlockMap {
+            first,
+            rest,
+            spare: Vec::new(alloc),
+        })
+    }
+}
+
 impl<K: Ord + Copy, V: Copy> BlockMap<K, V> {
     /// Appends the pairs to a vector, in the order of their keys.
     pub fn append_to(&self, out: &mut Vec<(K, V)>) -> Result<(), AllocError>
@@ -148,19 +172,6 @@ impl<K: Ord + Copy, V: Copy> BlockMap<K, V> {
         out.extend_from_slice(self.first.as_slice())?;
         append_all(&self.rest, out)
     }
-}
-
-/// Appends the pairs of all blocks to a vector.
-fn append_all<K: Ord + Copy, V: Copy>(
-    rest: &[RoomyMap<K, V>],
-    out: &mut Vec<(K, V)>,
-) -> Result<(), AllocError>
-    ensures { OnOk result (out.new.items ≡ out.old.items ++ joined rest.now) }
-{
-    for block in rest {
-        out.extend_from_slice(block.as_slice())?;
-    }
-    Ok(())
 }
 
 /// How many of the blocks start by a key or below it: the place of the block for a key, with one more in front.

@@ -50,6 +50,34 @@ impl<K: Ord + Copy, V: Copy> Clone for RoomyMap<K, V> {
     }
 }
 
+impl<K: Ord + Copy, V: Clone> RoomyMap<K, V> {
+    /// An equal map, with room for some new keys. The values' clones are equal to them.
+    pub(crate) fn copied(&self, alloc: Global) -> Result<Self, AllocError>
+        requires equal { (value copy : V) → V.is_clone value copy → copy ≡ value }
+        ensures pairs { IfOk result (λ map. map.pairs ≡ self.now.pairs) }
+        ensures room { IfOk result (λ map. 8 ≤ map.room) }
+    {
+        let room = self.pairs.len().saturating_add(CLONED_ROOM);
+        let mut pairs = Vec::with_capacity(alloc, room)?;
+        copy_pairs(&self.pairs, &mut pairs)?;
+        Ok(RoomyMap { pairs })
+    }
+}
+
+/// Appends equal pairs to a vector that has room for them.
+fn copy_pairs<K: Copy, V: Clone>(pairs: &[(K, V)], out: &mut Vec<(K, V)>) -> Result<(), AllocError>
+    requires equal { (value copy : V) → V.is_clone value copy → copy ≡ value }
+    requires room { length pairs.now + vec_len out.old ≤ vec_capacity out.old }
+    ensures pairs { OnOk result (out.new.items ≡ out.old.items ++ pairs.now) }
+    ensures len { OnOk result (vec_len out.new ≡ vec_len out.old + length pairs.now) }
+    ensures capacity { OnOk result (vec_capacity out.new ≡ vec_capacity out.old) }
+{
+    for (key, value) in pairs {
+        out.push_reserved((*key, value.clone()?));
+    }
+    Ok(())
+}
+
 impl<K: Ord, V> RoomyMap<K, V> {
     /// An empty map.
     pub fn new(alloc: Global) -> Self

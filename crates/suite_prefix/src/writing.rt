@@ -1,6 +1,6 @@
 //! The bytes of a copy.
 
-ghost use Rattle.std.specs.Prelude.{◌≡◌, ◌++◌, ◌*◌, ◌<◌, ◌≤◌, length, OnOk, IfOk};
+ghost use Rattle.std.specs.Prelude.{◌≡◌, ◌+◌, ◌++◌, ◌*◌, ◌<◌, ◌≤◌, length, OnOk, IfOk};
 ghost use Rattle.suite_content.specs.Limits.{max_names};
 ghost use Rattle.suite_prefix.specs.Copies.{IsCopy, IsContent};
 ghost use Rattle.suite_prefix.specs.Bytes.{NoneBeginsAnother, bytes_in, bytes_of, prefix_bytes, identity_bytes, list_bytes, lists_bytes, entry_bytes, votes_bytes, representative_bytes, content_bytes, kind_code, tag_code};
@@ -38,7 +38,9 @@ pub(crate) fn encode_in(alloc: Global, form: Form, copy: &Replica) -> Result<Vec
 }
 
 /// As many bytes as the form, a prefix and a version take.
-pub(crate) fn room_for_prefix(prefix: &Prefix) -> usize {
+pub(crate) fn room_for_prefix(prefix: &Prefix) -> usize
+    ensures { result ≤ 6 * (length prefix.now.acl.access + length (default_entries prefix.now.acl.default)) + 2 * length prefix.now.votes.reps + 33 }
+{
     let default = match &prefix.acl.default {
         Some(default) => default.entries().len(),
         None => 0,

@@ -1,5 +1,6 @@
 -- The protocol of a transaction as its moves, a constructor for each. What comes of a word is a case of `Hears`; what follows from that before
--- anything is asked again is a chain of cases of `Move`.
+-- anything is asked again is a chain of cases of `Move`. A comment begins with the move in the field's words: poll, quorum, fetch, prepare,
+-- decide, commit or abort. A poll asks a server for a lock; the decision of the home commits or aborts.
 use Rattle.std.specs.Prelude.{◌≡◌, ℕ, Bool, true, false, List, [], ◌∷◌, Option, Some, None, Ok, Err}
 use Rattle.suite_content.specs.declared.content.Content.{Content}
 use Rattle.suite_prefix.specs.declared.copies.Prefix.{Prefix}
@@ -73,47 +74,47 @@ is_short other = false
 
 module _ (fixed : Fixed) (task : Task) where
   pub data Move : Point → Point → Type 0 where
-    -- the executor needs a content that is to be had without asking: it is opened
+    -- fetch, without asking: the executor needs a content that the cache has, or that is empty, and it is opened
     opens : {cache : Cache} {suites : Suites} {number : ℕ} {suite : Suite} {first : ReadPoint} {content : Content}
         → heard_on fixed task suites ≡ exec.Need (Know number) → suite_of suites number ≡ Some suite → suite.first ≡ Some first → free_content task cache number first ≡ Some content
         → Move (point Executes cache suites) (point Executes (after_search task cache number first) (with_suite number (record suite { content = Some content }) suites))
-    -- it needs another content: that is fetched
+    -- fetch: it needs another content, which a server that showed its version is asked for
     fetches : {cache : Cache} {suites : Suites} {number : ℕ}
         → heard_on fixed task suites ≡ exec.Need (Know number)
         → Move (point Executes cache suites) (point (Asks (Fetching number)) cache suites)
-    -- it needs a lock: the suite is gathered, from the start or to a stronger lock
+    -- poll: it needs a lock, and the suite is gathered, from the start or to a stronger lock
     gathers : {cache : Cache} {suites : Suites} {number : ℕ} {mode : LockMode} {suite : Suite}
         → heard_on fixed task suites ≡ exec.Need (Hold number mode) → raised_or_new fixed task cache number mode (suite_of suites number) ≡ suite → is_short (next suite.collector) ≡ false
         → Move (point Executes cache suites) (point (Asks (Gathering number)) cache (with_suite number suite suites))
-    -- too few votes are to be had of it
+    -- no quorum, so abort: too few votes are to be had of it
     lacks_lock : {cache : Cache} {suites : Suites} {number : ℕ} {mode : LockMode} {suite : Suite} {got wanting : ℕ} {busy : Option (ℕ × ℕ)}
         → heard_on fixed task suites ≡ exec.Need (Hold number mode) → raised_or_new fixed task cache number mode (suite_of suites number) ≡ suite → next suite.collector ≡ Short got wanting busy
         → Move (point Executes cache suites) (point (GivesUp (short_cause number got wanting busy)) cache (with_suite number suite suites))
-    -- it refuses: nothing is set
+    -- prepare, of a refusal: nothing is set, and it is decided as answers are, so that a denial is recorded
     refuses : {cache : Cache} {suites : Suites} {refusal : Refusal}
         → heard_on fixed task suites ≡ exec.Refused refusal
         → Move (point Executes cache suites) (point (Prepares (Err refusal)) cache suites)
-    -- it is done: the suites that get votes are widened
+    -- all is known, and it has its answers: the suites that get votes are widened to these before they are prepared
     grants : {cache : Cache} {suites : Suites} {answers : List Answer} {changes : Changes}
         → heard_on fixed task suites ≡ exec.Done answers changes
         → Move (point Executes cache suites) (point (Widens (to_widen changes) (record { answers = answers; changes = changes })) cache suites)
-    -- one that was never gathered has nothing to widen
+    -- no poll: one that was never gathered has nothing to widen
     passes : {cache : Cache} {suites : Suites} {number : ℕ} {left : List ℕ} {granted : Granted}
         → suite_of suites number ≡ None
         → Move (point (Widens (number ∷ left) granted) cache suites) (point (Widens left granted) cache suites)
-    -- one is wide enough
+    -- quorum: one is held by a write quorum of its new votes already
     widens : {cache : Cache} {suites : Suites} {number : ℕ} {left : List ℕ} {granted : Granted} {suite : Suite} {prefix : Prefix} {dver : ℕ} {members : List ℕ}
         → suite_of suites number ≡ Some suite → next (widened granted.changes number suite).collector ≡ Current prefix dver members
         → Move (point (Widens (number ∷ left) granted) cache suites) (point (Widens left granted) cache (with_suite number (widened granted.changes number suite) suites))
-    -- one asks
+    -- poll: one asks servers for a write quorum of its new votes
     widens_by : {cache : Cache} {suites : Suites} {number : ℕ} {left : List ℕ} {granted : Granted} {suite : Suite} {server : ℕ} {asked : Asked}
         → suite_of suites number ≡ Some suite → next (widened granted.changes number suite).collector ≡ Ask server asked
         → Move (point (Widens (number ∷ left) granted) cache suites) (point (Asks (Widening (number ∷ left) granted)) cache (with_suite number (widened granted.changes number suite) suites))
-    -- too few votes are to be had of one
+    -- no quorum, so abort: too few votes are to be had of one
     lacks_wide : {cache : Cache} {suites : Suites} {number : ℕ} {left : List ℕ} {granted : Granted} {suite : Suite} {got wanting : ℕ} {busy : Option (ℕ × ℕ)}
         → suite_of suites number ≡ Some suite → next (widened granted.changes number suite).collector ≡ Short got wanting busy
         → Move (point (Widens (number ∷ left) granted) cache suites) (point (GivesUp (short_cause number got wanting busy)) cache (with_suite number (widened granted.changes number suite) suites))
-    -- all are widened: the servers prepare
+    -- prepare: all are widened, and each server that holds a lock is to prepare
     prepares : {cache : Cache} {suites : Suites} {granted : Granted}
         → Move (point (Widens [] granted) cache suites) (point (Prepares (Ok granted)) cache suites)
 
@@ -153,51 +154,52 @@ IsOpen other = Unit {0}
 
 module _ (fixed : Fixed) (task : Task) (cache : Cache) (suites : Suites) (server : ℕ) (asked : Request) where
   pub data Hears : Phase → Response → Point → Type 0 where
-    -- the collector of a suite asks on
+    -- poll: the collector of a suite asks on
     asks_on : {phase : Phase} {number : ℕ} {stage : Stage} {suite : Suite} {reply : Reply} {said : Said} {who : ℕ} {what : Asked}
         → Collects phase number stage → suite_of suites number ≡ Some suite → said_to asked reply ≡ Some said → next (now_told server asked said suite).collector ≡ Ask who what
         → Hears phase (Replied reply) (point (Asks phase) cache (with_suite number (now_told server asked said suite) suites))
-    -- too few votes are to be had of it
+    -- no quorum, so abort: too few votes are to be had of it
     falls_short : {phase : Phase} {number : ℕ} {stage : Stage} {suite : Suite} {reply : Reply} {said : Said} {got wanting : ℕ} {busy : Option (ℕ × ℕ)}
         → Collects phase number stage → suite_of suites number ≡ Some suite → said_to asked reply ≡ Some said → next (now_told server asked said suite).collector ≡ Short got wanting busy
         → Hears phase (Replied reply) (point (GivesUp (short_cause number got wanting busy)) cache (with_suite number (now_told server asked said suite) suites))
-    -- it has its quorum
+    -- quorum: it has its votes, under the newest prefix that was shown
     settles : {phase : Phase} {number : ℕ} {stage : Stage} {suite : Suite} {reply : Reply} {said : Said} {prefix : Prefix} {dver : ℕ} {members : List ℕ}
         → Collects phase number stage → suite_of suites number ≡ Some suite → said_to asked reply ≡ Some said → next (now_told server asked said suite).collector ≡ Current prefix dver members
         → Hears phase (Replied reply) (point stage cache (with_suite number (settled prefix dver members (now_told server asked said suite)) suites))
-    -- a lock is lost, or its server is down
+    -- abort: a lock is lost, or its server is down
     loses : {phase : Phase} {number : ℕ} {stage : Stage} {suite : Suite} {reply : Reply}
         → Collects phase number stage → suite_of suites number ≡ Some suite → said_to asked reply ≡ None
         → Hears phase (Replied reply) (point (GivesUp (Lost server)) cache suites)
-    -- a content is given, and the cache keeps it
+    -- fetch: a content is given, and the cache keeps it
     gets : {number : ℕ} {suite : Suite} {first : ReadPoint} {reply : Reply} {content : Content}
         → suite_of suites number ≡ Some suite → suite.first ≡ Some first → given_in reply ≡ Some content
         → Hears (Fetching number) (Replied reply) (point Executes (put fixed.limits (entry_of task number first content) cache) (with_suite number (record suite { content = Some content }) suites))
-    -- none is given
+    -- abort: none is given
     misses : {number : ℕ} {reply : Reply}
         → given_in reply ≡ None
         → Hears (Fetching number) (Replied reply) (point (GivesUp (Lost server)) cache suites)
-    -- a server has prepared: the others follow, and then the home decides
+    -- prepare: a server has prepared; the others follow, and then the home decides
     prepared_by : {now : ℕ} {left : List ℕ} {outcome : Proposal} {reply : Reply}
         → is_prepared reply ≡ true
         → Hears (Preparing (now ∷ left) outcome) (Replied reply) (point (PreparesAt left outcome) cache suites)
-    -- it has not
+    -- abort: it has not
     unprepared : {now : ℕ} {left : List ℕ} {outcome : Proposal} {reply : Reply}
         → is_prepared reply ≡ false
         → Hears (Preparing (now ∷ left) outcome) (Replied reply) (point (GivesUp (Lost server)) cache suites)
-    -- the home says how it ended
+    -- decide: the home says whether it commits, with answers or a refusal, or aborts
     decides : {outcome : Proposal} {reply : Reply}
         → Hears (Deciding outcome) (Replied reply) (point (Tells (verdict_in reply verdict.Aborted) (ending_by (verdict_in reply verdict.Aborted) (cause_of_abort reply))) cache suites)
-    -- a server was told how it ended, whatever it says
+    -- commit or abort: a server was told how it ended, whatever it says
     tells_next : {now : ℕ} {left : List ℕ} {v : Verdict} {ending : Ending} {response : Response}
         → Hears (Finishing (now ∷ left) v ending) response (point (TellsAt left v ending) cache suites)
+    -- commit or abort: all were told
     told_all : {v : Verdict} {ending : Ending} {response : Response}
         → Hears (Finishing [] v ending) response (point (TellsAt [] v ending) cache suites)
-    -- the server did not serve what it was asked
+    -- abort: the server did not serve what it was asked
     is_lacked : {phase : Phase} {lack : Lack}
         → IsOpen phase
         → Hears phase (Lacked lack) (point (GivesUp (lack_cause server lack)) cache suites)
-    -- nothing was asked
+    -- abort: nothing was asked
     strays : {phase : Phase} {reply : Reply}
         → AsksNothing suites phase
         → Hears phase (Replied reply) (point (GivesUp (Lost server)) cache suites)

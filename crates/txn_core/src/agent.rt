@@ -3,6 +3,7 @@
 ghost use Rattle.std.specs.Prelude.{◌≡◌, ◌<◌, ◌≤◌, IfOk, IfErr, IfNone, IfSome, OnOk, OnErr, IsTrue, Some, is_some, nat_lt, option_map, true};
 ghost use Rattle.std.specs.Option.{option_or};
 ghost use Rattle.weak_cache.specs.Cache.{Limits};
+ghost use Rattle.weak_cache.specs.Entries.{keeps};
 ghost use Rattle.txn_core.specs.code.AgentFields.{doing_of};
 ghost use Rattle.txn_core.specs.Agents as agents;
 ghost use Rattle.txn_core.specs.Standing.{FitsAsked, response_of};
@@ -279,6 +280,13 @@ impl Agent {
         ensures { self.new ≡ record self.old { state = agents.forget self.old.state site } }
     {
         self.resources.cache.forget(site);
+    }
+
+    /// Whether its cache keeps anything for a site.
+    pub fn keeps(&self, site: u8) -> bool
+        ensures { result ≡ keeps site self.now.state.cache }
+    {
+        self.resources.cache.keeps(site)
     }
 
     /// Whether it does no job.

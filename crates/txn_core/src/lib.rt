@@ -10,6 +10,8 @@
 //! that gave up comes to its end without any.
 //!
 //! The laws hold of every agent and job, whatever it is told (`specs/Laws.antt`).
+//! - Whatever a transaction does with a word is moves of the protocol, of which there are 24
+//!   (`every_response_is_moves`; `specs/Moves.antt` is the protocol to read).
 //! - Nobody is polled twice for a suite (`nobody_is_polled_twice`). A decision is asked for once, after all have
 //!   prepared, on quorums of the newest votes seen (`decide_is_sent_once`, `all_prepare_first`,
 //!   `decides_on_quorums`).
@@ -41,7 +43,7 @@
 //! `sorting`, `finishing`. The whole: `asking`, `transaction_run`, `sweep_run`, `agent`, `laws`.
 //!
 //! **Definitions** (`specs/`): `Suites`, `Doing`, `Transactions`, `Writing`, `Sweeps`, `Agents`, `Standing`,
-//! `Wanting`; for the laws `Undecided`, `Caching`, `Worlds`, `Runs`, `Laws`. The laws' proofs are one walk
+//! `Wanting`, `Moves`; for the laws `Undecided`, `Caching`, `Worlds`, `Runs`, `Laws`. The laws' proofs are one walk
 //! (`proofs/Walk.antt`).
 #![tactic(auto)]
 
@@ -81,8 +83,9 @@ pub use ending::{Cause, Ending};
 pub use job::{Job, Ops, SharedCaller};
 pub use laws::{
     a_prepare_rises, all_prepare_first, caches_what_was_fetched, decide_is_sent_once,
-    decides_on_quorums, ends_are_caused, ends_in_time, finish_carries_the_verdict, knows_contents,
-    late_steps_are_few, nobody_is_polled_twice, nothing_follows_an_end, prepare_lists_the_locks,
-    sweep_ends_in_time, what_is_written_is_fixed, worked_runs,
+    decides_on_quorums, ends_are_caused, ends_in_time, every_response_is_moves,
+    finish_carries_the_verdict, knows_contents, late_steps_are_few, nobody_is_polled_twice,
+    nothing_follows_an_end, prepare_lists_the_locks, sweep_ends_in_time, what_is_written_is_fixed,
+    worked_runs,
 };
 pub use response::Response;

@@ -1,5 +1,6 @@
 -- What a cache keeps: entries of sites and suites, the newest first.
 use Rattle.std.specs.Prelude.{ℕ, ◌+◌, ◌==◌, Bool, ◌&&◌, not, List, [], ◌∷◌, length, map, filter, find, Option}
+use Rattle.std.specs.List.{list_any}
 use Rattle.suite_content.specs.declared.content.Content.{Content}
 use Rattle.suite_content.specs.declared.content.Content.TheVariants.{Bytes, Names}
 use Rattle.suite_prefix.specs.declared.copies.Prefix.{Prefix}
@@ -48,6 +49,10 @@ is_of site suite entry = (entry.site == site) && (entry.suite == suite)
 -- a site's list
 abbrev pub list_of : ℕ → Cache → Cache
 list_of site cache = filter (is_at site) cache
+
+-- whether a site keeps anything
+abbrev pub keeps : ℕ → Cache → Bool
+keeps site cache = list_any (is_at site) cache
 
 -- the entries of all other sites
 abbrev pub forgotten : ℕ → Cache → Cache

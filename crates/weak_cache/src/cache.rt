@@ -49,7 +49,7 @@ impl Model for WeakCache {
 
 impl WeakCache {
     ghost use Rattle.weak_cache.specs.Cache.{IsWithin, hint, has_room, put, searched, content_at};
-    ghost use Rattle.weak_cache.specs.Entries.{size_of, keys_of, forgotten, entry_of, entry_with, max_sites};
+    ghost use Rattle.weak_cache.specs.Entries.{size_of, keys_of, forgotten, keeps, entry_of, entry_with, max_sites};
     ghost use Rattle.weak_cache.specs.Loans.{EndsWith};
     ghost use Rattle.weak_cache.specs.code.Beside.{room_beside};
 
@@ -217,6 +217,13 @@ impl WeakCache {
             return None;
         }
         size_within(content, self.budget.min(self.quota))
+    }
+
+    /// Whether a site keeps anything.
+    pub fn keeps(&self, site: u8) -> bool
+        ensures { result ≡ keeps site self.now.entries }
+    {
+        self.entries().any(|(own, _)| own == site)
     }
 
     /// Lets go what a site keeps.

@@ -4,7 +4,7 @@ use Rattle.acl_text.specs.declared.item.SidedEntry.{SidedEntry}
 use Rattle.acl_text.specs.Grammar.{reading}
 use Rattle.acl_text.specs.code.Remaining.{items_left}
 use Rattle.acl_text.specs.code.Tallied.{AreTallied}
-use Rattle.acl_text.specs.Texts.{readings, first_item_fault, entry_said, said_in}
+use Rattle.acl_text.specs.Texts.{readings, first_item_fault, entry_said, said_before, said_in}
 use Rattle.acl_text.proofs.read.read_acl.Given as goal
 
 -- The entries that were taken and those of the items left are all entries, and the first fault of the items left, by
@@ -16,3 +16,4 @@ invariant-loop-item l =
     × ((taken : List SidedEntry) × AreTallied l.tallies taken × (taken ++ filter_map entry_said (map (reading l.names) (items_left l.item-iterator)) ≡ said_in l.text l.names))
     × (first_item_fault (l.number + 1) (map (reading l.names) (items_left l.item-iterator)) ≡ first_item_fault 1 (readings l.text l.names))
     × (l.number + length (items_left l.item-iterator) ≤ length l.text + 1)
+    × ((taken : List SidedEntry) × AreTallied l.tallies taken × (taken ++ said_before (map (reading l.names) (items_left l.item-iterator)) ≡ said_before (readings l.text l.names)))

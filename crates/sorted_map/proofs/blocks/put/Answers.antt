@@ -1,4 +1,3 @@
-use Rattle.std.proofs.Common.{sym}
 use Rattle.sorted_map.proofs.InBlocks.{put_whole}
 use Rattle.sorted_map.proofs.blocks.put.Goals as goal
 

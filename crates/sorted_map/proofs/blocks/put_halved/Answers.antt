@@ -1,7 +1,5 @@
-use Rattle.std.proofs.Common.{◌≡◌, ◌+◌, ◌<◌, ◌++◌, drop, length, subst, sym, ◌∙◌, ap, arith, is_some}
+use Rattle.std.proofs.Common.{◌<◌, ◌++◌, length, subst, sym, ◌∙◌, ap, arith}
 use Rattle.std.proofs.lemmas.List.{take-append-drop, length-drop, length-take}
-use Rattle.sorted_map.specs.SortedMap.{insert}
-use Rattle.sorted_map.specs.Blocks.{starts_by}
 use Rattle.sorted_map.proofs.InBlocks.{halved_upper, halved_lower, insert_some, put_capacity}
 use Rattle.sorted_map.proofs.blocks.put_halved.Goals as goal
 
@@ -26,6 +24,7 @@ returns-else-starts-clause-pairs g c =
 pub returns-else-starts-clause-lower : goal.returns-else-starts-clause-lower
 returns-else-starts-clause-lower g c =
     let put = c.insert_in_room-else-starts in
-    let more = put_capacity g.met.K.Ord.total c.args.key c.halve.new.self put.new.self c.args.value put.result put.ensures.was_ordered put.ensures.before put.ensures.pairs put.ensures.room in
-    (subst (λ l. 0 < length l) (sym put.ensures.pairs) (insert_some g.met.K.Ord.total c.args.key c.halve.new.self.pairs c.args.value),
-    omega (arith, more, c.halve.ensures.lower_room, ap length c.halve.ensures.lower, length-take c.lower_half-keep.result c.args.block.now.pairs, c.len.ensures.len, c.lower_half-keep.ensures.fewer))
+    let more = put_capacity g.met.K.Ord.total c.args.key c.halve.new.self put.new.self c.args.value put.result put.ensures.was_ordered put.ensures.before put.ensures.pairs put.ensures.room in (
+      subst (λ l. 0 < length l) (sym put.ensures.pairs) (insert_some g.met.K.Ord.total c.args.key c.halve.new.self.pairs c.args.value),
+      omega (arith, more, c.halve.ensures.lower_room, ap length c.halve.ensures.lower, length-take c.lower_half-keep.result c.args.block.now.pairs, c.len.ensures.len, c.lower_half-keep.ensures.fewer),
+    )

@@ -11,8 +11,10 @@ put-before-requires-clause-room g c =
     let rest = c.args.rest.now.items in
     let b = c.index_mut.result.now in
     let is = c.index_mut.ensures.value in
-    λ absent full. (c.requires.room (get_at o c.args.key rest c.args.at b c.requires.place ∙ ap (λ x. get g.K.Ord.cmp x.pairs c.args.key) (sym is) ∙ absent),
-    subst (λ x. 2 ≤ capacity_in x) (sym is) (block_of rest c.args.at b c.requires.blocks (in_range o c.args.key rest c.args.at c.requires.place)).1)
+    λ absent full. (
+      c.requires.room (get_at o c.args.key rest c.args.at b c.requires.place ∙ ap (λ x. get g.K.Ord.cmp x.pairs c.args.key) (sym is) ∙ absent),
+      subst (λ x. 2 ≤ capacity_in x) (sym is) (block_of rest c.args.at b c.requires.blocks (in_range o c.args.key rest c.args.at c.requires.place)).1,
+    )
 
 pub returns-in-Some-clause-before : goal.returns-in-Some-clause-before
 returns-in-Some-clause-before g c =

@@ -1,4 +1,4 @@
-use Rattle.std.proofs.Common.{◌≡◌, ◌+◌, ◌-◌, ◌++◌, ◌≤◌, length, reverse, vec_capacity, vec_len}
+use Rattle.std.proofs.Common.{◌≡◌, ◌+◌, ◌++◌, ◌≤◌, length, reverse, vec_capacity}
 use Rattle.sorted_map.proofs.roomy.move_behind.Given as goal
 
 abbrev pub invariant-loop-items : goal.invariant-loop-items

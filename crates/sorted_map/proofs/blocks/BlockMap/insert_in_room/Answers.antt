@@ -1,9 +1,8 @@
-use Rattle.std.proofs.Common.{◌≡◌, ◌-◌, ◌<◌, ◌∷◌, ◌++◌, None, length, subst, sym, ◌∙◌, ap, arith}
+use Rattle.std.proofs.Common.{◌≡◌, ◌-◌, ◌<◌, ◌∷◌, ◌++◌, None, subst, sym, ◌∙◌, ap, arith}
 use Rattle.sorted_map.specs.SortedMap.{IsOrdered, get, insert}
-use Rattle.sorted_map.specs.Roomy.{Roomy}
 use Rattle.sorted_map.specs.Laws.{IsOrdered-insert}
-use Rattle.sorted_map.specs.Blocks.{joined, room_in, IsIn}
-use Rattle.sorted_map.proofs.InBlocks.{get_front, insert_front, in_rest, in_range, can_take, room_behind, AreAbove, AreBelow}
+use Rattle.sorted_map.specs.Blocks.{joined, IsIn}
+use Rattle.sorted_map.proofs.InBlocks.{get_front, insert_front, in_rest, in_range, can_take, room_behind, AreBelow}
 use Rattle.sorted_map.proofs.blocks.BlockMap.insert_in_room.Given.{Over}
 use Rattle.sorted_map.proofs.blocks.BlockMap.insert_in_room.Goals as goal
 

@@ -1,7 +1,7 @@
 use Rattle.std.proofs.Common.{◌≡◌, ◌+◌, ◌++◌, suc, take, get_or, sym, ◌∙◌, ap, arith}
 use Rattle.sorted_map.specs.Blocks.{joined}
 use Rattle.sorted_map.proofs.InBlocks.{joined_more, joined_parts}
-use Rattle.sorted_map.proofs.blocks.append_all.Goals as goal
+use Rattle.sorted_map.proofs.block_copies.append_all.Goals as goal
 
 pub loop-block-preserved : goal.loop-block-preserved
 loop-block-preserved g c =

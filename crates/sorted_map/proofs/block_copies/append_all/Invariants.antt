@@ -1,6 +1,6 @@
 use Rattle.std.proofs.Common.{◌≡◌, ◌++◌, take}
 use Rattle.sorted_map.specs.Blocks.{joined}
-use Rattle.sorted_map.proofs.blocks.append_all.Given as goal
+use Rattle.sorted_map.proofs.block_copies.append_all.Given as goal
 
 abbrev pub invariant-loop-block : goal.invariant-loop-block
 invariant-loop-block g l = l.out.items ≡ l.fn.out.items ++ joined (take l.block-index l.rest)
