@@ -1,7 +1,7 @@
 -- What is promised to a transaction that nobody meets, by servers that are up.
 use Rattle.std.proofs.Common.{◌≡◌, inl, inr, ℕ, true, List, [], ◌∷◌, ◌++◌, append-nil, length, Option, Some, None, refl, sym, ap, subst, ◌∙◌}
 use Rattle.std.specs.Prelude.{◌==◌, ◌&&◌, nat_lt, map, Contains}
-use Rattle.std.proofs.lemmas.Bool.{eq-eqb}
+use Rattle.std.proofs.lemmas.Bool.{and_parts, eq-eqb}
 use Rattle.acl_core.specs.Identity.{Identity}
 use Rattle.vote_core.specs.Quorums.{Representative, Configuration, votes_in}
 use Rattle.suite_prefix.specs.SettingsRules.{Opening}
@@ -28,10 +28,10 @@ use Rattle.law_run_recovers.specs.Demands.{Demand, demand, demand_by, demands, d
 use Rattle.law_run_recovers.specs.Laws.{EndsByVotes, HasFirstVotes, ending_by, answer_on}
 use Rattle.law_run_recovers.specs.Near.{asks_for}
 use Rattle.law_run_recovers.specs.Unmet.{GoesUnmet}
-use Rattle.law_run_recovers.specs.Local.{EndsThen, VotesNeverMovedOf, UnmetEndByVotes, UnmetAreDecidedWhereVotesAre}
+use Rattle.law_run_recovers.specs.Local.{EndsThen, VotesNeverMovedOf, UnmetEndByVotes, UnmetHadVotesUp, UnmetAreDecidedWhereVotesAre}
 use Rattle.law_run_recovers.proofs.Leading.{led}
 use Rattle.law_run_recovers.proofs.NearGround.{answers, answering, can_first, number}
-use Rattle.law_run_recovers.proofs.NearRows.{start_near, same_so_far, same_got}
+use Rattle.law_run_recovers.proofs.NearRows.{start_near, same_so_far, same_got, near_votes_are_rows}
 use Rattle.law_run_recovers.proofs.Open.{open_first}
 use Rattle.law_run_recovers.proofs.Picks.{votes_alike}
 use Rattle.law_run_recovers.proofs.Rows.{start_was}
@@ -107,6 +107,18 @@ module _ (given : Opening) (events later : List Event) (agent t : ℕ) (caller :
             ∙ ap (λ all. ending_by (first_short all) (is_up (run given events) (home_of (fixed_of given).service t)) (answer_on (table_of given events) t caller ops)) (demands_same right.start right.from);
       }
 
+  -- ---- what is decided had its votes
+
+  pub unmet_had : (job : EndedJob) → EndsThen given events later agent t caller site ops job → is_decided job.ending ≡ true
+      → (all_met (demands_of_rows (fixed_of given) (run given events) (table_of given events) t caller ops) && is_up (run given events) (home_of (fixed_of given).service t)) ≡ true
+  unmet_had job ends decided =
+      let by = unmet_by_votes job ends in
+      let up = is_up (run given events) (home_of (fixed_of given).service t) in
+      let all = demands (fixed_of given) (run given events) (table_of given events) t caller ops by.start in
+      let both = and_parts (all_met all) up (sym (ap is_decided by.ends ∙ decided_by all up (answer_on (table_of given events) t caller ops)) ∙ decided) in
+      ap (λ b. b && up) (near_votes_are_rows given events (can_first given events later agent t caller site ops actor goes) agent t caller site ops actor by.start goes.near goes.there goes.begins goes.are_near
+      (λ one server has near. open_first given events later agent t caller site ops actor goes server one near has) by.from both.0) ∙ both.1
+
   -- ---- where votes were never moved
 
   module _ (unmoved : VotesNeverMovedOf given events (asks_for given events t caller ops)) where
@@ -145,3 +157,6 @@ unmet_end_by_votes given events later agent t caller site ops actor goes job end
 
 pub unmet_are_decided_where_votes_are : UnmetAreDecidedWhereVotesAre
 unmet_are_decided_where_votes_are given events later agent t caller site ops actor goes unmoved job ends = unmet_where_votes given events later agent t caller site ops actor goes unmoved job ends
+
+pub unmet_had_votes_up : UnmetHadVotesUp
+unmet_had_votes_up given events later agent t caller site ops actor goes job ends decided = unmet_had given events later agent t caller site ops actor goes job ends decided

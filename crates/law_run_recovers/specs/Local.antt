@@ -82,6 +82,17 @@ UnmetAreDecidedWhereVotesAreAt given events =
 abbrev pub UnmetAreDecidedWhereVotesAre : Type 0
 UnmetAreDecidedWhereVotesAre = (given : Opening) (events : List Event) → UnmetAreDecidedWhereVotesAreAt given events
 
+-- And wherever votes were moved, it is decided only where its home was up as it began, and enough votes by the rows.
+abbrev pub UnmetHadVotesUpAt : Opening → List Event → Type 0
+UnmetHadVotesUpAt given events =
+    (later : List Event) (agent t : ℕ) (caller : Identity) (site : ℕ) (ops : List Op) (actor : Actor)
+    → GoesUnmet given events later agent t caller site ops actor
+    → (job : EndedJob) → EndsThen given events later agent t caller site ops job → is_decided job.ending ≡ true
+    → (all_met (demands_of_rows (fixed_of given) (run given events) (table_of given events) t caller ops) && is_up (run given events) (home_of (fixed_of given).service t)) ≡ true
+
+abbrev pub UnmetHadVotesUp : Type 0
+UnmetHadVotesUp = (given : Opening) (events : List Event) → UnmetHadVotesUpAt given events
+
 -- ---- votes that are found are the rows', whatever locks there are
 
 -- Of a transaction that an agent begins: one that was begun before may have locks itself, which are not in its own way.

@@ -11,7 +11,7 @@ use Rattle.law_run_alone.specs.Endings.{EndAsTheTable, EndingsAreOne, Undisturbe
 use Rattle.law_run_alone.specs.Undisturbed.{NothingIsInTheWayAt, UndisturbedAreDecidedAt}
 use Rattle.law_run_recovers.specs.Laws.{EndsAreByVotesAt, EndsInTimeAt, MetDemandsAreRowsAt, DecidedWhereVotesAreAt, HomesGoRoundOf, OneOfThemIsDecidedAt, DecidedHadVotesUpAt}
 use Rattle.law_run_recovers.specs.InTime.{RunsEndByTheBoundsAt}
-use Rattle.law_run_recovers.specs.Local.{UnmetEndByVotesAt, UnmetEndInTimeAt, UnmetAreDecidedWhereVotesAreAt}
+use Rattle.law_run_recovers.specs.Local.{UnmetEndByVotesAt, UnmetEndInTimeAt, UnmetHadVotesUpAt, UnmetAreDecidedWhereVotesAreAt}
 use Rattle.law_run_recovers.specs.Blocking.{BlockedByDoubtsAt, SomeServerBlocksAt, OneCrashBlocksAt}
 use Rattle.law_run_recovers.specs.Sweeping.{SweepsLeaveDoubtsAt, SweepsKeepEffectsAt, OnlyDoubtsAreLeftAt, NoLockIsLeftAt, AllIsStoredAt, TakenAwayAreNeverDecidedAt}
 
@@ -31,6 +31,7 @@ pub record IsAvailable (given : Opening) (events : List Event) : Type 0 where
   -- one that begins now and that nobody meets ends so too, whatever locks others have elsewhere, and whatever they do there
   pub unmet_ends : UnmetEndByVotesAt given events
   pub unmet_in_time : UnmetEndInTimeAt given events
+  pub unmet_had_votes : UnmetHadVotesUpAt given events
   pub unmet_where_votes : UnmetAreDecidedWhereVotesAreAt given events
   -- of as many jobs in a row of one agent as there are servers, each server is the home of one
   pub homes : HomesGoRoundOf given

@@ -10,8 +10,8 @@
 //! - Votes that are found are those of the table's rows (`met_demands_are_rows`). Where votes were never moved,
 //!   they and the home say exactly what is decided (`decided_where_votes_are`).
 //! - One that nobody meets so ends too, whatever others do elsewhere (`unmet_end_by_votes`,
-//!   `unmet_end_in_time`, `unmet_are_decided_where_votes_are`); what goes alone is one (`alone_are_unmet`). Its
-//!   votes are those of the rows (`near_votes_are_rows`, `open_votes_are_rows`).
+//!   `unmet_end_in_time`, `unmet_had_votes_up`, `unmet_are_decided_where_votes_are`); what goes alone is one
+//!   (`alone_are_unmet`). Its votes are those of the rows (`near_votes_are_rows`, `open_votes_are_rows`).
 //! - Homes go round. So where the votes are up, of as many tries as there are servers one is decided
 //!   (`homes_go_round`, `one_of_them_is_decided`).
 //! - Sweeps leave only locks in doubt, change no copy in effect, and with all servers up leave none
@@ -27,14 +27,15 @@
 //!
 //! **Files**: `lib`, `promises`. **Definitions** (`specs/`): `Standing`, `Alone`, `Demands`, `InTime`, `Laws`,
 //! `Sweeping`, `Promises`, `Worked`, `Near`, `Unmet`, `OpenDemands`, `Local`, `Blocking`, `Contending`. The
-//! proofs follow a transaction over its agent's steps (`proofs/Ends.antt`, `Stands.antt`, `Asking.antt`; among others
-//! `UnmetCourse.antt`, `UnmetEnds.antt`) and a sweep by its list (`Sweeps.antt`, `Swept.antt`, `Rounds.antt`).
+//! proofs follow a transaction over its agent's steps (`proofs/Ends.antt`, `Stands.antt`, `Asking.antt`; where
+//! others go on `UnmetCourse.antt`, `UnmetEnds.antt`) and a sweep by its list (`Sweeps.antt`, `Swept.antt`,
+//! `Rounds.antt`).
 #![tactic(auto)]
 
 mod promises;
 
 ghost use Rattle.law_run_recovers.specs.Laws.{EndsAreByVotes, EndsInTime, MetDemandsAreRows, DecidedWhereVotesAre, HomesGoRound, OneOfThemIsDecided, DecidedHadVotesUp};
-ghost use Rattle.law_run_recovers.specs.Local.{AloneAreUnmet, NearVotesAreRows, OpenVotesAreRows, UnmetAreDecidedWhereVotesAre, UnmetEndByVotes, UnmetEndInTime};
+ghost use Rattle.law_run_recovers.specs.Local.{AloneAreUnmet, NearVotesAreRows, OpenVotesAreRows, UnmetAreDecidedWhereVotesAre, UnmetEndByVotes, UnmetEndInTime, UnmetHadVotesUp};
 ghost use Rattle.law_run_recovers.specs.InTime.{RunsEndByTheBounds};
 ghost use Rattle.law_run_recovers.specs.Sweeping.{SweepsLeaveDoubts, SweepsKeepEffects, OnlyDoubtsAreLeft, NoLockIsLeft, AllIsStored, TakenAwayAreNeverDecided};
 ghost use Rattle.law_run_recovers.specs.Worked.{SomeRunsRecover};
@@ -104,6 +105,12 @@ pub fn unmet_end_by_votes()
 /// A law: and it ends, within so many steps of its agent as its locks and the servers bound. It does nothing.
 pub fn unmet_end_in_time()
     ensures { UnmetEndInTime }
+{}
+
+/// A law: and it is decided only where its home was up as it began, and the votes of the rows of all that it locks and
+/// sets. It does nothing.
+pub fn unmet_had_votes_up()
+    ensures { UnmetHadVotesUp }
 {}
 
 /// A law: and where the votes of what it asks for were never moved, it is decided exactly where its home and the votes of
