@@ -117,6 +117,12 @@ class Browser:
             raise RuntimeError(str(done["exceptionDetails"]))
         return done["result"].get("value")
 
+    def busy(self) -> float:
+        """How many milliseconds the page has used its processor."""
+        self.ask("Performance.enable", {"timeDomain": "threadTicks"})
+        told = {one["name"]: one["value"] for one in self.ask("Performance.getMetrics")["metrics"]}
+        return 1000 * told["TaskDuration"]
+
     def press(self, key: str, times: int = 1) -> None:
         how = {"key": key, "code": "Space" if key == " " else key, "windowsVirtualKeyCode": KEYS[key], **({"text": " "} if key == " " else {})}
         for place in range(times):

@@ -197,7 +197,8 @@ def begun_there(judge, name, picture, lines):
     arrows = sorted(y for _, y, _ in picture.arrows)
     for text in picture.texts:
         first = next((y for y in arrows if y > text.y), None) if text.style == "event" and text.whole.startswith("job ") else None
-        judge.holds(first is None or not any(text.y < row < first for row in rows), name, "names between a job and its first arrow", text.whole)
+        is_near = first is not None and first - text.y < draw.NEAR * draw.BAND
+        judge.holds(not is_near or not any(text.y < row < first for row in rows), name, "names between a job and its first arrow", text.whole)
 
 
 def folded(judge, name, script, lines):
@@ -245,7 +246,7 @@ def stands(judge):
     judge.holds(later.requests() == picture.requests()[at - 1 :], "--from in a job")
     judge.holds(later.said()[:2] == [("server 2", "is down"), ("agent 1", "begun before, job 0 (t 1), user 1000: write /a 00")], "before", later.said())
     server = next(x for x, name in later.places.items() if name == "server 2")
-    judge.holds([(x + wide / 2, high > later.height - 100) for x, _, wide, high in later.greys] == [(server, True)], "grey from before", later.greys)
+    judge.holds([(x + wide / 2, high > later.height - 100 - draw.LEGEND) for x, _, wide, high in later.greys] == [(server, True)], "grey from before", later.greys)
     judge.holds(all("file /a" not in words for _, words in later.said()), "a job that ended before is drawn")
 
 

@@ -54,6 +54,8 @@ SIGNS = (
     ("the server is down", '<path d="M3 -7h14v14h-14z" fill="#ddd"/>'),
     ("p2 c1: versions of the list and of the content", ""),
 )
+# So many lines of a script stay on one screen with the arrow below them.
+NEAR = 6
 # What folds: a request for locks on a suite, or one of which each server gets its own; and replies that say yes.
 FOLDS = re.compile(r"(?:t (\d+) )?(?:(poll|upgrade) suite (\d+)|(prepare|finish|break)\b)")
 GOOD = ("held", "prepared", "done")
@@ -106,10 +108,10 @@ class Picture:
             self.named.append(self.y + 2)
             self.y += BAND
 
-    def said(self, name, words):
-        """A line of the script, at what it is about, on the screen of the arrow below it. What comes next is not about a job
-        that was before."""
-        self.names_again(BAND + ROW)
+    def said(self, name, words, below=0):
+        """A line of the script, at what it is about, on one screen with so many lines and the arrow below it. What comes next
+        is not about a job that was before."""
+        self.names_again((1 + below) * BAND + ROW)
         self.last.pop(name, None)
         self.parts.append(f'<circle cx="{self.x[name]}" cy="{self.y}" r="3" fill="#222"/>')
         self.beside(self.x[name] + 7, self.y + 4, words, "event")
@@ -332,8 +334,8 @@ def ask(picture, what, known):
 
 def drawn(items, known, agents, servers, folds=False):
     """The picture of what happens at these agents and servers."""
-    picture = Picture(sorted(agents), sorted(servers))
-    for some in phases(items, folds):
+    picture, drawn_of = Picture(sorted(agents), sorted(servers)), [*phases(items, folds)]
+    for place, some in enumerate(drawn_of):
         kind, name, what = some[0]
         if len(some) > 1:
             fold(picture, some, known)
@@ -344,7 +346,8 @@ def drawn(items, known, agents, servers, folds=False):
         elif name in picture.x:
             if what[0] in trace.OF_SERVERS:
                 picture.grey(name, what[0] == "crash")
-            picture.said(name, what[1])
+            next_ones = (some[0][0] for some in drawn_of[place + 1 : place + 1 + NEAR])
+            picture.said(name, what[1], sum(1 for _ in itertools.takewhile(lambda kind: kind != ASKED, next_ones)))
     if not items:
         picture.beside(LEFT, picture.y, "nothing happens", "event")
     elif any(item[0] == ASKED for item in items):

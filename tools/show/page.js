@@ -51,12 +51,11 @@ const Page = (() => {
   function copyPart(state, copy) {
     const late = Model.behind(state, copy).map((part) => ({ prefix: "list", content: "content" })[part]);
     const about = { "data-copy": copy.suite, "data-prefix": copy.prefix, "data-content": copy.content };
-    const head = make("div", { class: "copy", ...about },
+    const mark = late.length ? make("span", { class: "stale" }, word("stale"), `: ${late.join(", ")}`) : null;
+    return make("div", { class: "copy", ...about },
       fileButton(copy.suite), make("span", { class: "version" }, ` p${copy.prefix} c${copy.content} `),
-      late.length ? make("span", { class: "stale" }, word("stale"), `: ${late.join(", ")}`) : null);
-    const list = `${Model.shortList(copy.list)}  votes ${copy.votes}`;
-    head.append(make("div", { class: "small" }, list, make("br"), contentOf(copy)));
-    return head;
+      make("span", { class: "small" }, `${contentOf(copy)} `), mark,
+      make("div", { class: "small" }, `${Model.shortList(copy.list)} ${copy.votes}`));
   }
 
   function lockPart(lock) {
