@@ -16,6 +16,7 @@ import re
 import subprocess
 import sys
 import tempfile
+import typing
 
 import played
 
@@ -38,7 +39,7 @@ MOST = {
 OF_PLAY = ("agents", "step", "run", "crash", "return", "forget", "audit")
 
 
-def script_of(command, seed):
+def script_of(command: str, seed: int) -> list[str]:
     """A script without a fault, as its lines."""
     lines = scenario.Scenario(seed, 30).script().splitlines()
     if command == "play":
@@ -49,7 +50,7 @@ def script_of(command, seed):
     return [re.sub(r"^begin \d+ (\d+ \S+) \d+", r"do \1", line) for line in lines if line.split()[0] in ("root", "user", "group", "begin")]
 
 
-def misspelt(dice, word):
+def misspelt(dice: random.Random, word: str) -> str:
     """A word with two letters exchanged, a letter too many or one too few."""
     place = dice.randrange(len(word) - 1)
     front, one, two, rest = word[:place], word[place], word[place + 1], word[place + 2 :]
@@ -59,8 +60,9 @@ def misspelt(dice, word):
 class Damage:
     """One damage of a script: its kind, where it shows, and what has to be said of it. The line is drawn until it fits the kind."""
 
-    def __init__(self, dice, command, lines, kind):
-        self.dice, self.command, self.wanted = dice, command, []
+    def __init__(self, dice: random.Random, command: str, lines: list[str], kind: str) -> None:
+        self.dice, self.command = dice, command
+        self.wanted: list[str | tuple[str, ...]] = []
         kind = f"do_{kind}" if kind else dice.choice(sorted(name for name in dir(self) if name.startswith("do_")))
         self.kind, self.fits = kind[3:].replace("_", " "), False
         for self.at in dice.choices(range(len(lines)), k=60):
@@ -69,16 +71,16 @@ class Damage:
                 self.fits = True
                 break
 
-    def put(self, words, *wanted):
+    def put(self, words: list[str], *wanted: str | tuple[str, ...]) -> None:
         self.lines[self.at] = " ".join(words)
         self.wanted = list(wanted)
 
-    def place_of(self, words):
+    def place_of(self, words: typing.Iterable[str]) -> int | None:
         """The place of one of these words in the line, if there is one."""
         found = [place for place, word in enumerate(self.words) if word in words and (place == 0) == (words is not VERBS)]
         return self.dice.choice(found) if found else None
 
-    def do_word_misspelt(self):
+    def do_word_misspelt(self) -> bool | None:
         place = self.place_of(self.dice.choice([VERBS, FIRSTS[self.command]]))
         if place is None:
             return False
@@ -87,18 +89,18 @@ class Damage:
             return False
         self.put([*self.words[:place], bad, *self.words[place + 1 :]], f"'{bad}'", f"'{self.words[place]}' is near")
 
-    def do_word_dropped(self):
+    def do_word_dropped(self) -> bool | None:
         place = self.dice.randrange(len(self.words))
         if self.words[place] == ";":
             return False
         self.put([*self.words[:place], *self.words[place + 1 :]], ("is missing", "ends, and", "an operation is due", "is due here"))
 
-    def do_word_added(self):
+    def do_word_added(self) -> bool | None:
         place, extra = self.dice.randint(1, len(self.words)), self.dice.choice(["extra", "7", "/x"])
         wanted = ("too many", f"'{extra}' stands where", f"'{extra}' is no operation", f"'{extra}' is not made of")
         self.put([*self.words[:place], extra, *self.words[place:]], f"'{extra}'", wanted)
 
-    def do_number_too_large(self):
+    def do_number_too_large(self) -> bool | None:
         places = [place for place, most in enumerate(MOST.get(self.words[0], [])) if most is not None and place + 1 < len(self.words)]
         if not places:
             return False
@@ -111,18 +113,18 @@ class Damage:
         bad = str(most + self.dice.choice([1, 1, 10**6]))
         self.put([*self.words[: place + 1], bad, *self.words[place + 2 :]], f"{bad} is above {most},")
 
-    def do_mark_in_front(self):
+    def do_mark_in_front(self) -> bool | None:
         self.at, self.words = 0, self.lines[0].split()
         self.put([f"\xef\xbb\xbf{self.lines[0]}"], "byte order mark")
 
-    def do_capitals(self):
+    def do_capitals(self) -> bool | None:
         place = self.place_of(self.dice.choice([VERBS, FIRSTS[self.command]]))
         if place is None:
             return False
         bad = self.dice.choice([self.words[place].upper(), self.words[place].capitalize()])
         self.put([*self.words[:place], bad, *self.words[place + 1 :]], f"'{bad}'", f"'{self.words[place]}' is near")
 
-    def do_text_as_bytes(self):
+    def do_text_as_bytes(self) -> bool | None:
         places = [place + 2 for place, word in enumerate(self.words) if place and word == "write"]
         if not places:
             return False
@@ -130,12 +132,12 @@ class Damage:
         wanted = "has 3 hexadecimal digits" if bad == "686" else f"'{bad}' is not made of hexadecimal digits"
         self.put([*self.words[:place], bad, *self.words[place + 1 :]], wanted)
 
-    def do_comment_behind(self):
+    def do_comment_behind(self) -> bool | None:
         if self.words[0] in ("user", "group", "step"):
             self.words = self.words[:3]
         self.put([*self.words, self.dice.choice(["#", "# a note", "#note"])], "comment stands in a line of its own")
 
-    def do_path_with_a_space(self):
+    def do_path_with_a_space(self) -> bool | None:
         places = [place + 1 for place, word in enumerate(self.words) if place and word in VERBS and word not in ("file", "folder", "setacl")]
         if not places:
             return False
@@ -143,41 +145,41 @@ class Damage:
         wanted = ("a path is one word", "'file' stands where", "'file' is not made of")
         self.put([*self.words[:place], "/my", "file", *self.words[place + 1 :]], "'file'", wanted)
 
-    def do_semicolon_without_a_space(self):
+    def do_semicolon_without_a_space(self) -> bool | None:
         if ";" not in self.words:
             return False
         line = self.dice.choice([" ".join(self.words).replace(" ; ", "; ", 1), " ".join(self.words).replace(" ; ", " ;", 1)])
         self.put([line], ("has a semicolon", "is no mode", "stands where", "stands in no name", "is no permission"))
 
-    def do_bytes_changed(self):
+    def do_bytes_changed(self) -> bool | None:
         line = self.lines[self.at]
         for place in self.dice.choices(range(len(line)), k=self.dice.randint(1, 3)):
             line = line[:place] + self.dice.choice(BYTES) + line[place + self.dice.randint(0, 2) :]
         self.put([line])
 
-    def do_header_line_dropped(self):
+    def do_header_line_dropped(self) -> bool | None:
         self.at = self.dice.randrange(5 if self.command == "play" else 4 if self.command == "serve" else 1)
         first = self.lines.pop(self.at).split()[0]
         self.wanted = [f"'{first} ", "is due here"]
 
-    def do_header_line_twice(self):
+    def do_header_line_twice(self) -> bool | None:
         count = 5 if self.command == "play" else 4 if self.command == "serve" else 1
         whole = self.dice.randrange(count)
         self.at = self.dice.randrange(count, len(self.lines))
         self.lines.insert(self.at, self.lines[whole])
         self.wanted = [f"stands above, in line {whole + 1}"]
 
-    def do_name_below(self):
+    def do_name_below(self) -> bool | None:
         self.lines.append("user late 7")
         self.at, self.wanted = len(self.lines) - 1, ["Names stand above the first"]
 
-    def do_line_of_another_command(self):
+    def do_line_of_another_command(self) -> bool | None:
         other = {"play": "do 1000 100 list /", "serve": "run 0", "table": "begin 0 1000 100 0 list /"}[self.command]
         self.at = len(self.lines)
         self.lines.append(other)
         self.wanted = [f"'{other.split()[0]}' begins a line of"]
 
-    def do_list_changed(self):
+    def do_list_changed(self) -> bool | None:
         places = [place for place, word in enumerate(self.words) if word.count("::") > 1]
         if not places:
             return False
@@ -192,7 +194,7 @@ class Damage:
         items[at] = bad
         self.put([*self.words[:place], ",".join(items), *self.words[place + 1 :]], wanted)
 
-    def do_votes_changed(self):
+    def do_votes_changed(self) -> bool | None:
         places = [place for place, word in enumerate(self.words) if word.count("/") == 2 and not word.startswith("/")]
         if not places:
             return False
@@ -206,13 +208,13 @@ class Damage:
         self.put([*self.words[:place], bad, *self.words[place + 1 :]], wanted)
 
 
-def unnamed(damage, said):
+def unnamed(damage: Damage, said: str) -> list[str | tuple[str, ...]]:
     """What of a damage is not said."""
     said = " ".join(said.split())
     return [words for words in damage.wanted if not any(one in said for one in (words if isinstance(words, tuple) else (words,)))]
 
 
-def tried(program, path, damage):
+def tried(program: str, path: str, damage: Damage) -> tuple[str, str]:
     """What comes of a damage: `none` where the program finds no fault in that line; and what `explain` says."""
     text = "".join(line + "\n" for line in damage.lines).encode("latin1")
     with open(path, "wb") as file:
@@ -231,7 +233,7 @@ def tried(program, path, damage):
     return ("unnamed" if unnamed(damage, said) else "named"), f"{printed}: {said}"
 
 
-def main():
+def main() -> int:
     read = argparse.ArgumentParser(description=__doc__, formatter_class=argparse.RawDescriptionHelpFormatter)
     read.add_argument("--cases", type=int, default=2000)
     read.add_argument("--from", type=int, default=0, dest="first")
@@ -239,7 +241,8 @@ def main():
     read.add_argument("--tell", action="store_true", help="tells each case that is not named")
     read.add_argument("program", nargs="*")
     given = read.parse_args()
-    program, counts = played.program(given.program), collections.Counter()
+    program = played.program(given.program)
+    counts: collections.Counter[tuple[str, str]] = collections.Counter()
     with tempfile.TemporaryDirectory(prefix="suites-") as folder:
         for seed in range(given.first, given.first + given.cases):
             dice = random.Random(seed)

@@ -15,6 +15,7 @@ import re
 import subprocess
 import sys
 import tempfile
+import typing
 
 TOP = os.path.realpath(os.path.join(os.path.dirname(os.path.abspath(__file__)), ".."))
 sys.path.insert(0, os.path.join(TOP, "tools"))
@@ -25,7 +26,7 @@ import happened
 import played
 import scenario
 
-HEADERS = {"table": ["root 1000 100 777"], "play": ["servers 3", "agents 2", "votes 1,1,1/2/2", "root 1000 100 777", "cache 0 0 0"], "acl": []}
+HEADERS: dict[str, list[str]] = {"table": ["root 1000 100 777"], "play": ["servers 3", "agents 2", "votes 1,1,1/2/2", "root 1000 100 777", "cache 0 0 0"], "acl": []}
 HEADERS = {**HEADERS, **{f"whole {name}": [] for name in HEADERS}}
 # What stands in a command line of the page for something of the reader's, and what is put there.
 SCRIPT = "examples/play/quorum-lost.script"
@@ -34,7 +35,7 @@ PUT = {
     "--servers N": "1,1,1/2/2 --servers 3",
 }
 # A constant of the sources, and where it is named: parts of the page with the words around it, and names in tools/grammar.py.
-LIMITS = (
+LIMITS: tuple[tuple[str, str, list[tuple[str, str]], str | None], ...] = (
     ("acl_core/src/acl.rt", "MAX_ENTRIES", [("A8", "more than {} entries")], "MAX_ENTRIES"),
     ("acl_text/src/names.rt", "MAX_NAME", [("N1", "1 to {} bytes")], "MAX_NAME"),
     ("suite_content/src/name.rt", "MAX_NAME", [("F1", "of 1 to {} bytes")], None),
@@ -97,12 +98,12 @@ NOT_FOUND = "Was it changed since?"
 WORDS = ("", "one", "two", "three", "four", "five", "six", "seven", "eight", "nine")
 
 
-def source(*path):
+def source(*path: str) -> str:
     with open(os.path.join(TOP, "crates", *path), encoding="utf-8") as file:
         return file.read()
 
 
-def examples():
+def examples() -> typing.Iterator[tuple[str, list[str], list[str], str, str]]:
     """The examples of the page: the code, the words of the command, the lines of the input, the line that is wanted, and what is told of it."""
     for _, _, code, lines in explain.page():
         for line in lines:
@@ -115,16 +116,17 @@ def examples():
                     yield code, [kind[1].split()[-1]], HEADERS[kind[1]] + given, found[4], found[5]
 
 
-def as_one(text):
+def as_one(text: str) -> str:
     return " ".join(text.split())
 
 
-def untold(command, path, fault, told):
+def untold(command: str, path: str, fault: str, told: str) -> str | None:
     """What is wrong with what `explain` says of a fault in a file."""
     with open(path, encoding="latin1") as file:
         is_said = any(line.strip() and not line.startswith("#") for line in file)
     # of which command a script is shows in its lines
-    for words in [["--of", command] if command != "acl" else [], *([[]] if is_said else [])]:
+    ways: list[list[str]] = [["--of", command] if command != "acl" else []]
+    for words in ways + ([[]] if is_said else []):
         said = as_one(explain.answer([*words, fault, path]))
         if NOT_FOUND in said:
             return "nothing is found"
@@ -134,9 +136,10 @@ def untold(command, path, fault, told):
     return None if NOT_FOUND in as_one(explain.answer([other, path])) else f"{other} is found too"
 
 
-def play_examples(program):
+def play_examples(program: str) -> tuple[int, list[str]]:
     """Plays the examples; how many there are, and what differs."""
-    count, wrong, about = 0, [], {}
+    count, wrong = 0, list[str]()
+    about: dict[str, bool] = {}
     with tempfile.TemporaryDirectory(prefix="suites-") as folder:
         path = os.path.join(folder, "given")
         for code, words, lines, wanted, told in examples():
@@ -157,7 +160,7 @@ def play_examples(program):
     return count, wrong + [f"explain says nothing of {code} where it is printed" for code in about if not about[code]]
 
 
-def read_or_nothing(terminal):
+def read_or_nothing(terminal: typing.IO[bytes]) -> str:
     """What is to be read of a terminal; nothing once the other end is closed."""
     try:
         return terminal.read(4096).decode()
@@ -165,7 +168,7 @@ def read_or_nothing(terminal):
         return ""
 
 
-def told_on_terminal():
+def told_on_terminal() -> typing.Iterator[str]:
     """What differs where a fault is found on a terminal: the command that `./suites` names has to show it."""
     with tempfile.TemporaryDirectory(prefix="suites-") as folder:
         for name, command, text, told in ON_TERMINAL:
@@ -183,24 +186,23 @@ def told_on_terminal():
                 yield f"on a terminal {command} < '{name}' says {said.strip()}, which shows {shown}"
 
 
-def denies(text, owner, group, uid, groups, wanted):
+def denies(text: str, owner: str, group: str, uid: str, groups: list[str], wanted: str) -> str:
     """The entry of a list that denies what is wanted, by the rules of acl(5)."""
-    entries = [(kind, who, frozenset(perms) - {"-"}) for kind, who, perms in (item.split(":") for item in text.split(",") if item[:2] != "d:" and item[:8] != "default:")]
-    mask = next((perms for kind, _, perms in entries if kind in ("m", "mask")), None)
+    items = [item.split(":") for item in text.split(",") if not item.startswith(("d:", "default:"))]
+    entries = [(kind, who, frozenset(perms) - {"-"}) for kind, who, perms in items]
     named = next((entry for entry in entries if entry[0] in ("u", "user") and entry[1] == uid), None)
     of_group = [entry for entry in entries if entry[0] in ("g", "group") and (entry[1] or group) in groups]
-    wanted = frozenset(wanted) - {"-"}
+    asked = frozenset(wanted) - {"-"}
     if uid == owner:
         return "user::"
     if named:
-        return f"user:{uid}" if wanted - named[2] else "mask::"
-    if of_group:
-        lacking = all(wanted - perms for _, _, perms in of_group)
-        return (f"group:{of_group[0][1]}" if of_group[0][1] else "group::") if lacking and mask is None or lacking else "mask::"
-    return "other::"
+        return f"user:{uid}" if asked - named[2] else "mask::"
+    if of_group and all(asked - perms for _, _, perms in of_group):
+        return f"group:{of_group[0][1]}" if of_group[0][1] else "group::"
+    return "mask::" if of_group else "other::"
 
 
-def told_of_runs(program):
+def told_of_runs(program: str) -> tuple[int, list[str]]:
     """What differs of what is told of lines with their scripts: of stories, and of random scripts, where each line has to be
     told, and a list that is told of a denial has to deny it."""
     count, wrong = 0, []
@@ -216,14 +218,15 @@ def told_of_runs(program):
             said, count = " ".join(happened.of_run(run, line, script, "the script")), count + 1
             found = re.search(r"Its list was then (\S+), its owner user (\d+), and its group (\d+)\. User (\d+) of groups (\S+) ", said)
             denial = re.search(r"wants (\S+) by (\S+)$", line)
-            if denial and denial[2] != "owner" and (not found or denies(*found.group(1, 2, 3, 4), found[5].split(","), denial[1]) != denial[2]):
-                wrong.append(f"seed {seed}: of {line} is told: {said}")
+            if denial and denial[2] != "owner":
+                decider = found and denies(found[1], found[2], found[3], found[4], found[5].split(","), denial[1])
+                wrong += [] if decider == denial[2] else [f"seed {seed}: of {line} is told: {said}"]
             if not said or ("undecided" in line and len(said) < 150):
                 wrong.append(f"seed {seed}: of {line} is told too little: {said}")
     return count, wrong
 
 
-def told_alone():
+def told_alone() -> tuple[int, list[str]]:
     """What differs of what is told of words and lines by themselves, and of faults of what has been mended."""
     wrong = [f"of {text} explain does not say {words}" for text, wanted in ALONE.items() for words in wanted if words not in as_one(explain.answer([text]))]
     with tempfile.NamedTemporaryFile("w", prefix="suites-", encoding="latin1") as file:
@@ -239,7 +242,7 @@ def told_alone():
     return len(ALONE) + len(MENDED) + 1, wrong
 
 
-def silent_lines(program):
+def silent_lines(program: str) -> tuple[int, list[str]]:
     """What differs between the lines that tools/after.py says did nothing and those that the trace says did nothing."""
     wrong = []
     for seed in range(SEEDS):
@@ -254,7 +257,7 @@ def silent_lines(program):
     return SEEDS, wrong
 
 
-def play_commands():
+def play_commands() -> tuple[int, list[str]]:
     """Runs the command lines that the page shows; how many there are, and which fail."""
     with open(explain.PAGE, encoding="utf-8") as file:
         shown = sorted({span for span in re.findall(explain.SPAN, file.read()) if re.match(r"(\./)?suites .*[a-z]", span)})
@@ -271,7 +274,7 @@ def play_commands():
     return len(shown), wrong
 
 
-def untold_words():
+def untold_words() -> typing.Iterator[str]:
     """The codes and words that the sources print and of which the page tells nothing."""
     parts = {code: "\n".join(lines) for _, _, code, lines in explain.page()}
     files = glob.glob(os.path.join(TOP, "crates", "suite_*", "src", "*.rt"))
@@ -286,7 +289,7 @@ def untold_words():
             yield f"of the sources no words of {part} were found: {words}"
 
 
-def unexplained():
+def unexplained() -> typing.Iterator[str]:
     """The lines that the rows print, and the trace, of which the page tells nothing."""
     parts = {code for _, _, code, _ in explain.page()}
     rows = [row for row in played.rows() if row["words"][:1] and row["words"][0] in (b"play", b"serve", b"table", b"acl")]
@@ -300,7 +303,7 @@ def unexplained():
         yield f"only {len(printed)} lines are printed by rows"
 
 
-def false_limits():
+def false_limits() -> typing.Iterator[str]:
     """The limits that are others in the sources."""
     parts = {code: "\n".join(lines) for _, _, code, lines in explain.page()}
     for path, name, told, own in LIMITS:
@@ -313,7 +316,7 @@ def false_limits():
             yield f"{own} of tools/grammar.py is not {number}, the {name} of {path}"
 
 
-def main():
+def main() -> int:
     program = played.program(sys.argv[1:])
     count, wrong = play_examples(program)
     for told in (play_commands, lambda: told_of_runs(program), told_alone, lambda: silent_lines(program)):

@@ -10,6 +10,7 @@ import os
 import re
 import subprocess
 import sys
+import typing
 
 import played
 
@@ -25,9 +26,9 @@ FILLED_IN = re.compile(r"(?<![\w/])(?:[A-Z]{2,}|[A-Z])(?!\w)|\[|\.\.\.|< \.\.")
 LEFT_OUT = ("./suites --prove", "./suites --test", "./suites --is-fresh", ".ci/run")
 
 
-def of_block(number, block):
+def of_block(number: int, block: list[bytes]) -> list[tuple[int, str, str | None]]:
     """The commands of a block, each with its line, and what is shown below it where it begins with a `$`."""
-    found = []
+    found: list[tuple[int, str, list[str] | None]] = []
     for place, line in enumerate(line.decode() for line in block):
         command = COMMAND.match(line)
         if command:
@@ -37,7 +38,7 @@ def of_block(number, block):
     return [(place, command, None if lines is None else "".join(lines)) for place, command, lines in found]
 
 
-def commands(document):
+def commands(document: str) -> typing.Iterator[tuple[int, str, str | None]]:
     """All commands that a document shows, with their lines and what is to be printed, where that is shown."""
     text = shown.content(document)
     for number, block in shown.blocks(text):
@@ -47,16 +48,16 @@ def commands(document):
             yield from ((number, command, None) for command in SPAN.findall(line))
 
 
-def is_typed(command):
+def is_typed(command: str) -> bool:
     return not command.startswith(LEFT_OUT) and not FILLED_IN.search(re.sub(r"#.*", "", command))
 
 
-def status_of(wanted):
+def status_of(wanted: str | None) -> int:
     """The status of a command with this output: `may` ends with 1 where something is denied."""
     return 1 if wanted and " may not " in wanted else 0
 
 
-def main():
+def main() -> int:
     count = wrong = 0
     for document in DOCUMENTS:
         for number, command, wanted in commands(document):

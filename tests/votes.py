@@ -30,6 +30,7 @@ import re
 import subprocess
 import sys
 import tempfile
+import typing
 
 import played
 
@@ -50,21 +51,21 @@ Told = collections.namedtuple("Told", "lost sets more blocked ends_u5")
 End = collections.namedtuple("End", "place kind down home_is_down how rest suite")
 
 
-def told(word, servers, up):
+def told(word: str, servers: int, up: str) -> dict[str, Told]:
     """What the tool tells of a read and of a write. How many servers there are it is told where the word says less."""
     text = "\n".join(votes.told_of_word(word, servers if word.count(",") + 1 < servers else None, up)) + "\n"
     found = {}
     for kinds, lost, sets, blocked, ends_u5 in SECTION.findall(text):
-        least, _, more = " ".join(sets.split()).partition(" and ")
-        least = [tuple(map(int, one.split(","))) for one in re.findall(r"\{([\d,]+)\}", least)]
-        lost = 0 if lost == "none" else int(lost.removeprefix("any "))
-        more = int(more.split()[0].replace(",", "")) if more else 0
+        shown, _, rest = " ".join(sets.split()).partition(" and ")
+        least = [tuple(map(int, one.split(","))) for one in re.findall(r"\{([\d,]+)\}", shown)]
+        may_be_lost = 0 if lost == "none" else int(lost.removeprefix("any "))
+        more = int(rest.split()[0].replace(",", "")) if rest else 0
         for kind in kinds.split(" and "):
-            found[kind] = Told(lost, least, more, blocked, ends_u5)
+            found[kind] = Told(may_be_lost, least, more, blocked, ends_u5)
     return found
 
 
-def parts_of(word):
+def parts_of(word: str) -> tuple[list[int], dict[str, int]]:
     """The votes of each server, and how many a read and a write collect."""
     fields, r, w = word.split("/")
     return [0 if field == "-" else int(field) for field in fields.split(",")], {"read": int(r), "write": int(w)}
@@ -73,28 +74,30 @@ def parts_of(word):
 class Play:
     """A script of `play` with files of these votes, which one agent reads and writes while servers are down."""
 
-    def __init__(self, servers, words):
-        self.servers, self.words, self.down, self.count = servers, words, set(), 0
-        self.lines, self.tries = [f"servers {servers}\n" + HEADER.format(",".join(["1"] * servers), servers)], []
+    def __init__(self, servers: int, words: list[str]) -> None:
+        self.servers, self.words, self.count = servers, words, 0
+        self.down: set[int] = set()
+        self.lines = [f"servers {servers}\n" + HEADER.format(",".join(["1"] * servers), servers)]
+        self.tries: list[tuple[int, str, frozenset[int], bool]] = []
         for place, word in enumerate(words):
             self.begin(f"file /{place} 666 {word}")
 
-    def begin(self, operation):
+    def begin(self, operation: str) -> None:
         self.lines.append(f"begin 0 1000 100 0 {operation}\nrun 0\n")
         self.count += 1
 
-    def fall(self, down):
+    def fall(self, down: set[int]) -> None:
         """These servers are down from here on, and no others."""
         self.lines += [f"crash {server}\n" for server in sorted(down - self.down)]
         self.lines += [f"return {server}\n" for server in sorted(self.down - down)]
         self.down = set(down)
 
-    def tried(self, place, kind):
+    def tried(self, place: int, kind: str) -> None:
         """A file is read or written once; notes which, which servers are down, and whether its home is."""
         self.tries.append((place, kind, frozenset(self.down), self.count % self.servers in self.down))
         self.begin(f"read /{place}" if kind == "read" else f"write /{place} 00")
 
-    def answers(self, program):
+    def answers(self, program: str) -> typing.Iterator[End]:
         """How each try ended."""
         done = subprocess.run([program, "play"], input="".join(self.lines), stdout=subprocess.PIPE, stderr=subprocess.DEVNULL, text=True)
         lines = done.stdout.splitlines()
@@ -103,10 +106,11 @@ class Play:
         suites = [line.split()[-1] for line in lines[: len(self.words)]]
         for one, line in zip(self.tries, lines[len(self.words):]):
             how = line.split()[2:]
-            yield End(*one, how[1] if how[0] == "undecided" else how[0], " ".join(how[2:]), suites[one[0]])
+            word = how[1] if how[0] == "undecided" else how[0]
+            yield End(one[0], one[1], one[2], one[3], word, " ".join(how[2:]), suites[one[0]])
 
 
-def is_odd(end, servers, word):
+def is_odd(end: End, servers: int, word: str) -> bool:
     """Whether a try ended in a way that no rule allows: U1 names the file, with the votes that are up, or the folder where all are down."""
     if end.how == "U1":
         shares, needed = parts_of(word)
@@ -115,7 +119,7 @@ def is_odd(end, servers, word):
     return end.how != ("U5" if end.home_is_down else "answered")
 
 
-def chance_text(chance):
+def chance_text(chance: fractions.Fraction) -> str:
     """A chance with two digits."""
     exponent = 0
     while chance and chance < 1:
@@ -126,18 +130,20 @@ def chance_text(chance):
     return f"{digits // 10}.{digits % 10}e{exponent:+d}" if chance else "0"
 
 
-def found_anew(servers, ends, up):
+def found_anew(servers: int, ends: dict[frozenset[int], list[str]], up: fractions.Fraction) -> Told:
     """What is to be told, from how the tries ended with each set of servers down: how many may be lost, the least sets, both chances."""
     blocked = {down: all(how == "U1" for how in hows) for down, hows in ends.items()}
     lost = min(len(down) for down in blocked if blocked[down]) - 1
     least = sorted((len(down), tuple(sorted(down))) for down in blocked if blocked[down] and not any(blocked[down - {one}] for one in down))
     weight = {down: up ** (servers - len(down)) * (1 - up) ** len(down) for down in blocked}
-    never = sum(weight[down] for down in blocked if blocked[down])
-    ends_u5 = sum(weight[down] * fractions.Fraction(hows.count("U5"), len(hows)) for down, hows in ends.items()) / (1 - never)
+    none = fractions.Fraction(0)
+    never = sum((weight[down] for down in blocked if blocked[down]), none)
+    parts = (weight[down] * fractions.Fraction(hows.count("U5"), len(hows)) for down, hows in ends.items())
+    ends_u5 = sum(parts, none) / (1 - never)
     return Told(lost, [some for _, some in least[:20]], max(0, len(least) - 20), chance_text(never), chance_text(ends_u5))
 
 
-def every_loss(program, servers, words, dice):
+def every_loss(program: str, servers: int, words: list[str], dice: random.Random) -> tuple[int, list[str]]:
     """Compares all that is told of votes with runs in which every set of servers is down. Answers how many tries there were, and what differs."""
     play, wrong = Play(servers, words), []
     for size in range(servers + 1):
@@ -148,6 +154,7 @@ def every_loss(program, servers, words, dice):
                     play.tried(place, kind)
     up = dice.choice(CHANCES)
     tells = [told(word, servers, up) for word in words]
+    ends: dict[tuple[int, str], dict[frozenset[int], list[str]]]
     ends = collections.defaultdict(lambda: collections.defaultdict(list))
     for end in play.answers(program):
         ends[end.place, end.kind][end.down].append(end.how)
@@ -160,7 +167,7 @@ def every_loss(program, servers, words, dice):
     return len(play.tries), wrong
 
 
-def told_losses(program, servers, word, dice):
+def told_losses(program: str, servers: int, word: str, dice: random.Random) -> tuple[int, list[str]]:
     """Compares the sets that are told, and how many servers may be lost, with runs in which these are down."""
     play, tell, wanted = Play(servers, [word]), told(word, servers, "0.99"), []
     for kind in ("read", "write"):
@@ -182,19 +189,19 @@ def told_losses(program, servers, word, dice):
     return len(play.tries), wrong
 
 
-def thresholds(total):
+def thresholds(total: int) -> list[tuple[int, int]]:
     """The votes that a read and a write may collect."""
     return [(r, w) for w in range(total // 2 + 1, total + 1) for r in range(total - w + 1, total + 1)]
 
 
-def all_words(servers):
+def all_words(servers: int) -> typing.Iterator[str]:
     """All valid votes where each server is not listed or has up to two votes; those behind the last that is listed are not said."""
     for fields in itertools.product(["-", "0", "1", "2"], repeat=servers):
         total = sum(int(field) for field in fields if field != "-")
         yield from (f"{','.join(fields).rstrip(',-')}/{r}/{w}" for r, w in thresholds(total))
 
 
-def random_word(servers, dice):
+def random_word(servers: int, dice: random.Random) -> str:
     """Valid votes of so many servers, of which some may have none, and the last may not be said."""
     most = dice.choice([1, 2, 3, 9, 255])
     fields = [dice.choice(["-", "0", *[str(dice.randint(1, most))] * 5]) for _ in range(servers - dice.choice([0, 0, 0, servers // 3]))]
@@ -204,12 +211,12 @@ def random_word(servers, dice):
     return f"{','.join(fields)}/{dice.randint(total - w + 1, total)}/{w}"
 
 
-def run_tool(words):
+def run_tool(words: typing.Sequence[str]) -> subprocess.CompletedProcess[str]:
     """The tool, with these words, as a user runs it."""
     return subprocess.run([os.path.join(played.TOP, "suites"), "votes", *words], stdout=subprocess.PIPE, stderr=subprocess.DEVNULL, text=True)
 
 
-def check_examples(_, __):
+def check_examples(_: argparse.Namespace, __: random.Random) -> tuple[int, list[str]]:
     """The blocking probabilities of the paper's three examples, where each server is up with chance 0.99; and the words of the command line."""
     gifford = {"1,0,0/1/1": ("1.0e-2", "1.0e-2"), "2,1,1/2/3": ("2.0e-4", "1.0e-2"), "1,1,1/1/3": ("1.0e-6", "3.0e-2")}
     found = {word: tuple(told(word, 3, "0.99")[kind].blocked for kind in ("read", "write")) for word in gifford}
@@ -229,9 +236,9 @@ def check_examples(_, __):
     return len(gifford) + 1 + len(lines) + len(statuses), wrong
 
 
-def check_losses(given, dice):
+def check_losses(given: argparse.Namespace, dice: random.Random) -> tuple[int, list[str]]:
     """Votes against `play`."""
-    tried, wrong = 0, []
+    tried, wrong = 0, list[str]()
     words = [(servers, list(all_words(servers))) for servers in range(1, 6 if given.all else 4)]
     words += [(servers, [random_word(servers, dice) for _ in range(count)]) for servers, count in ((4, 80), (5, 80), (6, 16), (7, 8), (8, 4))]
     words.append((7, ["1,1,1,1,1,1,1/4/4", "2,1,1,1,1,1,1/4/5"]))
@@ -257,7 +264,7 @@ FAULTS = {
 SOUND = ["1/1/1", "0255/00000000000000000000255/255", "2:1,-,-/1/1", "32:1/1/1", ",".join("1" * 32) + "/16/17", "-,2,1,1/2/3"]
 
 
-def code_told(word, servers):
+def code_told(word: str, servers: str) -> str:
     """The code that the tool tells, by its command line, where it explains it; nothing where it tells of votes."""
     words = [*(["--servers", servers] if servers else []), *(["--", word] if word.startswith("--") else [word])]
     done = run_tool(words)
@@ -270,7 +277,7 @@ def code_told(word, servers):
     return code if is_explained and has_rule else f"{code} with status {done.returncode}"
 
 
-def code_of_program(program, word, servers):
+def code_of_program(program: str, word: str, servers: int | None) -> str:
     """The code that the program tells of votes in a script: in the header of `play` where it is said how many servers there are, else in `table`."""
     script = f"servers {servers}\nagents 1\nvotes {word}\n" if servers else f"root 1 1 777\ndo 1 1 setvotes / {word}\n"
     done = subprocess.run([program, "play" if servers else "table"], input=script, stdout=subprocess.PIPE, text=True)
@@ -278,7 +285,7 @@ def code_of_program(program, word, servers):
     return found[2] if found and found[2] != "S2" else ""
 
 
-def spoiled(word, dice):
+def spoiled(word: str, dice: random.Random) -> str:
     """Votes with a character or two changed."""
     for _ in range(dice.choice([0, 1, 1, 2])):
         place = dice.randrange(len(word) + 1)
@@ -286,12 +293,12 @@ def spoiled(word, dice):
     return word or "/"
 
 
-def check_faults(given, dice):
+def check_faults(given: argparse.Namespace, dice: random.Random) -> tuple[int, list[str]]:
     """Faulty words: those whose code the rules say, and random ones against the program."""
     wrong = []
     for word, code in [*FAULTS.items(), *((word, "") for word in SOUND)]:
-        servers, _, bare = word.rpartition(":")
-        found = code_told(bare, servers)
+        count, _, bare = word.rpartition(":")
+        found = code_told(bare, count)
         if found != code:
             wrong.append(f"{word}: told {found or 'no fault'}, and not {code or 'none'}")
     for _ in range(800):
@@ -323,7 +330,7 @@ LEFT = [
 ]
 
 
-def told_of_script(script):
+def told_of_script(script: str) -> subprocess.CompletedProcess[str]:
     """What the tool tells of a script, and its status."""
     with tempfile.NamedTemporaryFile("w", suffix=".script", newline="") as file:
         file.write(script)
@@ -331,7 +338,7 @@ def told_of_script(script):
         return subprocess.run([sys.executable, os.path.join(trace.TOOLS, "votes.py"), "--script", file.name], stdout=subprocess.PIPE, stderr=subprocess.DEVNULL, text=True)
 
 
-def check_scripts(_, __):
+def check_scripts(_: argparse.Namespace, __: random.Random) -> tuple[int, list[str]]:
     """Scripts: which votes are told of which files, and for how many servers; and that a fault is told as `play` tells it."""
     wrong = []
     faulty = told_of_script(OPENING.format(2) + MOVE.replace("1/3", "1/2"))
@@ -398,7 +405,7 @@ def check_moved(given: argparse.Namespace, dice: random.Random) -> tuple[int, li
     return count, wrong
 
 
-def check_shapes(given: argparse.Namespace, _: random.Random) -> tuple[int, list[str]]:
+def check_shapes(given: argparse.Namespace, __: random.Random) -> tuple[int, list[str]]:
     """Ways to share votes: how many requests a read and a write take, and that all else is what is told of these votes."""
     wrong, words = [], []
     for servers in range(1, 6):
@@ -423,7 +430,7 @@ def check_shapes(given: argparse.Namespace, _: random.Random) -> tuple[int, list
     return len(words) + 1 + len(RULES), wrong
 
 
-def main():
+def main() -> int:
     read = argparse.ArgumentParser(description=__doc__, formatter_class=argparse.RawDescriptionHelpFormatter)
     read.add_argument("--all", action="store_true")
     read.add_argument("--seed", type=int, default=1)

@@ -15,6 +15,7 @@ import shutil
 import subprocess
 import sys
 import tempfile
+import typing
 
 import played
 
@@ -35,6 +36,9 @@ for word; do :; done
 [ $# = 1 ] && { read -r line; cat > /dev/null; echo "read $line"; exit 0; }
 exit "$word"
 """
+# Words that ask for help.
+HELP = ("help votes", "help trace", "help --test", "--help", "-h", "help", "play --help", "help play", "serve -h", "acl --help",
+        "explain --help", "trace --help")
 # Words that ask for nothing, and what is said of them.
 NEAR = {"plai": "play is near", "vote 1/1/1": "votes is near", "--hlep": "--help is near", "trace x": "./suites trace < x"}
 # Standard streams, and what is said with them where the program ends with status 6.
@@ -53,7 +57,7 @@ KEEP = "import choose, sources; choose.keep_record('checked', sources.Sources(),
 class Copy:
     """A copy of the repository, and what differs in it."""
 
-    def __init__(self, room):
+    def __init__(self, room: str) -> None:
         self.top, self.bare = os.path.join(room, "copy"), os.path.join(room, "bare")
         self.played = self.wrong = 0
         os.makedirs(self.top)
@@ -67,23 +71,23 @@ class Copy:
         for name in USED:
             os.symlink(shutil.which(name), os.path.join(self.bare, name))
 
-    def answer(self, words, **how):
+    def answer(self, words: list[str], **how: typing.Any) -> tuple[int, str, str]:
         """The status of `./suites` with these words, and what it printed on both streams."""
         done = subprocess.run(["./suites", *words], cwd=self.top, stdin=subprocess.DEVNULL, capture_output=True, **how)
         return done.returncode, done.stdout.decode("latin1"), done.stderr.decode("latin1")
 
-    def reason(self, words, streams):
+    def reason(self, words: str, streams: str) -> subprocess.CompletedProcess[str]:
         """What standard error says of an answer with these standard streams, as a shell writes them."""
         line = f"exec ./suites {words} {streams}"
         return subprocess.run(["sh", "-c", line], cwd=self.top, stdin=subprocess.DEVNULL, stdout=subprocess.PIPE, stderr=subprocess.PIPE, text=True)
 
-    def holds(self, given, about):
+    def holds(self, given: object, about: str) -> None:
         self.played += 1
         if not given:
             self.wrong += 1
             print(about)
 
-    def at_once(self, words):
+    def at_once(self, words: list[str]) -> tuple[int, str, str]:
         """An answer, which has to take no build."""
         before = resource.getrusage(resource.RUSAGE_CHILDREN)
         given = self.answer(words)
@@ -92,7 +96,7 @@ class Copy:
         self.holds(spent < AT_ONCE and not os.path.exists(os.path.join(self.top, "out")), f"{words} takes {spent:.1f} s, or a build")
         return given
 
-    def on_terminal(self, words, *pieces):
+    def on_terminal(self, words: list[str], *pieces: bytes) -> str:
         """What a terminal shows of an answer, where these are typed, each once nothing more comes."""
         leader, end = pty.openpty()
         process = subprocess.Popen(["./suites", *words], cwd=self.top, stdin=end, stdout=end, stderr=end)
@@ -108,12 +112,12 @@ class Copy:
         return shown.decode("latin1").replace("\r\n", "\n")
 
 
-def needs_program(words):
+def needs_program(words: list[str]) -> bool:
     """Whether it is the program that tells what these words ask for."""
     return words[:1] == ["acl"] and words[1:] != ["--help"] or words[:1] == ["serve"] and "".join(words[1:2]).partition("=")[0] == "--agents"
 
 
-def plays_rows(copy):
+def plays_rows(copy: Copy) -> None:
     """Rows of words that ask for nothing, and of help, where there is neither a build nor python3 to make one."""
     tools = open(os.path.join(copy.top, "help", "tools.txt"), encoding="utf-8").read()
     for row in played.rows():
@@ -129,10 +133,10 @@ def plays_rows(copy):
             copy.holds(bool(told) == (status == 2), f"{words}: on standard error stands {told}")
 
 
-def answers_at_once(copy):
+def answers_at_once(copy: Copy) -> None:
     """What needs no build, and what is told of it."""
-    for words in ([], ["no"], ["-x"], ["play", "foo"], ["table", "-x"], ["serve", "4"], ["help", "no"]):
-        copy.holds(copy.at_once(words)[:2] == (2, "fault command line\n"), f"{words} is no fault of the command line")
+    for words in ("", "no", "-x", "play foo", "table -x", "serve 4", "help no"):
+        copy.holds(copy.at_once(words.split())[:2] == (2, "fault command line\n"), f"{words} is no fault of the command line")
     copy.holds("no option" in copy.at_once(["table", "-x"])[2], "table -x")
     copy.holds(copy.at_once(["play", "foo"])[2] == "suites: a script is read from standard input: ./suites play < foo\n", "play foo")
     for words, told in NEAR.items():
@@ -140,20 +144,22 @@ def answers_at_once(copy):
     for words in ("trace x", "draw --agent 1 x", "trace <&-", "draw < /", "trace --agent 9 < two"):
         with open(os.path.join(copy.top, "two"), "w", encoding="utf-8") as file:
             file.write("servers 1\nagents 2\n")
-        told = copy.reason(words, "")
-        copy.holds(told.returncode in (2, 6) and told.stdout == "" and len(told.stderr.splitlines()) == 1, f"{words}: {told}")
-    for words in (["help", "votes"], ["help", "trace"], ["help", "--test"], ["--help"], ["-h"], ["help"], ["play", "--help"], ["help", "play"], ["serve", "-h"], ["acl", "--help"], ["explain", "--help"], ["trace", "--help"]):
-        status, printed, told = copy.at_once(words)
+        done = copy.reason(words, "")
+        is_one = done.stdout == "" and len(done.stderr.splitlines()) == 1
+        copy.holds(done.returncode in (2, 6) and is_one, f"{words}: {done}")
+    for words in HELP:
+        status, printed, told = copy.at_once(words.split())
         copy.holds((status, told) == (0, "") and len(printed) > 200, f"{words}: {status} {printed} {told}")
-    for words in (["help"], ["-h"]):
-        copy.holds(copy.answer(words) == copy.answer(["--help"]), f"{words} is another text than --help")
+    for words in ("help", "-h"):
+        copy.holds(copy.answer([words]) == copy.answer(["--help"]), f"{words} is another text than --help")
     copy.holds(copy.at_once(["explain", "S1"])[0] == 0, "explain S1")
-    told = subprocess.run([sys.executable, "tools/compare.py"], cwd=copy.top, capture_output=True, text=True)
-    copy.holds((told.returncode, told.stdout) == (2, "") and told.stderr.startswith("tools/compare.py SCRIPT.."), f"compare.py without words: {told}")
+    done = subprocess.run([sys.executable, "tools/compare.py"], cwd=copy.top, capture_output=True, text=True)
+    is_told = done.stderr.startswith("tools/compare.py SCRIPT..")
+    copy.holds((done.returncode, done.stdout) == (2, "") and is_told, f"compare.py without words: {done}")
     copy.holds(copy.at_once(["--is-fresh"])[0] == 1, "a program is fresh that is not there")
 
 
-def says_once_a_day(copy):
+def says_once_a_day(copy: Copy) -> None:
     """A sentence that is said once a day is not said a second time."""
     code = "import console, os\nfor _ in 'ab': console.say_once_a_day('told', 'hello')\nos.utime('told', (0, 0)); console.say_once_a_day('told', 'again')"
     with tempfile.TemporaryDirectory(prefix="suites-") as room:
@@ -161,7 +167,7 @@ def says_once_a_day(copy):
     copy.holds(done.stderr == "suites: hello\nsuites: again\n", f"once a day is said: {done.stderr}")
 
 
-def tells_all_commands(copy):
+def tells_all_commands(copy: Copy) -> None:
     """Help tells each word that `./suites` knows."""
     with open(os.path.join(copy.top, "suites"), encoding="utf-8") as file:
         known = re.findall(r"^([a-z|-]+)\)", file.read().split("\ncase $1 in\n")[1], re.M)
@@ -172,11 +178,11 @@ def tells_all_commands(copy):
         copy.holds(f"  {line} " in text, f"--help does not show {line}")
 
 
-def git(copy, *words):
+def git(copy: Copy, *words: str) -> str:
     return subprocess.run(["git", "-C", copy.top, "-c", "user.name=a", "-c", "user.email=a", *words], capture_output=True, text=True).stdout.strip()
 
 
-def tells_version(copy):
+def tells_version(copy: Copy) -> None:
     """The version is that of CHANGELOG.md, the commit that of git, the kit that of README.md, and the build what is there."""
     with open(os.path.join(copy.top, "CHANGELOG.md"), encoding="utf-8") as file:
         version = next(line[3:].strip() for line in file if line.startswith("## "))
@@ -194,7 +200,7 @@ def tells_version(copy):
         shutil.rmtree(os.path.join(copy.top, ".git"))
 
 
-def runs_a_build(copy):
+def runs_a_build(copy: Copy) -> None:
     """With a build: what --version tells of it, and what goes to the program."""
     os.makedirs(os.path.join(copy.top, "out"), exist_ok=True)
     path = os.path.join(copy.top, "out", "suites")
@@ -215,7 +221,7 @@ def runs_a_build(copy):
     copy.holds(copy.answer(["play", "foo"])[:2] == (2, "fault command line\n"), "play foo with a build")
 
 
-def tells_a_terminal(copy):
+def tells_a_terminal(copy: Copy) -> None:
     """What a terminal is told besides, with a build."""
     reading = "suites: reading from the terminal"
     shown = copy.on_terminal(["play"], *TYPED)
@@ -231,7 +237,7 @@ def tells_a_terminal(copy):
     copy.holds("above 16 MiB" in copy.on_terminal(["serve", "--agents", "6"]), "status 6 is not explained on a terminal")
 
 
-def main():
+def main() -> int:
     with tempfile.TemporaryDirectory(prefix="suites-") as room:
         copy = Copy(room)
         plays_rows(copy)

@@ -24,7 +24,7 @@ BYTES_A_CHECK = 4 << 30
 STOPPED = "stopped; what is proved is kept, and ./suites --prove goes on from there"
 
 
-def seats():
+def seats() -> int:
     """How many checks may run side by side."""
     cores = len(os.sched_getaffinity(0))
     try:
@@ -34,13 +34,13 @@ def seats():
     return max(1, min(cores, memory // BYTES_A_CHECK))
 
 
-def step(teller, done, count, last, stays):
+def step(teller: console.Teller, done: int, count: int, last: str, stays: bool) -> None:
     """Says how many crates are proved."""
     name = f"; the last was {last}" if last else ""
     teller.say(f"{done} of {count} crates proved, {teller.seconds()} s{name}", stays and not teller.changes)
 
 
-def prove(top, needs, teller):
+def prove(top: str, needs: dict[str, list[str]], teller: console.Teller) -> tuple[str, str] | None:
     """Proves a crate and those below it, side by side where they do not stand on each other. Answers the crate that failed, and what it printed.
 
     `rt all` in a crate's folder takes that crate and those below it. (An `rt check` for each would not run side by
@@ -76,12 +76,12 @@ def prove(top, needs, teller):
     return (failed[0], console.tail(said[failed[0]])) if failed else (top, console.tail(summary))
 
 
-def prove_laws(teller):
+def prove_laws(teller: console.Teller) -> tuple[str, str] | None:
     """Proves what is promised to who plays: the laws of all runs, of which the program uses some and a caller may want the others."""
     return prove(LAWS, sources.crates_below(LAWS), teller) if PROGRAM == "suites" else None
 
 
-def build(needs, teller):
+def build(needs: dict[str, list[str]], teller: console.Teller) -> tuple[str, str] | None:
     """Proves, compiles and links the program itself. Answers the program's name, and what it printed, where that failed."""
     with tempfile.TemporaryFile() as log:
         # rt run also runs what it built; here that prints the program's help into the log
@@ -98,7 +98,7 @@ def build(needs, teller):
         return PROGRAM, console.tail(log.read().decode("utf-8", "replace"))
 
 
-def main():
+def main() -> int:
     if len(sys.argv) > 1:
         raise console.Stop("--prove takes no other word than trace or may")
     kit = sources.Kit()

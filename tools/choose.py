@@ -14,6 +14,7 @@ import re
 import shlex
 import subprocess
 import sys
+import typing
 
 import console
 import sources
@@ -30,11 +31,11 @@ STOPPED = "stopped; there is no checked build yet"
 CHANGES = os.path.join(sources.TOP, "CHANGELOG.md")
 
 
-def path_of(kind):
+def path_of(kind: str) -> str:
     return os.path.join(sources.TOP, PROGRAMS[kind])
 
 
-def record_of(kind, now, kit):
+def record_of(kind: str, now: sources.Sources, kit: sources.Kit) -> dict[str, str | None]:
     """What is kept of a build: the sources and the kit that it was made with, and the program's own sum."""
     return {
         "sources": now.claims if kind == "proved" else now.code,
@@ -44,15 +45,15 @@ def record_of(kind, now, kit):
     }
 
 
-def record_path(kind):
+def record_path(kind: str) -> str:
     return os.path.join(KEPT, f"{sources.OF_PROGRAM}{kind}.json")
 
 
-def keep_record(kind, now, kit):
+def keep_record(kind: str, now: sources.Sources, kit: sources.Kit) -> None:
     sources.write_whole(record_path(kind), json.dumps(record_of(kind, now, kit)))
 
 
-def is_fresh(kind, now, kit, with_proofs=False):
+def is_fresh(kind: str, now: sources.Sources, kit: sources.Kit, with_proofs: bool = False) -> bool:
     """Whether a build of this kind is there, and is that of these sources. With no kit at hand it may be of any.
 
     What was proved stays so where a proof is written anew: that the proofs too are those of the build is wanted only
@@ -67,11 +68,11 @@ def is_fresh(kind, now, kit, with_proofs=False):
     return kept == wanted and os.path.exists(path_of(kind))
 
 
-def fresh_kind(now, kit):
+def fresh_kind(now: sources.Sources, kit: sources.Kit) -> str | None:
     return next((kind for kind in PROGRAMS if is_fresh(kind, now, kit)), None)
 
 
-def keep_choice(kind, now, kit, begun):
+def keep_choice(kind: str, now: sources.Sources, kit: sources.Kit, begun: int) -> None:
     """Keeps the choice, as if written when the files began to be read. Where it cannot be kept it is made anew each time.
 
     A checked build is made of the code alone. Its claims are looked at only where a proved program is there, which may
@@ -85,7 +86,7 @@ def keep_choice(kind, now, kit, begun):
     sources.write_whole(CHOICE, "".join(f"{name}={shlex.quote(value)}\n" for name, value in kept.items()), begun)
 
 
-def choose():
+def choose() -> str | None:
     """The kind of build that these sources have; keeps the choice."""
     begun = sources.time_of_files()
     now, kit = sources.Sources(), sources.Kit()
@@ -95,7 +96,7 @@ def choose():
     return kind
 
 
-def build():
+def build() -> None:
     """Makes the checked build, or finds that this kit gives none."""
     teller = console.Teller()
     sources.Kit().wanted()
@@ -116,7 +117,7 @@ def build():
         keep_record(kind, now, kit)
 
 
-def commit():
+def commit() -> str:
     """The commit of these sources, and whether they differ from it; nothing where that is not known."""
     if not os.path.exists(os.path.join(sources.TOP, ".git")):
         return ""
@@ -127,7 +128,7 @@ def commit():
         return ""
 
 
-def version():
+def version() -> typing.Iterator[str]:
     """What there is to tell of this version, a line each."""
     with open(CHANGES, encoding="utf-8") as file:
         yield f"suites {re.search('^## (.*)', file.read(), re.M)[1]}"
@@ -141,7 +142,7 @@ def version():
     yield f"build {kind}, {PROGRAMS[kind]}" if kind else "build none yet; what plays a script makes a checked one first, in some two minutes"
 
 
-def main():
+def main() -> int:
     if sys.argv[1:] == ["--version"]:
         print("\n".join(version()))
         return 0

@@ -16,9 +16,9 @@ NAMES = {"user": "NAME UID", "group": "NAME GID"}
 class Language(typing.NamedTuple):
     """The lines of a command's scripts: those of its header in their order, the one that may follow, and its own."""
 
-    due: tuple
-    may: tuple
-    own: dict
+    due: tuple[str, ...]
+    may: tuple[str, ...]
+    own: dict[str, str]
 
 
 LANGUAGES = {
@@ -58,6 +58,10 @@ LONG = 60
 ANY = "\0ANY"
 
 
+# The names of users and of groups, each with its number and the line that says so.
+Names = dict[str, dict[str, tuple[str, int]]]
+
+
 class Wrong(typing.NamedTuple):
     """What is wrong with a word: the code, a sentence, and whether it may well belong to another place."""
 
@@ -71,42 +75,42 @@ class Where(typing.NamedTuple):
 
     servers: int
     agents: int
-    names: dict
+    names: Names
     first: str
 
 
-def plain(text):
+def plain(text: str) -> str:
     """Bytes of a script as a terminal can show them."""
     shown = text.encode("latin1", "replace").decode("utf-8", "backslashreplace")
     return re.sub(r"[\x00-\x1f\x7f-\x9f\u200b\u2028\u2029\ufeff]", lambda found: f"\\x{ord(found[0]):02x}", shown)
 
 
-def short(text):
+def short(text: str) -> str:
     """The beginning of a long word."""
     return plain(text) if len(text) <= LONG else f"{plain(text[:LONG])}.."
 
 
-def quoted(text):
+def quoted(text: str) -> str:
     return f"'{short(text)}'"
 
 
-def value(digits):
+def value(digits: str) -> int:
     """The number that digits say, as far as it matters: one of more than 20 digits is above all limits."""
     return int(digits.lstrip("0")[:21] or "0")
 
 
-def either(words, link="or"):
+def either(words: typing.Iterable[str], link: str = "or") -> str:
     """Words as one speaks of them: 'a', 'b' or 'c'."""
     words = list(words)
     return f" {link} ".join(filter(None, [", ".join(words[:-1]), words[-1]]))
 
 
-def nearest(word, known):
+def nearest(word: str, known: typing.Iterable[str]) -> list[str]:
     """The known words like this one, the likest first."""
     return difflib.get_close_matches(word.lower(), list(known), 3, 0.5)
 
 
-def numbered(place, word, where):
+def numbered(place: str, word: str, where: Where) -> Wrong | None:
     """What is wrong with a number in its place."""
     ranges = {"A": (0, where.agents - 1, "the last agent", "S1"), "S": (0, where.servers - 1, "the last server", "S1"), **NUMBERS}
     least, most, what, code = ranges[place]
@@ -121,7 +125,7 @@ def numbered(place, word, where):
     return Wrong(code, f"{short(word)} is below {least}", True) if number < least else None
 
 
-def of_groups(word, where):
+def of_groups(word: str, where: Where) -> Wrong | None:
     parts = word.split(",")
     if not re.fullmatch("[0-9,]+", word):
         return numbered("GID", word, where)._replace(text=f"{quoted(word)} stands where GIDS are due, {MEANT['GIDS']}")
@@ -136,13 +140,13 @@ def of_groups(word, where):
     return None
 
 
-def of_old(word, where):
+def of_old(word: str, where: Where) -> Wrong | None:
     if not re.fullmatch("[0-9,]+", word) or "" in word.split(","):
         return Wrong("S1", f"{quoted(word)} stands where servers are due, {MEANT['OLD']}", True)
     return next(filter(None, (numbered("S", part, where) for part in word.split(","))), None)
 
 
-def form_of_votes(word):
+def form_of_votes(word: str) -> str | None:
     """What keeps a word from being votes, whichever they are."""
     parts = word.split("/")
     if len(parts) != 3 or not parts[0]:
@@ -163,13 +167,13 @@ def form_of_votes(word):
     return None
 
 
-def of_votes(word, where):
+def of_votes(word: str, where: Where) -> Wrong | None:
     text = form_of_votes(word)
     if text:
         return Wrong("S1", text, not re.match("[-0-9]+[,/]", word))
-    fields, read, write = word.split("/")
+    fields, *collected = word.split("/")
     listed = {server: value(field) for server, field in enumerate(fields.split(",")) if field != "-"}
-    read, write, total = value(read), value(write), sum(listed.values())
+    (read, write), total = map(value, collected), sum(listed.values())
     of = where.servers if where.first == "votes" else MAX_SERVERS
     if not listed:
         return Wrong("V1", f"{quoted(word)} lists no server")
@@ -187,7 +191,7 @@ def of_votes(word, where):
     return None
 
 
-def of_bytes(word, _where):
+def of_bytes(word: str, _where: Where) -> Wrong | None:
     if word == "-" or re.fullmatch("([0-9a-fA-F]{2})+", word):
         return None
     if re.fullmatch("[0-9a-fA-F]+", word):
@@ -196,7 +200,7 @@ def of_bytes(word, _where):
     return Wrong("S1", f"{quoted(word)} is not made of hexadecimal digits{meant}", True)
 
 
-def of_name(word, where):
+def of_name(word: str, where: Where) -> Wrong | None:
     if not word or len(word) > MAX_NAME:
         return Wrong("N1", f"the name has {len(word)} bytes, and at most {MAX_NAME} are allowed")
     bad = NO_NAME.search(word)
@@ -208,14 +212,14 @@ def of_name(word, where):
     return Wrong("N2", f"{where.first} {quoted(word)} has a number already, by line {known[word][1]}") if word in known else None
 
 
-def items(text):
+def items(text: str) -> typing.Iterator[tuple[int, str]]:
     """The items of a list's text, each with the number of its line."""
     for line, whole in enumerate(text.split("\n"), 1):
         for item in whole.partition("#")[0].split(","):
             yield line, item
 
 
-def permissions(field):
+def permissions(field: str) -> str | None:
     """Why a field is no permissions."""
     if re.fullmatch("[0-7]", field):
         letters = "".join(letter if int(field) & bit else "-" for letter, bit in (("r", 4), ("w", 2), ("x", 1)))
@@ -229,7 +233,7 @@ def permissions(field):
     return "there are more than three hyphens" if field.count("-") > 3 else None
 
 
-def form_of_item(fields):
+def form_of_item(fields: list[str]) -> str | None:
     """What keeps the fields of an item from being an entry, as far as its form goes."""
     kind, count = KINDS.get(fields[0]), len(fields)
     if not fields[0]:
@@ -249,7 +253,7 @@ def form_of_item(fields):
     return permissions(fields[-1]) or (f"{quoted(bad[0])} stands in no name" if bad else None)
 
 
-def entry_of(item, names):
+def entry_of(item: str, names: Names | None) -> tuple[str, str] | tuple[str, str, int | str | None]:
     """The entry of an item: its list, its kind and whom it names; or the code and the text of what is wrong with it; or nothing."""
     fields = [field.strip(" \t\r") for field in item.split(":")]
     side = "default" if fields[0] in ("default", "d") else "access"
@@ -271,7 +275,7 @@ def entry_of(item, names):
     return side, kind, value(whom) if whom else None
 
 
-def fault_of_entries(entries):
+def fault_of_entries(entries: list[tuple[int, str, int | str | None]]) -> tuple[str, str] | None:
     """What is wrong with the entries of one list, each the number of its item, its kind and whom it names."""
     count = collections.Counter(entry[1:] for entry in entries)
     for kind, code in (("user", "A1"), ("group", "A2"), ("other", "A3")):
@@ -289,24 +293,24 @@ def fault_of_entries(entries):
     return ("A8", f"there are {len(entries)} entries") if len(entries) > MAX_ENTRIES else None
 
 
-def fault_of_list(text, names):
+def fault_of_list(text: str, names: Names | None) -> Wrong | None:
     """What is wrong with a list's text."""
-    found = {"access": [], "default": []}
+    found: dict[str, list[tuple[int, str, int | str | None]]] = {"access": [], "default": []}
     for number, (_, item) in enumerate(items(text), 1):
         if not item.strip(" \t\r"):
             continue
-        entry = entry_of(item, names)
-        if len(entry) == 2:
-            return Wrong(f"{entry[0]} item {number}", f"item {number} is {quoted(item.strip())}: {entry[1]}", entry[0] == "A9")
-        found[entry[0]].append((number, *entry[1:]))
+        side, told, *whom = entry_of(item, names)
+        if not whom:
+            return Wrong(f"{side} item {number}", f"item {number} is {quoted(item.strip())}: {told}", side == "A9")
+        found[side].append((number, told, whom[0]))
     wrong = fault_of_entries(found["access"])
     if wrong:
         return Wrong(*wrong)
-    wrong = found["default"] and fault_of_entries(found["default"])
+    wrong = fault_of_entries(found["default"]) if found["default"] else None
     return Wrong(f"A13 {wrong[0]}", f"{wrong[1]}, in the default list (d:)") if wrong else None
 
 
-def of_list(word, where):
+def of_list(word: str, where: Where) -> Wrong | None:
     if "\r" in word:
         return Wrong("S1", f"{quoted(word)} has a carriage return")
     # the names of a script stand below its root folder
@@ -316,7 +320,7 @@ def of_list(word, where):
     return wrong
 
 
-def of_init(word, where):
+def of_init(word: str, where: Where) -> Wrong | None:
     if re.fullmatch("[0-7]{3}", word):
         return None
     wrong = of_list(word, where)
@@ -333,14 +337,14 @@ WORDS = {
 }
 
 
-def wrong_with(place, word, where):
+def wrong_with(place: str, word: str, where: Where) -> Wrong | None:
     """What is wrong with a word in a place."""
     if word is ANY:
         return None
     return WORDS[place](word, where) if place in WORDS else numbered(place, word, where)
 
 
-def form_of(first, language):
+def form_of(first: str, language: str) -> str:
     """The words of a line that begins so, as they are written down."""
     form = {**HEADER, **NAMES, **LANGUAGES[language].own}[first]
     number = {"SERVERS": "N", "AGENTS": "N", "OLD": "S,S,..", "OPERATIONS": "OPERATION ; .."}

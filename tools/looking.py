@@ -79,7 +79,8 @@ class Suite(typing.NamedTuple):
         """The least sets of servers with which down the votes are up and are not found: of none of them a part is one too."""
         servers, least = self.matters(), list[frozenset[int]]()
         for size in range(len(servers) + 1 if len(servers) <= ALL_OF else FEW + 1):
-            for chosen in map(frozenset, itertools.combinations(servers, size)):
+            for some in itertools.combinations(servers, size):
+                chosen = frozenset(some)
                 if not any(one <= chosen for one in least) and self.is_missed(chosen, is_read):
                     least.append(chosen)
                     yield chosen

@@ -11,7 +11,12 @@ name begins with law_. The second has the other public functions that have a con
 above them, which says in words what is proved, each name in the last column has to be in the crate of its row. A law without
 lines is a fault. ./suites --test runs --check.
 """
-import difflib, glob, os, re, sys
+import difflib
+import glob
+import os
+import re
+import sys
+import typing
 
 TOP = os.path.realpath(os.path.join(os.path.dirname(os.path.abspath(__file__)), ".."))
 PAGE = os.path.join(TOP, "docs", "PROVED.md")
@@ -23,35 +28,38 @@ CLAUSE = re.compile(r"ensures(?:\*)? (\w+) \{")
 OF_TESTS = ("library_tests", "run_tests", "command_tests")
 
 
-def content(path):
+def content(path: str) -> str:
     with open(path, encoding="utf-8") as file:
         return file.read()
 
 
-def crates():
+def crates() -> list[str]:
     """The libraries, in the order of crates.txt."""
     lines = (line.partition("#")[0] for line in content(os.path.join(TOP, "crates.txt")).split("\n"))
     names = [line.split(":")[0].split()[0] for line in lines if ":" in line]
     return [name for name in names if name not in OF_TESTS and os.path.exists(os.path.join(TOP, "crates", name, "src", "lib.rt"))]
 
 
-def shown(crate):
+def shown(crate: str) -> tuple[set[str], set[str]]:
     """The names that a crate's root shows, and the modules that are public."""
     text = content(os.path.join(TOP, "crates", crate, "src", "lib.rt"))
     names = {name for used in re.findall(r"pub use ([^;]*);", text) for name in re.findall(r"\w+", used)}
     return names, set(re.findall(r"^pub mod (\w+)", text, re.M))
 
 
-def type_of(line):
+def type_of(line: str) -> str:
     """The type, or the trait, of the block that a line begins."""
     plain = re.sub(r"<[^<>]*(?:<[^<>]*(?:<[^<>]*>[^<>]*)*>[^<>]*)*>", "", line)
     named = re.search(r"(?:\bfor|\btrait|\bimpl) &?(?:'\w+ )?(?:mut )?(?:\w+::)*(\w+)", plain[plain.index(" for "):] if " for " in plain else plain)
     return named[1] if named else ""
 
 
-def functions(path):
+def functions(path: str) -> list[typing.Any]:
     """The functions of a file: the type (or ""), whether that is by a trait, the name, whether it is public, its clauses and its lines ///."""
-    of, by_trait, found, open_, said = "", False, [], None, []
+    of, by_trait = "", False
+    found: list[typing.Any] = []
+    open_: typing.Any = None
+    said: list[str] = []
     for line in content(path).split("\n"):
         begins = FUNCTION.match(line.strip())
         if BLOCK.match(line):
@@ -74,7 +82,7 @@ def functions(path):
     return found
 
 
-def public(crate):
+def public(crate: str) -> typing.Iterator[tuple[str, str, list[str], bool, str]]:
     """The public functions of a crate that have a contract: (type or "", name, clauses, whether it is a law, lines ///)."""
     names, modules = shown(crate)
     for path in sorted(glob.glob(os.path.join(TOP, "crates", crate, "src", "**", "*.rt"), recursive=True)):
@@ -85,14 +93,15 @@ def public(crate):
                 yield of, name, [clause for clause in clauses if clause], is_law, said
 
 
-def told(name, clauses):
+def told(name: str, clauses: list[str]) -> str:
     return f"`{name}`" + (f" ({', '.join(clauses)})" if clauses else "")
 
 
-def table_of_functions():
+def table_of_functions() -> str:
     lines = ["| Crate | Public functions, with the names of their clauses |", "|---|---|"]
     for crate in crates():
-        found, cells = {}, []
+        found: dict[str, list[tuple[str, list[str]]]] = {}
+        cells: list[str] = []
         for of, name, clauses, is_law, _ in public(crate):
             if not is_law:
                 found.setdefault(of, []).append((name, clauses))
@@ -104,7 +113,7 @@ def table_of_functions():
     return "\n".join(lines)
 
 
-def laws():
+def laws() -> typing.Iterator[tuple[str, str, str]]:
     """The laws: crate, name, and what its lines say of it."""
     for crate in crates():
         for of, name, _, is_law, said in public(crate):
@@ -113,7 +122,7 @@ def laws():
                 yield crate, f"{of}::{name}" if of else name, said[:1].upper() + said[1:]
 
 
-def table_of_laws():
+def table_of_laws() -> str:
     lines, last = ["| Crate | Law | Says |", "|---|---|---|"], ""
     for crate, name, said in laws():
         begins = f"`{crate}` " if crate != last else ""
@@ -122,9 +131,11 @@ def table_of_laws():
     return "\n".join(lines)
 
 
-def faults(text):
+def faults(text: str) -> typing.Iterator[str]:
     """The names of the table in words that are not in their crate, and the laws that say nothing."""
-    crate, named, words = "", {}, {}
+    crate = ""
+    named: dict[str, set[str]] = {}
+    words: dict[str, set[str]] = {}
     for line in text.split("\n"):
         cells = line.strip("| ").split(" | ") if line.startswith("|") else []
         if len(cells) == 3:
@@ -140,13 +151,13 @@ def faults(text):
     yield from (f"{crate}: the law {name} has no lines ///" for crate, name, said in laws() if not said)
 
 
-def written(text, marks, table):
+def written(text: str, marks: tuple[str, str], table: str) -> tuple[str, str]:
     """The page with a table between its marks, and what stands before them."""
     before, _, rest = text.partition(marks[0])
     return f"{before}{marks[0]}\n\n{table}\n\n{marks[1]}{rest.partition(marks[1])[2]}", before
 
 
-def main():
+def main() -> int:
     text = content(PAGE)
     if any(mark not in text for mark in (*LAWS, *FUNCTIONS)):
         print("docs/PROVED.md has no marks for its two tables")

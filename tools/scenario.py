@@ -23,15 +23,17 @@ ROOTS = ["777", "777", "755", "u::rwx,u:2000:rwx,g::rwx,m::rwx,o::rx"]
 class Scenario:
     """A script that is being written."""
 
-    def __init__(self, seed, length):
+    def __init__(self, seed: int, length: int) -> None:
         self.dice, self.length = random.Random(seed), length
         self.servers, self.agents = self.dice.randint(1, 6), self.dice.randint(2, 6)
-        self.down, self.lines, self.likely = set(), [], {"/", "/a", "/d", "/d/a", "/d/e", "/e", "/e/a"}
+        self.down: set[int] = set()
+        self.lines: list[str] = []
+        self.likely = {"/", "/a", "/d", "/d/a", "/d/e", "/e", "/e/a"}
 
-    def say(self, *words):
+    def say(self, *words: object) -> None:
         self.lines.append(" ".join(map(str, words)))
 
-    def votes(self):
+    def votes(self) -> str:
         """Valid votes of some of the servers."""
         while True:
             shares = [self.dice.choice([None, 0, 1, 1, 1, 2]) if self.servers > 1 else 1 for _ in range(self.servers)]
@@ -44,20 +46,20 @@ class Scenario:
                 shares.pop()
             return ",".join("-" if share is None else str(share) for share in shares) + f"/{r}/{w}"
 
-    def first(self):
+    def first(self) -> str:
         """The votes that the service opens with: of as few servers as make it last."""
         total = min(self.servers, self.dice.randint(1, 4))
         w = total // 2 + 1
         return f"{','.join(['1'] * total)}/{total - w + 1}/{w}"
 
-    def bytes(self):
+    def bytes(self) -> str:
         return "".join(f"{self.dice.randrange(256):02x}" for _ in range(self.dice.choice([0, 1, 2, 5, 40]))) or "-"
 
-    def initial(self):
+    def initial(self) -> str:
         init = self.dice.choice(MODES) if self.dice.random() < 0.6 else self.dice.choice(LISTS)
         return f"{init} {self.votes()}" if self.dice.random() < 0.15 else init
 
-    def operation(self):
+    def operation(self) -> str:
         kind = self.dice.choices(["read", "write", "list", "file", "folder", "drop", "getacl", "setacl", "getvotes", "setvotes"],
                                  [20, 20, 8, 10, 5, 5, 6, 8, 3, 6])[0]
         if self.dice.random() < 0.04:
@@ -73,12 +75,12 @@ class Scenario:
         after = {"write": self.bytes, "file": self.initial, "folder": self.initial, "setacl": lambda: self.dice.choice(LISTS), "setvotes": self.votes}
         return f"{kind} {path}" + (f" {after[kind]()}" if kind in after else "")
 
-    def begin(self, agent):
+    def begin(self, agent: int) -> None:
         uid, groups = self.dice.choice(USERS[: 1 if self.dice.random() < 0.4 else len(USERS)])
         count = self.dice.choice([1, 1, 1, 2, 3]) if self.dice.random() < 0.98 else 9
         self.say("begin", agent, uid, groups, self.dice.choice([0, 0, 0, 3]), " ; ".join(self.operation() for _ in range(count)))
 
-    def heal(self):
+    def heal(self) -> None:
         """All servers restart, and what was left behind is swept."""
         for server in sorted(self.down):
             self.say("return", server)
@@ -89,7 +91,7 @@ class Scenario:
             self.say("sweep", agent, server)
             self.say("run", agent)
 
-    def event(self):
+    def event(self) -> None:
         agent, server = self.dice.randrange(self.agents), self.dice.randrange(self.servers)
         what = self.dice.choices(["whole", "begin", "step", "run", "crash", "return", "sweep", "forget", "heal"], [36, 14, 22, 8, 5, 9, 4, 2, 3])[0]
         if what == "whole":
@@ -116,7 +118,7 @@ class Scenario:
         else:
             self.say("run", agent)
 
-    def script(self):
+    def script(self) -> str:
         self.say("servers", self.servers)
         self.say("agents", self.agents)
         self.say("votes", self.first())
@@ -135,13 +137,14 @@ class Scenario:
         return "\n".join(self.lines) + "\n"
 
 
-def main():
+def main() -> int:
     read = argparse.ArgumentParser(description=__doc__, formatter_class=argparse.RawDescriptionHelpFormatter)
     read.add_argument("seed", type=int)
     read.add_argument("lines", type=int, nargs="?", default=120)
     given = read.parse_args()
     sys.stdout.write(Scenario(given.seed, given.lines).script())
+    return 0
 
 
 if __name__ == "__main__":
-    main()
+    sys.exit(main())

@@ -24,8 +24,9 @@ class Shape(typing.NamedTuple):
 
     def is_better(self, other: "Shape") -> bool:
         """Whether it is as good in all, and better in something."""
-        pairs = [*zip(self.requests, other.requests), *zip(self.blocked, other.blocked)]
-        pairs += [(theirs, own) for own, theirs in zip(self.lost, other.lost)]
+        pairs: list[tuple[Chance, Chance]] = [*zip(self.blocked, other.blocked)]
+        pairs += [(Chance(own), Chance(theirs)) for own, theirs in zip(self.requests, other.requests)]
+        pairs += [(Chance(theirs), Chance(own)) for own, theirs in zip(self.lost, other.lost)]
         return all(own <= theirs for own, theirs in pairs) and any(own < theirs for own, theirs in pairs)
 
 

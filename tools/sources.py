@@ -11,6 +11,7 @@ import shutil
 import subprocess
 import tempfile
 import time
+import typing
 
 import console
 
@@ -36,14 +37,14 @@ KINDS = {".rt": (RUST, "//"), ".antt": (LOGIC, "--")}
 TICK = 0.02
 
 
-def told(text, ending):
+def told(text: str, ending: str) -> str:
     """A text without comments, blank lines and spaces at the ends of lines; the lines of a string stay together."""
     pattern, mark = KINDS[ending]
     text = pattern.sub(lambda found: "" if found[0].startswith(mark) else found[0].replace("\n", "\0"), text)
     return "\n".join(line for line in map(str.rstrip, text.split("\n")) if line)
 
 
-def crates_below(program):
+def crates_below(program: str) -> dict[str, list[str]]:
     """The crates that a program stands on, each with those that it names, the program last."""
     needs = {}
     with open(os.path.join(TOP, LIST), encoding="utf-8") as lines:
@@ -53,7 +54,7 @@ def crates_below(program):
                 needs[name.split()[0]] = named.split()
     found = {}
 
-    def visit(name):
+    def visit(name: str) -> None:
         if name in needs and name not in found:
             for need in needs[name]:
                 visit(need)
@@ -63,7 +64,7 @@ def crates_below(program):
     return found
 
 
-def files_of(folder):
+def files_of(folder: str) -> typing.Iterator[str]:
     """The sources in this folder of the repository, by their paths from its top."""
     for place, _, names in os.walk(os.path.join(TOP, folder)):
         for name in names:
@@ -71,7 +72,7 @@ def files_of(folder):
                 yield os.path.relpath(os.path.join(place, name), TOP)
 
 
-def read_json(path):
+def read_json(path: str) -> dict[str, typing.Any]:
     """What was kept in this file; nothing where it is not there, or was broken off."""
     try:
         with open(path, encoding="utf-8") as file:
@@ -80,7 +81,7 @@ def read_json(path):
         return {}
 
 
-def write_whole(path, text, written=None):
+def write_whole(path: str, text: str, written: int | None = None) -> None:
     """Writes a file so that nobody reads a part of it, as if at this time (in nanoseconds)."""
     with open(f"{path}.{os.getpid()}", "w", encoding="utf-8") as file:
         file.write(text)
@@ -89,7 +90,7 @@ def write_whole(path, text, written=None):
     os.replace(file.name, path)
 
 
-def make_folder():
+def make_folder() -> None:
     """Makes the folder for what is built, or ends the tool where nothing can be written into it."""
     try:
         os.makedirs(KEPT, exist_ok=True)
@@ -98,7 +99,7 @@ def make_folder():
         raise console.Stop(f"nothing can be written in {KEPT}, and no program of these sources is there: copy the repository to where you may write") from None
 
 
-def time_of_files():
+def time_of_files() -> int | None:
     """A time before which all that is read from now on was written, as files have it; none where nothing can be written."""
     try:
         with tempfile.TemporaryFile(dir=KEPT) as file:
@@ -109,7 +110,7 @@ def time_of_files():
     return begun
 
 
-def sum_of(path):
+def sum_of(path: str) -> str | None:
     """The sum of a file's bytes; nothing where it is not there."""
     try:
         with open(path, "rb") as file:
@@ -121,14 +122,14 @@ def sum_of(path):
 class Kit:
     """The kit whose `rt` is on the path, if there is one."""
 
-    def __init__(self):
+    def __init__(self) -> None:
         self.command = shutil.which("rt") or ""
         self.name = ""
         if self.command:
             said = subprocess.run(["rt", "version"], stdin=subprocess.DEVNULL, capture_output=True, text=True)
             self.name = said.stdout.strip()
 
-    def wanted(self):
+    def wanted(self) -> None:
         """Ends the tool where there is no kit, or one of another logic."""
         if not self.command:
             raise console.Stop("the program is not built, and the command rt that builds it is not on the path (README.md names the kit)")
@@ -141,7 +142,7 @@ class Kit:
 class Sources:
     """The sources as they are now: the sums of the code, of code and claims, and of all with the proofs."""
 
-    def __init__(self):
+    def __init__(self) -> None:
         self.crates = crates_below(PROGRAM)
         self.sums = self.summed([f"crates/{name}/{part}" for name in self.crates for part in (CODE, CLAIMS, PROOFS)])
         self.files = sorted(self.sums)
@@ -151,12 +152,13 @@ class Sources:
         self.claims = self.total(self.claim_files)
         self.all = self.total(self.files)
 
-    def summed(self, folders):
+    def summed(self, folders: list[str]) -> dict[str, str]:
         """The sum of each file's text, kept from before where its size and times are the same."""
-        before, now, kept = read_json(SUMS), {}, time.time_ns()
+        before, kept = read_json(SUMS), time.time_ns()
+        now: dict[str, list[typing.Any]] = {}
         for file in (file for folder in folders for file in files_of(folder)):
             about = os.stat(os.path.join(TOP, file))
-            mark = [about.st_size, about.st_mtime_ns, about.st_ctime_ns]
+            mark: list[typing.Any] = [about.st_size, about.st_mtime_ns, about.st_ctime_ns]
             if before.get(file, [None])[:3] != mark:
                 with open(os.path.join(TOP, file), encoding="utf-8", errors="surrogateescape", newline="\n") as text:
                     clean = told(text.read(), os.path.splitext(file)[1])
@@ -170,13 +172,13 @@ class Sources:
             write_whole(SUMS, json.dumps(settled))
         return {file: mark[3] for file, mark in now.items()}
 
-    def total(self, files):
+    def total(self, files: list[str]) -> str:
         """The sum of these files, and of what each crate names."""
         lines = [f"{name}: {' '.join(needs)}" for name, needs in self.crates.items()]
         lines += [f"{file} {self.sums[file]}" for file in files]
         return hashlib.sha256("\n".join(lines).encode()).hexdigest()
 
-    def looked_at(self, is_proved):
+    def looked_at(self, is_proved: bool) -> list[str]:
         """What is looked at before each run of the program: the code, and where a proved program is at stake its claims too, with the folders in which a new file may matter."""
         files = self.claim_files if is_proved else self.code_files
         return [*sorted({os.path.dirname(file) for file in files}), *files]

@@ -11,9 +11,11 @@ it ends, of a part that fails also what it printed, and last how many passed and
 import os
 import re
 import resource
+import subprocess
 import sys
 import tempfile
 import time
+import typing
 
 import console
 import gate
@@ -34,17 +36,19 @@ COUNTS = (
 class Part:
     """A part of the tests: its title, its command, and the titles of the parts that have to pass before it."""
 
-    def __init__(self, title, words, after=(), folder=".", program="suites"):
+    def __init__(self, title: str, words: list[str], after: typing.Sequence[str] = (), folder: str = ".", program: str = "suites") -> None:
         self.title, self.words, self.after = title, words, after
         self.folder, self.program = os.path.join(sources.TOP, folder), program
-        self.counts = self.process = self.log = self.begun = None
-        self.text = ""
+        self.counts: tuple[int, int] | None = None
+        self.process: subprocess.Popen[bytes] | None = None
+        self.log: typing.IO[bytes] | None = None
+        self.begun, self.text = 0.0, ""
 
-    def start(self):
+    def start(self) -> None:
         self.log, self.begun = tempfile.TemporaryFile(), time.monotonic()
         self.process = console.start(self.words, self.folder, self.log, env={**os.environ, "SUITES_PROGRAM": self.program})
 
-    def has_ended(self):
+    def has_ended(self) -> bool:
         """Whether it has ended; counts what passed and failed."""
         late = time.monotonic() - self.begun > LIMIT
         if self.process.poll() is None and not late:
@@ -57,7 +61,7 @@ class Part:
         self.counts = passed, max(failed, int(self.process.returncode != 0 or late))
         return True
 
-    def lines(self):
+    def lines(self) -> str:
         """What is told of it, once it has ended or cannot be run."""
         if not self.process:
             return f"{self.title}: not run, since a part that it stands on failed"
@@ -66,11 +70,11 @@ class Part:
         return f"{line}\n{console.tail(self.text, 60)}status {self.process.returncode}" if failed else line
 
 
-def tool(path, *words):
+def tool(path: str, *words: str) -> list[str]:
     return [sys.executable, os.path.join(sources.TOP, path), *words]
 
 
-def tried(crate):
+def tried(crate: str) -> dict[str, typing.Any]:
     return {"words": TRY, "folder": os.path.join("crates", crate)}
 
 
@@ -83,6 +87,7 @@ PARTS = (
     Part("page of wrong bodies", tool("tools/wrong_bodies_page.py", "--check")),
     Part("table of public functions", tool("tools/proved_page.py", "--check")),
     Part("words that need no build", tool("tests/wrapper.py")),
+    Part("type hints", tool("tests/hints.py")),
     Part("tests of runs", **tried("run_tests")),
     Part("tests of libraries", **tried("library_tests")),
     Part(PROGRAM, tool("tools/choose.py")),
@@ -101,14 +106,14 @@ PARTS = (
 )
 
 
-def lanes():
+def lanes() -> int:
     """How many parts run side by side."""
     return max(1, min(gate.processors(), gate.free() // BYTES_A_PART))
 
 
-def play_all(parts, number, teller):
+def play_all(parts: typing.Sequence[Part], number: int, teller: console.Teller) -> None:
     """Plays the parts, so many at once, and tells of each; one that stands on a part that failed has failed with it."""
-    left, running = list(parts), []
+    left, running = list(parts), list[Part]()
     try:
         while left or running:
             counts = {part.title: part.counts for part in parts if part.counts}
@@ -133,7 +138,7 @@ def play_all(parts, number, teller):
             console.stop(part.process)
 
 
-def main():
+def main() -> int:
     if len(sys.argv) > 1:
         raise console.Stop("--test takes no other word")
     sources.Kit().wanted()

@@ -82,7 +82,7 @@ class Fault(Exception):
     """What is asked has a fault, of this code."""
 
 
-def number(word, most):
+def number(word: str, most: int) -> int:
     """The number that a word writes down."""
     digits = word.lstrip("0") or "0"
     if not re.fullmatch("[0-9]+", word) or len(digits) > len(str(most)) or int(digits) > most:
@@ -90,7 +90,7 @@ def number(word, most):
     return int(digits)
 
 
-def votes_of(word, servers):
+def votes_of(word: str, servers: int | None) -> Votes:
     """The votes that a word writes down, where there are so many servers; as many as it has fields, if that is not said."""
     parts = word.split("/")
     fields = parts[0].split(",")
@@ -114,13 +114,13 @@ def votes_of(word, servers):
     return Votes(shares + [0] * ((servers or 0) - len(shares)), r, w)
 
 
-def chances(shares, needed, up):
+def chances(shares: typing.Sequence[int], needed: int, up: fractions.Fraction) -> tuple[fractions.Fraction, fractions.Fraction]:
     """The chance that fewer votes are up than are needed; and the mean share of servers that are down in all other cases."""
     weights = up.numerator, up.denominator - up.numerator
     # by the votes that are up: how many cases there are, and how many servers are down in them together
     cases = {0: (1, 0)}
     for share in shares:
-        after = collections.defaultdict(lambda: (0, 0))
+        after: dict[int, tuple[int, int]] = collections.defaultdict(lambda: (0, 0))
         for votes, (count, down) in cases.items():
             for is_down, weight in enumerate(weights):
                 to = votes if is_down else min(needed, votes + share)
@@ -134,13 +134,12 @@ def chances(shares, needed, up):
 class LeastSets:
     """The least sets of servers that have at least so many votes: without any one of a set the others have fewer."""
 
-    def __init__(self, shares, votes):
+    def __init__(self, shares: typing.Sequence[int], votes: int) -> None:
         self.voters = [(server, share) for server, share in enumerate(shares) if share]
         self.values = sorted({share for _, share in self.voters})
         self.votes = votes
-        self.sums = functools.cache(self.sums)
 
-    def count(self):
+    def count(self) -> int:
         """How many there are: of each set, the last in falling order of votes is the one that is least to be spared."""
         ways, total = collections.Counter({0: 1}), 0
         for share in sorted((share for _, share in self.voters), reverse=True):
@@ -150,12 +149,12 @@ class LeastSets:
                     ways[votes + share] += sets
         return total
 
-    def __iter__(self):
+    def __iter__(self) -> typing.Iterator[tuple[int, ...]]:
         """The sets, the smallest first, and those of a size in the order of their servers."""
         for size in range(1, len(self.voters) + 1):
             yield from self.of_size(0, size, 0, self.values[-1])
 
-    def of_size(self, place, size, has, least):
+    def of_size(self, place: int, size: int, has: int, least: int) -> typing.Iterator[tuple[int, ...]]:
         """What completes a set that has these votes, the fewest of one server among them, by so many of the servers from a place on."""
         if size == 0:
             yield ()
@@ -167,7 +166,7 @@ class LeastSets:
                 for others in self.of_size(*rest):
                     yield (server, *others)
 
-    def is_completed(self, place, size, has, least):
+    def is_completed(self, place: int, size: int, has: int, least: int) -> bool:
         """Whether anything does so: with a server of some votes as the least one, the set has less than these to spare."""
         wanting = max(self.votes - has, 0)
         for value in self.values:
@@ -176,7 +175,8 @@ class LeastSets:
                 return True
         return False
 
-    def sums(self, place, size, least):
+    @functools.cache
+    def sums(self, place: int, size: int, least: int) -> int:
         """The sums of votes that so many of the servers from a place on have, each with at least so many, as bits."""
         if size == 0 or place == len(self.voters):
             return int(size == 0)
@@ -185,12 +185,12 @@ class LeastSets:
         return self.sums(place + 1, size, least) | with_it
 
 
-def chance_text(chance):
+def chance_text(chance: fractions.Fraction) -> str:
     """A chance with two digits, as 2.0e-4."""
     return f"{decimal.Decimal(chance.numerator) / chance.denominator:.1e}" if chance else "0"
 
 
-def listed(first, words, count):
+def listed(first: str, words: list[str], count: int) -> str:
     """Words behind a first one in lines, and how many more there are."""
     rest = f" and {count - len(words):,} more" if count > len(words) else ""
     text = " ".join(word.replace(" ", "\0") for word in words) + rest
@@ -199,16 +199,16 @@ def listed(first, words, count):
     return lines.replace("\0", " ")
 
 
-def set_text(servers):
+def set_text(servers: typing.Iterable[int]) -> str:
     return f"{{{','.join(map(str, sorted(servers)))}}}"
 
 
-def filled(text):
+def filled(text: str) -> str:
     """A sentence in lines."""
     return textwrap.fill(text, WIDE, break_long_words=False, break_on_hyphens=False)
 
 
-def told_of(kind, shares, needed, up):
+def told_of(kind: str, shares: typing.Sequence[int], needed: int, up: fractions.Fraction) -> list[str]:
     """The lines about a read or a write, which collects so many votes."""
     total = sum(shares)
     blocking = LeastSets(shares, total - needed + 1)
@@ -224,7 +224,7 @@ def told_of(kind, shares, needed, up):
     ]
 
 
-def told(votes, up):
+def told(votes: Votes, up: str) -> list[str]:
     """The lines about votes, where this is written for the chance that a server is up."""
     by_share = collections.defaultdict(list)
     for server, share in enumerate(votes.shares):
@@ -238,12 +238,12 @@ def told(votes, up):
     return lines + [line for kind, needed in kinds for line in told_of(kind, votes.shares, needed, fractions.Fraction(up))]
 
 
-def told_of_word(word, servers=None, up="0.99"):
+def told_of_word(word: str, servers: int | None = None, up: str = "0.99") -> list[str]:
     """All that is told of votes as a word writes them down."""
     return [*told(votes_of(word, servers), up), *map(filled, ABOUT)]
 
 
-def swept(script, servers):
+def swept(script: bytes, servers: int) -> tuple[bytes, int]:
     """A script at whose end all servers are up and one more agent sweeps each, so that what is in effect is stored there."""
     agents = int(AGENTS.search(script)[2])
     agent = min(agents, MOST_AGENTS - 1)
@@ -283,13 +283,13 @@ def left_by(script: bytes) -> Left:
     return Left(servers, opening, trace.paths(lines), dict(sorted(suites.items())))
 
 
-def missed_by(suite, is_read):
+def missed_by(suite: looking.Suite, is_read: bool) -> list[str]:
     """The least sets of servers with which down the votes are up and not found, each with what is then told."""
     told = ((down, suite.search(down, is_read)) for down in suite.missed(is_read))
     return [f"{set_text(down)}: got {found.got} of {found.needed};" for down, found in itertools.islice(told, TOLD + 1)]
 
 
-def missed_of(suite):
+def missed_of(suite: looking.Suite) -> tuple[str, ...]:
     """The lines about where the votes of a file or folder are up and not found."""
     read, write = missed_by(suite, True), missed_by(suite, False)
     kinds = [("read and write", read)] if read == write else [("read", read), ("write", write)]
@@ -314,7 +314,7 @@ def told_of_script(script: bytes, up: str) -> list[str]:
     return [*lines, *map(filled, ABOUT)]
 
 
-def told_of_shapes(servers, lose, up):
+def told_of_shapes(servers: int, lose: tuple[int, int], up: str) -> list[str]:
     """A table of the votes that so many servers may have, where reads and writes may lose so many of them."""
     chance = fractions.Fraction(up)
     found = shapes.best(servers, lose, chance)
@@ -339,7 +339,7 @@ def told_of_shapes(servers, lose, up):
     return [*lines, "", *map(filled, ABOUT)]
 
 
-def asked(words):
+def asked(words: list[str]) -> argparse.Namespace:
     """The words of the command line. A word of votes may begin with a hyphen, as that of no option does."""
     read = argparse.ArgumentParser(prog="./suites votes", add_help=False, usage=__doc__.split("\n\n")[0].replace("\n", "\n       "))
     read.add_argument("votes", nargs="?")
@@ -365,7 +365,7 @@ def asked(words):
     return given
 
 
-def main():
+def main() -> int:
     given = asked(sys.argv[1:])
     if given.script is not None:
         with open(given.script, "rb") as file:

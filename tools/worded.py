@@ -132,7 +132,7 @@ def one_word(word: str) -> str | None:
     meaning = words().get(word)
     if meaning:
         told.append(filled(f"{meaning[0].upper()}{meaning[1:]}."))
-    forms = {}
+    forms: dict[tuple[str, str], list[str]] = {}
     for language in grammar.LANGUAGES:
         if word in faulty.known_of(language):
             said = does().get((language, word), "")

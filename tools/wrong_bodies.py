@@ -12,7 +12,16 @@ proved first (`rt check`, which begins with what other checks on this machine ke
 anything is refused. Then `rt must-fail` tries its edits. Told is each edit that is still proved, does not apply or
 was not tried, and the status is then 1. --check proves nothing and takes no time: the gate begins with it.
 """
-import argparse, contextlib, os, re, shutil, signal, subprocess, sys, tempfile
+import argparse
+import contextlib
+import os
+import re
+import shutil
+import signal
+import subprocess
+import sys
+import tempfile
+import typing
 
 TOP = os.path.realpath(os.path.join(os.path.dirname(os.path.abspath(__file__)), ".."))
 CRATES = os.path.join(TOP, "crates")
@@ -24,27 +33,27 @@ SAID = re.compile(r"(?:rt: )?must-fail (\w+)/(\S+)\.edit: (.*)")
 UNPROVED = re.compile(r"rt: (\w+): (the check that its must-fail edits begin with did not end well|it is not proved again)")
 
 
-def crates():
+def crates() -> list[str]:
     """The names of all crates, sorted."""
     return sorted(name for name in os.listdir(CRATES) if os.path.isdir(os.path.join(CRATES, name, "src")))
 
 
-def edits(crate, place):
+def edits(crate: str, place: str) -> list[str]:
     """The files in a place of a crate's edits, sorted."""
     folder = os.path.join(CRATES, crate, place)
     return [os.path.join(folder, name) for name in sorted(os.listdir(folder))] if os.path.isdir(folder) else []
 
 
-def name_of(edit):
+def name_of(edit: str) -> str:
     return os.path.splitext(os.path.basename(edit))[0]
 
 
-def content(path):
+def content(path: str) -> str:
     with open(path, encoding="utf-8") as file:
         return file.read()
 
 
-def why_not(edit, folder):
+def why_not(edit: str, folder: str) -> str | None:
     """Why an edit cannot be applied to the crate in a folder, or None. Reads an edit as rt does."""
     if not NAMED.fullmatch(os.path.basename(edit)):
         return "its name is not of letters, digits, _, - and . with .edit at the end"
@@ -74,7 +83,7 @@ def why_not(edit, folder):
     return None if texts != before else "it changes nothing"
 
 
-def check(names):
+def check(names: list[str]) -> int:
     """Tells each edit whose texts do not apply, and returns how many."""
     lost, number = 0, 0
     for name in names:
@@ -90,7 +99,7 @@ def check(names):
     return lost
 
 
-def copy(room, taken):
+def copy(room: str, taken: dict[str, list[str]]) -> None:
     """Copies the crates as they stand, with just the edits of taken (by crate) as those to be tried."""
     for name in ("crates.txt", "HANDLES"):
         if os.path.isfile(os.path.join(TOP, name)):
@@ -103,7 +112,7 @@ def copy(room, taken):
 
 
 @contextlib.contextmanager
-def emptied():
+def emptied() -> typing.Iterator[str]:
     """A temporary folder that is gone afterwards, however that comes."""
     room = tempfile.mkdtemp(prefix="wrong-bodies-")
     try:
@@ -113,9 +122,9 @@ def emptied():
 
 
 @contextlib.contextmanager
-def started(words, folder, room):
+def started(words: list[str], folder: str, room: str) -> typing.Iterator[subprocess.Popen[str]]:
     """A command whose rubbish lies in the room, in a group of its own that ends with this program."""
-    how = {"stdin": subprocess.DEVNULL, "stdout": subprocess.PIPE, "stderr": subprocess.STDOUT, "errors": "replace"}
+    how: dict[str, typing.Any] = {"stdin": subprocess.DEVNULL, "stdout": subprocess.PIPE, "stderr": subprocess.STDOUT, "errors": "replace"}
     ran = subprocess.Popen(words, cwd=folder, env={**os.environ, "TMPDIR": room}, start_new_session=True, **how)
     try:
         yield ran
@@ -125,7 +134,7 @@ def started(words, folder, room):
         ran.wait()
 
 
-def is_proved(name, room):
+def is_proved(name: str, room: str) -> bool:
     """Whether the copy of a crate is proved. What its check says is told where it is not."""
     with started(["rt", "check"], os.path.join(room, "crates", name), room) as ran:
         lines = ran.stdout.read().rstrip("\n").split("\n")
@@ -135,7 +144,7 @@ def is_proved(name, room):
     return False
 
 
-def try_edits(names, anew, room):
+def try_edits(names: list[str], anew: bool, room: str) -> dict[tuple[str, str], str]:
     """What was said of each edit of these crates, by crate and name."""
     said, words = {}, ["rt", "must-fail", *(["--anew"] if anew else []), *names]
     with started(words, room, room) as ran:
@@ -150,7 +159,7 @@ def try_edits(names, anew, room):
     return said
 
 
-def tell(name, files, said):
+def tell(name: str, files: list[str], said: dict[tuple[str, str], str]) -> int:
     """Tells what came of a crate's edits, and returns how many were not refused."""
     lost = 0
     for edit in map(name_of, files):
@@ -165,7 +174,7 @@ def tell(name, files, said):
     return lost
 
 
-def taken_of(names, given):
+def taken_of(names: list[str], given: argparse.Namespace) -> dict[str, list[str]]:
     """The files to try, by crate."""
     places = (GATE, BESIDE) if given.only else (GATE,) if given.gate else (BESIDE,)
     found = {name: [edit for place in places for edit in edits(name, place)] for name in names}
@@ -173,7 +182,7 @@ def taken_of(names, given):
     return {name: files for name, files in found.items() if files}
 
 
-def try_all(names, given):
+def try_all(names: list[str], given: argparse.Namespace) -> int:
     """Tries the edits of these crates, and returns how many were not refused."""
     taken = taken_of(names, given)
     print(f"{sum(map(len, taken.values()))} wrong bodies to try in {len(taken)} crates", flush=True)
@@ -185,7 +194,7 @@ def try_all(names, given):
     return lost + sum(len(files) for name, files in taken.items() if name not in proved) + (not taken and bool(given.only))
 
 
-def words():
+def words() -> argparse.Namespace:
     head, _, more = __doc__.partition("\n\n")
     read = argparse.ArgumentParser(description=head, epilog=more, formatter_class=argparse.RawDescriptionHelpFormatter)
     read.add_argument("names", metavar="NAME", nargs="*", help="a crate; all of them, if none is named")
@@ -200,13 +209,13 @@ def words():
     return given
 
 
-def main():
+def main() -> int:
     given = words()
     names = given.names or crates()
     return 1 if (check(names) if given.check else try_all(names, given)) else 0
 
 
-def end(*_):
+def end(*_: object) -> None:
     raise KeyboardInterrupt
 
 
