@@ -1,12 +1,12 @@
 #!/usr/bin/env python3
 """tests/damaged-scripts.py [--cases COUNT] [--from SEED] [PROGRAM]
 
-Damages scripts of tools/scenario.py, and the same as scripts of `serve` and `table`, each in one known way in one line, plays
-them by the program (out/suites, if none is named), and holds what `./suites explain` says of the fault against the damage: it
-has to find something each time, without being told the command too, nothing where another code is told, and to name what was
-done. Where a word is dropped or
-added a number may come to be read in the place of another, and pass its limit: so of these 49 of 50 have to be named. Prints
-how many of each kind were named. Status 1 where too few are, or nothing is found. --kind NAME tries one kind, as word_dropped.
+Damages scripts of tools/scenario.py, and the same as scripts of `serve` and `table`, each in one known way in one
+line, plays them by the program (out/suites, if none is named), and holds what `./suites explain` says of the fault
+against the damage: it has to find something each time, without being told the command too, nothing where another code
+is told, and to name what was done. Where a word is dropped or added a number may come to be read in the place of
+another, and pass its limit: so of these 49 of 50 have to be named. Prints how many of each kind were named. Status 1
+where too few are, or nothing is found. --kind NAME tries one kind, as word_dropped.
 """
 import argparse
 import collections
@@ -20,20 +20,55 @@ import typing
 
 import played
 
-sys.path.insert(0, os.path.join(played.TOP, "tools"))
 import explain
 import scenario
 
-FIRSTS = {"play": ["begin", "sweep", "step", "run", "crash", "return", "forget", "audit"], "serve": ["do", "sweep", "together"], "table": ["do"]}
+FIRSTS = {
+    "play": ["begin", "sweep", "step", "run", "crash", "return", "forget", "audit"],
+    "serve": ["do", "sweep", "together"],
+    "table": ["do"],
+}
 VERBS = ["read", "write", "list", "file", "folder", "drop", "getacl", "setacl", "getvotes", "setvotes"]
-BYTES = ["", " ", "\t", "\r", "#", ";", ":", "/", ",", "-", "0", "9", "r", "u::", "d:", "m::", "\xc2\xa0", "\0", "99999999999999999999", "4294967296"]
+BYTES = [
+    "",
+    " ",
+    "\t",
+    "\r",
+    "#",
+    ";",
+    ":",
+    "/",
+    ",",
+    "-",
+    "0",
+    "9",
+    "r",
+    "u::",
+    "d:",
+    "m::",
+    "\xc2\xa0",
+    "\0",
+    "99999999999999999999",
+    "4294967296",
+]
 NOT_FOUND = "Was it changed since?"
 NAMED_AT_LEAST = {"word dropped": 0.98, "word added": 0.98}
 # The most of each number behind the first word of a line; -1 and -2 stand for the last server and the last agent.
 MOST = {
-    "begin": [-2, 4294967295, None, 15], "sweep": [-2, -1], "step": [-2, 1000000], "run": [-2], "crash": [-1], "return": [-1],
-    "forget": [-2, 15], "audit": [-1], "servers": [32], "agents": [64], "root": [4294967295, 4294967295],
-    "cache": [268435456, 268435456, 4096], "user": [None, 4294967295], "group": [None, 4294967295],
+    "begin": [-2, 4294967295, None, 15],
+    "sweep": [-2, -1],
+    "step": [-2, 1000000],
+    "run": [-2],
+    "crash": [-1],
+    "return": [-1],
+    "forget": [-2, 15],
+    "audit": [-1],
+    "servers": [32],
+    "agents": [64],
+    "root": [4294967295, 4294967295],
+    "cache": [268435456, 268435456, 4096],
+    "user": [None, 4294967295],
+    "group": [None, 4294967295],
 }
 # Lines that only scripts of `play` have.
 OF_PLAY = ("agents", "step", "run", "crash", "return", "forget", "audit")
@@ -45,9 +80,17 @@ def script_of(command: str, seed: int) -> list[str]:
     if command == "play":
         return lines
     if command == "serve":
-        kept = [re.sub(r"^begin \d+", "do", re.sub(r"^sweep \d+", "sweep", line)) for line in lines if line.split()[0] not in OF_PLAY]
+        kept = [
+            re.sub(r"^begin \d+", "do", re.sub(r"^sweep \d+", "sweep", line))
+            for line in lines
+            if line.split()[0] not in OF_PLAY
+        ]
         return [*kept[: len(kept) // 2], "together", *kept[len(kept) // 2 :]]
-    return [re.sub(r"^begin \d+ (\d+ \S+) \d+", r"do \1", line) for line in lines if line.split()[0] in ("root", "user", "group", "begin")]
+    return [
+        re.sub(r"^begin \d+ (\d+ \S+) \d+", r"do \1", line)
+        for line in lines
+        if line.split()[0] in ("root", "user", "group", "begin")
+    ]
 
 
 def misspelt(dice: random.Random, word: str) -> str:
@@ -58,7 +101,9 @@ def misspelt(dice: random.Random, word: str) -> str:
 
 
 class Damage:
-    """One damage of a script: its kind, where it shows, and what has to be said of it. The line is drawn until it fits the kind."""
+    """One damage of a script: its kind, where it shows, and what has to be said of it. The line is drawn until it fits
+    the kind.
+    """
 
     def __init__(self, dice: random.Random, command: str, lines: list[str], kind: str) -> None:
         self.dice, self.command = dice, command
@@ -77,7 +122,9 @@ class Damage:
 
     def place_of(self, words: typing.Iterable[str]) -> int | None:
         """The place of one of these words in the line, if there is one."""
-        found = [place for place, word in enumerate(self.words) if word in words and (place == 0) == (words is not VERBS)]
+        found = [
+            place for place, word in enumerate(self.words) if word in words and (place == 0) == (words is not VERBS)
+        ]
         return self.dice.choice(found) if found else None
 
     def do_word_misspelt(self) -> bool | None:
@@ -93,7 +140,10 @@ class Damage:
         place = self.dice.randrange(len(self.words))
         if self.words[place] == ";":
             return False
-        self.put([*self.words[:place], *self.words[place + 1 :]], ("is missing", "ends, and", "an operation is due", "is due here"))
+        self.put(
+            [*self.words[:place], *self.words[place + 1 :]],
+            ("is missing", "ends, and", "an operation is due", "is due here"),
+        )
 
     def do_word_added(self) -> bool | None:
         place, extra = self.dice.randint(1, len(self.words)), self.dice.choice(["extra", "7", "/x"])
@@ -101,7 +151,11 @@ class Damage:
         self.put([*self.words[:place], extra, *self.words[place:]], f"'{extra}'", wanted)
 
     def do_number_too_large(self) -> bool | None:
-        places = [place for place, most in enumerate(MOST.get(self.words[0], [])) if most is not None and place + 1 < len(self.words)]
+        places = [
+            place
+            for place, most in enumerate(MOST.get(self.words[0], []))
+            if most is not None and place + 1 < len(self.words)
+        ]
         if not places:
             return False
         place = self.dice.choice(places)
@@ -138,7 +192,11 @@ class Damage:
         self.put([*self.words, self.dice.choice(["#", "# a note", "#note"])], "comment stands in a line of its own")
 
     def do_path_with_a_space(self) -> bool | None:
-        places = [place + 1 for place, word in enumerate(self.words) if place and word in VERBS and word not in ("file", "folder", "setacl")]
+        places = [
+            place + 1
+            for place, word in enumerate(self.words)
+            if place and word in VERBS and word not in ("file", "folder", "setacl")
+        ]
         if not places:
             return False
         place = self.dice.choice(places)
@@ -148,7 +206,9 @@ class Damage:
     def do_semicolon_without_a_space(self) -> bool | None:
         if ";" not in self.words:
             return False
-        line = self.dice.choice([" ".join(self.words).replace(" ; ", "; ", 1), " ".join(self.words).replace(" ; ", " ;", 1)])
+        line = self.dice.choice(
+            [" ".join(self.words).replace(" ; ", "; ", 1), " ".join(self.words).replace(" ; ", " ;", 1)]
+        )
         self.put([line], ("has a semicolon", "is no mode", "stands where", "stands in no name", "is no permission"))
 
     def do_bytes_changed(self) -> bool | None:
@@ -186,9 +246,16 @@ class Damage:
         place = self.dice.choice(places)
         items = self.words[place].split(",")
         at = self.dice.randrange(len(items))
-        bad, wanted = self.dice.choice([
-            (items[at].replace("::", ":", 1), f"Item {at + 1} is"), (items[at] + "q", "'q' is no permission"), ("mast::rwx", "'mast' is no kind"),
-            ("u:nobody:r", "no user is named 'nobody'"), ("u:9999999999:r", "9999999999 is above 4294967295"), (f"{items[at]},{items[at]}", "are of")])
+        bad, wanted = self.dice.choice(
+            [
+                (items[at].replace("::", ":", 1), f"Item {at + 1} is"),
+                (items[at] + "q", "'q' is no permission"),
+                ("mast::rwx", "'mast' is no kind"),
+                ("u:nobody:r", "no user is named 'nobody'"),
+                ("u:9999999999:r", "9999999999 is above 4294967295"),
+                (f"{items[at]},{items[at]}", "are of"),
+            ]
+        )
         if bad == items[at] or bad.startswith(("m:r", "m:-", "o:r", "o:-", "d:m:r", "d:o:r", "d:o:-")):
             return False
         items[at] = bad
@@ -201,17 +268,26 @@ class Damage:
         place = self.dice.choice(places)
         fields, read, write = self.words[place].split("/")
         total = sum(int(field) for field in fields.split(",") if field != "-")
-        bad, wanted = self.dice.choice([
-            (f"{fields}/{read}", f"'{fields}/{read}' stands where VOTES"), (f"256,{fields}/{read}/{write}", "256 is above 255"),
-            (f"{fields}/{read}/{total + 1}", f"collects {total + 1}, and all votes together are {total}"),
-            (f"{fields}/{total}/0", "collects 0"), (f"{fields},x/{read}/{write}", "'x' is neither")])
+        bad, wanted = self.dice.choice(
+            [
+                (f"{fields}/{read}", f"'{fields}/{read}' stands where VOTES"),
+                (f"256,{fields}/{read}/{write}", "256 is above 255"),
+                (f"{fields}/{read}/{total + 1}", f"collects {total + 1}, and all votes together are {total}"),
+                (f"{fields}/{total}/0", "collects 0"),
+                (f"{fields},x/{read}/{write}", "'x' is neither"),
+            ]
+        )
         self.put([*self.words[:place], bad, *self.words[place + 1 :]], wanted)
 
 
 def unnamed(damage: Damage, said: str) -> list[str | tuple[str, ...]]:
     """What of a damage is not said."""
     said = " ".join(said.split())
-    return [words for words in damage.wanted if not any(one in said for one in (words if isinstance(words, tuple) else (words,)))]
+    return [
+        words
+        for words in damage.wanted
+        if not any(one in said for one in (words if isinstance(words, tuple) else (words,)))
+    ]
 
 
 def tried(program: str, path: str, damage: Damage) -> tuple[str, str]:
@@ -226,7 +302,9 @@ def tried(program: str, path: str, damage: Damage) -> tuple[str, str]:
         return "none", printed
     said = explain.answer(["--of", damage.command, printed, path])
     guessed = explain.answer([printed, path])
-    other = explain.answer(["--of", damage.command, re.sub(": .*", ": N2" if "N2" not in printed else ": N1", printed), path])
+    other = explain.answer(
+        ["--of", damage.command, re.sub(": .*", ": N2" if "N2" not in printed else ": N1", printed), path]
+    )
     is_missed = [NOT_FOUND in " ".join(text.split()) for text in (said, guessed, other)]
     if is_missed != [False, False, True]:
         return "nothing found", f"{printed}: {said}"
@@ -259,8 +337,13 @@ def main() -> int:
         named, of = counts[kind, "named"], sum(counts[kind, came] for came in ("named", "unnamed", "nothing found"))
         is_wrong = counts[kind, "nothing found"] or named < of * NAMED_AT_LEAST.get(kind, 1) or not of
         wrong += bool(is_wrong)
-        print(f"{kind}: {named} of {of} named; {counts[kind, 'none']} had no fault in that line{'  WRONG' if is_wrong else ''}")
-    named, of = sum(counts[key] for key in counts if key[1] == "named"), sum(counts[key] for key in counts if key[1] != "none")
+        print(
+            f"{kind}: {named} of {of} named; {counts[kind, 'none']} had no fault in that"
+            f" line{'  WRONG' if is_wrong else ''}"
+        )
+    named, of = sum(counts[key] for key in counts if key[1] == "named"), sum(
+        counts[key] for key in counts if key[1] != "none"
+    )
     print(f"of {of} faulty lines {named} named")
     print(f"{len(kinds)} kinds of damage, {wrong} differ")
     return 1 if wrong else 0

@@ -7,11 +7,15 @@ import typing
 
 TOP = os.path.realpath(os.path.join(os.path.dirname(os.path.abspath(__file__)), ".."))
 ROWS = os.path.join(TOP, "crates", "rows", "stdin")
+# What tests import of the tools, before what of tests has the same name: the one edit of where modules are looked for.
+sys.path.insert(0, os.path.join(TOP, "tools"))
 MARKS = {b"r": b"\r", b"t": b"\t", b"\\": b"\\"}
 
 
 class Row(typing.TypedDict, total=False):
-    """A row: the title above it and the number of its first line, its words, its input, and the status and output wanted."""
+    """A row: the title above it and the number of its first line, its words, its input, and the status and output
+    wanted.
+    """
 
     title: str
     line: int
@@ -22,11 +26,18 @@ class Row(typing.TypedDict, total=False):
 
 
 def program(words: list[str]) -> str:
-    """The program that the words of a test name first, or the one that `./suites` runs, which is built where there is none; ends the test without it."""
+    """The program that the words of a test name first, or the one that `./suites` runs, which is built where there is
+    none; ends the test without it.
+    """
     if words:
         path = os.path.abspath(words[0])
     else:
-        chosen = subprocess.run([sys.executable, os.path.join(TOP, "tools", "choose.py")], stdin=subprocess.DEVNULL, stdout=subprocess.PIPE, text=True)
+        chosen = subprocess.run(
+            [sys.executable, os.path.join(TOP, "tools", "choose.py")],
+            stdin=subprocess.DEVNULL,
+            stdout=subprocess.PIPE,
+            text=True,
+        )
         path = os.path.join(TOP, chosen.stdout.split()[-1]) if chosen.returncode == 0 else ""
     if not os.path.exists(path):
         sys.exit(f"there is no program to be played{': ' + path if path else ''}")
@@ -41,7 +52,9 @@ def unmarked(line: bytes) -> bytes:
 
 
 def rows() -> typing.Iterator[Row]:
-    """The rows: the title and the number of the first line of each, its words, its input, and the status and output that are wanted."""
+    """The rows: the title and the number of the first line of each, its words, its input, and the status and output
+    that are wanted.
+    """
     title, row, part = "", Row(), b""
     input_lines: list[bytes] = []
     output_lines: list[bytes] = []

@@ -1,10 +1,11 @@
 #!/usr/bin/env python3
 """tests/typed.py
 
-Types each command line that README.md and docs/FAULTS.md show, behind a `$` or of `./suites`, in blocks and in lines of
-text, at the top of the repository. Each has to end with status 0 (`may` with 1 where it shows a denial), and to print what is shown below it. Left out are those with a word to
-be filled in, as `./suites explain CODE`, those that take an hour or are the tests themselves, and `--is-fresh`, whose
-status is that of the build. Prints each that differs; status 1 where one does.
+Types each command line that README.md and docs/FAULTS.md show, behind a `$` or of `./suites`, in blocks and in lines
+of text, at the top of the repository. Each has to end with status 0 (`may` with 1 where it shows a denial), and to
+print what is shown below it. Left out are those with a word to be filled in, as `./suites explain CODE`, those that
+take an hour or are the tests themselves, and `--is-fresh`, whose status is that of the build. Prints each that
+differs; status 1 where one does.
 """
 import os
 import re
@@ -14,7 +15,6 @@ import typing
 
 import played
 
-sys.path.insert(0, os.path.join(played.TOP, "tools"))
 import shown
 
 DOCUMENTS = ("README.md", "docs/FAULTS.md")
@@ -63,12 +63,21 @@ def main() -> int:
         for number, command, wanted in commands(document):
             if not is_typed(command):
                 continue
-            done = subprocess.run(["sh", "-c", command], cwd=played.TOP, stdin=subprocess.DEVNULL, stdout=subprocess.PIPE, stderr=subprocess.PIPE)
+            done = subprocess.run(
+                ["sh", "-c", command],
+                cwd=played.TOP,
+                stdin=subprocess.DEVNULL,
+                stdout=subprocess.PIPE,
+                stderr=subprocess.PIPE,
+            )
             printed = done.stdout.decode("latin1")
             count += 1
             if done.returncode != status_of(wanted) or wanted not in (None, printed):
                 wrong += 1
-                print(f"{document}:{number}: {command} ends with {done.returncode} and prints\n{printed}{done.stderr.decode('latin1')}")
+                print(
+                    f"{document}:{number}: {command} ends with {done.returncode} and"
+                    f" prints\n{printed}{done.stderr.decode('latin1')}"
+                )
     print(f"{count} command lines, {wrong} differ")
     return 1 if wrong else 0
 

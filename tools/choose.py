@@ -1,12 +1,12 @@
 #!/usr/bin/env python3
 """Chooses the program that `./suites` runs, and prints of what kind it is and where.
 
-`proved`: it was proved and built of this code with these claims (`tools/build.py`). `checked`: it was compiled of the same code without a
-proof, with its checks at run time, which is done here where it is wanting. `trial`: the kit gives no such build, so
-`rt try` is run each time. The choice is kept in out/choice.sh with all files that it was made from, so that
-`./suites` makes it again only where one of them has changed. With the word --is-fresh: status 0 where the proved
-program is that of these sources, and their proofs are those that proved it. With --version: tells the version, the
-commit, the kit, and the kind of build that would run; builds nothing.
+`proved`: it was proved and built of this code with these claims (`tools/build.py`). `checked`: it was compiled of the
+same code without a proof, with its checks at run time, which is done here where it is wanting. `trial`: the kit gives
+no such build, so `rt try` is run each time. The choice is kept in out/choice.sh with all files that it was made from,
+so that `./suites` makes it again only where one of them has changed. With the word --is-fresh: status 0 where the
+proved program is that of these sources, and their proofs are those that proved it. With --version: tells the version,
+the commit, the kit, and the kind of build that would run; builds nothing.
 """
 import json
 import os
@@ -73,7 +73,8 @@ def fresh_kind(now: sources.Sources, kit: sources.Kit) -> str | None:
 
 
 def keep_choice(kind: str, now: sources.Sources, kit: sources.Kit, begun: int) -> None:
-    """Keeps the choice, as if written when the files began to be read. Where it cannot be kept it is made anew each time.
+    """Keeps the choice, as if written when the files began to be read. Where it cannot be kept it is made anew each
+    time.
 
     A checked build is made of the code alone. Its claims are looked at only where a proved program is there, which may
     become the one of these sources again.
@@ -82,7 +83,13 @@ def keep_choice(kind: str, now: sources.Sources, kit: sources.Kit, begun: int) -
     looked = [sources.LIST, *now.looked_at(is_proved), PROGRAMS[kind]]
     if kit.command:
         looked.append(os.path.realpath(kit.command))
-    kept = {"kind": kind, "program": PROGRAMS[kind], "rt": kit.command, "searched": os.environ.get("PATH", ""), "files": "\n".join(looked)}
+    kept = {
+        "kind": kind,
+        "program": PROGRAMS[kind],
+        "rt": kit.command,
+        "searched": os.environ.get("PATH", ""),
+        "files": "\n".join(looked),
+    }
     sources.write_whole(CHOICE, "".join(f"{name}={shlex.quote(value)}\n" for name, value in kept.items()), begun)
 
 
@@ -106,7 +113,9 @@ def build() -> None:
             return
         teller = console.Teller()
         now, kit = sources.Sources(), sources.Kit()
-        teller.say(f"nothing is built of these sources yet: making a checked build of {sources.PROGRAM}, some two minutes")
+        teller.say(
+            f"nothing is built of these sources yet: making a checked build of {sources.PROGRAM}, some two minutes"
+        )
         kind, part = "checked", f"{path_of('checked')}.part"
         try:
             trial.build(part, lambda: teller.say(f"checked build, {teller.seconds()} s", False))
@@ -139,7 +148,11 @@ def version() -> typing.Iterator[str]:
     is_there = "which is on the path" if sources.KIT_LOGIC in kit.name.split() else "which is not on the path"
     yield f"kit logic {sources.KIT_LOGIC}, {is_there}"
     kind = any(map(os.path.exists, map(record_path, PROGRAMS))) and fresh_kind(sources.Sources(), kit)
-    yield f"build {kind}, {PROGRAMS[kind]}" if kind else "build none yet; what plays a script makes a checked one first, in some two minutes"
+    yield (
+        f"build {kind}, {PROGRAMS[kind]}"
+        if kind
+        else "build none yet; what plays a script makes a checked one first, in some two minutes"
+    )
 
 
 def main() -> int:

@@ -39,7 +39,9 @@ class Job:
 
 
 def output(command: str, script: str) -> list[str]:
-    done = subprocess.run([SUITES, command], input=script.encode("latin1"), stdout=subprocess.PIPE, stderr=subprocess.DEVNULL)
+    done = subprocess.run(
+        [SUITES, command], input=script.encode("latin1"), stdout=subprocess.PIPE, stderr=subprocess.DEVNULL
+    )
     if done.returncode != 0:
         raise console.Stop(f"suites {command} ends with {done.returncode}: {done.stdout.decode('latin1').strip()}")
     return done.stdout.decode("latin1").splitlines()
@@ -75,7 +77,9 @@ class Run:
                 self.audits[int(words[1])] = block[1:]
 
     def take(self, line: str) -> None:
-        """Keeps what a line tells. Of the audits those count that come after the last decision, and so tell all denials."""
+        """Keeps what a line tells. Of the audits those count that come after the last decision, and so tell all
+        denials.
+        """
         request, outcome = trace.REQUEST.match(line), trace.OUTCOME.match(line)
         decide = request and DECIDE.match(request[3])
         if decide and request[4] in ("verdict answered", "verdict refused"):
@@ -91,7 +95,10 @@ class Run:
 
 def with_votes(ops: str, votes: str) -> str:
     """Operations in which each that makes something says with which votes."""
-    return " ; ".join(f"{op} {votes}" if op.split()[0] in ("file", "folder") and len(op.split()) == 3 else op for op in ops.split(" ; "))
+    return " ; ".join(
+        f"{op} {votes}" if op.split()[0] in ("file", "folder") and len(op.split()) == 3 else op
+        for op in ops.split(" ; ")
+    )
 
 
 def table_script(script: str, run: Run) -> str:
@@ -148,7 +155,11 @@ def differences(script: str) -> tuple[list[str], collections.Counter[str]]:
             wrong.append(f"audit {server}: {run.audits[server]}, wanted {items}")
     told["audits"] = len(audits)
     told["requests"] = sum(bool(trace.REQUEST.match(line)) for line in lines)
-    told.update(f"events: {line.split()[1]}" for line in lines if line.startswith("> ") and line.split()[1] in ("crash", "return", "sweep", "forget"))
+    told.update(
+        f"events: {line.split()[1]}"
+        for line in lines
+        if line.startswith("> ") and line.split()[1] in ("crash", "return", "sweep", "forget")
+    )
     return wrong, told
 
 

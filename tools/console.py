@@ -1,4 +1,6 @@
-"""What the tools that build the program say on standard error, how two builds wait for each other, and how a build is stopped."""
+"""What the tools that build the program say on standard error, how two builds wait for each other, and how a build is
+stopped.
+"""
 import contextlib
 import fcntl
 import os
@@ -46,7 +48,9 @@ class Teller:
 
 
 def say_once_a_day(path: str, text: str) -> None:
-    """Says a sentence, but not where it was said within a day, as this file tells; always where that cannot be written."""
+    """Says a sentence, but not where it was said within a day, as this file tells; always where that cannot be
+    written.
+    """
     with contextlib.suppress(OSError):
         if 0 <= time.time() - os.stat(path).st_mtime < DAY:
             return
@@ -69,7 +73,9 @@ def alone(path: str, teller: Teller) -> typing.Iterator[bool]:
         yield has_waited
 
 
-def start(words: list[str], folder: str | None, log: typing.IO[bytes] | int, **how: typing.Any) -> subprocess.Popen[bytes]:
+def start(
+    words: list[str], folder: str | None, log: typing.IO[bytes] | int, **how: typing.Any
+) -> subprocess.Popen[bytes]:
     """Starts a command in a group of its own, so that it can be stopped whole."""
     how = {"stdin": subprocess.DEVNULL, "stdout": log, "stderr": subprocess.STDOUT, "start_new_session": True, **how}
     return subprocess.Popen(words, cwd=folder, **how)

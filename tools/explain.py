@@ -1,9 +1,10 @@
 #!/usr/bin/env python3
 """./suites explain [--of COMMAND] LINE [FILE]
 
-Prints what docs/FAULTS.md says of a code, or of a line as the program, `votes` or `may` printed it; what a word means; and
-what a line of a script says, word by word. Where the script or the list is named that a line was printed of: of a fault the
-very line or item, and what is wrong with it; of how a job ended what happened, for which the script is played once more.
+Prints what docs/FAULTS.md says of a code, or of a line as the program, `votes` or `may` printed it; what a word
+means; and what a line of a script says, word by word. Where the script or the list is named that a line was printed
+of: of a fault the very line or item, and what is wrong with it; of how a job ended what happened, for which the
+script is played once more.
 
     ./suites explain S1
     ./suites explain 'fault line 3: S2' SCRIPT
@@ -13,7 +14,8 @@ very line or item, and what is wrong with it; of how a job ended what happened, 
     ./suites explain prefix
     ./suites explain 'status 6'
 
-Which command a script is of is told by its lines, or by --of play, --of serve or --of table. A script of - is standard input.
+Which command a script is of is told by its lines, or by --of play, --of serve or --of table. A script of - is
+standard input.
 """
 import argparse
 import io
@@ -39,8 +41,13 @@ EXAMPLE = re.compile(rf"({SPAN}(?:, {SPAN})*) prints {SPAN}(?: \({SPAN}\))?")
 STATUS = re.compile(r"(?:status |exit )?(\d)$")
 FAULT = re.compile(r"fault (?:line (\d+): )?([SAVNG]\d+(?: A\d+)?(?: item \d+)?)(?: (.+))?$")
 # Lines of `votes`, with the words by which its help tells of them, and lines of `may`.
-VOTES = re.compile(r"(may be lost|stopped by|blocked|not found|U5 at first)\b|(?:read|write|read and write): (?:\d+ of \d+ votes$|votes that)")
-MAY = re.compile(r"(?:\S.* )?[r-][w-][x-] (?:granted|denied by [a-z]+:)|.*\(\d+; groups [\d, ]+\) may (?:not )?[rwx]+: ")
+VOTES = re.compile(
+    r"(may be lost|stopped by|blocked|not found|U5 at first)\b|(?:read|write|read and write): (?:\d+ of \d+"
+    r" votes$|votes that)"
+)
+MAY = re.compile(
+    r"(?:\S.* )?[r-][w-][x-] (?:granted|denied by [a-z]+:)|.*\(\d+; groups [\d, ]+\) may (?:not )?[rwx]+: "
+)
 # What begins the line of an outcome: an agent and its job, or a job, and how many requests it took; or a transaction.
 FRONT = re.compile(r"(?:(\d+)\.(\d+) (\d+)|(\d+) (\d+)|(\d+)) (?=answered|denied|refused|undecided|swept)")
 # The number of what was made, or of a transaction.
@@ -85,7 +92,11 @@ def codes_in(text: str) -> list[str]:
         return ["trace" if TRACED.match(text) else "entry"]
     rest = text[front.end() :] if front else text
     first = rest.partition(" ")[0]
-    found = [PARTS.get(first, first)] if first in (*PARTS, *WHOLE) else [words for words in FAULTS if rest.startswith(words)]
+    found = (
+        [PARTS.get(first, first)]
+        if first in (*PARTS, *WHOLE)
+        else [words for words in FAULTS if rest.startswith(words)]
+    )
     if first in ("refused", "undecided") or not found:
         found += [code.upper() for code in CODE.findall(rest)]
     return found + (["transaction"] if NUMBERED.search(rest) else [])
@@ -110,12 +121,17 @@ def worked_out(text: str) -> list[str]:
             t, place = divmod(int(suite) - 1, 8)
             told.append(f"{suite} = 8 * {t} + {place + 1}: made by operation {place + 1} of transaction {t}.")
         if not (front and front[6]):
-            told.append(f"{t} = 64 * {int(t) // 64} + {int(t) % 64}: in play and serve transaction {t} is job {int(t) // 64} of agent {int(t) % 64}.")
+            told.append(
+                f"{t} = 64 * {int(t) // 64} + {int(t) % 64}: in play and serve transaction {t} is job {int(t) // 64} of"
+                f" agent {int(t) % 64}."
+            )
     return list(dict.fromkeys(told))
 
 
 def filled(text: str, first: str = "", after: str = "") -> str:
-    return textwrap.fill(text, 100, initial_indent=first, subsequent_indent=after, break_long_words=False, break_on_hyphens=False)
+    return textwrap.fill(
+        text, 100, initial_indent=first, subsequent_indent=after, break_long_words=False, break_on_hyphens=False
+    )
 
 
 def shown(line: str) -> str:
@@ -133,9 +149,15 @@ def shown(line: str) -> str:
 
 
 def about(lines: list[str], text: str) -> list[str]:
-    """The lines of a part, and of those that tell of a word each only those whose word is in the text, where there are some."""
+    """The lines of a part, and of those that tell of a word each only those whose word is in the text, where there are
+    some.
+    """
     words = set(re.findall(r"[a-z=]+", text))
-    kept = [line for line in lines if not line.startswith("- `") or words & set(re.findall(r"[a-z=]+", re.search(SPAN, line)[1])[:1])]
+    kept = [
+        line
+        for line in lines
+        if not line.startswith("- `") or words & set(re.findall(r"[a-z=]+", re.search(SPAN, line)[1])[:1])
+    ]
     return kept if any(line.startswith("- ") for line in kept) else lines
 
 
@@ -144,7 +166,10 @@ def of_votes(text: str) -> str:
     import votes
     word = VOTES.match(text)[1]
     if not word:
-        return "Of `./suites votes`: so many of all votes a read or a write collects; the lines below it tell what that bears."
+        return (
+            "Of `./suites votes`: so many of all votes a read or a write collects; the lines below it tell what that"
+            " bears."
+        )
     found = re.search(rf"^    {word} +(.*(?:\n {{18}}.*)*)", votes.__doc__, re.M)
     return filled(f"{word} (`./suites votes`): {' '.join(found[1].split())}.")
 
@@ -163,7 +188,12 @@ def explained(text: str) -> str:
         if code in parts:
             group, more, lines = parts[code]
             lines = about(lines, text) if code in ("answered", "trace") else lines
-            told += [f"{code} ({group[0].lower() + group[1:]})", "", *map(shown, "\n".join(lines).strip().split("\n")), ""]
+            told += [
+                f"{code} ({group[0].lower() + group[1:]})",
+                "",
+                *map(shown, "\n".join(lines).strip().split("\n")),
+                "",
+            ]
             told += [shown(more), ""] if more else []
     worked = worked_out(text) if told else []
     word = worded.one_word(text) if " " not in text else None
@@ -209,7 +239,9 @@ def read_file(path: str) -> tuple[str, bytes]:
 
 
 def of_printed(text: str, path: str, language: str | None) -> str:
-    """What happened behind a line that was printed of a script: what stands in the script, and for `play` how it came to it."""
+    """What happened behind a line that was printed of a script: what stands in the script, and for `play` how it came
+    to it.
+    """
     name, script = read_file(path)
     kind = language or faulty.likest(faulty.lines_of(script.decode("latin1")))[0]
     if kind == "play":
@@ -237,7 +269,8 @@ def answer(words: list[str]) -> str:
         raise console.Stop(f"nothing that the program prints is called so: {text} (docs/FAULTS.md has all codes)")
     if fault and fault[1]:
         line = f"Line {fault[1]} of the script, counted from 1 with empty lines and comments."
-        told = f"{filled(f'{line} With the name of the script behind it this command shows what is wrong there.')}\n\n{told}"
+        line += " With the name of the script behind it this command shows what is wrong there."
+        told = f"{filled(line)}\n\n{told}"
     return told
 
 

@@ -1,7 +1,7 @@
 """What is wrong with one line of a script, or with one item of a list, that the program found faulty.
 
-The program's line and code are given. The words of that line are gone through from the left (tools/grammar.py), and what is
-found first is told where its code is the program's; where it is another, nothing is told.
+The program's line and code are given. The words of that line are gone through from the left (tools/grammar.py), and
+what is found first is told where its code is the program's; where it is another, nothing is told.
 """
 import re
 import typing
@@ -14,7 +14,11 @@ WORD = re.compile(r"[^ \t]+")
 FIRST = re.compile(r"(?!#)[ \t]*([^ \t]+)")
 # So many lines show of which command a script is.
 MANY = 1000
-MARKS = {"\xef\xbb\xbf": "a byte order mark (UTF-8)", "\xff\xfe": "the byte order mark of UTF-16", "\xfe\xff": "the byte order mark of UTF-16"}
+MARKS = {
+    "\xef\xbb\xbf": "a byte order mark (UTF-8)",
+    "\xff\xfe": "the byte order mark of UTF-16",
+    "\xfe\xff": "the byte order mark of UTF-16",
+}
 OWN = {"play": "event", "serve": "job", "table": "transaction"}
 # So many bytes of a line are shown.
 WIDTH = 100
@@ -79,7 +83,9 @@ class Script:
 
     def where(self, first: str) -> grammar.Where:
         names = {"user": {}, "group": {}} if first == "root" else self.names
-        return grammar.Where(self.count("servers", grammar.MAX_SERVERS), self.count("agents", grammar.MAX_AGENTS), names, first)
+        return grammar.Where(
+            self.count("servers", grammar.MAX_SERVERS), self.count("agents", grammar.MAX_AGENTS), names, first
+        )
 
     def fault(self) -> Fault | None:
         """What is wrong with the line, if that shows."""
@@ -108,7 +114,9 @@ def told_of_bytes(line: str, words: list[str], found: Fault) -> Fault:
     if any(byte > "\x7e" for byte in word):
         return found._replace(text=f"{found.text}. In it are bytes that are no ASCII")
     if "\r" in line:
-        return found._replace(text=f"{found.text}. In the line is a carriage return, which ends no line without a line feed behind it")
+        return found._replace(
+            text=f"{found.text}. In the line is a carriage return, which ends no line without a line feed behind it"
+        )
     return found
 
 
@@ -125,7 +133,11 @@ def fault_of_first(script: Script, line: str, words: list[str]) -> Fault | None:
         above = f"it stands above, in line {script.headers[first][0]}, and " if first in script.headers else ""
         return Fault("S2", 0, f"{above}{form_of(script, due)} is due here")
     if first in language.own:
-        return Fault("S1", 0, f"{quoted(first)} stands in line {script.together} already") if first == "together" and script.together else None
+        return (
+            Fault("S1", 0, f"{quoted(first)} stands in line {script.together} already")
+            if first == "together" and script.together
+            else None
+        )
     if first in script.headers:
         return Fault("S2", 0, f"it stands above, in line {script.headers[first][0]}")
     if first in NAMES and script.begun:
@@ -144,7 +156,11 @@ def unknown(script: Script, line: str, first: str) -> str:
         return "a comment begins with '#' as the first byte of its line, and here a space or a tab stands before it"
     others = [name for name in LANGUAGES if first in known_of(name)]
     if others:
-        option = ", whose option --agents says how many agents there are" if (script.language, first) == ("serve", "agents") else ""
+        option = (
+            ", whose option --agents says how many agents there are"
+            if (script.language, first) == ("serve", "agents")
+            else ""
+        )
         return f"{quoted(first)} begins a line of {either(others)}, and this is a script of {script.language}{option}"
     if re.fullmatch(r"[0-9./,-]+|/.*", first) or first in OPERATIONS:
         return f"the word with which the line begins is missing before {quoted(first)}"
@@ -154,11 +170,15 @@ def unknown(script: Script, line: str, first: str) -> str:
     missing = [other for other in may if not walked(script, [other, *words])]
     if missing and not (near in may and not walked(script, [near, *words[1:]])):
         return f"{quoted(first)} begins no line; perhaps {either(map(quoted, missing))} is missing before it"
-    return f"{quoted(first)} begins no line" + (f"; {quoted(near)} is near" if near else f"; {either(known_of(script.language))} do")
+    return f"{quoted(first)} begins no line" + (
+        f"; {quoted(near)} is near" if near else f"; {either(known_of(script.language))} do"
+    )
 
 
 def best(script: Script, words: list[str], near: list[str], at: int, may: typing.Iterable[str]) -> str | None:
-    """Of words like the one at a place the first that may stand there and with which nothing is wrong any more, else the likest."""
+    """Of words like the one at a place the first that may stand there and with which nothing is wrong any more, else
+    the likest.
+    """
     fits = (other for other in near if other in may and not walked(script, [*words[:at], other, *words[at + 1 :]]))
     return next(fits, near[0] if near else None)
 
@@ -176,12 +196,20 @@ def filled(where: grammar.Where, places: list[str], words: list[str], at: int, e
             return operations(where, words, at)
         is_optional, place = place.startswith("["), place.strip("[]")
         if at == end:
-            return None if is_optional else Fault("S1", at, f"{ends(words, at)}, and {place} is due, {grammar.MEANT[place]}")
+            return (
+                None
+                if is_optional
+                else Fault("S1", at, f"{ends(words, at)}, and {place} is due, {grammar.MEANT[place]}")
+            )
         wrong = grammar.wrong_with(place, words[at], where)
         if wrong:
             return Fault(wrong.code, at, wrong.text, wrong.is_misplaced)
         at += 1
-    return Fault("S1", at, f"{quoted(words[at])} is a word too many" if words[at] is not ANY else "", True) if at < end else None
+    return (
+        Fault("S1", at, f"{quoted(words[at])} is a word too many" if words[at] is not ANY else "", True)
+        if at < end
+        else None
+    )
 
 
 def ends(words: list[str], at: int) -> str:
@@ -200,7 +228,9 @@ def operations(where: grammar.Where, words: list[str], at: int) -> Fault | None:
 
 def operation(where: grammar.Where, words: list[str], at: int, end: int) -> Fault | None:
     if at == end:
-        return Fault("S1", at, f"an operation is due {'where the line ends' if at == len(words) else 'before the semicolon'}")
+        return Fault(
+            "S1", at, f"an operation is due {'where the line ends' if at == len(words) else 'before the semicolon'}"
+        )
     verb = words[at]
     if verb not in OPERATIONS:
         return Fault("S1", at, "", True)
@@ -221,7 +251,9 @@ def fault_of_rest(script: Script, words: list[str]) -> Fault | None:
         return found._replace(text="a comment stands in a line of its own, which begins with '#'")
     if found.is_misplaced and found.code == "S1" and any(";" in other and other != ";" for other in (word, before)):
         glued = next(other for other in (word, before) if ";" in other and other != ";")
-        return found._replace(text=f"{quoted(glued)} has a semicolon; between operations it stands alone, with a space on each side")
+        return found._replace(
+            text=f"{quoted(glued)} has a semicolon; between operations it stands alone, with a space on each side"
+        )
     return shifted(script, words, found) if found.is_misplaced else found
 
 
@@ -248,7 +280,9 @@ def no_operation(script: Script, words: list[str], at: int) -> str:
     missing = [verb for verb in OPERATIONS if not walked(script, [*words[:at], verb, *words[at:]])]
     if words[at].startswith("/") or (missing and not near):
         return f"{quoted(words[at])} is no operation; perhaps {either(missing or OPERATIONS)} is missing before it"
-    return f"{quoted(words[at])} is no operation; " + (f"{quoted(near)} is near" if near else f"{either(OPERATIONS)} are")
+    return f"{quoted(words[at])} is no operation; " + (
+        f"{quoted(near)} is near" if near else f"{either(OPERATIONS)} are"
+    )
 
 
 def shifted(script: Script, words: list[str], found: Fault) -> Fault:
@@ -258,7 +292,9 @@ def shifted(script: Script, words: list[str], found: Fault) -> Fault:
     is_last = found.at == len(words) - 1
     if "is a word too many" in found.text:
         if found.form.split()[1:2] == ["PATH"] and words[found.at - 1] not in OPERATIONS:
-            return found._replace(text=f"{found.text} behind {quoted(words[found.at - 1])}; a path is one word, without spaces")
+            return found._replace(
+                text=f"{found.text} behind {quoted(words[found.at - 1])}; a path is one word, without spaces"
+            )
         others = [quoted(words[place]) for place in surplus[:-1][-4:]]
         return found._replace(text=found.text + (f", or {either(others)} is" if others else ""))
     if any(not walked(script, [*words[:place], ANY, *words[place:]]) for place in places):
@@ -274,9 +310,16 @@ def likest(lines: list[str]) -> list[str]:
     said = [WORD.findall(line) for line in lines[:MANY] if FIRST.match(line)]
     def is_of(language: str, words: list[str]) -> bool:
         # only a job of `serve` has a site
-        return words[0] in known_of(language) and not (language == "serve" and words[0] == "do" and not "".join(words[3:4]).isdigit())
+        return words[0] in known_of(language) and not (
+            language == "serve" and words[0] == "do" and not "".join(words[3:4]).isdigit()
+        )
+
     def likeness(language: str) -> float:
-        return sum(is_of(language, words) for words in said) + ([words[0] for words in said[:1]] == [LANGUAGES[language].due[0]]) / 2
+        return (
+            sum(is_of(language, words) for words in said)
+            + ([words[0] for words in said[:1]] == [LANGUAGES[language].due[0]]) / 2
+        )
+
     return sorted(LANGUAGES, key=likeness, reverse=True)
 
 
@@ -287,7 +330,8 @@ def is_first(name: str, lines: list[str], number: int) -> bool:
 
 
 def found_in(text: str, number: int, code: str, language: str | None = None) -> tuple[str, Fault | None, str]:
-    """The command of a script, the fault of its line of this number where it is found with this code, and of which command
+    """The command of a script, the fault of its line of this number where it is found with this code, and of which
+    command
     its lines are. Of another command than the likest one it is only where that would stop at this line."""
     lines = lines_of(text)
     languages = [language] if language else likest(lines)
@@ -330,7 +374,10 @@ def of_script(name: str, text: str, number: int, code: str, language: str | None
     language, fault, other = found_in(text, number, code, language)
     head = f"Line {number} of {name}, a script of `{language}`:"
     if number > len(lines):
-        shown = [f"{name} has {len(lines)} {'line' if len(lines) == 1 else 'lines'}, and is taken as a script of `{language}`."]
+        shown = [
+            f"{name} has {len(lines)} {'line' if len(lines) == 1 else 'lines'}, and is taken as a script of"
+            f" `{language}`."
+        ]
     else:
         line = lines[number - 1]
         spots = [found.span() for found in WORD.finditer(line)] + [(len(line), len(line))]

@@ -42,13 +42,20 @@ def number_in(path: str, pattern: str = r"^(\d+)") -> int | None:
 def processors() -> int:
     """How many processors there are to use, under the quota of a control group too."""
     quotas = [(number_in(quota), number_in(period, pattern)) for quota, period, pattern in QUOTAS]
-    return min([len(os.sched_getaffinity(0)), *(max(quota // period, 1) for quota, period in quotas if quota and period)])
+    return min(
+        [len(os.sched_getaffinity(0)), *(max(quota // period, 1) for quota, period in quotas if quota and period)]
+    )
 
 
 def free() -> int:
     """The bytes of memory that are free, under the limit of a control group too."""
     limits = [(number_in(limit), number_in(held, pattern)) for limit, held, pattern in LIMITS]
-    return min([1024 * (number_in("/proc/meminfo", r"^MemAvailable:\s+(\d+)") or 0), *(limit - held for limit, held in limits if limit and held is not None)])
+    return min(
+        [
+            1024 * (number_in("/proc/meminfo", r"^MemAvailable:\s+(\d+)") or 0),
+            *(limit - held for limit, held in limits if limit and held is not None),
+        ]
+    )
 
 
 def lanes() -> int | None:
@@ -83,7 +90,13 @@ def tell(times: gate_times.Times, begun: float, number: int | None) -> None:
     spent = resource.getrusage(resource.RUSAGE_CHILDREN)
     whole, provers = spent.ru_utime + spent.ru_stime, sum(sum(row.values()) for row in times.values())
     side = f" with {number} checks side by side" if number else ""
-    print(f"the gate took {(time.monotonic() - begun) / 60:.1f} minutes{side}, and of processor time {provers / 60:.0f} minutes for proofs", end="")
+    print(
+        (
+            f"the gate took {(time.monotonic() - begun) / 60:.1f} minutes{side}, and of processor time"
+            f" {provers / 60:.0f} minutes for proofs"
+        ),
+        end="",
+    )
     print(f" and {max(whole - provers, 0) / 60:.0f} for all else:")
     for line in gate_times.lines(times, gate_times.bounds()) if times else ["  nothing had to be proved"]:
         print(line)

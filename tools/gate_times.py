@@ -136,7 +136,11 @@ def write(times: Times, path: str) -> None:
 def read(path: str) -> Times:
     """The times in a file."""
     with open(path, newline="", encoding="utf-8") as file:
-        return {row["crate"]: {kind: float(row[kind]) for kind in KINDS} for row in csv.DictReader(file) if row["crate"] != ALL}
+        return {
+            row["crate"]: {kind: float(row[kind]) for kind in KINDS}
+            for row in csv.DictReader(file)
+            if row["crate"] != ALL
+        }
 
 
 def merged(pieces: typing.Iterable[Times]) -> Times:
@@ -173,7 +177,10 @@ def lines(times: Times, most: dict[str, float]) -> typing.Iterator[str]:
         yield f"  {name:{wide}} " + "".join(f"{it:8.0f}" if it >= 0.5 else f"{'-':>8}" for it in seconds) + bound
     for name, *_, spent in rows:
         if spent > most.get(name, spent):
-            yield f"warning: {name} took {spent:.0f} s of processor time, and its bound in docs/gate-bounds.csv is {most[name]:.0f}"
+            yield (
+                f"warning: {name} took {spent:.0f} s of processor time, and its bound in docs/gate-bounds.csv is"
+                f" {most[name]:.0f}"
+            )
         elif name not in most:
             yield f"warning: {name} has no bound in docs/gate-bounds.csv; it took {spent:.0f} s of processor time"
 
@@ -199,7 +206,9 @@ def table_lines(rows: list[Row]) -> typing.Iterator[str]:
 
 def main() -> int:
     head, _, more = __doc__.partition("\n\n")
-    parser = argparse.ArgumentParser(description=head, epilog=more, formatter_class=argparse.RawDescriptionHelpFormatter)
+    parser = argparse.ArgumentParser(
+        description=head, epilog=more, formatter_class=argparse.RawDescriptionHelpFormatter
+    )
     parser.add_argument("times", nargs="+", help="what the gate kept, or its pieces")
     parser.add_argument("--bounds", action="store_true", help="bounds in place of a table")
     given = parser.parse_args()

@@ -1,15 +1,24 @@
-"""What may stand in the lines of scripts and in the items of lists, in tables, and what is wrong with a word in its place.
+"""What may stand in the lines of scripts and in the items of lists, in tables, and what is wrong with a word in its
+place.
 
-It is no second reader of scripts: whether a line has a fault, and which, is said by the program alone. What is found here is
-told only where it has the code that the program printed (tools/faulty.py).
+It is no second reader of scripts: whether a line has a fault, and which, is said by the program alone. What is found
+here is told only where it has the code that the program printed (tools/faulty.py).
 """
 import collections
 import difflib
 import re
 import typing
 
-# The lines of a header, of names, and of each command: their words behind the first. A place in brackets may be missing.
-HEADER = {"servers": "SERVERS", "agents": "AGENTS", "votes": "VOTES", "root": "UID GID INIT", "cache": "BUDGET QUOTA SLOTS", "old": "OLD"}
+# The lines of a header, of names, and of each command: their words behind the first. A place in brackets may be
+# missing.
+HEADER = {
+    "servers": "SERVERS",
+    "agents": "AGENTS",
+    "votes": "VOTES",
+    "root": "UID GID INIT",
+    "cache": "BUDGET QUOTA SLOTS",
+    "old": "OLD",
+}
 NAMES = {"user": "NAME UID", "group": "NAME GID"}
 
 
@@ -22,34 +31,84 @@ class Language(typing.NamedTuple):
 
 
 LANGUAGES = {
-    "play": Language(("servers", "agents", "votes", "root", "cache"), ("old",), {
-        "begin": "A UID GIDS SITE OPERATIONS", "sweep": "A S", "step": "A [N]", "run": "A",
-        "crash": "S", "return": "S", "forget": "A SITE", "audit": "S"}),
-    "serve": Language(("servers", "votes", "root", "cache"), ("old",), {"do": "UID GIDS SITE OPERATIONS", "sweep": "S", "together": ""}),
+    "play": Language(
+        ("servers", "agents", "votes", "root", "cache"),
+        ("old",),
+        {
+            "begin": "A UID GIDS SITE OPERATIONS",
+            "sweep": "A S",
+            "step": "A [N]",
+            "run": "A",
+            "crash": "S",
+            "return": "S",
+            "forget": "A SITE",
+            "audit": "S",
+        },
+    ),
+    "serve": Language(
+        ("servers", "votes", "root", "cache"),
+        ("old",),
+        {"do": "UID GIDS SITE OPERATIONS", "sweep": "S", "together": ""},
+    ),
     "table": Language(("root",), (), {"do": "UID GIDS OPERATIONS"}),
 }
 OPERATIONS = {
     "read": "PATH", "write": "PATH HEX", "list": "PATH", "file": "PATH INIT [VOTES]", "folder": "PATH INIT [VOTES]",
     "drop": "PATH", "getacl": "PATH", "setacl": "PATH LIST", "getvotes": "PATH", "setvotes": "PATH VOTES",
 }
-MAX_ID, MAX_SERVERS, MAX_AGENTS, MAX_CACHE, MAX_SLOTS, LAST_SITE, MAX_STEPS = 4294967295, 32, 64, 268435456, 4096, 15, 1000000
+MAX_ID, MAX_SERVERS, MAX_AGENTS, MAX_CACHE, MAX_SLOTS, LAST_SITE, MAX_STEPS = (
+    4294967295,
+    32,
+    64,
+    268435456,
+    4096,
+    15,
+    1000000,
+)
 MAX_NUMBERS, MAX_VOTES, MAX_COLLECTED, MAX_NAME, MAX_ENTRIES, OLD_ENTRIES, OLD_SERVERS = 33, 255, 65535, 64, 128, 64, 16
 # Places that have a number: the least, the most, what the most is, and the code of a number beyond.
 NUMBERS = {
-    "SERVERS": (1, MAX_SERVERS, "the most servers", "G1"), "AGENTS": (1, MAX_AGENTS, "the most agents", "G1"),
-    "BUDGET": (0, MAX_CACHE, "the most bytes of a cache", "G3"), "QUOTA": (0, MAX_CACHE, "the most bytes of a site", "G3"),
-    "SLOTS": (0, MAX_SLOTS, "the most entries of a cache", "G3"), "SITE": (0, LAST_SITE, "the last site", "S1"),
-    "N": (0, MAX_STEPS, "the most steps of a line", "S1"), "UID": (0, MAX_ID, "the last user", "S1"), "GID": (0, MAX_ID, "the last group", "S1"),
+    "SERVERS": (1, MAX_SERVERS, "the most servers", "G1"),
+    "AGENTS": (1, MAX_AGENTS, "the most agents", "G1"),
+    "BUDGET": (0, MAX_CACHE, "the most bytes of a cache", "G3"),
+    "QUOTA": (0, MAX_CACHE, "the most bytes of a site", "G3"),
+    "SLOTS": (0, MAX_SLOTS, "the most entries of a cache", "G3"),
+    "SITE": (0, LAST_SITE, "the last site", "S1"),
+    "N": (0, MAX_STEPS, "the most steps of a line", "S1"),
+    "UID": (0, MAX_ID, "the last user", "S1"),
+    "GID": (0, MAX_ID, "the last group", "S1"),
 }
 MEANT = {
-    "SERVERS": "how many servers there are", "AGENTS": "how many agents there are", "BUDGET": "the most bytes of a cache",
-    "QUOTA": "the most bytes of a site's part of it", "SLOTS": "the most entries of a cache", "SITE": "a number from 0 to 15",
-    "N": "how many steps", "UID": "the number of a user", "GID": "the number of a group", "A": "the number of an agent",
-    "S": "the number of a server", "GIDS": "the numbers of the user's groups with commas between them", "NAME": "a name",
-    "OLD": "numbers of servers with commas between them", "VOTES": "votes such as 1,1,1/2/2", "INIT": "three octal digits or a list",
-    "LIST": "a list", "HEX": "hexadecimal digits, two a byte, or - for none", "PATH": "a path",
+    "SERVERS": "how many servers there are",
+    "AGENTS": "how many agents there are",
+    "BUDGET": "the most bytes of a cache",
+    "QUOTA": "the most bytes of a site's part of it",
+    "SLOTS": "the most entries of a cache",
+    "SITE": "a number from 0 to 15",
+    "N": "how many steps",
+    "UID": "the number of a user",
+    "GID": "the number of a group",
+    "A": "the number of an agent",
+    "S": "the number of a server",
+    "GIDS": "the numbers of the user's groups with commas between them",
+    "NAME": "a name",
+    "OLD": "numbers of servers with commas between them",
+    "VOTES": "votes such as 1,1,1/2/2",
+    "INIT": "three octal digits or a list",
+    "LIST": "a list",
+    "HEX": "hexadecimal digits, two a byte, or - for none",
+    "PATH": "a path",
 }
-KINDS = {"user": "user", "u": "user", "group": "group", "g": "group", "mask": "mask", "m": "mask", "other": "other", "o": "other"}
+KINDS = {
+    "user": "user",
+    "u": "user",
+    "group": "group",
+    "g": "group",
+    "mask": "mask",
+    "m": "mask",
+    "other": "other",
+    "o": "other",
+}
 OF_KIND = {"user": "the owner", "group": "the file's group", "other": "all others", "mask": "the mask"}
 NO_NAME = re.compile(r"[^\x21-\x7e]|[:,#\\]")
 # So much of a word is told.
@@ -71,7 +130,9 @@ class Wrong(typing.NamedTuple):
 
 
 class Where(typing.NamedTuple):
-    """What is known where a word stands: how many servers and agents there are, and the names above, each with its number and line."""
+    """What is known where a word stands: how many servers and agents there are, and the names above, each with its
+    number and line.
+    """
 
     servers: int
     agents: int
@@ -112,7 +173,11 @@ def nearest(word: str, known: typing.Iterable[str]) -> list[str]:
 
 def numbered(place: str, word: str, where: Where) -> Wrong | None:
     """What is wrong with a number in its place."""
-    ranges = {"A": (0, where.agents - 1, "the last agent", "S1"), "S": (0, where.servers - 1, "the last server", "S1"), **NUMBERS}
+    ranges = {
+        "A": (0, where.agents - 1, "the last agent", "S1"),
+        "S": (0, where.servers - 1, "the last server", "S1"),
+        **NUMBERS,
+    }
     least, most, what, code = ranges[place]
     if not re.fullmatch("[0-9]+", word):
         known = where.names.get({"UID": "user", "GID": "group"}.get(place), {})
@@ -130,13 +195,17 @@ def of_groups(word: str, where: Where) -> Wrong | None:
     if not re.fullmatch("[0-9,]+", word):
         return numbered("GID", word, where)._replace(text=f"{quoted(word)} stands where GIDS are due, {MEANT['GIDS']}")
     if len(parts) > 1 and "" in parts:
-        return Wrong("S1", f"{quoted(word)} has a comma without a number beside it; there are no spaces among the groups")
+        return Wrong(
+            "S1", f"{quoted(word)} has a comma without a number beside it; there are no spaces among the groups"
+        )
     for part in parts[:MAX_NUMBERS]:
         wrong = numbered("GID", part, where)
         if wrong:
             return wrong
     if len(parts) > MAX_NUMBERS:
-        return Wrong("S1", f"{len(parts)} groups; there are at most {MAX_NUMBERS}, the user's own and {MAX_NUMBERS - 1} others")
+        return Wrong(
+            "S1", f"{len(parts)} groups; there are at most {MAX_NUMBERS}, the user's own and {MAX_NUMBERS - 1} others"
+        )
     return None
 
 
@@ -150,11 +219,18 @@ def form_of_votes(word: str) -> str | None:
     """What keeps a word from being votes, whichever they are."""
     parts = word.split("/")
     if len(parts) != 3 or not parts[0]:
-        return f"{quoted(word)} stands where VOTES are due, {MEANT['VOTES']}: of each server, and behind slashes what a read and a write collect"
+        return (
+            f"{quoted(word)} stands where VOTES are due, {MEANT['VOTES']}: of each server, and behind slashes what a"
+            " read and a write collect"
+        )
     fields = parts[0].split(",")
     for field in fields[:MAX_SERVERS]:
         if field != "-" and not re.fullmatch("[0-9]+", field):
-            return f"{quoted(field)} is neither a server's votes nor -" if field else f"{quoted(word)} has nothing where a server's votes or - are due"
+            return (
+                f"{quoted(field)} is neither a server's votes nor -"
+                if field
+                else f"{quoted(word)} has nothing where a server's votes or - are due"
+            )
         if field != "-" and value(field) > MAX_VOTES:
             return f"{short(field)} is above {MAX_VOTES}, the most votes of a server"
     if len(fields) > MAX_SERVERS:
@@ -185,9 +261,21 @@ def of_votes(word: str, where: Where) -> Wrong | None:
         if not 0 < count <= total:
             return Wrong("V5", f"a {what} collects {count}, and all votes together are {total}")
     if read + write <= total:
-        return Wrong("V6", f"r + w is {read + write}, and N, all votes together, is {total}: a read could miss a write; r + w is above N")
+        return Wrong(
+            "V6",
+            (
+                f"r + w is {read + write}, and N, all votes together, is {total}: a read could miss a write; r + w is"
+                " above N"
+            ),
+        )
     if 2 * write <= total:
-        return Wrong("V7", f"2w is {2 * write}, and N, all votes together, is {total}: two writes could miss one another; 2w is above N")
+        return Wrong(
+            "V7",
+            (
+                f"2w is {2 * write}, and N, all votes together, is {total}: two writes could miss one another; 2w is"
+                " above N"
+            ),
+        )
     return None
 
 
@@ -209,7 +297,11 @@ def of_name(word: str, where: Where) -> Wrong | None:
     if re.fullmatch("[0-9]+", word):
         return Wrong("N1", f"{quoted(word)} is a number, and stands where a name is due", True)
     known = where.names[where.first]
-    return Wrong("N2", f"{where.first} {quoted(word)} has a number already, by line {known[word][1]}") if word in known else None
+    return (
+        Wrong("N2", f"{where.first} {quoted(word)} has a number already, by line {known[word][1]}")
+        if word in known
+        else None
+    )
 
 
 def items(text: str) -> typing.Iterator[tuple[int, str]]:
@@ -240,7 +332,9 @@ def form_of_item(fields: list[str]) -> str | None:
         return "a word is due before the first colon: user, group, mask or other"
     if not kind:
         near = [word for word in nearest(fields[0], KINDS) if len(word) > 1]
-        return f"{quoted(fields[0])} is no kind of entry; " + (f"{quoted(near[0])} is near" if near else "user, group, mask and other are")
+        return f"{quoted(fields[0])} is no kind of entry; " + (
+            f"{quoted(near[0])} is near" if near else "user, group, mask and other are"
+        )
     if count == 1:
         return f"a colon is missing behind {quoted(fields[0])}"
     if count == 2 and kind in ("user", "group"):
@@ -254,7 +348,9 @@ def form_of_item(fields: list[str]) -> str | None:
 
 
 def entry_of(item: str, names: Names | None) -> tuple[str, str] | tuple[str, str, int | str | None]:
-    """The entry of an item: its list, its kind and whom it names; or the code and the text of what is wrong with it; or nothing."""
+    """The entry of an item: its list, its kind and whom it names; or the code and the text of what is wrong with it;
+    or nothing.
+    """
     fields = [field.strip(" \t\r") for field in item.split(":")]
     side = "default" if fields[0] in ("default", "d") else "access"
     if side == "default":
@@ -282,7 +378,9 @@ def fault_of_entries(entries: list[tuple[int, str, int | str | None]]) -> tuple[
         if not count[kind, None]:
             return code, f"no item is the entry of {OF_KIND[kind]}, {kind[0]}::"
     for code, kinds in (("A4", tuple(OF_KIND)), ("A5", ("user",)), ("A6", ("group",))):
-        twice = [found for found in count if count[found] > 1 and found[0] in kinds and (found[1] is None) == (code == "A4")]
+        twice = [
+            found for found in count if count[found] > 1 and found[0] in kinds and (found[1] is None) == (code == "A4")
+        ]
         if twice:
             numbers = [str(number) for number, *entry in entries if tuple(entry) == twice[0]]
             of = OF_KIND[twice[0][0]] if code == "A4" else f"{twice[0][0]} {plain(str(twice[0][1]))}"
@@ -332,7 +430,13 @@ def of_init(word: str, where: Where) -> Wrong | None:
 
 
 WORDS = {
-    "GIDS": of_groups, "OLD": of_old, "VOTES": of_votes, "HEX": of_bytes, "NAME": of_name, "LIST": of_list, "INIT": of_init,
+    "GIDS": of_groups,
+    "OLD": of_old,
+    "VOTES": of_votes,
+    "HEX": of_bytes,
+    "NAME": of_name,
+    "LIST": of_list,
+    "INIT": of_init,
     "PATH": lambda word, where: None,
 }
 

@@ -1,14 +1,14 @@
 #!/usr/bin/env python3
 """Looks whether what the documents name is there.
 
-Of all that README.md, CONTRIBUTING.md, docs/ and the pages of crates (the lines //! of src/lib.rt or src/main.rt) have in
-backquotes, these have to be found: a name with an underscore,
-somewhere in crates/, tools/, tests/, bench/ or examples/ (also as that of a file there); `Type::name`, both in one file of
-some crate's src/; the name of a source file, in any folder; and a path that ends in one, at the top, in docs/ or in a crate.
-A heading that is named behind a document, as README.md, "Scripts", has to stand there, and so has one that a link goes
-to. The counts of lines in tables of definitions have to be right. A crate's page is at most 60 lines and 120 characters
-wide, and names each module and each file of specs/. What is not found is told, and the status is 1. It takes a second, and
-the gate begins with it.
+Of all that README.md, CONTRIBUTING.md, docs/ and the pages of crates (the lines //! of src/lib.rt or src/main.rt)
+have in backquotes, these have to be found: a name with an underscore, somewhere in crates/, tools/, tests/, bench/ or
+examples/ (also as that of a file there); `Type::name`, both in one file of some crate's src/; the name of a source
+file, in any folder; and a path that ends in one, at the top, in docs/ or in a crate. A heading that is named behind a
+document, as README.md, "Scripts", has to stand there, and so has one that a link goes to. The counts of lines in
+tables of definitions have to be right. A crate's page is at most 60 lines and 120 characters wide, and names each
+module and each file of specs/. What is not found is told, and the status is 1. It takes a second, and the gate begins
+with it.
 """
 import glob
 import os
@@ -24,7 +24,8 @@ NAME = re.compile(r"\b[a-z][a-z0-9]*(?:_[a-z0-9]+)+\b")
 MEMBER = re.compile(r"([A-Z]\w*)::(\w+)")
 PATH = re.compile(r"(?:[\w.-]+/)+[\w-]+\.(?:rt|antt|py|md|sh|edit|script|txt|csv|svg|c)")
 FILE = re.compile(r"[\w-]+\.(?:rt|antt)")
-# A document and headings of it, as `docs/HEADLINE.md`, "What is claimed" and "How to try to break it"; a link to a heading.
+# A document and headings of it, as `docs/HEADLINE.md`, "What is claimed" and "How to try to break it"; a link to a
+# heading.
 REFERENCE = re.compile(r'([\w/-]+\.md)`?, ("[^"]+"(?:(?: and|,) "[^"]+")*)')
 # A row of a table of definitions: how many lines they take, without imports, comments and blank lines, and their file.
 COUNTED = re.compile(r"\| (\d+) \| `([\w/]+\.antt)` \|")
@@ -57,7 +58,9 @@ def documents() -> list[str]:
 
 def pages() -> list[str]:
     """The files that have the pages of crates at their heads."""
-    return sorted(path for name in ("lib.rt", "main.rt") for path in glob.glob(os.path.join(TOP, "crates", "*", "src", name)))
+    return sorted(
+        path for name in ("lib.rt", "main.rt") for path in glob.glob(os.path.join(TOP, "crates", "*", "src", name))
+    )
 
 
 def lines_of(path: str) -> list[str]:
@@ -87,7 +90,11 @@ def is_there(text: str, known: set[str], members: list[set[str]]) -> bool:
 
 def headings(path: str) -> list[str]:
     """The headings of a document; none where it is not there."""
-    return [line.lstrip("# ") for line in content(path).split("\n") if line.startswith("#")] if os.path.exists(path) else []
+    return (
+        [line.lstrip("# ") for line in content(path).split("\n") if line.startswith("#")]
+        if os.path.exists(path)
+        else []
+    )
 
 
 def anchor(heading: str) -> str:

@@ -4,12 +4,12 @@
     tools/proved_page.py           writes the tables (each between its two marks)
     tools/proved_page.py --check   writes nothing; tells what differs, with status 1
 
-Both tables go crate by crate in the order of crates.txt. The first has the laws, each with its lines `///`. A law is a public
-function that has a contract and does nothing: one whose lines begin "A law", one of a file laws.rt, or one of a crate whose
-name begins with law_. The second has the other public functions that have a contract: those of public types and traits
-(`Type::name`, the names of one type together), and those that stand alone, each with the names of its clauses. Of the table
-above them, which says in words what is proved, each name in the last column has to be in the crate of its row. A law without
-lines is a fault. ./suites --test runs --check.
+Both tables go crate by crate in the order of crates.txt. The first has the laws, each with its lines `///`. A law is
+a public function that has a contract and does nothing: one whose lines begin "A law", one of a file laws.rt, or one
+of a crate whose name begins with law_. The second has the other public functions that have a contract: those of
+public types and traits (`Type::name`, the names of one type together), and those that stand alone, each with the
+names of its clauses. Of the table above them, which says in words what is proved, each name in the last column has to
+be in the crate of its row. A law without lines is a fault. ./suites --test runs --check.
 """
 import difflib
 import glob
@@ -37,7 +37,11 @@ def crates() -> list[str]:
     """The libraries, in the order of crates.txt."""
     lines = (line.partition("#")[0] for line in content(os.path.join(TOP, "crates.txt")).split("\n"))
     names = [line.split(":")[0].split()[0] for line in lines if ":" in line]
-    return [name for name in names if name not in OF_TESTS and os.path.exists(os.path.join(TOP, "crates", name, "src", "lib.rt"))]
+    return [
+        name
+        for name in names
+        if name not in OF_TESTS and os.path.exists(os.path.join(TOP, "crates", name, "src", "lib.rt"))
+    ]
 
 
 def shown(crate: str) -> tuple[set[str], set[str]]:
@@ -50,12 +54,17 @@ def shown(crate: str) -> tuple[set[str], set[str]]:
 def type_of(line: str) -> str:
     """The type, or the trait, of the block that a line begins."""
     plain = re.sub(r"<[^<>]*(?:<[^<>]*(?:<[^<>]*>[^<>]*)*>[^<>]*)*>", "", line)
-    named = re.search(r"(?:\bfor|\btrait|\bimpl) &?(?:'\w+ )?(?:mut )?(?:\w+::)*(\w+)", plain[plain.index(" for "):] if " for " in plain else plain)
+    named = re.search(
+        r"(?:\bfor|\btrait|\bimpl) &?(?:'\w+ )?(?:mut )?(?:\w+::)*(\w+)",
+        plain[plain.index(" for ") :] if " for " in plain else plain,
+    )
     return named[1] if named else ""
 
 
 def functions(path: str) -> list[typing.Any]:
-    """The functions of a file: the type (or ""), whether that is by a trait, the name, whether it is public, its clauses and its lines ///."""
+    """The functions of a file: the type (or ""), whether that is by a trait, the name, whether it is public, its
+    clauses and its lines ///.
+    """
     of, by_trait = "", False
     found: list[typing.Any] = []
     open_: typing.Any = None
@@ -83,13 +92,24 @@ def functions(path: str) -> list[typing.Any]:
 
 
 def public(crate: str) -> typing.Iterator[tuple[str, str, list[str], bool, str]]:
-    """The public functions of a crate that have a contract: (type or "", name, clauses, whether it is a law, lines ///)."""
+    """The public functions of a crate that have a contract: (type or "", name, clauses, whether it is a law, lines
+    ///).
+    """
     names, modules = shown(crate)
     for path in sorted(glob.glob(os.path.join(TOP, "crates", crate, "src", "**", "*.rt"), recursive=True)):
         module = os.path.relpath(path, os.path.join(TOP, "crates", crate, "src")).split(os.sep)[0].removesuffix(".rt")
         for of, by_trait, name, is_public, clauses, said in functions(path):
-            if clauses and is_public and not by_trait and ((of or name) in names or module in modules or module == "lib"):
-                is_law = said.startswith("A law") or not of and (crate.startswith("law_") or os.path.basename(path) == "laws.rt")
+            if (
+                clauses
+                and is_public
+                and not by_trait
+                and ((of or name) in names or module in modules or module == "lib")
+            ):
+                is_law = (
+                    said.startswith("A law")
+                    or not of
+                    and (crate.startswith("law_") or os.path.basename(path) == "laws.rt")
+                )
                 yield of, name, [clause for clause in clauses if clause], is_law, said
 
 
@@ -107,7 +127,9 @@ def table_of_functions() -> str:
                 found.setdefault(of, []).append((name, clauses))
         for of, those in sorted(found.items(), key=lambda item: (item[0] == "", item[0])):
             first, *more = sorted(those)
-            cells.append(", ".join([told(f"{of}::{first[0]}" if of else first[0], first[1]), *(told(*one) for one in more)]))
+            cells.append(
+                ", ".join([told(f"{of}::{first[0]}" if of else first[0], first[1]), *(told(*one) for one in more)])
+            )
         if cells:
             lines.append(f"| `{crate}` | {'; '.join(cells)} |")
     return "\n".join(lines)
@@ -118,7 +140,11 @@ def laws() -> typing.Iterator[tuple[str, str, str]]:
     for crate in crates():
         for of, name, _, is_law, said in public(crate):
             if is_law:
-                said = re.sub(r"\[(`[^`]+`)\]", r"\1", said.removeprefix("A law: ").removesuffix("It does nothing.")).replace("`crate::", "`").strip()
+                said = (
+                    re.sub(r"\[(`[^`]+`)\]", r"\1", said.removeprefix("A law: ").removesuffix("It does nothing."))
+                    .replace("`crate::", "`")
+                    .strip()
+                )
                 yield crate, f"{of}::{name}" if of else name, said[:1].upper() + said[1:]
 
 
@@ -170,7 +196,9 @@ def main() -> int:
         with open(PAGE, "w", encoding="utf-8") as file:
             file.write(new)
         return 1 if wrong else 0
-    changes = list(difflib.unified_diff(text.split("\n"), new.split("\n"), "docs/PROVED.md", "from the sources", lineterm="", n=0))
+    changes = list(
+        difflib.unified_diff(text.split("\n"), new.split("\n"), "docs/PROVED.md", "from the sources", lineterm="", n=0)
+    )
     print(*changes, sep="\n", end="\n" if changes else "")
     return 1 if wrong or changes else 0
 

@@ -1,8 +1,8 @@
 """Which votes so many servers may have, so that reads and writes go on without some of them (`./suites votes --of`).
 
-Each way to share votes is judged by what it costs and what it bears: how many requests a read and a write of a file take
-that has them, in a root folder that has them too, how many servers each may lose, and the chances that each is blocked, and
-that it is not done at the first try, since votes or its home are down.
+Each way to share votes is judged by what it costs and what it bears: how many requests a read and a write of a file
+take that has them, in a root folder that has them too, how many servers each may lose, and the chances that each is
+blocked, and that it is not done at the first try, since votes or its home are down.
 """
 import fractions
 import functools
@@ -64,7 +64,8 @@ def not_at_first(shares: tuple[int, ...], needed: int, up: Chance) -> Chance:
 
 
 def requests(shares: tuple[int, ...], r: int, w: int) -> tuple[int, int]:
-    """How many requests a read and a write take: of the folder locks and a fetch, of the file locks, and for a read a fetch;
+    """How many requests a read and a write take: of the folder locks and a fetch, of the file locks, and for a read a
+    fetch;
     and then to prepare, to decide and to finish."""
     readers, writers = members(shares, r), members(shares, w)
     both = max(readers, writers)

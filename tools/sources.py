@@ -30,7 +30,9 @@ SUMS = os.path.join(KEPT, "sums.json")
 CODE, CLAIMS, PROOFS = "src", "specs", "proofs"
 # A comment stands at the start of a line or after a space; a string with such marks is none, nor is a character.
 # The rarer `/* */` and `{- -}` count as text.
-RUST = re.compile(r"""(?<!\w)[bc]?r(#*)".*?"\1|"(?:[^"\\]|\\.)*"|'(?:\\[^'\n]+|[^\\'\n]|\\')'|(?:^|(?<=\s))//[^\n]*""", re.S | re.M)
+RUST = re.compile(
+    r"""(?<!\w)[bc]?r(#*)".*?"\1|"(?:[^"\\]|\\.)*"|'(?:\\[^'\n]+|[^\\'\n]|\\')'|(?:^|(?<=\s))//[^\n]*""", re.S | re.M
+)
 LOGIC = re.compile(r'"(?:[^"\\\n]|\\.)*"|(?:^|(?<=[ \n]))--[^\n]*', re.M)
 KINDS = {".rt": (RUST, "//"), ".antt": (LOGIC, "--")}
 # Longer than the steps in which a file system counts time.
@@ -96,11 +98,16 @@ def make_folder() -> None:
         os.makedirs(KEPT, exist_ok=True)
         tempfile.TemporaryFile(dir=KEPT).close()
     except OSError:
-        raise console.Stop(f"nothing can be written in {KEPT}, and no program of these sources is there: copy the repository to where you may write") from None
+        raise console.Stop(
+            f"nothing can be written in {KEPT}, and no program of these sources is there: copy the repository to where"
+            " you may write"
+        ) from None
 
 
 def time_of_files() -> int | None:
-    """A time before which all that is read from now on was written, as files have it; none where nothing can be written."""
+    """A time before which all that is read from now on was written, as files have it; none where nothing can be
+    written.
+    """
     try:
         with tempfile.TemporaryFile(dir=KEPT) as file:
             begun = os.fstat(file.fileno()).st_mtime_ns
@@ -132,11 +139,20 @@ class Kit:
     def wanted(self) -> None:
         """Ends the tool where there is no kit, or one of another logic."""
         if not self.command:
-            raise console.Stop("the program is not built, and the command rt that builds it is not on the path (README.md names the kit)")
+            raise console.Stop(
+                "the program is not built, and the command rt that builds it is not on the path (README.md names the"
+                " kit)"
+            )
         if not self.name:
-            raise console.Stop(f"the program is not built, and the command {self.command} that builds it fails: `rt version` tells no kit")
+            raise console.Stop(
+                f"the program is not built, and the command {self.command} that builds it fails: `rt version` tells"
+                " no kit"
+            )
         if KIT_LOGIC not in self.name.split():
-            raise console.Stop(f"the program is not built by the kit on the path, which is {self.name}: these sources want one of logic {KIT_LOGIC}")
+            raise console.Stop(
+                f"the program is not built by the kit on the path, which is {self.name}: these sources want one of"
+                f" logic {KIT_LOGIC}"
+            )
 
 
 class Sources:
@@ -179,6 +195,8 @@ class Sources:
         return hashlib.sha256("\n".join(lines).encode()).hexdigest()
 
     def looked_at(self, is_proved: bool) -> list[str]:
-        """What is looked at before each run of the program: the code, and where a proved program is at stake its claims too, with the folders in which a new file may matter."""
+        """What is looked at before each run of the program: the code, and where a proved program is at stake its
+        claims too, with the folders in which a new file may matter.
+        """
         files = self.claim_files if is_proved else self.code_files
         return [*sorted({os.path.dirname(file) for file in files}), *files]

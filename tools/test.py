@@ -1,12 +1,12 @@
 #!/usr/bin/env python3
 """./suites --test
 
-Runs all tests that need no proof, side by side: the rows of crates/rows/stdin through the program that `./suites` runs
-(which it first makes, where there is none), the tests of libraries, runs and commands without their proofs (`rt try`),
-the examples of docs/FAULTS.md, the command lines that README.md and docs/FAULTS.md show, what `./suites votes` tells,
-pictures, random scripts of `play` against the plain table, and the checks of documents. Prints a line for each part as
-it ends, of a part that fails also what it printed, and last how many passed and failed. Status 1 where one failed. The gate
-(.ci/run) begins with it.
+Runs all tests that need no proof, side by side: the rows of crates/rows/stdin through the program that `./suites`
+runs (which it first makes, where there is none), the tests of libraries, runs and commands without their proofs (`rt
+try`), the examples of docs/FAULTS.md, the command lines that README.md and docs/FAULTS.md show, what `./suites votes`
+tells, pictures, random scripts of `play` against the plain table, and the checks of documents. Prints a line for each
+part as it ends, of a part that fails also what it printed, and last how many passed and failed. Status 1 where one
+failed. The gate (.ci/run) begins with it.
 """
 import os
 import re
@@ -36,7 +36,9 @@ COUNTS = (
 class Part:
     """A part of the tests: its title, its command, and the titles of the parts that have to pass before it."""
 
-    def __init__(self, title: str, words: list[str], after: typing.Sequence[str] = (), folder: str = ".", program: str = "suites") -> None:
+    def __init__(
+        self, title: str, words: list[str], after: typing.Sequence[str] = (), folder: str = ".", program: str = "suites"
+    ) -> None:
         self.title, self.words, self.after = title, words, after
         self.folder, self.program = os.path.join(sources.TOP, folder), program
         self.counts: tuple[int, int] | None = None
@@ -46,7 +48,9 @@ class Part:
 
     def start(self) -> None:
         self.log, self.begun = tempfile.TemporaryFile(), time.monotonic()
-        self.process = console.start(self.words, self.folder, self.log, env={**os.environ, "SUITES_PROGRAM": self.program})
+        self.process = console.start(
+            self.words, self.folder, self.log, env={**os.environ, "SUITES_PROGRAM": self.program}
+        )
 
     def has_ended(self) -> bool:
         """Whether it has ended; counts what passed and failed."""
@@ -99,8 +103,11 @@ PARTS = (
     Part("what explain says of damaged scripts", tool("tests/damaged-scripts.py", "--cases", "1000"), [PROGRAM]),
     Part("command lines of documents", tool("tests/typed.py"), [PROGRAM, TRACE]),
     Part("answers of may", tool("tests/may.py"), [MAY]),
-    Part("may against the kernel", tool("tests/may-against-the-kernel.py", "--questions", "300", "--if-possible"), [MAY]),
+    Part(
+        "may against the kernel", tool("tests/may-against-the-kernel.py", "--questions", "300", "--if-possible"), [MAY]
+    ),
     Part("what votes tells", tool("tests/votes.py"), [PROGRAM, TRACE]),
+    Part("what votes tells of scripts", tool("tests/votes-left.py"), [PROGRAM, TRACE]),
     Part("pictures", tool("tests/drawn.py"), [TRACE]),
     Part("random scripts", tool("tools/compare.py", "--seeds", "200"), [PROGRAM, TRACE]),
 )
@@ -132,7 +139,9 @@ def play_all(parts: typing.Sequence[Part], number: int, teller: console.Teller) 
             for part in [*vain, *ended]:
                 teller.clear()
                 print(part.lines(), flush=True)
-            teller.say(f"{len(parts) - len(left) - len(running)} of {len(parts)} parts done, {teller.seconds()} s", False)
+            teller.say(
+                f"{len(parts) - len(left) - len(running)} of {len(parts)} parts done, {teller.seconds()} s", False
+            )
     finally:
         for part in running:
             console.stop(part.process)

@@ -1,8 +1,9 @@
 #!/usr/bin/env python3
 """tools/trial.py WORD...
 
-All that a checked build rests on inside the kit: `rt try` makes the program as a file of LLVM's, `module.bc`, in a folder
-below TMPDIR, with its checks at run time; the kit's clang compiles it, and the kit's linker links it with its C libraries.
+All that a checked build rests on inside the kit: `rt try` makes the program as a file of LLVM's, `module.bc`, in a
+folder below TMPDIR, with its checks at run time; the kit's clang compiles it, and the kit's linker links it with its
+C libraries.
 
 Where a kit does it otherwise, no module is found. Then this file as a command stands in for the program: it runs
 `rt try -- WORD...` on its standard input, which compiles the program each time.
@@ -22,7 +23,13 @@ MODULE = "module.bc"
 # What is in the module of the program, and not in the small one with which `rt try` tries its compiler.
 MARK = f"{sources.PROGRAM}::main".encode()
 # As the kit itself compiles: these keep passes of clang out that are known to err.
-CAREFUL = ["-no-trap-after-noreturn", "-trap-unreachable", "-no-x86-call-frame-opt", "-disable-machine-licm", "-disable-postra-machine-licm"]
+CAREFUL = [
+    "-no-trap-after-noreturn",
+    "-trap-unreachable",
+    "-no-x86-call-frame-opt",
+    "-disable-machine-licm",
+    "-disable-postra-machine-licm",
+]
 CAREFUL = [word for option in [*CAREFUL, "-sink-common-insts=false"] for word in ("-mllvm", option)]
 LEVEL = "-O1"
 
@@ -132,7 +139,10 @@ def build(target: str, tick: typing.Callable[[], None]) -> None:
 
 def main() -> int:
     """Runs the program by `rt try`."""
-    console.Teller().say("this kit hands out no module, so `rt try` compiles the program anew for this run, some four minutes; not proved")
+    console.Teller().say(
+        "this kit hands out no module, so `rt try` compiles the program anew for this run, some four minutes; not"
+        " proved"
+    )
     process = subprocess.Popen(["rt", "try", "--", *sys.argv[1:]], cwd=FOLDER)
     try:
         return process.wait()

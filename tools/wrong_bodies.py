@@ -30,7 +30,9 @@ NAMED = re.compile(r"[A-Za-z0-9_-][A-Za-z0-9_.-]*\.edit")
 # The lines of an edit that rt does not read: tools/wrong_bodies_page.py makes the page of them.
 TOLD = ("why", "refused by")
 SAID = re.compile(r"(?:rt: )?must-fail (\w+)/(\S+)\.edit: (.*)")
-UNPROVED = re.compile(r"rt: (\w+): (the check that its must-fail edits begin with did not end well|it is not proved again)")
+UNPROVED = re.compile(
+    r"rt: (\w+): (the check that its must-fail edits begin with did not end well|it is not proved again)"
+)
 
 
 def crates() -> list[str]:
@@ -59,7 +61,9 @@ def why_not(edit: str, folder: str) -> str | None:
         return "its name is not of letters, digits, _, - and . with .edit at the end"
     path, old, texts, before = "", None, {}, {}
     for line in content(edit).split("\n"):
-        word, _, rest = ("new", "", line[5:] if line[4:5] == " " else line[4:]) if line.startswith("new:") else line.partition(": ")
+        word, _, rest = (
+            ("new", "", line[5:] if line[4:5] == " " else line[4:]) if line.startswith("new:") else line.partition(": ")
+        )
         if word == "file":
             path = rest.strip()
             if os.path.normpath(path) != path or not path.startswith(("src/", "specs/", "proofs/")):
@@ -90,12 +94,16 @@ def check(names: list[str]) -> int:
         seen = set()
         for edit in edits(name, GATE) + edits(name, BESIDE):
             number += 1
-            why = why_not(edit, os.path.join(CRATES, name)) or ("its name stands in both places" if name_of(edit) in seen else None)
+            why = why_not(edit, os.path.join(CRATES, name)) or (
+                "its name stands in both places" if name_of(edit) in seen else None
+            )
             seen.add(name_of(edit))
             if why:
                 lost += 1
                 print(f"{os.path.relpath(edit, TOP)}: {why}")
-    print(f"{number} wrong bodies, {lost} of them do not apply" if lost else f"{number} wrong bodies, all of them apply")
+    print(
+        f"{number} wrong bodies, {lost} of them do not apply" if lost else f"{number} wrong bodies, all of them apply"
+    )
     return lost
 
 
@@ -124,7 +132,12 @@ def emptied() -> typing.Iterator[str]:
 @contextlib.contextmanager
 def started(words: list[str], folder: str, room: str) -> typing.Iterator[subprocess.Popen[str]]:
     """A command whose rubbish lies in the room, in a group of its own that ends with this program."""
-    how: dict[str, typing.Any] = {"stdin": subprocess.DEVNULL, "stdout": subprocess.PIPE, "stderr": subprocess.STDOUT, "errors": "replace"}
+    how: dict[str, typing.Any] = {
+        "stdin": subprocess.DEVNULL,
+        "stdout": subprocess.PIPE,
+        "stderr": subprocess.STDOUT,
+        "errors": "replace",
+    }
     ran = subprocess.Popen(words, cwd=folder, env={**os.environ, "TMPDIR": room}, start_new_session=True, **how)
     try:
         yield ran
@@ -178,7 +191,9 @@ def taken_of(names: list[str], given: argparse.Namespace) -> dict[str, list[str]
     """The files to try, by crate."""
     places = (GATE, BESIDE) if given.only else (GATE,) if given.gate else (BESIDE,)
     found = {name: [edit for place in places for edit in edits(name, place)] for name in names}
-    found = {name: [edit for edit in files if not given.only or name_of(edit) in given.only] for name, files in found.items()}
+    found = {
+        name: [edit for edit in files if not given.only or name_of(edit) in given.only] for name, files in found.items()
+    }
     return {name: files for name, files in found.items() if files}
 
 
@@ -191,16 +206,25 @@ def try_all(names: list[str], given: argparse.Namespace) -> int:
         proved = [name for name in taken if is_proved(name, room)]
         said = try_edits(proved, given.anew, room) if proved else {}
     lost = sum(tell(name, taken[name], said) for name in proved)
-    return lost + sum(len(files) for name, files in taken.items() if name not in proved) + (not taken and bool(given.only))
+    return (
+        lost + sum(len(files) for name, files in taken.items() if name not in proved) + (not taken and bool(given.only))
+    )
 
 
 def words() -> argparse.Namespace:
     head, _, more = __doc__.partition("\n\n")
     read = argparse.ArgumentParser(description=head, epilog=more, formatter_class=argparse.RawDescriptionHelpFormatter)
     read.add_argument("names", metavar="NAME", nargs="*", help="a crate; all of them, if none is named")
-    read.add_argument("--check", action="store_true", help="only look whether the texts of all edits apply; proves nothing")
+    read.add_argument(
+        "--check", action="store_true", help="only look whether the texts of all edits apply; proves nothing"
+    )
     read.add_argument("--gate", action="store_true", help="try those in the gate in place of those beside it")
-    read.add_argument("--only", metavar="EDIT", action="append", help="try the edit of this name, in the gate or beside it (may be given again)")
+    read.add_argument(
+        "--only",
+        metavar="EDIT",
+        action="append",
+        help="try the edit of this name, in the gate or beside it (may be given again)",
+    )
     read.add_argument("--anew", action="store_true", help="try also what was tried before over the same files")
     given = read.parse_args()
     unknown = sorted({*given.names} - {*crates()})

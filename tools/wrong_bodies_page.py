@@ -4,9 +4,10 @@
     tools/wrong_bodies_page.py           writes the page
     tools/wrong_bodies_page.py --check   writes nothing; tells what differs, with status 1
 
-The first line of an edit says what it makes wrong (`why: ..`), the second which function refuses it and by which clause
-(`refused by: ..`). An edit of the gate that has neither has them in docs/wrong-bodies-in-gate.txt: the gate tries an edit
-anew when any of its lines changes, so the words move into it when it changes anyway. ./suites --test runs --check.
+The first line of an edit says what it makes wrong (`why: ..`), the second which function refuses it and by which
+clause (`refused by: ..`). An edit of the gate that has neither has them in docs/wrong-bodies-in-gate.txt: the gate
+tries an edit anew when any of its lines changes, so the words move into it when it changes anyway. ./suites --test
+runs --check.
 """
 import difflib
 import os
@@ -64,14 +65,21 @@ def rows(crate: str, in_gate: dict[str, dict[str, str]], faults: list[str]) -> t
     for folder, place in PLACES:
         for edit in wrong_bodies.edits(crate, folder):
             name = f"{crate}/{wrong_bodies.name_of(edit)}"
-            own, kept = words_of(wrong_bodies.content(edit)), in_gate.pop(name, {}) if folder == wrong_bodies.GATE else {}
+            own, kept = (
+                words_of(wrong_bodies.content(edit)),
+                in_gate.pop(name, {}) if folder == wrong_bodies.GATE else {},
+            )
             words = own or kept
             if own and kept:
-                faults.append(f"{name}: its words stand in the edit and in {os.path.relpath(IN_GATE, wrong_bodies.TOP)}")
+                faults.append(
+                    f"{name}: its words stand in the edit and in {os.path.relpath(IN_GATE, wrong_bodies.TOP)}"
+                )
             faults += [f"{name}: it has no line '{word}: ..'" for word in wrong_bodies.TOLD if not words.get(word)]
             if any("|" in text for text in words.values()):
                 faults.append(f"{name}: a word has a |, which a table cannot show")
-            yield f"| `{wrong_bodies.name_of(edit)}` | {place} | {words.get('why', '')} | {words.get('refused by', '')} |"
+            yield (
+                f"| `{wrong_bodies.name_of(edit)}` | {place} | {words.get('why', '')} | {words.get('refused by', '')} |"
+            )
 
 
 def page() -> tuple[str, list[str]]:
@@ -83,7 +91,17 @@ def page() -> tuple[str, list[str]]:
         for place in counts:
             counts[place] += sum(line.split(" | ")[1] == place for line in lines)
         if lines:
-            parts.append("\n".join([f"## `{crate}`\n", "| Wrong body | Tried | What it makes wrong | Refused by |", "|---|---|---|---|", *lines, ""]))
+            parts.append(
+                "\n".join(
+                    [
+                        f"## `{crate}`\n",
+                        "| Wrong body | Tried | What it makes wrong | Refused by |",
+                        "|---|---|---|---|",
+                        *lines,
+                        "",
+                    ]
+                )
+            )
     faults += [f"{name}: there is no such edit in the gate" for name in in_gate]
     parts.insert(1, f"There are {counts['gate']} in the gate and {counts['beside']} beside it.\n")
     return "\n".join(parts), faults
@@ -97,7 +115,12 @@ def main() -> int:
             file.write(text)
         return 1 if faults else 0
     stands = wrong_bodies.content(PAGE) if os.path.exists(PAGE) else ""
-    changes = [line for line in difflib.unified_diff(stands.split("\n"), text.split("\n"), "docs/WRONG-BODIES.md", "from the edits", lineterm="", n=0)]
+    changes = [
+        line
+        for line in difflib.unified_diff(
+            stands.split("\n"), text.split("\n"), "docs/WRONG-BODIES.md", "from the edits", lineterm="", n=0
+        )
+    ]
     print(*changes, sep="\n", end="\n" if changes else "")
     return 1 if faults or changes else 0
 
