@@ -26,7 +26,7 @@ import scenario
 FIRSTS = {"play": ["begin", "sweep", "step", "run", "crash", "return", "forget", "audit"], "serve": ["do", "sweep", "together"], "table": ["do"]}
 VERBS = ["read", "write", "list", "file", "folder", "drop", "getacl", "setacl", "getvotes", "setvotes"]
 BYTES = ["", " ", "\t", "\r", "#", ";", ":", "/", ",", "-", "0", "9", "r", "u::", "d:", "m::", "\xc2\xa0", "\0", "99999999999999999999", "4294967296"]
-NOT_FOUND = "is not found here"
+NOT_FOUND = "Was it changed since?"
 NAMED_AT_LEAST = {"word dropped": 0.98, "word added": 0.98}
 # The most of each number behind the first word of a line; -1 and -2 stand for the last server and the last agent.
 MOST = {
@@ -225,7 +225,8 @@ def tried(program, path, damage):
     said = explain.answer(["--of", damage.command, printed, path])
     guessed = explain.answer([printed, path])
     other = explain.answer(["--of", damage.command, re.sub(": .*", ": N2" if "N2" not in printed else ": N1", printed), path])
-    if NOT_FOUND in said or NOT_FOUND in guessed or NOT_FOUND not in other:
+    is_missed = [NOT_FOUND in " ".join(text.split()) for text in (said, guessed, other)]
+    if is_missed != [False, False, True]:
         return "nothing found", f"{printed}: {said}"
     return ("unnamed" if unnamed(damage, said) else "named"), f"{printed}: {said}"
 

@@ -18,9 +18,12 @@ import tempfile
 
 TOP = os.path.realpath(os.path.join(os.path.dirname(os.path.abspath(__file__)), ".."))
 sys.path.insert(0, os.path.join(TOP, "tools"))
+import after
 import explain
 import grammar
+import happened
 import played
+import scenario
 
 HEADERS = {"table": ["root 1000 100 777"], "play": ["servers 3", "agents 2", "votes 1,1,1/2/2", "root 1000 100 777", "cache 0 0 0"], "acl": []}
 HEADERS = {**HEADERS, **{f"whole {name}": [] for name in HEADERS}}
@@ -55,7 +58,42 @@ LIMITS = (
 )
 # A file, the command that reads it, its text, and what is to be told of its fault.
 ON_TERMINAL = (("my script", "play", "servers 3\nagents 0\n", "0 is below 1"), ("list", "acl", "u:rw,g::r,o::-\n", "A colon is missing"))
-NOT_FOUND = "is not found here"
+# Of a line that a story of examples/play/ prints, what is to be told with the script.
+STORIES = (
+    ("revocation", "1.2 9 denied op 1 suite 1 wants r-- by other::", ["line 29, for user 2000 of groups 300: read /a",
+     "came to /a (suite 1), and wanted r-- of it", "Its list was then user::rw-,group::r--,other::---, its owner user 1000, and its group 100"]),
+    ("revocation", "t 129 uid 2000 op 1 suite 1 wants r-- by other::", ["job 2 of agent 1: line 29"]),
+    ("dropped", "1.1 10 denied op 1 suite 1025 wants r-- by other::", ["/a (suite 1025)", "user::rw-,group::---,other::---"]),
+    ("quorum-lost", "3.0 13 undecided U1 suite 1 got 3 of 4", ["It wanted 4 votes of /a (suite 1), and had 3. Server 0 has a vote, and was "
+     "down, since line 17", "Server 1 has a vote, and was down, since line 18", "Server 2 gave its vote"]),
+    ("votes-moved-to-up", "1.0 8 undecided U1 suite 1 got 1 of 2", ["enough of them are up: they were moved"]),
+    ("home-down", "0.3 8 undecided U2 server 0 holder 65", ["transaction 65, is job 1 of agent 1: line 27", "its home, server 2, is down "
+     "since line 29", "`return 2`, then `sweep 0 0`"]),
+    ("crashed-writer", "1.0 9 undecided U2 server 0 holder 64", ["job 1 of agent 0: line 15", "its home, server 1, is up", "`run 0`"]),
+    ("crashed-writer", "0.1 10 undecided U4", ["sweep of job 1 of agent 1 (line 24, a sweep of server 0)"]),
+    ("locks-lost", "0.1 8 undecided U3 server 0", ["Server 0 crashed in line 17"]),
+    ("begin-again", "1.0 13 undecided U5", ["Its home is server 1: (1 + 0) mod 3", "down, since line 16", "whose home is server 2"]),
+    ("dropped", "0.2 12 answered made 1025; wrote", ["made 1025, which is 8 * 128 + 1: operation 1 of transaction 128"]),
+    ("home-down", "0.1 2 swept 0 0 1", ["Transaction 65, job 1 of agent 1: its home, server 2, is down"]),
+)
+# Texts that are told by themselves.
+ALONE = {
+    "begin 0 1000 100 0 file /a 644 ; write /a 6869": ["operation 1: makes a file", "the mode of the list u::rw-,g::r--,o::r--", "the text hi"],
+    "votes 1,1,1/2/2": ["1 of server 0", "a read collects 2, and a write 2"], "step 0 3": ["A, the number of an agent", "N, how many steps"],
+    "prefix": ["kind, owner, group, lists and votes"], "sweep": ["sweep A S", "sweep S"], "site": ["a place for which an agent works"], "home": ["decide"],
+    "may be lost   any 1": ["whichever they are"], "not found     {0,1}: got 1 of 2": ["votes that were moved"],
+    "/etc/shadow  r--  denied by other::---": ["what its list says"], "1.0 1 swept 0 0 0": ["it took 1 request."],
+    "nobody (65534; groups 65534) may not r: /etc/shadow wants r--, other grants ---": ["the entry that decides grants"],
+}
+RIGHT = "servers 3\nagents 2\nvotes 1,1,1/2/2\nroot 1000 100 777\ncache 0 0 0\nbegin 0 1000 100 0 file /a 644\nrun 1\n"
+# Faults that are told of a script which has been mended, and what is said.
+MENDED = {
+    "fault line 3: S2": "no fault S2 in line 3. The line is right as it is now. Was it changed since?",
+    "fault line 6: S1": "no fault S1 in line 6. The line is right as it is now.", "fault line 12: S1": "has no line 12. Was it changed",
+    "fault line 4: G1": "The line is right as it is now",
+}
+SEEDS = 6
+NOT_FOUND = "Was it changed since?"
 WORDS = ("", "one", "two", "three", "four", "five", "six", "seven", "eight", "nine")
 
 
@@ -145,6 +183,77 @@ def told_on_terminal():
                 yield f"on a terminal {command} < '{name}' says {said.strip()}, which shows {shown}"
 
 
+def denies(text, owner, group, uid, groups, wanted):
+    """The entry of a list that denies what is wanted, by the rules of acl(5)."""
+    entries = [(kind, who, frozenset(perms) - {"-"}) for kind, who, perms in (item.split(":") for item in text.split(",") if item[:2] != "d:" and item[:8] != "default:")]
+    mask = next((perms for kind, _, perms in entries if kind in ("m", "mask")), None)
+    named = next((entry for entry in entries if entry[0] in ("u", "user") and entry[1] == uid), None)
+    of_group = [entry for entry in entries if entry[0] in ("g", "group") and (entry[1] or group) in groups]
+    wanted = frozenset(wanted) - {"-"}
+    if uid == owner:
+        return "user::"
+    if named:
+        return f"user:{uid}" if wanted - named[2] else "mask::"
+    if of_group:
+        lacking = all(wanted - perms for _, _, perms in of_group)
+        return (f"group:{of_group[0][1]}" if of_group[0][1] else "group::") if lacking and mask is None or lacking else "mask::"
+    return "other::"
+
+
+def told_of_runs(program):
+    """What differs of what is told of lines with their scripts: of stories, and of random scripts, where each line has to be
+    told, and a list that is told of a denial has to deny it."""
+    count, wrong = 0, []
+    for story, line, wanted in STORIES:
+        path, count = os.path.join(TOP, "examples", "play", f"{story}.script"), count + 1
+        said = as_one(explain.answer([line, path]))
+        wrong += [f"{story}: of {line} explain does not say {words}: {said[:600]}" for words in wanted if words not in said]
+    for seed in range(SEEDS):
+        script = scenario.Scenario(seed, 80).script()
+        done = subprocess.run([program, "play"], input=script.encode("latin1"), stdout=subprocess.PIPE, stderr=subprocess.DEVNULL)
+        run = happened.played(script.encode("latin1"), "the script")
+        for line in dict.fromkeys(done.stdout.decode("latin1").splitlines()):
+            said, count = " ".join(happened.of_run(run, line, script, "the script")), count + 1
+            found = re.search(r"Its list was then (\S+), its owner user (\d+), and its group (\d+)\. User (\d+) of groups (\S+) ", said)
+            denial = re.search(r"wants (\S+) by (\S+)$", line)
+            if denial and denial[2] != "owner" and (not found or denies(*found.group(1, 2, 3, 4), found[5].split(","), denial[1]) != denial[2]):
+                wrong.append(f"seed {seed}: of {line} is told: {said}")
+            if not said or ("undecided" in line and len(said) < 150):
+                wrong.append(f"seed {seed}: of {line} is told too little: {said}")
+    return count, wrong
+
+
+def told_alone():
+    """What differs of what is told of words and lines by themselves, and of faults of what has been mended."""
+    wrong = [f"of {text} explain does not say {words}" for text, wanted in ALONE.items() for words in wanted if words not in as_one(explain.answer([text]))]
+    with tempfile.NamedTemporaryFile("w", prefix="suites-", encoding="latin1") as file:
+        file.write(RIGHT)
+        file.flush()
+        wrong += [f"of {fault} in a right script explain says: {explain.answer([fault, file.name])}" for fault, words in MENDED.items()
+                  if words not in as_one(explain.answer([fault, file.name]))]
+    with tempfile.NamedTemporaryFile("w", prefix="suites-", encoding="latin1") as file:
+        file.write("u::rw,g::r,o::-\n")
+        file.flush()
+        said = as_one(explain.answer(["fault A9 item 1", file.name]))
+        wrong += [] if "has no fault A9 item 1. The list is right as it is now." in said else [f"of a right list explain says: {said}"]
+    return len(ALONE) + len(MENDED) + 1, wrong
+
+
+def silent_lines(program):
+    """What differs between the lines that tools/after.py says did nothing and those that the trace says did nothing."""
+    wrong = []
+    for seed in range(SEEDS):
+        script = scenario.Scenario(seed, 80).script()
+        done = subprocess.run([program, "play"], input=script.encode("latin1"), stdout=subprocess.PIPE, stderr=subprocess.DEVNULL)
+        said = list(after.silent(after.lines_of(script), done.stdout.decode("latin1")))
+        found = {int(number) for number in re.findall(r"line (\d+) did nothing", "\n".join(said))}
+        run = happened.played(script.encode("latin1"), "the script")
+        left = {f"agent {agent} has a job that has not ended (line {job.number}); run {agent} ends it" for agent, job in run.busy.items()}
+        if found != run.silent or left != {line for line in said if line.startswith("agent")}:
+            wrong.append(f"seed {seed}: {said}, and the trace says {run.silent} {left}")
+    return SEEDS, wrong
+
+
 def play_commands():
     """Runs the command lines that the page shows; how many there are, and which fail."""
     with open(explain.PAGE, encoding="utf-8") as file:
@@ -155,7 +264,7 @@ def play_commands():
         for word, put in PUT.items():
             line = re.sub(rf"(?<![A-Z]){word}(?![A-Z])", put, line)
         # what a script is to be read for, and has none, is help
-        line = line if "<" in line or not re.fullmatch(r"\./suites (trace|draw|votes|play|table|acl)", line) else f"{line} --help"
+        line = line if "<" in line or not re.fullmatch(r"\./suites (trace|draw|show|votes|play|table|acl)", line) else f"{line} --help"
         done = subprocess.run(line, shell=True, cwd=TOP, stdin=subprocess.DEVNULL, stdout=subprocess.PIPE, stderr=subprocess.PIPE, text=True)
         if done.returncode != 0 or not done.stdout:
             wrong.append(f"{command} ends with {done.returncode}: {(done.stdout + done.stderr).strip()[:200]}")
@@ -205,13 +314,15 @@ def false_limits():
 
 
 def main():
-    program = os.path.abspath(sys.argv[1] if len(sys.argv) > 1 else os.path.join(TOP, "suites"))
-    played, wrong = play_examples(program)
-    shown, failed = play_commands()
-    wrong += [*told_on_terminal(), *failed, *untold_words(), *unexplained(), *false_limits()]
+    program = played.program(sys.argv[1:])
+    count, wrong = play_examples(program)
+    for told in (play_commands, lambda: told_of_runs(program), told_alone, lambda: silent_lines(program)):
+        more, differing = told()
+        count, wrong = count + more, wrong + differing
+    wrong += [*told_on_terminal(), *untold_words(), *unexplained(), *false_limits()]
     for line in wrong:
         print(line)
-    print(f"{played + shown + len(LIMITS)} examples and command lines and limits, {len(wrong)} differ")
+    print(f"{count + len(LIMITS)} examples, lines, command lines and limits, {len(wrong)} differ")
     return 1 if wrong else 0
 
 

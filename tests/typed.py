@@ -2,7 +2,7 @@
 """tests/typed.py
 
 Types each command line that README.md and docs/FAULTS.md show, behind a `$` or of `./suites`, in blocks and in lines of
-text, at the top of the repository. Each has to end with status 0, and to print what is shown below it. Left out are those with a word to
+text, at the top of the repository. Each has to end with status 0 (`may` with 1 where it shows a denial), and to print what is shown below it. Left out are those with a word to
 be filled in, as `./suites explain CODE`, those that take an hour or are the tests themselves, and `--is-fresh`, whose
 status is that of the build. Prints each that differs; status 1 where one does.
 """
@@ -51,6 +51,11 @@ def is_typed(command):
     return not command.startswith(LEFT_OUT) and not FILLED_IN.search(re.sub(r"#.*", "", command))
 
 
+def status_of(wanted):
+    """The status of a command with this output: `may` ends with 1 where something is denied."""
+    return 1 if wanted and " may not " in wanted else 0
+
+
 def main():
     count = wrong = 0
     for document in DOCUMENTS:
@@ -60,7 +65,7 @@ def main():
             done = subprocess.run(["sh", "-c", command], cwd=played.TOP, stdin=subprocess.DEVNULL, stdout=subprocess.PIPE, stderr=subprocess.PIPE)
             printed = done.stdout.decode("latin1")
             count += 1
-            if done.returncode != 0 or wanted not in (None, printed):
+            if done.returncode != status_of(wanted) or wanted not in (None, printed):
                 wrong += 1
                 print(f"{document}:{number}: {command} ends with {done.returncode} and prints\n{printed}{done.stderr.decode('latin1')}")
     print(f"{count} command lines, {wrong} differ")

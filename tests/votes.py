@@ -11,7 +11,9 @@ where nothing is proved), or the one that is named.
 - Of votes of up to 32 servers the sets that are told crash, and then all but one server of each; and as many servers,
   any of them, as are told that may be lost.
 - Faulty words are told with the codes that `table` and `play` tell.
-- Of scripts those votes are told that are in effect at their end (this wants the program of `./suites trace`).
+- Of scripts those votes are told that are in effect at their end (this wants the program of `./suites trace`). Of scripts
+  that move votes every set of servers crashes: a fresh agent finds the votes, or does not, as is told.
+- Of each way to share votes of up to five servers that `--of` tells, what a read and a write cost and bear is found anew.
 
 Votes of up to three servers are tried all, where a server is not listed or has up to two votes; others are chosen by
 chance, with SEED. With --all those of up to five servers are tried all. Status 1 where something differs. It takes half
@@ -33,6 +35,7 @@ import played
 
 sys.path.insert(0, os.path.join(played.TOP, "tools"))
 import explain
+import shapes
 import trace
 import votes
 
@@ -217,9 +220,11 @@ def check_examples(_, __):
     lines = {("2,1,1/2/3",): (None, "0.99"), ("--up", "0.9", "-,2,1,1/2/3", "--servers", "6"): (6, "0.9")}
     for words, (servers, up) in lines.items():
         word = next(word for word in words if "/" in word)
-        if run_tool(words).stdout.splitlines() != votes.told_of_word(word, servers, up):
+        if run_tool(words).stdout != "".join(f"{line}\n" for line in votes.told_of_word(word, servers, up)):
             wrong.append(f"{' '.join(words)}: told other than {word} of {servers} servers, each up with chance {up}")
-    statuses = {("1/1/1", "--up", bad): 2 for bad in ("0", "1.01", "x", "")} | {(): 2, ("--script", "x", "1/1/1"): 2, ("--script", "x", "--servers", "1"): 2, ("--help",): 0}
+    statuses = {("1/1/1", "--up", bad): 2 for bad in ("0", "1.01", "x", "")} | {("--help",): 0, ("--of", "5"): 0, ("--of", "3", "--lose-write", "2"): 1}
+    bad = [(), ("--script", "x", "1/1/1"), ("--script", "x", "--servers", "1"), ("--of", "0"), ("--of", "33"), ("--of", "3", "1/1/1"), ("--lose-read", "1", "1/1/1")]
+    statuses |= {words: 2 for words in bad}
     wrong += [f"{' '.join(words)}: not status {status}" for words, status in statuses.items() if run_tool(words).returncode != status]
     return len(gifford) + 1 + len(lines) + len(statuses), wrong
 
@@ -259,8 +264,10 @@ def code_told(word, servers):
     if done.returncode == 0:
         return ""
     code = done.stdout.split("\n")[0].removeprefix("fault ")
-    is_explained = done.returncode == 3 and done.stdout == f"fault {code}\n\n{explain.explained(code)}\n"
-    return code if is_explained else f"{code} with status {done.returncode}"
+    told = explain.explained(code) if code != "S1" else votes.FORM
+    is_explained = done.returncode == 3 and done.stdout.startswith(f"fault {code}\n\n") and done.stdout.endswith(f"{told}\n")
+    has_rule = code == "G1" or f"\n\n{votes.FORM}\n" in done.stdout and len(done.stdout.split("\n\n")[1]) > 10
+    return code if is_explained and has_rule else f"{code} with status {done.returncode}"
 
 
 def code_of_program(program, word, servers):
@@ -341,6 +348,81 @@ def check_scripts(_, __):
     return len(LEFT) + 1, wrong
 
 
+# Scripts of seven servers that move votes, with servers down meanwhile. The root folder's list and votes may move too.
+MOVED = "servers 7\nagents 2\nvotes {}\nroot 1000 100 777\ncache 0 0 0\nbegin 0 1000 100 0 file /a 666 {}\nrun 0\n"
+RULES = {"1,1,1,1,1/2/3": "R + w is 5, and N, all votes together, is 5: a read could miss a write",
+         "1,1,1,1/3/2": "2w is 4, and N, all votes together, is 4: two writes could miss one another",
+         "1,1,1/2/4": "A write collects 4, and all votes together are 3", "1,1,1": "'1,1,1' stands where VOTES are due"}
+
+
+def moving(dice: random.Random) -> str:
+    """A script that moves the votes of a file, and perhaps of the root folder, some times."""
+    lines = [MOVED.format(*(random_word(dice.choice([3, 4, 7]), dice) for _ in range(2)))]
+    for _ in range(dice.randint(1, 3)):
+        path, word = dice.choice(["/a", "/a", "/"]), random_word(dice.choice([3, 5, 7]), dice)
+        word = ",".join(dice.sample(word.split("/")[0].split(","), len(word.split("/")[0].split(",")))) + word[word.index("/") :]
+        down = dice.sample(range(7), dice.choice([0, 1, 1, 2]))
+        lines += [f"crash {server}\n" for server in down]
+        lines += [f"begin 0 1000 100 0 setvotes {path} {word}\nrun 0\n"] + [f"return {server}\n" for server in down]
+    return "".join(lines)
+
+
+def searched(left: "votes.Left", down: frozenset[int]) -> str:
+    """How a fresh agent's read of the file is to end with these servers down, but for its home: by what is told."""
+    for number in (0, 1):
+        found = left.suites[number].search(down)
+        if not found.is_found:
+            return f"undecided U1 suite {number} got {found.got} of {found.needed}"
+    return "answered read -"
+
+
+def check_moved(given: argparse.Namespace, dice: random.Random) -> tuple[int, list[str]]:
+    """Votes that were moved: with each set of servers down a fresh agent's read ends as is told."""
+    wrong, count = [], 0
+    for _ in range(12):
+        script = moving(dice)
+        left = votes.left_by(script.encode())
+        sets = [frozenset(one) for size in range(7) for one in itertools.combinations(range(7), size)]
+        lines = [script]
+        for down in sets:
+            lines += [f"crash {server}\n" for server in down] + ["begin 1 1000 100 0 read /a\nrun 1\n" * 7]
+            lines += [f"return {server}\n" for server in down]
+        done = subprocess.run([given.program, "play"], input="".join(lines), stdout=subprocess.PIPE, stderr=subprocess.DEVNULL, text=True)
+        ends = [line.split(" ", 2)[2] for line in done.stdout.splitlines() if line.startswith("1.")]
+        for place, down in enumerate(sets):
+            # each server is the home once
+            told, count = searched(left, down), count + 1
+            found = set(ends[7 * place : 7 * place + 7]) - {"undecided U5"}
+            if found != {told}:
+                wrong.append(f"{script!r} with {set(down)} down: told {told}, and {found} came")
+    return count, wrong
+
+
+def check_shapes(given: argparse.Namespace, _: random.Random) -> tuple[int, list[str]]:
+    """Ways to share votes: how many requests a read and a write take, and that all else is what is told of these votes."""
+    wrong, words = [], []
+    for servers in range(1, 6):
+        for shape in shapes.best(servers, (0, 0), fractions.Fraction("0.99")):
+            words.append(shape.word)
+            tell = told(shape.word, servers, "0.99")
+            own = [(lost, votes.chance_text(blocked)) for lost, blocked in zip(shape.lost, shape.blocked)]
+            if own != [(tell[kind].lost, tell[kind].blocked) for kind in ("read", "write")]:
+                wrong.append(f"{shape} is told as {tell}")
+            head = f"servers {servers}\nagents 1\nvotes {shape.word}\nroot 1000 100 777\ncache 0 0 0\n"
+            jobs = "".join(f"begin 0 1000 100 0 {job}\nrun 0\n" for job in ("file /a 644", "write /a 6869", "read /a"))
+            done = subprocess.run([given.program, "play"], input=head + jobs, stdout=subprocess.PIPE, stderr=subprocess.DEVNULL, text=True)
+            _, write, read = (int(line.split()[1]) for line in done.stdout.splitlines())
+            if (read, write) != shape.requests:
+                wrong.append(f"{shape.word}: told {shape.requests}, and {read} and {write} requests came")
+    lines = run_tool(["--of", "5", "--lose-read", "2", "--lose-write", "2"]).stdout.splitlines()
+    if [line.split()[:5] for line in lines[4:5]] != [["1,1,1,1,1/3/3", "15", "14", "2", "2"]]:
+        wrong.append(f"of five servers that may lose two: {lines}")
+    for word, text in RULES.items():
+        if not run_tool([word]).stdout.split("\n")[2].startswith(text):
+            wrong.append(f"of {word} the rule is not told: {run_tool([word]).stdout}")
+    return len(words) + 1 + len(RULES), wrong
+
+
 def main():
     read = argparse.ArgumentParser(description=__doc__, formatter_class=argparse.RawDescriptionHelpFormatter)
     read.add_argument("--all", action="store_true")
@@ -349,7 +431,8 @@ def main():
     given = read.parse_args()
     given.program = played.program([given.program] if given.program else [])
     dice, is_wrong = random.Random(given.seed), False
-    for what, check in (("examples", check_examples), ("tries of play", check_losses), ("words", check_faults), ("scripts", check_scripts)):
+    for what, check in (("examples", check_examples), ("tries of play", check_losses), ("words", check_faults), ("scripts", check_scripts),
+                        ("searches", check_moved), ("shapes", check_shapes)):
         count, wrong = check(given, dice)
         print(f"{count} {what}, {len(wrong)} differ")
         print("".join(f"  {line}\n" for line in wrong[:10]), end="", flush=True)

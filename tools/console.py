@@ -8,10 +8,15 @@ import sys
 import time
 
 STOPPED = 130
+DAY = 24 * 60 * 60
 
 
 class Stop(Exception):
     """Ends a tool with a sentence."""
+
+
+class Bad(Exception):
+    """Ends a tool with a sentence: its words ask for nothing."""
 
 
 class Teller:
@@ -37,6 +42,16 @@ class Teller:
         elif stays:
             sys.stderr.write(text + "\n")
         sys.stderr.flush()
+
+
+def say_once_a_day(path: str, text: str) -> None:
+    """Says a sentence, but not where it was said within a day, as this file tells; always where that cannot be written."""
+    with contextlib.suppress(OSError):
+        if 0 <= time.time() - os.stat(path).st_mtime < DAY:
+            return
+    with contextlib.suppress(OSError), open(path, "w", encoding="utf-8"):
+        pass
+    Teller().say(text)
 
 
 @contextlib.contextmanager
@@ -75,15 +90,20 @@ def tail(text, lines=20):
 
 
 def run(main, when_stopped):
-    """Runs a tool: status 0, or what `main` answers; 1 with a sentence where it cannot do its work; 130 where it is stopped."""
+    """Runs a tool: status 0, or what `main` answers; 1 with a sentence where it cannot do its work, 2 where its
+    words ask for nothing; 130 where it is stopped."""
     for number in (signal.SIGTERM, signal.SIGHUP):
         signal.signal(number, signal.default_int_handler)
     try:
         status = main()
-        sys.stdout.flush()
+        if sys.stdout:
+            sys.stdout.flush()
     except Stop as why:
         Teller().say(str(why))
         status = 1
+    except Bad as why:
+        Teller().say(str(why))
+        status = 2
     except BrokenPipeError:
         # nobody reads any more: what is left to be written goes nowhere
         os.dup2(os.open(os.devnull, os.O_WRONLY), sys.stdout.fileno())

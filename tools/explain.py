@@ -1,13 +1,16 @@
 #!/usr/bin/env python3
 """./suites explain [--of COMMAND] LINE [FILE]
 
-Prints what docs/FAULTS.md says of a code, or of a line as the program printed it; and where the line tells a fault, and the
-script or the list is named in which it is, the very line or item and what is wrong with it:
+Prints what docs/FAULTS.md says of a code, or of a line as the program, `votes` or `may` printed it; what a word means; and
+what a line of a script says, word by word. Where the script or the list is named that a line was printed of: of a fault the
+very line or item, and what is wrong with it; of how a job ended what happened, for which the script is played once more.
 
     ./suites explain S1
     ./suites explain 'fault line 3: S2' SCRIPT
     ./suites explain 'fault A9 item 2' LIST
-    ./suites explain '1.2 9 denied op 1 suite 1 wants r-- by other::'
+    ./suites explain '1.2 9 denied op 1 suite 1 wants r-- by other::' SCRIPT
+    ./suites explain 'begin 0 1000 100 0 file /a 644 ; write /a 6869'
+    ./suites explain prefix
     ./suites explain 'status 6'
 
 Which command a script is of is told by its lines, or by --of play, --of serve or --of table. A script of - is standard input.
@@ -21,6 +24,10 @@ import textwrap
 import console
 import faulty
 import grammar
+import happened
+import in_script
+import worded
+
 
 PAGE = os.path.join(os.path.dirname(os.path.dirname(os.path.abspath(__file__))), "docs", "FAULTS.md")
 CODE = re.compile(r"\b([SAVNGFUsavngfu](?:1[0-3]|[1-9]))\b")
@@ -29,6 +36,9 @@ SPAN = r"`([^`]*)`"
 EXAMPLE = re.compile(rf"({SPAN}(?:, {SPAN})*) prints {SPAN}(?: \({SPAN}\))?")
 STATUS = re.compile(r"(?:status |exit )?(\d)$")
 FAULT = re.compile(r"fault (?:line (\d+): )?([SAVNG]\d+(?: A\d+)?(?: item \d+)?)(?: (.+))?$")
+# Lines of `votes`, with the words by which its help tells of them, and lines of `may`.
+VOTES = re.compile(r"(may be lost|stopped by|blocked|not found|U5 at first)\b|(?:read|write|read and write): (?:\d+ of \d+ votes$|votes that)")
+MAY = re.compile(r"(?:\S.* )?[r-][w-][x-] (?:granted|denied by [a-z]+:)|.*\(\d+; groups [\d, ]+\) may (?:not )?[rwx]+: ")
 # What begins the line of an outcome: an agent and its job, or a job, and how many requests it took; or a transaction.
 FRONT = re.compile(r"(?:(\d+)\.(\d+) (\d+)|(\d+) (\d+)|(\d+)) (?=answered|denied|refused|undecided|swept)")
 # The number of what was made, or of a transaction.
@@ -67,6 +77,8 @@ def codes_in(text):
     status, front = STATUS.match(text), FRONT.match(text)
     if status:
         return [f"status {status[1]}"]
+    if MAY.match(text):
+        return ["may"]
     if TRACED.match(text) or ENTRY.match(text):
         return ["trace" if TRACED.match(text) else "entry"]
     rest = text[front.end() :] if front else text
@@ -77,14 +89,18 @@ def codes_in(text):
     return found + (["transaction"] if NUMBERED.search(rest) else [])
 
 
+def counted(number):
+    return f"{number} request{'s' if int(number) != 1 else ''}"
+
+
 def worked_out(text):
     """What the numbers of a line say, one by one."""
     front = FRONT.match(text)
     told = []
     if front and front[1]:
-        told.append(f"Job {front[2]} of agent {front[1]}, both counted from 0; it took {front[3]} requests.")
+        told.append(f"Job {front[2]} of agent {front[1]}, both counted from 0; it took {counted(front[3])}.")
     elif front and front[4]:
-        told.append(f"Job {front[4]} of the script, counted from 0; it took {front[5]} requests.")
+        told.append(f"Job {front[4]} of the script, counted from 0; it took {counted(front[5])}.")
     elif front:
         told.append(f"Transaction {front[6]} of the script, counted from 0.")
     for made, suite, t in NUMBERED.findall(text):
@@ -121,9 +137,24 @@ def about(lines, text):
     return kept if any(line.startswith("- ") for line in kept) else lines
 
 
+def of_votes(text):
+    """What the help of `votes` says of one of its lines."""
+    import votes
+    word = VOTES.match(text)[1]
+    if not word:
+        return "Of `./suites votes`: so many of all votes a read or a write collects; the lines below it tell what that bears."
+    found = re.search(rf"^    {word} +(.*(?:\n {{18}}.*)*)", votes.__doc__, re.M)
+    return filled(f"{word} (`./suites votes`): {' '.join(found[1].split())}.")
+
+
 def explained(text):
-    """What the page says of a text, or nothing."""
+    """What there is to say of a text: the page's part, or what its words say; or nothing."""
     text = " ".join(text.split())
+    if VOTES.match(text):
+        return of_votes(text)
+    line = worded.own_line(text) if text else None
+    if line:
+        return line
     parts = {code: (group, more, lines) for group, more, code, lines in page()}
     told = []
     for code in codes_in(text):
@@ -133,7 +164,8 @@ def explained(text):
             told += [f"{code} ({group[0].lower() + group[1:]})", "", *map(shown, "\n".join(lines).strip().split("\n")), ""]
             told += [shown(more), ""] if more else []
     worked = worked_out(text) if told else []
-    return "\n".join([*worked, *([""] if worked else []), *told]).rstrip()
+    word = worded.one_word(text) if " " not in text else None
+    return "\n".join([*([word, ""] if word else []), *worked, *([""] if worked else []), *told]).rstrip()
 
 
 def meaning(code):
@@ -153,8 +185,8 @@ def of_file(fault, path, language):
     told, is_found = faulty.of_script(name, text, int(fault[1]), code, language) if fault[1] else faulty.of_list(name, text, code)
     told = [line if line.startswith("    ") else filled(line) for line in told]
     meant = [meaning(part) for part in CODE.findall(code)]
-    last = [] if is_found else ["", "What is wrong with it is not found here: is it the file that was read?"]
-    return "\n".join([*told, "", *meant, *last, "", f"./suites explain {code.split()[0]} tells more."]).strip()
+    rest = [*meant, "", f"./suites explain {code.split()[0]} tells more."] if is_found else [f"./suites explain {code.split()[0]} tells of this code."]
+    return "\n".join([*told, "", *rest]).strip()
 
 
 def asked(words):
@@ -166,6 +198,25 @@ def asked(words):
     return read.parse_args(words)
 
 
+def read_file(path):
+    """The name of a script or list and its bytes; - is standard input."""
+    if path == "-":
+        return "standard input", sys.stdin.buffer.read()
+    with open(path, "rb") as file:
+        return path, file.read()
+
+
+def of_printed(text, path, language):
+    """What happened behind a line that was printed of a script: what stands in the script, and for `play` how it came to it."""
+    name, script = read_file(path)
+    kind = language or faulty.likest(faulty.lines_of(script.decode("latin1")))[0]
+    if kind == "play":
+        told = happened.of_line(text, script, name)
+    else:
+        told = in_script.of_line(text, script.decode("latin1"), name, kind)
+    return "\n".join(filled(line) for line in told)
+
+
 def answer(words):
     """What is printed for the words of the command line."""
     given = asked(words)
@@ -175,6 +226,10 @@ def answer(words):
     fault = FAULT.match(text)
     if fault and fault[3]:
         return of_file(fault, fault[3], given.of)
+    path = given.text[-1]
+    if len(given.text) > 1 and (path == "-" or os.path.isfile(path)):
+        text = " ".join(" ".join(given.text[:-1]).split())
+        return "\n\n".join(filter(None, [of_printed(text, path, given.of), explained(text)]))
     told = explained(text)
     if not told:
         raise console.Stop(f"nothing that the program prints is called so: {text} (docs/FAULTS.md has all codes)")

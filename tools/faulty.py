@@ -276,15 +276,34 @@ def likest(lines):
     return sorted(LANGUAGES, key=likeness, reverse=True)
 
 
-def found_in(text, number, code, language=None):
-    """The command of a script, the fault of its line of this number where it is found with this code, and of which command its lines are."""
+def is_first(name: str, lines: list[str], number: int) -> bool:
+    """Whether nothing is wrong with the lines above, as of a script of this command: it stops at its first fault."""
+    places = [place for place, line in enumerate(lines[: number - 1], 1) if FIRST.match(line)]
+    return not any(Script(name, lines, place).fault() for place in places[:MANY])
+
+
+def found_in(text: str, number: int, code: str, language: str | None = None) -> tuple[str, Fault | None, str]:
+    """The command of a script, the fault of its line of this number where it is found with this code, and of which command
+    its lines are. Of another command than the likest one it is only where that would stop at this line."""
     lines = lines_of(text)
     languages = [language] if language else likest(lines)
     for name in languages:
         fault = Script(name, lines, number).fault()
-        if fault and fault.code == code:
+        if fault and fault.code == code and (name == languages[0] or is_first(name, lines, number)):
             return name, fault, languages[0]
     return languages[0], None, languages[0]
+
+
+def not_found(name: str, lines: list[str], number: int, code: str, language: str) -> list[str]:
+    """What is told of a line that has no such fault: how it is now."""
+    if number > len(lines) + 1:
+        return ["", f"{name} has no line {number}. Was it changed since?"]
+    now = Script(language, lines, number).fault()
+    if now:
+        is_now = f"What is wrong with it now is {now.code}: {now.text}."
+    else:
+        is_now = "The line is right as it is now." if number <= len(lines) else ""
+    return ["", f"{name} has no fault {code} in line {number}. {is_now} Was it changed since?".replace("  ", " ")]
 
 
 def window(line, start, end):
@@ -316,20 +335,29 @@ def of_script(name, text, number, code, language=None):
         shown += ["", sentence(fault.text), *([f"The form: {fault.form}"] if fault.form else [])]
         if other != language:
             shown.append(f"Most lines are those of a script of `{other}`.")
+    else:
+        shown += not_found(name, lines, number, code, language)
     return shown, bool(fault)
 
 
-def of_list(name, text, code):
+def of_list(name: str, text: str, code: str) -> tuple[list[str], bool]:
     """What is to be shown of a list, and whether its fault was found. Which names have a number is not known."""
     place = re.search(r"(.*) item (\d+)$", code)
     if not place:
         wrong = grammar.fault_of_list(text, None)
         is_found = bool(wrong) and wrong.code == code
-        return ([sentence(wrong.text)] if is_found else []), is_found
+        return ([sentence(wrong.text)] if wrong and is_found else mended(name, code, wrong)), is_found
     listed = list(grammar.items(text))
     if not 0 < int(place[2]) <= len(listed):
-        return [f"{name} has {len(listed)} items."], False
+        return [f"{name} has {len(listed)} items. Was it changed since?"], False
     line, item = listed[int(place[2]) - 1]
     entry = grammar.entry_of(item, {"user": {}, "group": {}} if place[1] == "A10" else None)
-    is_found = len(entry) == 2 and entry[0] == place[1]
-    return [f"Item {place[2]} of {name}, in line {line}:", "", f"    {plain(item.strip())}", *(["", sentence(entry[1])] if is_found else [])], is_found
+    is_found = len(entry) == 2 and entry[0] == place[1] and bool(item.strip())
+    told = ["", sentence(entry[1])] if is_found else ["", *mended(name, code, grammar.fault_of_list(text, None))]
+    return [f"Item {place[2]} of {name}, in line {line}:", "", f"    {plain(item.strip())}", *told], is_found
+
+
+def mended(name: str, code: str, wrong: grammar.Wrong | None) -> list[str]:
+    """What is told of a list that has no such fault."""
+    is_now = f"What is wrong with it now is {wrong.code}: {wrong.text}." if wrong else "The list is right as it is now."
+    return [f"{name} has no fault {code}. {is_now} Was it changed since?"]

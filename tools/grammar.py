@@ -181,9 +181,9 @@ def of_votes(word, where):
         if not 0 < count <= total:
             return Wrong("V5", f"a {what} collects {count}, and all votes together are {total}")
     if read + write <= total:
-        return Wrong("V6", f"a read collects {read} and a write {write}, together {read + write}, which is not more than all votes, {total}")
+        return Wrong("V6", f"r + w is {read + write}, and N, all votes together, is {total}: a read could miss a write; r + w is above N")
     if 2 * write <= total:
-        return Wrong("V7", f"a write collects {write}, which is not more than half of all votes, {total}")
+        return Wrong("V7", f"2w is {2 * write}, and N, all votes together, is {total}: two writes could miss one another; 2w is above N")
     return None
 
 

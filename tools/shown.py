@@ -19,7 +19,7 @@ import played
 PICTURE, STORY = "docs/revocation.svg", "examples/play/revocation.script"
 HELP, OF_TOOLS = "help", "tools.txt"
 # The commands of which no row can tell the output.
-TOOLS = re.compile(rb"\$ \./suites (?:explain|trace|draw|votes|--version)\b")
+TOOLS = re.compile(rb"\$ \./suites (?:explain|trace|draw|show|votes|may|--version)\b")
 
 
 def content(name):

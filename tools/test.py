@@ -62,7 +62,8 @@ class Part:
         if not self.process:
             return f"{self.title}: not run, since a part that it stands on failed"
         passed, failed = self.counts
-        line = f"{self.title}: {passed} passed, {failed} failed, {time.monotonic() - self.begun:.0f} s"
+        skipped = "".join(f" ({line})" for line in self.text.splitlines() if line.startswith("skipped: "))
+        line = f"{self.title}: {passed} passed, {failed} failed, {time.monotonic() - self.begun:.0f} s{skipped}"
         return f"{line}\n{console.tail(self.text, 60)}status {self.process.returncode}" if failed else line
 
 
@@ -94,9 +95,11 @@ PARTS = (
     Part("what explain says of damaged scripts", tool("tests/damaged-scripts.py", "--cases", "1000"), [PROGRAM]),
     Part("command lines of documents", tool("tests/typed.py"), [PROGRAM, TRACE]),
     Part("answers of may", tool("tests/may.py"), [MAY]),
-    Part("may against the kernel", tool("tests/may-against-the-kernel.py", "--questions", "300", "--if-possible"), [MAY]),
+    Part("may against the kernel", tool("tests/may-against-the-kernel.py", "--questions", "100", "--mounts", "--if-possible"), [MAY]),
     Part("what votes tells", tool("tests/votes.py"), [PROGRAM, TRACE]),
     Part("pictures", tool("tests/drawn.py"), [TRACE]),
+    Part("events", tool("tests/events.py"), [TRACE]),
+    Part("pages in a browser", tool("tests/shown_page.py"), [TRACE]),
     Part("random scripts", tool("tools/compare.py", "--seeds", "200"), [PROGRAM, TRACE]),
 )
 

@@ -1,29 +1,40 @@
 #!/usr/bin/env python3
 """./suites votes VOTES [--servers N] [--up P]
 ./suites votes --script FILE [--up P]
+./suites votes --of N [--lose-read A] [--lose-write B] [--up P]
 
 Tells which servers a file or folder with these votes may lose, and how often it is blocked. VOTES is written as in
 scripts: `1,1,1/2/2` is a vote each of servers 0, 1 and 2, and two votes that a read and a write collect. With --script
 it tells this of every file and folder that a script of `play` leaves, dropped or not, with the votes that are in effect
-at its end.
+at its end. With --of it tells which votes N servers may have, so that reads go on without any A servers, and writes
+without any B.
 
-    --servers N   how many servers there are; else as many as VOTES has fields
-    --up P        the chance that a server is up, each by itself; else 0.99
+    --servers N      how many servers there are; else as many as VOTES has fields
+    --up P           the chance that a server is up, each by itself; else 0.99
+    --lose-read A    so many servers, whichever they are, may be lost for reads; else 0
+    --lose-write B   the same for writes; else 0
 
 Of a read and of a write:
 
     may be lost   so many servers, whichever they are, may be down: the others have the votes
     stopped by    the least sets of servers whose loss leaves too few votes (without one of a set the votes are up again),
                   the smallest first, up to twenty of them
-    blocked       the chance that too few votes are up, exact and told in two digits
+    blocked       the chance that too few votes are up, exact and told in two digits. It is of votes alone: neither locks
+                  nor homes nor votes that are not found are in it
+    not found     with --script, of votes that were moved: the least sets of servers with which down the votes are up, and
+                  an agent without a hint, which begins at the opening votes, does not find them (U1 by older votes). Of
+                  more than twelve servers only sets of up to three are tried
     U5 at first   of the cases in which the votes are up, those in which the home of the transaction is down, so that it
                   ends U5: over jobs in a row each of the N servers is the home equally often, so this is the mean share of
                   servers that are down. Begun again it has the next server as its home
 
 All of it is of one file or folder alone. A path leads through the root folder and on, and of each folder on the way the
 votes of a read have to be up too. To make or drop a name is a write of its folder; to set votes collects those of a write
-twice, of the old votes and of the new ones. It is also taken that who looks for the votes finds them: after votes were
-moved those who know where they went may be down (examples/play/votes-moved-to-up.script).
+twice, of the old votes and of the new ones.
+
+Of --of there is a line for each way to share votes, the best first: no other one in the table is as good in all. There a
+read and a write are requests, as `play` counts them without a cache, of a file in the root folder that has the same votes,
+where all servers are up.
 """
 import argparse
 import collections
@@ -34,16 +45,34 @@ import itertools
 import re
 import sys
 import textwrap
+import typing
 
 import console
 import explain
+import faulty
+import grammar
+import looking
+import shapes
 import trace
 
 MOST_SERVERS, MOST_VOTES, MOST_COLLECTED, MOST_AGENTS = 32, 255, 65535, 64
 # How many sets of servers, and how many names, are told at most.
 TOLD = 20
-ABOUT = "Of one file or folder alone: of each folder on its path, from the root folder on, the votes of a read have to be up too."
+ABOUT = (
+    "Of one file or folder alone: of each folder on its path, from the root folder on, the votes of a read have to be up too.",
+    "And of votes alone. Any server may be the home of a transaction, also one without a vote. If it is lost in the middle of one "
+    "that has prepared, what that one locked is in doubt: others end U2 there, until this server is back and a sweep is made.",
+)
+MISSED = (
+    "Where these servers are down the votes are up and are not found: an agent without a hint in its cache begins at the opening "
+    "votes, {}, and ends U1 by them. So nothing can leave its opening servers entirely, and least of all the root folder."
+)
 AGENTS = re.compile(rb"^([ \t]*agents[ \t]+)(\d+)", re.M)
+OPENING = re.compile(rb"^[ \t]*votes[ \t]+(\S+)", re.M)
+WIDE = 110
+FORM = """VOTES are written as 1,1,1/2/2: the votes of servers 0, 1, .. with commas between them (- for one that is left out),
+behind a slash r, the votes that a read collects, and behind another one w, those of a write. With N votes in all, r and w
+are at most N, r + w is above N, and so is 2w."""
 
 # The votes of each server from 0 on, none of one that is not listed, and how many a read and a write collect.
 Votes = collections.namedtuple("Votes", "shares r w")
@@ -165,8 +194,18 @@ def listed(first, words, count):
     """Words behind a first one in lines, and how many more there are."""
     rest = f" and {count - len(words):,} more" if count > len(words) else ""
     text = " ".join(word.replace(" ", "\0") for word in words) + rest
-    lines = textwrap.fill(text, 110, initial_indent=first, subsequent_indent=" " * len(first), break_long_words=False, break_on_hyphens=False)
+    after = " " * len(first)
+    lines = textwrap.fill(text, WIDE, initial_indent=first, subsequent_indent=after, break_long_words=False, break_on_hyphens=False)
     return lines.replace("\0", " ")
+
+
+def set_text(servers):
+    return f"{{{','.join(map(str, sorted(servers)))}}}"
+
+
+def filled(text):
+    """A sentence in lines."""
+    return textwrap.fill(text, WIDE, break_long_words=False, break_on_hyphens=False)
 
 
 def told_of(kind, shares, needed, up):
@@ -201,7 +240,7 @@ def told(votes, up):
 
 def told_of_word(word, servers=None, up="0.99"):
     """All that is told of votes as a word writes them down."""
-    return [*told(votes_of(word, servers), up), ABOUT]
+    return [*told(votes_of(word, servers), up), *map(filled, ABOUT)]
 
 
 def swept(script, servers):
@@ -213,33 +252,91 @@ def swept(script, servers):
     return AGENTS.sub(rb"\g<1>%d" % (agent + 1), script, count=1) + "\n".join(["", *events, ""]).encode(), len(events)
 
 
-def left_by(script):
-    """How many servers a script has, and the files and folders that it leaves, by their votes in effect."""
+class Left(typing.NamedTuple):
+    """What a script leaves: how many servers there are, the opening votes, and of each file and folder its path and copies."""
+
+    servers: int
+    opening: str
+    paths: dict[int, str]
+    suites: dict[int, looking.Suite]
+
+
+def left_by(script: bytes) -> Left:
+    """What a script leaves once all servers are up and all is swept."""
     lines = trace.traced(script)
     servers = sum(line.startswith("= server ") for line in lines)
     longer, count = swept(script, servers)
     ended = trace.traced(longer)
     heads = [(head, block) for head, block in trace.blocks(ended) if head.startswith(">")][-count:]
     if any(head.startswith("> sweep") and block[:1] and block[0].startswith("  nothing") for head, block in heads):
-        raise console.Stop(f"agent {MOST_AGENTS - 1} has a job at the end of the script, and is needed to sweep: let its job end, or have fewer agents")
-    newest = {}
-    for found in filter(None, map(trace.COPY.match, ended)):
-        suite = int(found[1])
-        newest[suite] = max(newest.get(suite, (0, "")), (int(found[3]), found[5]))
-    known, suites = trace.paths(lines), collections.defaultdict(list)
-    for suite, (_, word) in sorted(newest.items()):
-        suites[word].append(f"{known[suite]}=suite {suite}" if suite in known else f"suite {suite}")
-    return servers, suites
+        text = f"agent {MOST_AGENTS - 1} has a job at the end of the script, and is needed to sweep"
+        raise console.Stop(f"{text}: let its job end, or have fewer agents")
+    opening = OPENING.search(script)[1].decode()
+    suites: dict[int, looking.Suite] = {}
+    server = 0
+    for line in ended:
+        server = int(line.split()[2].rstrip(":")) if line.startswith("= server ") else server
+        found = trace.COPY.match(line)
+        if found:
+            suite = suites.setdefault(int(found[1]), looking.Suite(looking.word_of(opening), {}))
+            suite.copies[server] = int(found[3]), looking.word_of(found[5])
+    return Left(servers, opening, trace.paths(lines), dict(sorted(suites.items())))
 
 
-def told_of_script(script, up):
-    """All that is told of what a script leaves."""
-    servers, suites = left_by(script)
+def missed_by(suite, is_read):
+    """The least sets of servers with which down the votes are up and not found, each with what is then told."""
+    told = ((down, suite.search(down, is_read)) for down in suite.missed(is_read))
+    return [f"{set_text(down)}: got {found.got} of {found.needed};" for down, found in itertools.islice(told, TOLD + 1)]
+
+
+def missed_of(suite):
+    """The lines about where the votes of a file or folder are up and not found."""
+    read, write = missed_by(suite, True), missed_by(suite, False)
+    kinds = [("read and write", read)] if read == write else [("read", read), ("write", write)]
     lines = []
-    for word, names in suites.items():
+    for kind, words in kinds:
+        if words:
+            lines += [f"{kind}: votes that were moved"]
+            lines += [listed("    not found     ", words[:TOLD], len(words)).rstrip(";")]
+    return tuple(lines)
+
+
+def told_of_script(script: bytes, up: str) -> list[str]:
+    """All that is told of what a script leaves."""
+    left, alike, lines = left_by(script), collections.defaultdict(list), []
+    for number, suite in left.suites.items():
+        name = f"{left.paths[number]}=suite {number}" if number in left.paths else f"suite {number}"
+        alike[suite.newest().text(), missed_of(suite)].append(name)
+    for (word, missed), names in alike.items():
         lines.append(listed("", [f"votes {word} of", *(f"{name}," for name in names[:TOLD])], len(names) + 1).rstrip(","))
-        lines += [*told(votes_of(word, servers), up), ""]
-    return [*lines, ABOUT]
+        lines += [*told(votes_of(word, left.servers), up), *missed]
+        lines += [filled(MISSED.format(left.opening)), ""] if missed else [""]
+    return [*lines, *map(filled, ABOUT)]
+
+
+def told_of_shapes(servers, lose, up):
+    """A table of the votes that so many servers may have, where reads and writes may lose so many of them."""
+    chance = fractions.Fraction(up)
+    found = shapes.best(servers, lose, chance)
+    if not found:
+        text = f"no votes of {servers} servers let reads lose {lose[0]} of them and writes {lose[1]}"
+        raise console.Stop(f"{text}: a read needs one server, and a write more than half of all votes")
+    wide = max(len("votes"), *(len(shape.word) for shape in found[:TOLD]))
+    heads = ("requests", "may be lost", "blocked", "blocked or home down")
+    lines = [
+        f"{servers} server{'s' * (servers > 1)}, each up with chance {up}: reads go on without any {lose[0]}, writes without any {lose[1]}", "",
+        f"{'':{wide}}  {heads[0]:12} {heads[1]:12} {heads[2]:18} {heads[3]}",
+        f"{'votes':{wide}}  {'read  write':12} {'read  write':12} {'read':8} {'write':9} {'read':8} write",
+    ]
+    for shape in found[:TOLD]:
+        votes = looking.word_of(shape.word)
+        shares = tuple(share or 0 for share in votes.shares)
+        first = [chance_text(shapes.not_at_first(shares, needed, chance)) for needed in (votes.r, votes.w)]
+        chances = [*map(chance_text, shape.blocked), *first]
+        numbers = " ".join(f"{one:<5} {other:<6}" for one, other in (shape.requests, shape.lost))
+        lines.append(f"{shape.word:{wide}}  {numbers} {chances[0]:8} {chances[1]:9} {chances[2]:8} {chances[3]}")
+    lines += [f"and {len(found) - TOLD} more"] if len(found) > TOLD else []
+    return [*lines, "", *map(filled, ABOUT)]
 
 
 def asked(words):
@@ -248,6 +345,9 @@ def asked(words):
     read.add_argument("votes", nargs="?")
     read.add_argument("--script")
     read.add_argument("--servers", type=int)
+    read.add_argument("--of", type=int)
+    read.add_argument("--lose-read", type=int, default=0)
+    read.add_argument("--lose-write", type=int, default=0)
     read.add_argument("--up", default="0.99")
     read.add_argument("-h", "--help", action="store_true")
     hyphened = [word for word in words if re.match(r"-(?!-).*[,/]", word)]
@@ -255,8 +355,11 @@ def asked(words):
     if given.help:
         print(__doc__.strip())
         sys.exit(0)
-    if (given.votes is None) == (given.script is None) or None not in (given.script, given.servers):
-        read.error("either VOTES are named, or --script FILE")
+    ways = [given.votes is not None, given.script is not None, given.of is not None]
+    if sum(ways) != 1 or (given.servers is not None and not ways[0]) or (given.lose_read or given.lose_write) and not ways[2]:
+        read.error("either VOTES are named, or --script FILE, or --of N")
+    if ways[2] and not (1 <= given.of <= MOST_SERVERS and min(given.lose_read, given.lose_write) >= 0):
+        read.error(f"--of is a number from 1 to {MOST_SERVERS}, and none of them is lost more than once")
     if not re.fullmatch(r"[01]?(\.[0-9]{1,12})?", given.up) or not 0 < fractions.Fraction(given.up or "0") <= 1:
         read.error("--up is a number above 0 and at most 1, as 0.99")
     return given
@@ -269,15 +372,26 @@ def main():
             lines = told_of_script(file.read(), given.up)
         sys.stdout.buffer.write("".join(f"{line}\n" for line in lines).encode("latin1"))
         return 0
+    if given.of is not None:
+        print("\n".join(told_of_shapes(given.of, (given.lose_read, given.lose_write), given.up)))
+        return 0
     try:
         if given.servers is not None and not 1 <= given.servers <= MOST_SERVERS:
             raise Fault("G1")
         lines = told_of_word(given.votes, given.servers, given.up)
     except Fault as fault:
-        print(f"fault {fault}\n\n{explain.explained(str(fault))}")
+        print(fault_text(given.votes, given.servers, str(fault)))
         return 3
     print("\n".join(lines))
     return 0
+
+
+def fault_text(word: str, servers: int | None, code: str) -> str:
+    """What is told of faulty votes: the rule with its numbers, the form, and what the page says of the code."""
+    where = grammar.Where(servers or MOST_SERVERS, MOST_AGENTS, {"user": {}, "group": {}}, "votes")
+    wrong = grammar.of_votes(word, where) if code != "G1" else None
+    told = [faulty.sentence(wrong.text), "", FORM, ""] if wrong and wrong.code == code else []
+    return "\n".join([f"fault {code}", "", *told, *([explain.explained(code)] if code != "S1" else [])]).rstrip()
 
 
 if __name__ == "__main__":

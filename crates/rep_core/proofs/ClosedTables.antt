@@ -1,6 +1,5 @@
--- Locks of which the first so many are gone: what is known of a table of locks once their places are closed; and of who holds locks, once nobody
--- is listed any more.
-use Rattle.std.proofs.Common.{◌≡◌, ◌≢◌, ◌≤◌, ℕ, true, false, List, [], ◌∷◌, length, drop, filter, refl, sym, subst, ◌∙◌, arith}
+-- Locks of which the first so many are gone: what is known of a table of locks once their places are closed.
+use Rattle.std.proofs.Common.{◌≡◌, ◌≢◌, ◌≤◌, ℕ, true, List, [], length, drop, sym, subst, ◌∙◌, arith}
 use Rattle.rep_core.specs.declared.lock.Lock.{Lock}
 use Rattle.rep_core.specs.code.Holders.{Holder, AreHeld, AreListed, are_settled}
 
@@ -18,7 +17,3 @@ listed_or_nobody locks holders after listed is = record {
   alone = listed.alone;
   held = λ some. subst (AreHeld locks) (sym (is some)) (listed.held (λ none. some (is some ∙ none)));
 }
-
-pub nobody_passes : (holders : List Holder) → filter (λ holder. false) holders ≡ []
-nobody_passes [] = refl
-nobody_passes (holder ∷ holders) = nobody_passes holders

@@ -34,7 +34,10 @@ mod Searching
 mod Ranges
 mod Places
 mod RisingParts
+mod FirstHolders
 mod SuiteHolders
 mod SettledLocks
 mod Listing
 pub mod ClosedTables
+pub mod Walks
+mod Pairwise

@@ -1,8 +1,8 @@
 -- Who holds locks on a suite: what each change of the locks makes of it, and whom a search finds first.
-use Rattle.std.proofs.Common.{◌≡◌, ℕ, zero, suc, ◌+◌, ◌≤◌, ◌<◌, length, get_or, Bool, true, false, cond, inl, inr, List, [], ◌∷◌, Option, Some, None, is_some, refl, sym, ap, subst, ◌∙◌, arith, Less, Equal, Greater}
-use Rattle.std.specs.Prelude.{◌==◌, ◌&&◌, ◌||◌, not, filter, find, nat_lt, option_map, count_by}
+use Rattle.std.proofs.Common.{◌≡◌, ℕ, ◌≤◌, ◌<◌, length, get_or, Bool, true, false, cond, inl, inr, List, [], ◌∷◌, Option, Some, None, is_some, refl, sym, ap, subst, ◌∙◌, arith, Less, Equal, Greater}
+use Rattle.std.specs.Prelude.{◌==◌, ◌&&◌, ◌||◌, not, filter, find, option_map, count_by}
 use Rattle.std.specs.List.{list_any, list_all, slice_range, AllByRecursion}
-use Rattle.std.specs.List.Sorted.{IsStrictlySortedBy, IsPartitionedBy, IsPartitionPoint}
+use Rattle.std.specs.List.Sorted.{IsStrictlySortedBy}
 use Rattle.std.specs.Cmp.{IsTotalOrder, then_total, on_total}
 use Rattle.std.specs.Ordering.{nat_cmp, ordering_then, is_eq}
 use Rattle.std.specs.BTreeMap.{is_at}
@@ -20,7 +20,7 @@ use Rattle.rep_core.specs.declared.lock.Lock.{Lock}
 use Rattle.rep_core.specs.declared.request.Part.{Part}
 use Rattle.rep_core.specs.Consistency.{IsAlone}
 use Rattle.rep_core.specs.Locks.{is_own, lock_at, conflicts, in_the_way, has_lock, locked, with_prepared, released, broken, prepared_locks}
-use Rattle.rep_core.specs.code.Holders.{Holder, holder_cmp, AreHeld, is_other, told_other, other_in, or_next, if_conflict, without, without_one}
+use Rattle.rep_core.specs.code.Holders.{Holder, holder_cmp, AreHeld, is_other, if_conflict, without, without_one}
 use Rattle.rep_core.specs.code.Ranges.{IsRangeOf}
 use Rattle.rep_core.proofs.Members.{Has, has_from, contains_from, has_filter, find_none}
 use Rattle.rep_core.proofs.Alone.{Alone, alone_locked, alone_prepared, own_is}
@@ -402,116 +402,6 @@ module _ (ls : List Lock) (hs : List Holder) (held : AreHeld ls hs) (t s : ℕ) 
           let t_same = alone_had ls held.alone l g there has (c.suite ∙ sym on) exclusive in
           let same = same_lock ls l g held.rising there has t_same (c.suite ∙ sym on) in
           false≢true (sym free ∙ ap (conflicts t s m) (sym same) ∙ is))
-
--- ---- the first two on a suite
-
-abbrev pub on_less : ℕ → Holder → Bool
-on_less s h = nat_lt h.0.0 s
-
-no_later_suite : (a b : ℕ × ℕ) → holder_cmp a b ≡ Less → a.0 ≤ b.0
-no_later_suite a b is = by_answer (nat_cmp a.0 b.0)
-    (λ e. no_more a.0 b.0 e)
-    (λ e. same_suite a.0 b.0 e)
-    (λ e. absurd (greater_less (sym (ap (λ o. ordering_then o (nat_cmp a.1 b.1)) e) ∙ is)))
-  where
-    same_suite : (x y : ℕ) → nat_cmp x y ≡ Equal → x ≤ y
-    same_suite x y e = grind (arith, nat_tests)
-
-    greater_less : Greater ≡ Less → ⊥
-    greater_less e = cc
-
-not_itself : (a b : ℕ × ℕ) → holder_cmp a b ≡ Less → a.0 ≡ b.0 → a.1 ≡ b.1 → ⊥
-not_itself a b is same same' =
-    let one : holder_cmp a b ≡ Equal = ap (λ o. ordering_then o (nat_cmp a.1 b.1)) (not_less_itself a.0 b.0 same) ∙ not_less_itself a.1 b.1 same' in
-    absurd (equal_less (sym one ∙ is))
-  where
-    equal_less : Equal ≡ Less → ⊥
-    equal_less e = cc
-
-less_down : (s : ℕ) (a b : Holder) → a.0.0 ≤ b.0.0 → on_less s b ≡ true → on_less s a ≡ true
-less_down s a b le is = grind (arith, nat_tests)
-
-module _ (s : ℕ) where
-  head_less : (d : Holder) (hs : List Holder) (j : ℕ) (e : Holder) → AllByRecursion (λ b. holder_cmp d.0 b ≡ Less) (keys_of hs) → j < length hs → on_less s (get_or hs j e) ≡ true → on_less s d ≡ true
-  head_less d [] j e all within is = absurd (omega arith)
-  head_less d (h ∷ hs) zero e all within is = less_down s d h (no_later_suite d.0 h.0 all.0) is
-  head_less d (h ∷ hs) (suc j) e all within is = head_less d hs j e all.1 (omega arith) is
-
-  pub partitioned_less : (hs : List Holder) → IsOrdered holder_cmp hs → IsPartitionedBy (on_less s) hs
-  unfolding IsStrictlySortedBy
-  partitioned_less [] ordered i j e le within is = absurd (omega arith)
-  partitioned_less (d ∷ hs) ordered zero zero e le within is = is
-  partitioned_less (d ∷ hs) ordered zero (suc j) e le within is = head_less d hs j e ordered.0 (omega arith) is
-  partitioned_less (d ∷ hs) ordered (suc i) zero e le within is = absurd (omega arith)
-  partitioned_less (d ∷ hs) ordered (suc i) (suc j) e le within is = partitioned_less hs ordered.1 i j e (omega arith) (omega arith) is
-
-less_is_not_other : (t s : ℕ) (d : Holder) → on_less s d ≡ true → is_other t s d ≡ false
-less_is_not_other t s d is = grind (arith, nat_tests)
-
-past_is_not_other : (t s : ℕ) (d : Holder) → s < d.0.0 → is_other t s d ≡ false
-past_is_not_other t s d is = grind (arith, nat_tests)
-
-past_suite : (s : ℕ) (d : Holder) → on_less s d ≡ false → (d.0.0 == s) ≡ false → s < d.0.0
-past_suite s d a b = grind (arith, nat_tests)
-
-own_holder : (t s : ℕ) (d : Holder) → is_other t s d ≡ false → (d.0.0 == s) ≡ true → (d.0.0 ≡ s) × (d.0.1 ≡ t)
-own_holder t s d a b = (grind (arith, nat_tests), grind (arith, nat_tests))
-
-past_from : (a b s : ℕ) → a ≤ b → a ≡ s → (b == s) ≡ false → s < b
-past_from a b s le is apart = grind (arith, nat_tests)
-
-module _ (t s : ℕ) where
-  abbrev told : List Holder → Option ℕ
-  told hs = option_map (λ (h : Holder). h.0.1) (find (is_other t s) hs)
-
-  none_past : (d : Holder) (hs : List Holder) → s < d.0.0 → AllByRecursion (λ b. holder_cmp d.0 b ≡ Less) (keys_of hs) → (find (is_other t s) hs ≡ None) × (other_in t s hs 0 ≡ None)
-  none_past d [] past all = (refl, refl)
-  none_past d (h ∷ hs) past all =
-      let le = no_later_suite d.0 h.0 all.0 in
-      let no = past_is_not_other t s h (omega (arith, past, le)) in
-      (ap (λ b. cond b (Some h) (find (is_other t s) hs)) no ∙ (none_past d hs past all.1).0, ap (λ b. cond b (Some h.0.1) None) no)
-
-  behind_own : (d : Holder) (hs : List Holder) → d.0.0 ≡ s → d.0.1 ≡ t → AllByRecursion (λ b. holder_cmp d.0 b ≡ Less) (keys_of hs) → IsOrdered holder_cmp hs → told hs ≡ other_in t s hs 0
-  unfolding IsStrictlySortedBy
-  behind_own d [] on own all ordered = refl
-  behind_own d (h ∷ hs) on own all ordered =
-      elim (is_other t s h) as (λ b. is_other t s h ≡ b → option_map (λ (h : Holder). h.0.1) (cond b (Some h) (find (is_other t s) hs)) ≡ cond b (Some h.0.1) None) [
-        | true ↦ λ _. refl
-        | false ↦ λ no. elim (h.0.0 == s) as (λ b. (h.0.0 == s) ≡ b → told hs ≡ None) [
-          | true ↦ λ at. let it = own_holder t s h no at in absurd (not_itself d.0 h.0 all.0 (on ∙ sym it.0) (own ∙ sym it.1))
-          | false ↦ λ apart. ap (option_map (λ (h : Holder). h.0.1)) (none_past h hs (past_from d.0.0 h.0.0 s (no_later_suite d.0 h.0 all.0) on apart) ordered.0).0
-        ] refl
-      ] refl
-
-  pub first_two : (hs : List Holder) (at : ℕ) → IsOrdered holder_cmp hs → at ≤ length hs → IsPartitionPoint (λ h. on_less s h ≡ true) (λ h. on_less s h ≡ false) hs at → told hs ≡ or_next (other_in t s hs at) (other_in t s hs (at + 1))
-  unfolding IsStrictlySortedBy
-  first_two [] at ordered within point = refl
-  first_two (d ∷ hs) (suc at) ordered within point =
-      let no = less_is_not_other t s d (point.0 0 d (omega arith) (omega arith)) in
-      ap (λ b. option_map (λ (h : Holder). h.0.1) (cond b (Some d) (find (is_other t s) hs))) no
-      ∙ first_two hs at ordered.1 (omega arith) (λ k e low high. point.0 (suc k) e (omega arith) (omega arith), λ k e low high. point.1 (suc k) e (omega arith) (omega arith))
-      ∙ ap (λ n. or_next (other_in t s hs at) (other_in t s (d ∷ hs) n)) (let next : suc (at + 1) ≡ suc at + 1 = omega arith in next)
-  first_two (d ∷ hs) zero ordered within point =
-      (elim (is_other t s d) as (λ b. is_other t s d ≡ b → option_map (λ (h : Holder). h.0.1) (cond b (Some d) (find (is_other t s) hs)) ≡ or_next (cond b (Some d.0.1) None) (other_in t s hs 0)) [
-        | true ↦ λ _. refl
-        | false ↦ λ no. elim (d.0.0 == s) as (λ b. (d.0.0 == s) ≡ b → told hs ≡ other_in t s hs 0) [
-          | true ↦ λ at. let it = own_holder t s d no at in behind_own d hs it.0 it.1 ordered.0 ordered.1
-          | false ↦ λ apart.
-              let none = none_past d hs (past_suite s d (point.1 0 d (omega arith) (omega arith)) apart) ordered.0 in
-              ap (option_map (λ (h : Holder). h.0.1)) none.0 ∙ sym none.1
-        ] refl
-      ] refl)
-      ∙ ap (λ n. or_next (told_other t s d) (other_in t s (d ∷ hs) n)) (let next : suc 0 ≡ 0 + 1 = omega arith in next)
-
-  pub other_in-at : (hs : List Holder) (at : ℕ) (d : Holder) → at < length hs → other_in t s hs at ≡ cond (is_other t s (get_or hs at d)) (Some (get_or hs at d).0.1) None
-  other_in-at [] at d within = absurd (omega arith)
-  other_in-at (h ∷ hs) zero d within = refl
-  other_in-at (h ∷ hs) (suc at) d within = other_in-at hs at d (omega arith)
-
-  pub other_in-end : (hs : List Holder) (at : ℕ) → length hs ≤ at → other_in t s hs at ≡ None
-  other_in-end [] at over = refl
-  other_in-end (h ∷ hs) zero over = absurd (omega arith)
-  other_in-end (h ∷ hs) (suc at) over = other_in-end hs at (omega arith)
 
 -- ---- what the holders tell of a conflict
 

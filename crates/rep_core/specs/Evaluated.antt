@@ -1,11 +1,10 @@
 -- A step: what a server is about to do, with all that doing it takes.
-use Rattle.std.specs.Prelude.{◌≡◌, ℕ}
+use Rattle.std.specs.Prelude.{◌≡◌}
 use Rattle.rep_core.specs.declared.request.Request.{Request}
 use Rattle.rep_core.specs.declared.stamped.Stamped.{Stamped}
 use Rattle.rep_core.specs.declared.step.Step.{Step}
 use Rattle.rep_core.specs.Roomed.{Roomed}
 use Rattle.rep_core.specs.Serving.{served}
-use Rattle.rep_core.specs.State.{State}
 use Rattle.rep_core.specs.code.Stepping.{applied, HasRoom}
 
 -- the step of this request at a server that stands so

@@ -2,6 +2,7 @@ pub mod Locks
 pub mod Intentions
 pub mod Store
 pub mod State
+pub mod Bare
 pub mod Roomed
 pub mod Evaluated
 pub mod Service

@@ -231,7 +231,7 @@ impl ServerState {
     }
 
     /// To tell the locks.
-    fn fill_list(&self, reply: &mut Reply) -> Result<Change, Lack>
+    pub(crate) fn fill_list(&self, reply: &mut Reply) -> Result<Change, Lack>
         ensures reply { OnOk result (reply.new ≡ Reply.Locked (state_of self.now).locks) }
         ensures change { IfOk result (λ change. change ≡ Change.Nothing) }
         ensures full { result ≢ Err Full }
@@ -242,13 +242,13 @@ impl ServerState {
     }
 
     /// Whether nothing is left to be prepared.
-    fn stands_prepared(&self, t: u64, parts: &[Part]) -> bool
+    pub(crate) fn stands_prepared(&self, t: u64, parts: &[Part]) -> bool
         ensures { result ≡ service.stands_prepared (state_of self.now) t parts.now }
     {
         locks::has_prepared(self.locks.as_slice(), t) || parts.is_empty()
     }
 
-    fn can_prepare(&self, t: u64, parts: &[Part]) -> bool
+    pub(crate) fn can_prepare(&self, t: u64, parts: &[Part]) -> bool
         ensures { result ≡ service.can_prepare (state_of self.now) t parts.now }
     {
         locks::has_locks_for(self.locks.as_slice(), t, parts)
@@ -265,7 +265,7 @@ impl ServerState {
 
 /// Of a server that is down.
 #[inline(always)]
-fn fill_down(request: &Request, reply: &mut Reply) -> Change
+pub(crate) fn fill_down(request: &Request, reply: &mut Reply) -> Change
     ensures reply { reply.new ≡ service.reply_down request.now }
     ensures change { (st : State) → stepping.applied result request.now st ≡ service.after_down st request.now }
     ensures room { (held : ServerState) → stepping.HasRoom result request.now (stepping.roomed_of held) }

@@ -1,61 +1,56 @@
-//! Who holds locks on a suite: pairs of a suite and a transaction, in this order. Nobody is listed while the locks are
-//! few, and can be looked through; from then on all are, until no lock is left or a sweep lets go of many.
+//! Who holds locks on a suite: pairs of a suite and a transaction, in this order, in blocks. Nobody is listed while the
+//! locks are few, and can be looked through; from then on all are, until no lock is left.
 
-ghost use Rattle.std.specs.Prelude.{◌≡◌, ◌≢◌, ◌+◌, ◌<◌, ◌≤◌, [], length, filter, find, nat_lt, not, option_map, slice_range, OnOk};
-ghost use Rattle.sorted_map.specs.SortedMap.{IsOrdered, insert};
+ghost use Rattle.std.specs.Prelude.{◌≡◌, ◌≢◌, ◌+◌, ◌-◌, ◌^◌, ◌<◌, ◌≤◌, [], length, filter, find, not, option_map, slice_range, OnOk};
+ghost use Rattle.std.specs.Option.{option_copied};
+ghost use Rattle.sorted_map.specs.SortedMap.{insert};
+ghost use Rattle.sorted_map.specs.Blocks.{first_from};
 ghost use Rattle.rep_core.specs.code.Holders as holding;
-ghost use Rattle.rep_core.specs.code.Holders.{holder_cmp, is_other, told_other, other_in, listed_or, spare, with_holders, without, without_one};
+ghost use Rattle.rep_core.specs.code.Holders.{holder_cmp, is_other, told_other, listed_or, spare, with_holders, without, without_one};
 
 use crate::lock::Lock;
-use sorted_map::RoomyMap;
+use sorted_map::BlockMap;
 use std::alloc::AllocError;
 
 /// So many locks at most are looked through, with nobody listed.
 const FEW: usize = 64;
 
-/// Of more locks than these nobody is listed any more once the first transaction lets its own go: mostly a sweep lets
-/// one transaction go after the other.
-const MANY: usize = 1_024;
-
-/// The least transaction but this one that holds a lock on a suite: the first on the suite, or the one behind it.
-pub(crate) fn first_other(holders: &[((u64, u64), ())], t: u64, suite: u64) -> Option<u64>
-    requires { IsOrdered holder_cmp holders.now }
-    ensures { result ≡ option_map (λ holder. holder.0.1) (find (is_other t suite) holders.now) }
+/// The least transaction but this one, which is not the last number, that holds a lock on a suite: the first on the
+/// suite, or the one behind it.
+pub(crate) fn first_other(holders: &BlockMap<(u64, u64), ()>, t: u64, suite: u64) -> Option<u64>
+    requires { t < 2 ^ 64 - 1 }
+    ensures { result ≡ option_map (λ holder. holder.0.1) (find (is_other t suite) holders.now.pairs) }
 {
-    let at = holders.partition_point(|holder| is_on_less(holder, suite));
-    let first = other_at(holders, at, t, suite);
-    let next = next_at(holders, at, t, suite);
-    or_next(first, next)
-}
-
-fn or_next(first: Option<u64>, next: Option<u64>) -> Option<u64>
-    ensures { result ≡ holding.or_next first next }
-{
-    match first {
-        Some(other) => Some(other),
-        None => next,
+    match holders.first_from(&(suite, 0)) {
+        Some(first) => first_or_next(holders, first, t, suite),
+        None => None,
     }
 }
 
-/// The transaction behind a place, where it is another one on the suite.
-fn next_at(holders: &[((u64, u64), ())], at: usize, t: u64, suite: u64) -> Option<u64>
-    ensures { result ≡ other_in t suite holders.now (at + 1) }
+/// The first holder where it is another one on the suite; the one behind it, where it is the transaction itself.
+fn first_or_next(
+    holders: &BlockMap<(u64, u64), ()>,
+    first: &((u64, u64), ()),
+    t: u64,
+    suite: u64,
+) -> Option<u64>
+    requires { t < 2 ^ 64 - 1 }
+    ensures { result ≡ holding.first_or_next t suite first.now (first_from holder_cmp (suite, t + 1) holders.now.pairs) }
 {
-    if at < holders.len() {
-        other_at(holders, at + 1, t, suite)
+    if first.0.0 == suite && first.0.1 == t {
+        other_in(holders.first_from(&(suite, t + 1)), t, suite)
     } else {
-        None
+        other_of(first, t, suite)
     }
 }
 
-/// The transaction at a place, where it is another one on the suite.
-fn other_at(holders: &[((u64, u64), ())], at: usize, t: u64, suite: u64) -> Option<u64>
-    ensures { result ≡ other_in t suite holders.now at }
+/// The transaction of a holder, where there is one and it is another one on the suite.
+fn other_in(holder: Option<&((u64, u64), ())>, t: u64, suite: u64) -> Option<u64>
+    ensures { result ≡ holding.other_in t suite (option_copied holder.entry) }
 {
-    if at < holders.len() {
-        other_of(&holders[at], t, suite)
-    } else {
-        None
+    match holder {
+        Some(holder) => other_of(holder, t, suite),
+        None => None,
     }
 }
 
@@ -69,15 +64,9 @@ fn other_of(holder: &((u64, u64), ()), t: u64, suite: u64) -> Option<u64>
     }
 }
 
-fn is_on_less(holder: &((u64, u64), ()), suite: u64) -> bool
-    ensures { result ≡ nat_lt holder.now.0.0 suite }
-{
-    holder.0.0 < suite
-}
-
 /// Makes room for who holds one more lock than these.
 pub(crate) fn make_room(
-    holders: &mut RoomyMap<(u64, u64), ()>,
+    holders: &mut BlockMap<(u64, u64), ()>,
     locks: &[Lock],
 ) -> Result<(), AllocError>
     ensures ok { OnOk result (0 < spare locks.now holders.new.pairs holders.new.room) }
@@ -87,26 +76,20 @@ pub(crate) fn make_room(
     holders.reserve(unlisted + 1)
 }
 
-/// Lists who holds a lock that is set beside these, unless nobody is listed and they are few, or few were set since.
+/// Lists who holds a lock that is set beside these, unless nobody is listed and they are few.
 #[inline(always)]
-pub(crate) fn hold(
-    holders: &mut RoomyMap<(u64, u64), ()>,
-    locks: &[Lock],
-    sets: usize,
-    t: u64,
-    suite: u64,
-)
+pub(crate) fn hold(holders: &mut BlockMap<(u64, u64), ()>, locks: &[Lock], t: u64, suite: u64)
     requires { 0 < spare locks.now holders.old.pairs holders.old.room }
     ensures { holders.new.pairs ≢ [] → holders.new.pairs ≡ insert holder_cmp (listed_or locks.now holders.old.pairs) (suite, t) tt }
 {
-    if holders.is_empty() && (locks.len() < FEW || sets < FEW) {
+    if holders.is_empty() && locks.len() < FEW {
         return;
     }
     hold_listed(holders, locks, t, suite);
 }
 
 /// Lists who holds a lock that is set beside these, with all others.
-fn hold_listed(holders: &mut RoomyMap<(u64, u64), ()>, locks: &[Lock], t: u64, suite: u64)
+fn hold_listed(holders: &mut BlockMap<(u64, u64), ()>, locks: &[Lock], t: u64, suite: u64)
     requires { 0 < spare locks.now holders.old.pairs holders.old.room }
     ensures { holders.new.pairs ≡ insert holder_cmp (listed_or locks.now holders.old.pairs) (suite, t) tt }
 {
@@ -115,7 +98,7 @@ fn hold_listed(holders: &mut RoomyMap<(u64, u64), ()>, locks: &[Lock], t: u64, s
 }
 
 /// Lists who holds these locks, where nobody is listed.
-fn list(holders: &mut RoomyMap<(u64, u64), ()>, locks: &[Lock])
+fn list(holders: &mut BlockMap<(u64, u64), ()>, locks: &[Lock])
     requires { 0 < spare locks.now holders.old.pairs holders.old.room }
     ensures pairs { holders.new.pairs ≡ listed_or locks.now holders.old.pairs }
     ensures room { 0 < holders.new.room }
@@ -126,7 +109,7 @@ fn list(holders: &mut RoomyMap<(u64, u64), ()>, locks: &[Lock])
 }
 
 /// Lists who holds these locks.
-fn hold_all(holders: &mut RoomyMap<(u64, u64), ()>, locks: &[Lock])
+fn hold_all(holders: &mut BlockMap<(u64, u64), ()>, locks: &[Lock])
     requires { length locks.now ≤ holders.old.room }
     ensures pairs { holders.new.pairs ≡ with_holders locks.now holders.old.pairs }
     ensures room { holders.old.room ≤ holders.new.room + length locks.now }
@@ -136,29 +119,22 @@ fn hold_all(holders: &mut RoomyMap<(u64, u64), ()>, locks: &[Lock])
     }
 }
 
-/// Takes out who holds the locks between two places, or all, where those are the first of many. Then none were set
-/// since.
+/// Takes out who holds the locks between two places.
 pub(crate) fn forget(
-    holders: &mut RoomyMap<(u64, u64), ()>,
-    sets: &mut usize,
+    holders: &mut BlockMap<(u64, u64), ()>,
     locks: &[Lock],
     start: usize,
     end: usize,
 )
     requires order { start ≤ end }
     requires within { end ≤ length locks.now }
-    ensures { holders.new.pairs ≢ [] → holders.new.pairs ≡ without (slice_range locks.now start end) holders.old.pairs }
+    ensures { holders.new.pairs ≡ without (slice_range locks.now start end) holders.old.pairs }
 {
-    if start == 0 && end > 0 && locks.len() > MANY {
-        holders.retain(|_holder| false);
-        *sets = 0;
-        return;
-    }
     forget_all(holders, &locks[start..end]);
 }
 
 /// Takes out who holds these locks.
-fn forget_all(holders: &mut RoomyMap<(u64, u64), ()>, locks: &[Lock])
+fn forget_all(holders: &mut BlockMap<(u64, u64), ()>, locks: &[Lock])
     ensures { holders.new.pairs ≡ without locks.now holders.old.pairs }
 {
     for lock in locks {
@@ -167,7 +143,7 @@ fn forget_all(holders: &mut RoomyMap<(u64, u64), ()>, locks: &[Lock])
 }
 
 /// Takes out who holds those of these locks that are not prepared.
-pub(crate) fn forget_unprepared(holders: &mut RoomyMap<(u64, u64), ()>, locks: &[Lock])
+pub(crate) fn forget_unprepared(holders: &mut BlockMap<(u64, u64), ()>, locks: &[Lock])
     ensures { holders.new.pairs ≡ without (filter (λ lock. not lock.prepared) locks.now) holders.old.pairs }
 {
     for lock in locks {
@@ -176,7 +152,7 @@ pub(crate) fn forget_unprepared(holders: &mut RoomyMap<(u64, u64), ()>, locks: &
 }
 
 /// Takes out who holds a lock, where it is not prepared.
-fn forget_one(holders: &mut RoomyMap<(u64, u64), ()>, lock: &Lock)
+fn forget_one(holders: &mut BlockMap<(u64, u64), ()>, lock: &Lock)
     ensures { holders.new.pairs ≡ without_one lock.now holders.old.pairs }
 {
     if !lock.prepared {

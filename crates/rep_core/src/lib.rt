@@ -38,13 +38,14 @@
 //! `settled` save searches through them.
 //!
 //! **Files**: `lock`, `request`, `reply`, `stamped`, `takes`, `fitting`, `intention`, `store`, `maps`, `copying`,
-//! `holders`, `settled`, `closing`, `preparing`, `locks`, `verdicts`, `step`, `server_state`, `evaluate`, `server`,
+//! `holders`, `settled`, `closing`, `preparing`, `locks`, `verdicts`, `sameness`, `step`, `server_state`, `evaluate`, `answering`, `server`,
 //! `effect`, `types_fit`, `laws`.
 //!
 //! **Definitions** (`specs/`): `Locks`, `Intentions`, `Store`, `State`, `Service`, `Serving`, `Fits`, `Roomed`,
-//! `Evaluated`, `Wanting`; of the laws `Consistency`, `Steps`, `ValidCopies`, `Laws`.
+//! `Evaluated`, `Wanting`, `Bare`; of the laws `Consistency`, `Steps`, `ValidCopies`, `Laws`.
 #![tactic(auto)]
 
+mod answering;
 mod closing;
 mod copying;
 mod effect;
@@ -59,6 +60,7 @@ mod maps;
 mod preparing;
 mod reply;
 mod request;
+mod sameness;
 mod server;
 mod server_state;
 mod settled;

@@ -1,7 +1,7 @@
 //! Searches and changes of a server's locks, which stand in the order of their transactions and, in
 //! one transaction, of their suites.
 
-ghost use Rattle.std.specs.Prelude.{◌≡◌, ◌≤◌, ◌<◌, [], None, length, IsTrue, IfOk, OnOk, find, filter, get_or, count_by, not, nat_lt, ◌==◌, ◌&&◌, ◌||◌, is_some, insert};
+ghost use Rattle.std.specs.Prelude.{◌≡◌, ◌≤◌, ◌<◌, ◌-◌, ◌^◌, [], None, length, IsTrue, IfOk, OnOk, find, filter, get_or, count_by, not, nat_lt, ◌==◌, ◌&&◌, ◌||◌, is_some, insert};
 ghost use Rattle.std.specs.List.{list_any, list_all};
 ghost use Rattle.std.specs.Vec.{vec_len, vec_capacity};
 ghost use Rattle.suite_prefix.specs.LockModes.{serves};
@@ -16,7 +16,7 @@ use crate::lock::Lock;
 use crate::preparing::prepare;
 use crate::request::Part;
 use crate::settled::{all_prepared, forget_unsettled, still_settled};
-use sorted_map::RoomyMap;
+use sorted_map::BlockMap;
 use std::alloc::{AllocError, Global};
 use std::marker::Model;
 use suite_prefix::LockMode;
@@ -28,14 +28,12 @@ const NEAR: usize = 8;
 /// exclusive one stands alone on its suite. It shows how many new ones it takes without memory.
 ///
 /// The first `gone` in the vector were let go: their places are closed when the others are changed. The first `settled`
-/// of the others are prepared: a crash looks at those behind them only. So many locks as `sets` tells were set since
-/// nobody was listed any more.
+/// of the others are prepared: a crash looks at those behind them only.
 #[derive(Drop)]
 pub(crate) struct LockTable {
     locks: Vec<Lock>,
     gone: usize,
-    holders: RoomyMap<(u64, u64), ()>,
-    sets: usize,
+    holders: BlockMap<(u64, u64), ()>,
     settled: usize,
 }
 
@@ -64,8 +62,7 @@ impl LockTable {
         LockTable {
             locks: Vec::new(alloc),
             gone: 0,
-            holders: RoomyMap::new(alloc),
-            sets: 0,
+            holders: BlockMap::new(alloc),
             settled: 0,
         }
     }
@@ -75,12 +72,11 @@ impl LockTable {
         ensures { IfOk result (λ table. table.locks ≡ self.now.locks) }
     {
         let locks = Vec::from_slice(*self.locks.allocator(), &self.locks)?;
-        let holders = self.holders.clone()?;
+        let holders = self.holders.copied(*self.locks.allocator())?;
         Ok(LockTable {
             locks,
             gone: self.gone,
             holders,
-            sets: self.sets,
             settled: self.settled,
         })
     }
@@ -109,8 +105,10 @@ impl LockTable {
     {
         if self.holders.is_empty() {
             first_in_the_way(self.as_slice(), t, suite, mode)
+        } else if t == u64::MAX {
+            first_in_the_way(self.as_slice(), t, suite, mode)
         } else {
-            in_the_way(self.as_slice(), self.holders.as_slice(), t, suite, mode)
+            in_the_way(self.as_slice(), &self.holders, t, suite, mode)
         }
     }
 
@@ -123,8 +121,7 @@ impl LockTable {
     {
         close(&mut self.locks, &mut self.gone);
         let settled = still_settled(&self.locks, self.settled, t, suite);
-        self.sets = self.sets.saturating_add(1);
-        hold(&mut self.holders, &self.locks, self.sets, t, suite);
+        hold(&mut self.holders, &self.locks, t, suite);
         set_lock(&mut self.locks, t, suite, mode);
         self.settled = settled;
     }
@@ -157,7 +154,7 @@ impl LockTable {
     {
         let locks = &self.locks[self.gone..];
         let (start, end) = range_of(locks, t);
-        forget(&mut self.holders, &mut self.sets, locks, start, end);
+        forget(&mut self.holders, locks, start, end);
         release(&mut self.locks, &mut self.gone, start, end);
         self.settled = self.settled.min(start);
     }
@@ -189,12 +186,13 @@ fn first_in_the_way(locks: &[Lock], t: u64, suite: u64, mode: LockMode) -> Optio
 /// The lock of the least transaction that stands in the way of a lock in this mode.
 fn in_the_way(
     locks: &[Lock],
-    holders: &[((u64, u64), ())],
+    holders: &BlockMap<(u64, u64), ()>,
     t: u64,
     suite: u64,
     mode: LockMode,
 ) -> Option<Lock>
-    requires { AreHeld locks.now holders.now }
+    requires held { AreHeld locks.now holders.now.pairs }
+    requires number { t < 2 ^ 64 - 1 }
     ensures { result ≡ locking.in_the_way t suite mode locks.now }
 {
     match first_other(holders, t, suite) {

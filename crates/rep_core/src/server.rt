@@ -6,6 +6,7 @@ ghost use Rattle.rep_core.specs.declared.stamped.Lack.TheVariants.{Full, Memory}
 ghost use Rattle.rep_core.specs.Fits.{fits};
 ghost use Rattle.rep_core.specs.Evaluated.{IsStep};
 ghost use Rattle.rep_core.specs.code.Planning.{copies_in};
+ghost use Rattle.rep_core.specs.Bare.{bare_server};
 ghost use Rattle.rep_core.specs.Serving as serving;
 ghost use Rattle.rep_core.specs.Store as store;
 
@@ -97,6 +98,20 @@ impl Server {
         Ok(reply)
     }
 
+    /// What it would answer to a request, but for the room that serving takes. It stays as it is.
+    pub fn answer(&self, request: &Stamped<Request>) -> Result<Stamped<Reply>, Lack>
+        ensures reply { IfOk result (λ reply. reply ≡ serving.answer_of self.now.state request.now) }
+        ensures full { (result ≡ Err Full) ↔ IsTrue (serving.is_full self.now.state request.now) }
+        ensures bare { IsTrue (serving.is_bare (serving.answer_of self.now.state request.now).value) → result ≢ Err Memory }
+    {
+        let mut reply = Stamped {
+            stamp: 0,
+            value: Reply::Down,
+        };
+        self.held.answer(request, &mut reply)?;
+        Ok(reply)
+    }
+
     /// The locks, by transaction, then suite.
     pub fn locks(&self) -> &[Lock]
         ensures { result.now ≡ self.now.state.locks }
@@ -124,6 +139,13 @@ impl Server {
     {
         let held = self.held.copy()?;
         Ok(Server { held })
+    }
+
+    /// Whether another server has the same, but for the stamp. Where it is told, it is so. It takes no memory.
+    pub fn same_but_stamp(&self, other: &Server) -> bool
+        ensures { IsTrue result → bare_server self.now.state ≡ bare_server other.now.state }
+    {
+        self.held.same_but_stamp(&other.held)
     }
 
     /// A law: each copy is a valid one with versions that are not used up, and so is what each

@@ -1,10 +1,11 @@
 //! What a server holds, and how it is changed.
 
-ghost use Rattle.std.specs.Prelude.{◌≡◌, ◌<◌, IfOk, true, is_some};
+ghost use Rattle.std.specs.Prelude.{◌≡◌, ◌<◌, IfOk, IsTrue, true, is_some};
 ghost use Rattle.std.specs.Vec.{vec_len, vec_capacity};
 ghost use Rattle.rep_core.specs.code.Stepping as stepping;
 ghost use Rattle.rep_core.specs.code.ServerFields.{state_of};
 ghost use Rattle.rep_core.specs.Service as service;
+ghost use Rattle.rep_core.specs.Bare.{bare_server};
 ghost use Rattle.rep_core.specs.State.{opening};
 
 use crate::evaluate::{audit_of, is_answered};
@@ -12,6 +13,7 @@ use crate::intention::Planned;
 use crate::locks::LockTable;
 use crate::reply::Verdict;
 use crate::request::Request;
+use crate::sameness::{same_audit, same_locks};
 use crate::stamped::Stamped;
 use crate::step::{Change, Step};
 use crate::store::Store;
@@ -71,6 +73,25 @@ impl ServerState {
             stamp: self.stamp,
             up: self.up,
         })
+    }
+
+    /// Whether they are the same, but for the stamps.
+    pub(crate) fn same_but_stamp(&self, other: &ServerState) -> bool
+        ensures { IsTrue result → bare_server (state_of self.now) ≡ bare_server (state_of other.now) }
+    {
+        if self.up != other.up {
+            return false;
+        }
+        if !same_locks(self.locks.as_slice(), other.locks.as_slice()) {
+            return false;
+        }
+        if !same_audit(&self.audit, &other.audit) {
+            return false;
+        }
+        if !self.store.same(&other.store) {
+            return false;
+        }
+        self.verdicts.same(&other.verdicts)
     }
 
     /// Does what was evaluated. It takes no memory.

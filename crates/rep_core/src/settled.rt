@@ -9,12 +9,12 @@ ghost use Rattle.rep_core.specs.code.Holders.{are_settled, without};
 use crate::holders::forget_unprepared;
 use crate::lock::Lock;
 use crate::locks::stands_before;
-use sorted_map::RoomyMap;
+use sorted_map::BlockMap;
 use suite_prefix::LockMode;
 
 /// Takes out who holds those of these locks that are not prepared, as the first so many are.
 pub(crate) fn forget_unsettled(
-    holders: &mut RoomyMap<(u64, u64), ()>,
+    holders: &mut BlockMap<(u64, u64), ()>,
     locks: &[Lock],
     settled: usize,
 )

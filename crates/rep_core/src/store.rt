@@ -21,6 +21,7 @@ use crate::intention::Planned;
 use crate::maps::{forget, install, keep_all, keep_content, keep_head};
 use crate::reply::Reply;
 use crate::request::{Part, Take};
+use crate::sameness::{same_copies, same_intentions, same_votes};
 use crate::takes::{any_holds_last, is_keep, is_whole, may_become, take_nothing};
 use file_ops::ROOT;
 use sorted_map::RoomyMap;
@@ -102,6 +103,19 @@ impl Store {
             copies,
             intentions,
         })
+    }
+
+    /// Whether they are the same.
+    pub(crate) fn same(&self, other: &Store) -> bool
+        ensures { IsTrue result → self.now.store ≡ other.now.store }
+    {
+        if !same_votes(&self.absent, &other.absent) {
+            return false;
+        }
+        if !same_copies(self.copies.as_slice(), other.copies.as_slice()) {
+            return false;
+        }
+        same_intentions(self.intentions.as_slice(), other.intentions.as_slice())
     }
 
     /// Reads the prefix of a suite's copy where nobody did, and keeps it.

@@ -1,22 +1,22 @@
-//! The verdicts of transactions, kept by agent. An agent numbers its transactions upwards, so its new
-//! verdict is mostly the last of its own, and moves none of the others.
+//! The verdicts of transactions, kept by agent, in blocks. An agent numbers its transactions upwards, so its new
+//! verdict is mostly the last of its own, and moves none of the others; it never moves more than a block.
 
-ghost use Rattle.std.specs.Prelude.{◌≡◌, ◌≢◌, ℕ, ◌<◌, ◌≤◌, [], length, get_or, IfOk, OnOk};
+ghost use Rattle.std.specs.Prelude.{◌≡◌, ◌≢◌, ℕ, ◌<◌, ◌≤◌, [], length, get_or, IfOk, OnOk, IsTrue};
 ghost use Rattle.std.specs.Option.{option_copied};
 ghost use Rattle.std.specs.Ordering.{nat_cmp};
 ghost use Rattle.sorted_map.specs.SortedMap.{get, insert};
 ghost use Rattle.rep_core.specs.code.ByAgent as by_agent;
 
-use crate::copying::copied;
 use crate::reply::Verdict;
-use sorted_map::RoomyMap;
+use crate::sameness::same_verdicts;
+use sorted_map::BlockMap;
 use std::alloc::{AllocError, Global};
 use std::marker::Model;
 
 /// The verdicts of transactions, seen in the order of their transactions, with the room of each agent.
 #[derive(Drop)]
 pub(crate) struct Verdicts {
-    maps: Vec<RoomyMap<u64, Verdict>>,
+    maps: Vec<BlockMap<u64, Verdict>>,
 }
 
 impl Model for Verdicts {
@@ -46,6 +46,13 @@ impl Verdicts {
     {
         let maps = copied_each(alloc, &self.maps)?;
         Ok(Verdicts { maps })
+    }
+
+    /// Whether they are the same.
+    pub(crate) fn same(&self, other: &Verdicts) -> bool
+        ensures { IsTrue result → self.now.pairs ≡ other.now.pairs }
+    {
+        same_maps(&self.maps, &other.maps)
     }
 
     /// That of a transaction.
@@ -83,7 +90,7 @@ fn agent_of(t: u64) -> usize
 }
 
 /// What the map of its agent has at a transaction.
-fn find(maps: &[RoomyMap<u64, Verdict>], t: u64) -> Option<&Verdict>
+fn find(maps: &[BlockMap<u64, Verdict>], t: u64) -> Option<&Verdict>
     ensures { option_copied result ≡ get nat_cmp (by_agent.pairs_at maps.now (by_agent.agent_of t)) t }
 {
     let agent = agent_of(t);
@@ -94,20 +101,50 @@ fn find(maps: &[RoomyMap<u64, Verdict>], t: u64) -> Option<&Verdict>
     }
 }
 
+/// Whether each agent has the same in both.
+fn same_maps(own: &[BlockMap<u64, Verdict>], theirs: &[BlockMap<u64, Verdict>]) -> bool
+    ensures { IsTrue result → (k : ℕ) → by_agent.pairs_at own.now k ≡ by_agent.pairs_at theirs.now k }
+{
+    let most = own.len().max(theirs.len());
+    for agent in 0..most {
+        if !same_at(own, theirs, agent) {
+            return false;
+        }
+    }
+    true
+}
+
+/// Whether an agent has the same in both.
+fn same_at(own: &[BlockMap<u64, Verdict>], theirs: &[BlockMap<u64, Verdict>], agent: usize) -> bool
+    ensures { IsTrue result → by_agent.pairs_at own.now agent ≡ by_agent.pairs_at theirs.now agent }
+{
+    if agent < own.len() && agent < theirs.len() {
+        return same_verdicts(&own[agent], &theirs[agent]);
+    }
+    has_none(own, agent) && has_none(theirs, agent)
+}
+
+/// Whether an agent has no verdict.
+fn has_none(maps: &[BlockMap<u64, Verdict>], agent: usize) -> bool
+    ensures { IsTrue result → by_agent.pairs_at maps.now agent ≡ [] }
+{
+    agent >= maps.len() || maps[agent].is_empty()
+}
+
 /// Adds empty maps until there are so many.
-fn grow(maps: &mut Vec<RoomyMap<u64, Verdict>>, wanted: usize) -> Result<(), AllocError>
+fn grow(maps: &mut Vec<BlockMap<u64, Verdict>>, wanted: usize) -> Result<(), AllocError>
     ensures ok { OnOk result (wanted ≤ length maps.new.items) }
     ensures pairs { (k : ℕ) → by_agent.pairs_at maps.new.items k ≡ by_agent.pairs_at maps.old.items k }
 {
     while maps.len() < wanted {
         let alloc = *maps.allocator();
-        maps.push(RoomyMap::new(alloc))?;
+        maps.push(BlockMap::new(alloc))?;
     }
     Ok(())
 }
 
 /// Makes room for a new transaction of an agent.
-fn reserve_at(maps: &mut Vec<RoomyMap<u64, Verdict>>, agent: usize) -> Result<(), AllocError>
+fn reserve_at(maps: &mut Vec<BlockMap<u64, Verdict>>, agent: usize) -> Result<(), AllocError>
     requires { agent < length maps.old.items }
     ensures ok { OnOk result (0 < (get_or maps.new.items agent by_agent.empty).room) }
     ensures pairs { (k : ℕ) → by_agent.pairs_at maps.new.items k ≡ by_agent.pairs_at maps.old.items k }
@@ -116,7 +153,7 @@ fn reserve_at(maps: &mut Vec<RoomyMap<u64, Verdict>>, agent: usize) -> Result<()
 }
 
 /// Keeps a verdict in the map of its agent, in which there is room.
-fn insert_at(maps: &mut Vec<RoomyMap<u64, Verdict>>, t: u64, verdict: Verdict)
+fn insert_at(maps: &mut Vec<BlockMap<u64, Verdict>>, t: u64, verdict: Verdict)
     requires { 0 < by_agent.room_for t (by_agent.rooms_of maps.old.items) }
     ensures here { let own = by_agent.agent_of t in by_agent.pairs_at maps.new.items own ≡ insert nat_cmp (by_agent.pairs_at maps.old.items own) t verdict }
     ensures apart { (k : ℕ) → k ≢ by_agent.agent_of t → by_agent.pairs_at maps.new.items k ≡ by_agent.pairs_at maps.old.items k }
@@ -128,13 +165,13 @@ fn insert_at(maps: &mut Vec<RoomyMap<u64, Verdict>>, t: u64, verdict: Verdict)
 /// A map of equal pairs for each agent.
 fn copied_each(
     alloc: Global,
-    maps: &[RoomyMap<u64, Verdict>],
-) -> Result<Vec<RoomyMap<u64, Verdict>>, AllocError>
+    maps: &[BlockMap<u64, Verdict>],
+) -> Result<Vec<BlockMap<u64, Verdict>>, AllocError>
     ensures { IfOk result (λ copies. (k : ℕ) → by_agent.pairs_at copies.items k ≡ by_agent.pairs_at maps.now k) }
 {
     let mut copies = Vec::with_capacity(alloc, maps.len())?;
     for own in maps {
-        copies.push(copied(alloc, own.as_slice())?)?;
+        copies.push(own.copied(alloc)?)?;
     }
     Ok(copies)
 }

@@ -50,16 +50,18 @@ is_other t suite holder = (holder.0.0 == suite) && not (holder.0.1 == t)
 abbrev pub told_other : ℕ → ℕ → Holder → Option ℕ
 told_other t suite holder = if is_other t suite holder then Some holder.0.1 else None
 
--- the one at a place, where it is another on the suite
-abbrev pub other_in : ℕ → ℕ → List Holder → ℕ → Option ℕ
-other_in t suite [] at = None
-other_in t suite (holder ∷ holders) zero = told_other t suite holder
-other_in t suite (holder ∷ holders) (suc at) = other_in t suite holders at
+-- the one, where it is another on the suite
+abbrev pub other_in : ℕ → ℕ → Option Holder → Option ℕ
+other_in t suite None = None
+other_in t suite (Some holder) = told_other t suite holder
 
--- the first, or else the next
-abbrev pub or_next : Option ℕ → Option ℕ → Option ℕ
-or_next (Some t) next = Some t
-or_next None next = next
+-- the first, or the next where the first is the transaction itself
+abbrev pub first_or_next : ℕ → ℕ → Holder → Option Holder → Option ℕ
+first_or_next t suite first next = if (first.0.0 == suite) && (first.0.1 == t) then other_in t suite next else told_other t suite first
+
+abbrev pub of_first : ℕ → ℕ → Option Holder → Option Holder → Option ℕ
+of_first t suite None next = None
+of_first t suite (Some first) next = first_or_next t suite first next
 
 -- the lock, where it stands in the way of a lock in this mode
 abbrev pub if_conflict : ℕ → ℕ → LockMode → Lock → Option Lock

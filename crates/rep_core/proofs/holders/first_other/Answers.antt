@@ -1,14 +1,21 @@
-use Rattle.std.proofs.Common.{rules, sym, ◌∙◌}
-use Rattle.std.proofs.lemmas.List.Sorted.{IsPartitionPoint-from_clause}
-use Rattle.rep_core.specs.code.Holders.{or_next}
-use Rattle.rep_core.proofs.SuiteHolders.{on_less, partitioned_less, first_two}
+use Rattle.std.proofs.Common.{ap, sym, ◌∙◌, ◌+◌}
+use Rattle.sorted_map.specs.Blocks.{first_from}
+use Rattle.rep_core.specs.code.Holders.{holder_cmp, of_first}
+use Rattle.rep_core.proofs.FirstHolders.{first_of_others}
 use Rattle.rep_core.proofs.holders.first_other.Goals as goal
 
-pub returns : goal.returns
-returns c =
-    let holders = c.args.holders.now in
-    let at = c.partition_point-at.result in
-    let point = IsPartitionPoint-from_clause (on_less c.args.suite) holders at c.partition_point-at.ensures.partitioned (partitioned_less c.args.suite holders c.requires) (λ a r f' k. search rules) in
-    c.or_next.ensures
-    ∙ (λ i. or_next (c.other_at-first.ensures i) (c.next_at-next.ensures i))
-    ∙ sym (first_two c.args.t c.args.suite holders at c.requires c.partition_point-at.ensures.bound point)
+pub returns-in-Some : goal.returns-in-Some
+returns-in-Some c =
+    let t = c.args.t in
+    let suite = c.args.suite in
+    let holders = c.args.holders.now.pairs in
+    let next = first_from holder_cmp (suite, t + 1) holders in
+    c.first_or_next.ensures ∙ ap (λ first. of_first t suite first next) c.in-Some.ensures.first ∙ sym (first_of_others t suite holders c.first_from.ensures.ordered)
+
+pub returns-in-None : goal.returns-in-None
+returns-in-None c =
+    let t = c.args.t in
+    let suite = c.args.suite in
+    let holders = c.args.holders.now.pairs in
+    let next = first_from holder_cmp (suite, t + 1) holders in
+    ap (λ first. of_first t suite first next) c.in-None.ensures.first ∙ sym (first_of_others t suite holders c.first_from.ensures.ordered)

@@ -38,7 +38,7 @@ invariant_of-self c =
     let mine = slice_range locks range.0 range.1 in
     let left : drop c.release.new.gone c.release.new.locks.items ≡ released t locks = c.release.ensures.left ∙ sym (released_in t locks range.0 range.1 is) in
     let all = listed_by (without mine) (nobody_without mine) (λ hs held. held_released t locks hs held range.0 range.1 is) holders c.self.invariant.1 in
-    let listed = listed_or_nobody (released t locks) (without mine holders) holding all (λ some. c.forget.ensures some ∙ ap (λ l. without (slice_range l range.0 range.1) holders) seen) in
+    let listed = listed_or_nobody (released t locks) (without mine holders) holding all (λ some. c.forget.ensures ∙ ap (λ l. without (slice_range l range.0 range.1) holders) seen) in
     let front : less ≤ range.0 = omega (arith, c.min-self-inside.ensures) in
     let fewer : less ≤ settled = omega (arith, c.min-self-inside.ensures) in (
       c.release.ensures.within,

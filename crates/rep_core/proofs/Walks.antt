@@ -1,0 +1,94 @@
+-- What a walk from one pair to the next sees of a map.
+use Rattle.std.specs.Prelude.{◌≡◌, ℕ, zero, suc, ◌+◌, ◌<◌, ◌≤◌, List, [], ◌∷◌, Some, None, true, false}
+use Rattle.std.proofs.Common.{refl, sym, ◌∙◌, ap, ⊎_elim, arith, Less}
+use Rattle.std.specs.Ordering.{nat_cmp, is_eq, is_lt}
+use Rattle.std.specs.BTreeMap.{is_at}
+use Rattle.std.proofs.lemmas.Bool.{cases_Bool, cond-true, cond-false}
+use Rattle.std.proofs.lemmas.Bool.Decides.{nat_tests}
+use Rattle.std.proofs.lemmas.Map.Entries.{lookup_head, lookup_tail}
+use Rattle.std.proofs.lemmas.Map.Keys.{sorted_head, sorted_tail}
+use Rattle.std.proofs.lemmas.Option.{none-some, same_Some}
+use Rattle.sorted_map.specs.SortedMap.{IsOrdered, get}
+use Rattle.std.specs.Map.{keys_of}
+use Rattle.sorted_map.specs.Numbers.{same_maps}
+use Rattle.sorted_map.specs.Blocks.{first_from}
+
+is_below : (a b : ℕ) → is_lt (nat_cmp a b) ≡ true → a < b
+is_below a b is = grind (arith, nat_tests, is)
+
+is_not_below : (a b : ℕ) → is_lt (nat_cmp a b) ≡ false → b ≤ a
+is_not_below a b is = grind (arith, nat_tests, is)
+
+is_apart : (a b : ℕ) → a < b → is_eq (nat_cmp a b) ≡ false
+is_apart a b less = grind (arith, nat_tests, less)
+
+is_apart_above : (a b : ℕ) → b < a → is_eq (nat_cmp a b) ≡ false
+is_apart_above a b less = grind (arith, nat_tests, less)
+
+is_less_if_apart : (a b : ℕ) → is_eq (nat_cmp a b) ≡ false → a ≤ b → a < b
+is_less_if_apart a b apart most = grind (arith, nat_tests, apart, most)
+
+is_less : (a b : ℕ) → nat_cmp a b ≡ Less → a < b
+is_less a b less = is_below a b (ap is_lt less)
+
+either : {P : Type 0} (i n : ℕ) → (i < n → P) → (n ≤ i → P) → P
+either i zero l r = r (omega arith)
+either zero (suc n) l r = l (omega arith)
+either (suc i) (suc n) l r = either i n (λ h. l (omega arith)) (λ h. r (omega arith))
+
+module _ {V : Type 0} where
+  pub none_from : (pairs : List (ℕ × V)) (from q : ℕ) → first_from nat_cmp from pairs ≡ None → from ≤ q → get nat_cmp pairs q ≡ None
+  none_from [] from q none least = refl
+  none_from (e ∷ es) from q none least = ⊎_elim
+      (λ below. lookup_tail (is_at (nat_cmp q)) e es (is_apart_above q e.0 (omega (arith, least, is_below e.0 from below)))
+      ∙ none_from es from q (sym (cond-true (is_lt (nat_cmp e.0 from)) (first_from nat_cmp from es) (Some e) below) ∙ none) least)
+      (λ above. absurd (none-some e (sym none ∙ cond-false (is_lt (nat_cmp e.0 from)) (first_from nat_cmp from es) (Some e) above)))
+      (cases_Bool (is_lt (nat_cmp e.0 from)))
+
+  -- below the first key there is nothing
+  none_before : (e : ℕ × V) (es : List (ℕ × V)) (q : ℕ) → IsOrdered nat_cmp (e ∷ es) → q < e.0 → get nat_cmp (e ∷ es) q ≡ None
+  none_before e [] q ordered less = lookup_tail (is_at (nat_cmp q)) e [] (is_apart q e.0 less)
+  none_before e (f ∷ fs) q ordered less =
+      lookup_tail (is_at (nat_cmp q)) e (f ∷ fs) (is_apart q e.0 less)
+      ∙ none_before f fs q (sorted_tail nat_cmp e.0 (keys_of (f ∷ fs)) ordered) (omega (arith, less, is_less e.0 f.0 (sorted_head nat_cmp e.0 (keys_of (f ∷ fs)) ordered).0))
+
+  -- from the key on up to the first pair there, there is that pair alone
+  alone_at : (e : ℕ × V) (es : List (ℕ × V)) (q : ℕ) → IsOrdered nat_cmp (e ∷ es) → q ≤ e.0 → get nat_cmp (e ∷ es) q ≡ get nat_cmp (e ∷ []) q
+  alone_at e es q ordered most = ⊎_elim
+      (λ here. lookup_head (is_at (nat_cmp q)) e es here ∙ sym (lookup_head (is_at (nat_cmp q)) e [] here))
+      (λ there.
+      let less = is_less_if_apart q e.0 there most in
+      none_before e es q ordered less ∙ sym (lookup_tail (is_at (nat_cmp q)) e [] there))
+      (cases_Bool (is_eq (nat_cmp q e.0)))
+
+  pub first_alone : (pairs : List (ℕ × V)) (from q : ℕ) (first : ℕ × V) → IsOrdered nat_cmp pairs → first_from nat_cmp from pairs ≡ Some first → from ≤ q → q ≤ first.0 → get nat_cmp pairs q ≡ get nat_cmp (first ∷ []) q
+  first_alone [] from q first ordered is least most = absurd (none-some first is)
+  first_alone (e ∷ es) from q first ordered is least most = ⊎_elim
+      (λ below. lookup_tail (is_at (nat_cmp q)) e es (is_apart_above q e.0 (omega (arith, least, is_below e.0 from below)))
+      ∙ first_alone es from q first (sorted_tail nat_cmp e.0 (keys_of es) ordered) (sym (cond-true (is_lt (nat_cmp e.0 from)) (first_from nat_cmp from es) (Some e) below) ∙ is) least most)
+      (λ above.
+      let same : e ≡ first = same_Some e first (sym (cond-false (is_lt (nat_cmp e.0 from)) (first_from nat_cmp from es) (Some e) above) ∙ is) in
+      alone_at e es q ordered (omega (arith, most, ap (λ x. x.0) same)) ∙ ap (λ x. get nat_cmp (x ∷ []) q) same)
+      (cases_Bool (is_lt (nat_cmp e.0 from)))
+
+  -- two maps that have the same up to a key, and the same first pair there
+  pub same_on : (pairs others : List (ℕ × V)) (from : ℕ) (first : ℕ × V) → IsOrdered nat_cmp pairs → IsOrdered nat_cmp others → ((q : ℕ) → q < from → get nat_cmp pairs q ≡ get nat_cmp others q)
+      → first_from nat_cmp from pairs ≡ Some first → first_from nat_cmp from others ≡ Some first → (q : ℕ) → q < first.0 + 1 → get nat_cmp pairs q ≡ get nat_cmp others q
+  same_on pairs others from first ordered ordered' same is is' q less = either q from
+      (λ below. same q below)
+      (λ least. first_alone pairs from q first ordered is least (omega (arith, less)) ∙ sym (first_alone others from q first ordered' is' least (omega (arith, less))))
+
+  pub same_whole : (pairs others : List (ℕ × V)) (from : ℕ) → IsOrdered nat_cmp pairs → IsOrdered nat_cmp others → ((q : ℕ) → q < from → get nat_cmp pairs q ≡ get nat_cmp others q)
+      → first_from nat_cmp from pairs ≡ None → first_from nat_cmp from others ≡ None → pairs ≡ others
+  same_whole pairs others from ordered ordered' same is is' = same_maps pairs others ordered ordered' (λ q. either q from
+      (λ below. same q below)
+      (λ least. none_from pairs from q is least ∙ sym (none_from others from q is' least)))
+
+  pub first_above : (pairs : List (ℕ × V)) (from : ℕ) (first : ℕ × V) → first_from nat_cmp from pairs ≡ Some first → from ≤ first.0
+  first_above [] from first is = absurd (none-some first is)
+  first_above (e ∷ es) from first is = ⊎_elim
+      (λ below. first_above es from first (sym (cond-true (is_lt (nat_cmp e.0 from)) (first_from nat_cmp from es) (Some e) below) ∙ is))
+      (λ above.
+      let same : e ≡ first = same_Some e first (sym (cond-false (is_lt (nat_cmp e.0 from)) (first_from nat_cmp from es) (Some e) above) ∙ is) in
+      omega (arith, is_not_below e.0 from above, ap (λ x. x.0) same))
+      (cases_Bool (is_lt (nat_cmp e.0 from)))
