@@ -212,7 +212,7 @@ def main():
     for line in wrong:
         print(line)
     print(f"{played + shown + len(LIMITS)} examples and command lines and limits, {len(wrong)} differ")
-    return 1 if wrong else 0
+    return 1 if wrong or not played or not shown else 0
 
 
 if __name__ == "__main__":

@@ -207,7 +207,7 @@ def main():
             shutil.rmtree(top)
     print(", ".join(f"{count} {name}" for name, count in counts.items()))
     print(f"{given.questions} questions, {wrong} differ")
-    return 1 if wrong else 0
+    return 1 if wrong or not given.questions else 0
 
 
 if __name__ == "__main__":

@@ -126,7 +126,7 @@ def main():
     asks_of_files(tests)
     shown_code_stands(tests)
     print(f"{tests.count} things, {tests.wrong} differ")
-    return 1 if tests.wrong else 0
+    return 1 if tests.wrong or not tests.count else 0
 
 
 if __name__ == "__main__":

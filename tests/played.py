@@ -6,6 +6,8 @@ import sys
 
 TOP = os.path.realpath(os.path.join(os.path.dirname(os.path.abspath(__file__)), ".."))
 ROWS = os.path.join(TOP, "crates", "rows", "stdin")
+# How many rows there are, as the program `rows` is to print it; and so many at least, so that no test passes over a few.
+COUNT, FEWEST = os.path.join(TOP, "crates", "rows", "stdout"), 480
 MARKS = {b"r": b"\r", b"t": b"\t", b"\\": b"\\"}
 
 
@@ -29,6 +31,16 @@ def unmarked(line):
 
 
 def rows():
+    """All rows, as many as are counted in crates/rows/stdout; ends the test where they are not."""
+    found = list(read_rows())
+    with open(COUNT, encoding="utf-8") as file:
+        told = file.read()
+    if told != f"{len(found)} rows\n" or len(found) < FEWEST:
+        sys.exit(f"crates/rows/stdin has {len(found)} rows, where crates/rows/stdout says {told.strip()}, and there are at least {FEWEST}")
+    return found
+
+
+def read_rows():
     """The rows: the title and the number of the first line of each, its words, its input, and the status and output that are wanted."""
     title, row, part = "", None, None
     with open(ROWS, "rb") as file:
