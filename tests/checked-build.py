@@ -34,7 +34,7 @@ def main() -> int:
             print(f"line {row['line']}: status {found.returncode}, wanted {row['status']}; printed:")
             print((found.stdout + found.stderr).decode("latin1"))
     print(f"{count} rows, {wrong} differ")
-    return 1 if wrong else 0
+    return 1 if wrong or not count else 0
 
 
 if __name__ == "__main__":

@@ -53,6 +53,9 @@ BYTES = [
 ]
 NOT_FOUND = "Was it changed since?"
 NAMED_AT_LEAST = {"word dropped": 0.98, "word added": 0.98}
+# Of these kinds so many damages have a fault in that line at least; of the others nearly all. So a program that takes faulty scripts
+# as good ones is told.
+FAULTY_AT_LEAST = {"bytes changed": 0.8, "list changed": 0.9, "word dropped": 0.85}
 # The most of each number behind the first word of a line; -1 and -2 stand for the last server and the last agent.
 MOST = {
     "begin": [-2, 4294967295, None, 15],
@@ -335,7 +338,8 @@ def main() -> int:
     kinds, wrong = sorted({kind for kind, _ in counts}), 0
     for kind in kinds:
         named, of = counts[kind, "named"], sum(counts[kind, came] for came in ("named", "unnamed", "nothing found"))
-        is_wrong = counts[kind, "nothing found"] or named < of * NAMED_AT_LEAST.get(kind, 1) or not of
+        are_taken = of < (of + counts[kind, "none"]) * FAULTY_AT_LEAST.get(kind, 0.97)
+        is_wrong = counts[kind, "nothing found"] or named < of * NAMED_AT_LEAST.get(kind, 1) or not of or are_taken
         wrong += bool(is_wrong)
         print(
             f"{kind}: {named} of {of} named; {counts[kind, 'none']} had no fault in that"
@@ -346,7 +350,7 @@ def main() -> int:
     )
     print(f"of {of} faulty lines {named} named")
     print(f"{len(kinds)} kinds of damage, {wrong} differ")
-    return 1 if wrong else 0
+    return 1 if wrong or not kinds else 0
 
 
 if __name__ == "__main__":

@@ -456,7 +456,7 @@ def main() -> int:
     for line in wrong:
         print(line)
     print(f"{count + len(LIMITS)} examples, lines, command lines and limits, {len(wrong)} differ")
-    return 1 if wrong else 0
+    return 1 if wrong or not count else 0
 
 
 if __name__ == "__main__":

@@ -9,6 +9,8 @@ TOP = os.path.realpath(os.path.join(os.path.dirname(os.path.abspath(__file__)), 
 ROWS = os.path.join(TOP, "crates", "rows", "stdin")
 # What tests import of the tools, before what of tests has the same name: the one edit of where modules are looked for.
 sys.path.insert(0, os.path.join(TOP, "tools"))
+# How many rows there are, as the program `rows` is to print it; and so many at least, so that no test passes over a few.
+COUNT, FEWEST = os.path.join(TOP, "crates", "rows", "stdout"), 480
 MARKS = {b"r": b"\r", b"t": b"\t", b"\\": b"\\"}
 
 
@@ -51,7 +53,20 @@ def unmarked(line: bytes) -> bytes:
     return re.sub(rb"\\(x..|.)", lambda mark: MARKS.get(mark[1]) or bytes([int(mark[1][1:], 16)]), line) + end
 
 
-def rows() -> typing.Iterator[Row]:
+def rows() -> list[Row]:
+    """All rows, as many as are counted in crates/rows/stdout; ends the test where they are not."""
+    found = list(read_rows())
+    with open(COUNT, encoding="utf-8") as file:
+        told = file.read()
+    if told != f"{len(found)} rows\n" or len(found) < FEWEST:
+        sys.exit(
+            f"crates/rows/stdin has {len(found)} rows, where crates/rows/stdout says {told.strip()}, and there are at"
+            f" least {FEWEST}"
+        )
+    return found
+
+
+def read_rows() -> typing.Iterator[Row]:
     """The rows: the title and the number of the first line of each, its words, its input, and the status and output
     that are wanted.
     """

@@ -23,6 +23,8 @@ COMMAND = re.compile(r"\$ (.*)|(?:\./suites |\.ci/run\b).*")
 SPAN = re.compile(r"`(\./suites (?!\w+`)[^`]+)`")
 # A word to be filled in, as CODE or N, and what may be left out or goes on.
 FILLED_IN = re.compile(r"(?<![\w/])(?:[A-Z]{2,}|[A-Z])(?!\w)|\[|\.\.\.|< \.\.")
+# So many command lines at least are shown, so that a change of the form of documents is told.
+FEWEST = 12
 LEFT_OUT = ("./suites --prove", "./suites --test", "./suites --is-fresh", ".ci/run")
 
 
@@ -78,6 +80,9 @@ def main() -> int:
                     f"{document}:{number}: {command} ends with {done.returncode} and"
                     f" prints\n{printed}{done.stderr.decode('latin1')}"
                 )
+    if count < FEWEST:
+        wrong += 1
+        print(f"of at least {FEWEST} command lines {count} were found")
     print(f"{count} command lines, {wrong} differ")
     return 1 if wrong else 0
 

@@ -379,7 +379,7 @@ def main() -> int:
         count, wrong = check(given, dice)
         print(f"{count} {what}, {len(wrong)} differ")
         print("".join(f"  {line}\n" for line in wrong[:10]), end="", flush=True)
-        is_wrong = is_wrong or bool(wrong)
+        is_wrong = is_wrong or bool(wrong) or not count
     return 1 if is_wrong else 0
 
 

@@ -330,7 +330,7 @@ def main() -> int:
             if os.path.exists("/dev/ptmx"):
                 tells_a_terminal(copy)
     print(f"{copy.played} answers, {copy.wrong} differ")
-    return 1 if copy.wrong else 0
+    return 1 if copy.wrong or not copy.played else 0
 
 
 if __name__ == "__main__":

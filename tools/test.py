@@ -1,11 +1,13 @@
 #!/usr/bin/env python3
-"""./suites --test
+"""./suites --test [--long]
 
 Runs all tests that need no proof, side by side: the rows of crates/rows/stdin through the program that `./suites`
 runs (which it first makes, where there is none), the tests of libraries, runs and commands without their proofs (`rt
 try`), the examples of docs/FAULTS.md, the command lines that README.md and docs/FAULTS.md show, what `./suites votes`
-tells, pictures, random scripts of `play` against the plain table, and the checks of documents. Prints a line for each
-part as it ends, of a part that fails also what it printed, and last how many passed and failed. Status 1 where one
+tells, pictures, random scripts of `play` against the plain table, and the checks of documents; every program
+that only tests and measurements have is compiled. With --long those too that take minutes: allocations that are
+refused, reads and writes that fail, inputs that are cut off, lies about runs, and races between threads, some ten
+minutes more on four free processors. Prints a line for each part as it ends, of a part that fails also what it printed, and last how many passed and failed. Status 1 where one
 failed. The gate (.ci/run) begins with it.
 """
 import os
@@ -28,7 +30,7 @@ BYTES_A_PART, LIMIT = 2_500_000_000, 3600
 TRY = ["rt", "try", "--test", "--seconds", "3000"]
 # How parts tell what passed and failed: all and those that differ, or both as rt has it.
 COUNTS = (
-    (re.compile(r"^(\d+) .*, (\d+) differ", re.M), lambda all_of_them, wrong: (all_of_them - wrong, wrong)),
+    (re.compile(r"^(\d+) .*[,;] (\d+) differ", re.M), lambda all_of_them, wrong: (all_of_them - wrong, wrong)),
     (re.compile(r"^test result: .*?(\d+) passed; (\d+) failed", re.M), lambda passed, failed: (passed, failed)),
 )
 
@@ -37,9 +39,15 @@ class Part:
     """A part of the tests: its title, its command, and the titles of the parts that have to pass before it."""
 
     def __init__(
-        self, title: str, words: list[str], after: typing.Sequence[str] = (), folder: str = ".", program: str = "suites"
+        self,
+        title: str,
+        words: list[str],
+        after: typing.Sequence[str] = (),
+        folder: str = ".",
+        program: str = "suites",
+        settings: typing.Mapping[str, str] | None = None,
     ) -> None:
-        self.title, self.words, self.after = title, words, after
+        self.title, self.words, self.after, self.settings = title, words, after, dict(settings or {})
         self.folder, self.program = os.path.join(sources.TOP, folder), program
         self.counts: tuple[int, int] | None = None
         self.process: subprocess.Popen[bytes] | None = None
@@ -49,7 +57,7 @@ class Part:
     def start(self) -> None:
         self.log, self.begun = tempfile.TemporaryFile(), time.monotonic()
         self.process = console.start(
-            self.words, self.folder, self.log, env={**os.environ, "SUITES_PROGRAM": self.program}
+            self.words, self.folder, self.log, env={**os.environ, **self.settings, "SUITES_PROGRAM": self.program}
         )
 
     def has_ended(self) -> bool:
@@ -62,8 +70,14 @@ class Part:
         self.text = self.log.read().decode("utf-8", "replace")
         found = [told(*map(int, match.groups())) for pattern, told in COUNTS for match in pattern.finditer(self.text)]
         passed, failed = map(sum, zip(*found)) if found else (int(self.process.returncode == 0), 0)
-        self.counts = passed, max(failed, int(self.process.returncode != 0 or late))
+        # what compared nothing has not passed
+        is_vain = passed == 0 and not self.is_left_out()
+        self.counts = passed, max(failed, int(self.process.returncode != 0 or late or is_vain))
         return True
+
+    def is_left_out(self) -> bool:
+        """Whether the part says that it cannot be played here."""
+        return re.search(r"^this needs |skipped", self.text, re.M) is not None
 
     def lines(self) -> str:
         """What is told of it, once it has ended or cannot be run."""
@@ -115,6 +129,24 @@ PARTS = (
     Part("events", tool("tests/events.py"), [TRACE]),
     Part("pages in a browser", tool("tests/shown_page.py"), [TRACE]),
     Part("random scripts", tool("tools/compare.py", "--seeds", "200"), [PROGRAM, TRACE]),
+    Part("programs of tests and measurements", tool("tests/compiled.py")),
+)
+# What --long adds; of allocations each 61st is refused, and inputs are cut at each 29th byte.
+LONG = (
+    Part("races", tool("tests/races.py", "1")),
+    Part("lies about runs", tool("tests/lies.py", "1000"), [TRACE]),
+    Part(
+        "refused allocations",
+        ["sh", os.path.join(sources.TOP, "tests/refuse-each.sh")],
+        [PROGRAM, TRACE],
+        settings={"EVERY": "61"},
+    ),
+    Part(
+        "refused allocations in tests",
+        ["sh", os.path.join(sources.TOP, "tests/refuse-in-test.sh")],
+        settings={"IF_POSSIBLE": "1"},
+    ),
+    Part("inputs cut off, and streams that fail", tool("tests/damaged-runs.py"), [PROGRAM], settings={"EVERY": "29"}),
 )
 
 
@@ -153,14 +185,15 @@ def play_all(parts: typing.Sequence[Part], number: int, teller: console.Teller) 
 
 
 def main() -> int:
-    if len(sys.argv) > 1:
-        raise console.Stop("--test takes no other word")
+    if sys.argv[1:] not in ([], ["--long"]):
+        raise console.Stop("--test takes no other word than --long")
+    parts = (*PARTS, *LONG) if sys.argv[1:] else PARTS
     sources.Kit().wanted()
     sources.make_folder()
     teller, number = console.Teller(), lanes()
-    print(f"{len(PARTS)} parts, {number} at once", flush=True)
-    play_all(PARTS, number, teller)
-    passed, failed = (sum(part.counts[place] for part in PARTS) for place in (0, 1))
+    print(f"{len(parts)} parts, {number} at once", flush=True)
+    play_all(parts, number, teller)
+    passed, failed = (sum(part.counts[place] for part in parts) for place in (0, 1))
     spent = resource.getrusage(resource.RUSAGE_CHILDREN)
     teller.say(f"took {teller.seconds()} s, and {spent.ru_utime + spent.ru_stime:.0f} s of processor time")
     print(f"{passed} passed, {failed} failed")
