@@ -237,7 +237,8 @@ any_right p (x ∷ xs) ys none is = ⊎_elim
     (or_cases (p x) (list_any p (xs ++ ys)) is)
 
 -- it was not decided before, nor as it began
-module _ (given : Opening) (events later : List Event) (agent t : ℕ) (caller : Identity) (site : ℕ) (ops : List Op) (actor : Actor) (alone : GoesAlone given events later agent t caller site ops actor) where
+module _ (given : Opening) (events later : List Event) (agent t : ℕ) (caller : Identity) (site : ℕ) (ops : List Op) (actor : Actor) (can : CanBe given (events ++ Begin agent (Transaction caller site ops) ∷ later))
+    (there : actor_at (run given events) agent ≡ Some actor) (number : 64 * actor.agent.count + agent ≡ t) where
   abbrev pub by_then : Bool
   by_then = list_any (λ (one : Decided). one.t == t) (decisions_from (fixed_of given) (step (fixed_of given) (run given events) (Begin agent (Transaction caller site ops))).world later)
 
@@ -245,9 +246,8 @@ module _ (given : Opening) (events later : List Event) (agent t : ℕ) (caller :
   decided_since is =
       let job : Job = Transaction caller site ops in
       let rest = decisions_from (fixed_of given) (step (fixed_of given) (run given events) (Begin agent job)).world later in
-      let number = (starts given events later agent t caller site ops actor alone).number in
       let new : NotIn (decisions given events) (64 * actor.agent.count + agent) =
-      not_begun (agent_at (run given events)) (decisions given events) agent actor.agent (holds_of given alone.can.accepted events).agents (ap agent_of alone.there) actor.agent.count (self actor.agent.count) in
+      not_begun (agent_at (run given events)) (decisions given events) agent actor.agent (holds_of given can.accepted events).agents (ap agent_of there) actor.agent.count (self actor.agent.count) in
       any_right (λ (one : Decided). one.t == t) (decisions given events) rest
       (λ one has same. new one has (eqb-true one.t t same ∙ sym number))
       (sym (ap (list_any (λ (one : Decided). one.t == t))
@@ -307,4 +307,4 @@ decided_had_votes_up given events later agent t caller site ops actor alone was 
     let is = ⊎_elim (λ is. is) (λ one. ended_stands given events later agent t caller site ops actor alone one) was in
     had given events later agent t caller site ops actor alone
     (found_in given (run given events) agent (begin (fixed_of given) actor.agent (Transaction caller site ops)) (λ (one : Decided). one.t == t) later (step (fixed_of given) (run given events) (Begin agent (Transaction caller site ops))).world
-    (first_now given events later agent t caller site ops actor alone) alone.alone (decided_since given events later agent t caller site ops actor alone is))
+    (first_now given events later agent t caller site ops actor alone) alone.alone (decided_since given events later agent t caller site ops actor alone.can alone.there (starts given events later agent t caller site ops actor alone).number is))

@@ -70,6 +70,7 @@ pub mod UnmetKnows
 pub mod UnmetCourse
 pub mod UnmetEnds
 pub mod UnmetLaws
+pub mod UnmetDecided
 pub mod Names
 pub mod UnmetTime
 pub mod AmongLocks

@@ -27,7 +27,8 @@ use Rattle.law_run_recovers.proofs.Rows.{met_demands_are_rows}
 use Rattle.law_run_recovers.proofs.Stored.{all_is_stored}
 use Rattle.law_run_recovers.proofs.Swept.{sweeps_leave_doubts}
 use Rattle.law_run_recovers.proofs.Taken.{taken_away_are_never_decided}
-use Rattle.law_run_recovers.proofs.UnmetLaws.{unmet_end_by_votes, unmet_had_votes_up, unmet_are_decided_where_votes_are}
+use Rattle.law_run_recovers.proofs.UnmetDecided.{unmet_had_votes_up}
+use Rattle.law_run_recovers.proofs.UnmetLaws.{unmet_end_by_votes, unmet_are_decided_where_votes_are}
 use Rattle.law_run_recovers.proofs.UnmetTime.{unmet_end_in_time}
 use Rattle.law_run_recovers.proofs.Unmoved.{decided_where_votes_are}
 

@@ -398,7 +398,7 @@ module _ (given : Opening) (events later : List Event) (agent t : ℕ) (caller :
   -- ---- all along
 
   -- its job has ended
-  abbrev Over : List Event → Type 0
+  abbrev pub Over : List Event → Type 0
   Over so_far = (one : EndedJob) × Has (ended given (events ++ Begin agent (Transaction caller site ops) ∷ so_far)) one × (number_of one ≡ t)
 
   ended_more : (so_far : List Event) (event : Event) → ended given (events ++ Begin agent (Transaction caller site ops) ∷ (so_far ++ event ∷ []))
@@ -410,18 +410,18 @@ module _ (given : Opening) (events later : List Event) (agent t : ℕ) (caller :
       ∙ ap (λ w. ended given (events ++ Begin agent (Transaction caller site ops) ∷ so_far) ++ outcomes (dones (fixed_of given) w (event ∷ [])))
       (sym (run_at given events later agent t caller site ops actor goes.can goes.there goes.begins so_far))
 
-  over_on : (so_far : List Event) (event : Event) → Over so_far → Over (so_far ++ event ∷ [])
+  pub over_on : (so_far : List Event) (event : Event) → Over so_far → Over (so_far ++ event ∷ [])
   over_on so_far event over =
       (over.0, subst (λ all. Has all over.0) (sym (ended_more so_far event)) (append_has_left (ended given (events ++ Begin agent (Transaction caller site ops) ∷ so_far)) (cons_option (step (fixed_of given) (world_at so_far) event).done.outcome []) over.0 over.1), over.2)
 
-  over_now : (so_far : List Event) (event : Event) (one : EndedJob) → (step (fixed_of given) (world_after given events agent caller site ops so_far) event).done.outcome ≡ Some one → number_of one ≡ t → Over (so_far ++ event ∷ [])
+  pub over_now : (so_far : List Event) (event : Event) (one : EndedJob) → (step (fixed_of given) (world_after given events agent caller site ops so_far) event).done.outcome ≡ Some one → number_of one ≡ t → Over (so_far ++ event ∷ [])
   over_now so_far event one is number = (
     one,
     subst (λ all. Has all one) (sym (ended_more so_far event)) (append_has_right (ended given (events ++ Begin agent (Transaction caller site ops) ∷ so_far)) (cons_option (step (fixed_of given) (world_at so_far) event).done.outcome []) one (subst (λ found. Has (cons_option found []) one) (sym is) (inl refl))),
     number,
   )
 
-  small_at : (so_far : List Event) (i : ℕ) (a : Agent) → agent_at (world_after given events agent caller site ops so_far) i ≡ Some a → i < 64
+  pub small_at : (so_far : List Event) (i : ℕ) (a : Agent) → agent_at (world_after given events agent caller site ops so_far) i ≡ Some a → i < 64
   small_at so_far i a at =
       (holds_of given goes.can.accepted (events ++ Begin agent (Transaction caller site ops) ∷ so_far)).agents.small i a
       (ap (λ w. agent_at w i) (sym (run_at given events later agent t caller site ops actor goes.can goes.there goes.begins so_far)) ∙ at)

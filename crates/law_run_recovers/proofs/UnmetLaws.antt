@@ -28,7 +28,7 @@ use Rattle.law_run_recovers.specs.Demands.{Demand, demand, demand_by, demands, d
 use Rattle.law_run_recovers.specs.Laws.{EndsByVotes, HasFirstVotes, ending_by, answer_on}
 use Rattle.law_run_recovers.specs.Near.{asks_for}
 use Rattle.law_run_recovers.specs.Unmet.{GoesUnmet}
-use Rattle.law_run_recovers.specs.Local.{EndsThen, VotesNeverMovedOf, UnmetEndByVotes, UnmetHadVotesUp, UnmetAreDecidedWhereVotesAre}
+use Rattle.law_run_recovers.specs.Local.{EndsThen, VotesNeverMovedOf, UnmetEndByVotes, UnmetAreDecidedWhereVotesAre}
 use Rattle.law_run_recovers.proofs.Leading.{led}
 use Rattle.law_run_recovers.proofs.NearGround.{answers, answering, can_first, number}
 use Rattle.law_run_recovers.proofs.NearRows.{start_near, same_so_far, same_got, near_votes_are_rows}
@@ -73,7 +73,7 @@ module _ (given : Opening) (events later : List Event) (agent t : ℕ) (caller :
   abbrev up_votes : ℕ × Configuration → Demand
   up_votes one = record { suite = one.0; got = votes_in one.1.reps (is_up world); needed = one.1.w }
 
-  demands_same : (start : ℕ → Prefix) → MayStartAll (fixed_of given) actor.agent.cache site start
+  pub demands_same : (start : ℕ → Prefix) → MayStartAll (fixed_of given) actor.agent.cache site start
       → demands_by (fixed_of given) (run given events) (answers given events later agent t caller site ops actor goes) (table_of given events) t caller ops start ≡ demands (fixed_of given) (run given events) (table_of given events) t caller ops start
   demands_same start may =
       ap (λ front. front ++ map (of_votes (answers given events later agent t caller site ops actor goes)) (votes_set (table_of given events) t caller ops))
@@ -157,6 +157,3 @@ unmet_end_by_votes given events later agent t caller site ops actor goes job end
 
 pub unmet_are_decided_where_votes_are : UnmetAreDecidedWhereVotesAre
 unmet_are_decided_where_votes_are given events later agent t caller site ops actor goes unmoved job ends = unmet_where_votes given events later agent t caller site ops actor goes unmoved job ends
-
-pub unmet_had_votes_up : UnmetHadVotesUp
-unmet_had_votes_up given events later agent t caller site ops actor goes job ends decided = unmet_had given events later agent t caller site ops actor goes job ends decided

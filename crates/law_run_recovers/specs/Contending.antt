@@ -1,6 +1,6 @@
 -- Runs in which transactions that meet all end undecided, by computation. All servers are up, no lock is left from before, nobody crashes, sweeps or lacks
 -- anything, and each agent begins one transaction and goes on to its end. So it is not promised that of such transactions one is decided.
-use Rattle.std.specs.Prelude.{◌≡◌, ℕ, true, false, List, [], ◌∷◌, ◌++◌, None}
+use Rattle.std.specs.Prelude.{◌≡◌, ℕ, true, List, [], ◌∷◌, ◌++◌, None}
 use Rattle.vote_core.specs.Quorums.{Representative, Configuration}
 use Rattle.suite_prefix.specs.SettingsRules.{Opening}
 use Rattle.suite_content.specs.declared.content.Kind.TheVariants.{File}

@@ -1,5 +1,6 @@
 -- What is promised to a transaction that is left alone only where it asks: laws of Laws, by a weaker premise.
-use Rattle.std.specs.Prelude.{◌≡◌, ℕ, ◌+◌, ◌*◌, ◌<◌, Bool, true, false, ◌&&◌, List, ◌++◌, length, Contains, Some}
+use Rattle.std.specs.Prelude.{◌≡◌, ◌⊎◌, ℕ, ◌+◌, ◌*◌, ◌<◌, ◌==◌, Bool, true, false, ◌&&◌, List, ◌∷◌, ◌++◌, length, Contains, Some}
+use Rattle.std.specs.List.{list_any}
 use Rattle.acl_core.specs.Identity.{Identity}
 use Rattle.suite_prefix.specs.SettingsRules.{Opening}
 use Rattle.suite_prefix.specs.declared.copies.Prefix.{Prefix}
@@ -14,6 +15,7 @@ use Rattle.run_core.specs.declared.event.Event.TheVariants.{Begin}
 use Rattle.run_core.specs.declared.done.EndedJob.{EndedJob}
 use Rattle.run_core.specs.Worlds.{Actor, actor_at}
 use Rattle.run_core.specs.Runs.{dones, outcomes, run}
+use Rattle.run_core.specs.Decisions.{Decided, decisions}
 use Rattle.run_core.specs.TableOfRun.{table_of}
 use Rattle.law_runs.specs.Numbers.{number_of}
 use Rattle.law_headline.specs.Premises.{CanBe}
@@ -82,12 +84,18 @@ UnmetAreDecidedWhereVotesAreAt given events =
 abbrev pub UnmetAreDecidedWhereVotesAre : Type 0
 UnmetAreDecidedWhereVotesAre = (given : Opening) (events : List Event) → UnmetAreDecidedWhereVotesAreAt given events
 
+-- It was decided: it stands among the decisions, as its home has it recorded; or its job ended answered or refused.
+abbrev pub WasDecidedThen : Opening → List Event → List Event → ℕ → ℕ → Identity → ℕ → List Op → Type 0
+WasDecidedThen given events later agent t caller site ops =
+    (list_any (λ (one : Decided). one.t == t) (decisions given (events ++ Begin agent (Transaction caller site ops) ∷ later)) ≡ true)
+    ⊎ ((job : EndedJob) × EndsThen given events later agent t caller site ops job × (is_decided job.ending ≡ true))
+
 -- And wherever votes were moved, it is decided only where its home was up as it began, and enough votes by the rows.
 abbrev pub UnmetHadVotesUpAt : Opening → List Event → Type 0
 UnmetHadVotesUpAt given events =
     (later : List Event) (agent t : ℕ) (caller : Identity) (site : ℕ) (ops : List Op) (actor : Actor)
     → GoesUnmet given events later agent t caller site ops actor
-    → (job : EndedJob) → EndsThen given events later agent t caller site ops job → is_decided job.ending ≡ true
+    → WasDecidedThen given events later agent t caller site ops
     → (all_met (demands_of_rows (fixed_of given) (run given events) (table_of given events) t caller ops) && is_up (run given events) (home_of (fixed_of given).service t)) ≡ true
 
 abbrev pub UnmetHadVotesUp : Type 0
