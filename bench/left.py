@@ -1,11 +1,11 @@
 #!/usr/bin/env python3
 """bench/left.py [PROGRAM [OTHER]]
 
-Locks that are left behind: 16,000, 32,000 and 64,000 rounds of `play`, in each of which an agent prepares and decides
-a `list /` at a server that then crashes, so that its lock stays there; and at the end one sweep of them all. Prints
-the processor seconds (the least of three runs) and the growth, and the same of OTHER, a program of the same service,
-where that is named, and the ratio to it. A poll, a Finish and a crash do not look at locks that have nothing to do
-with them: so the growth is 2, and the ratio does not rise with the rounds.
+Locks that are left behind: 16,000, 32,000 and 64,000 rounds of `play`, in each of which an agent prepares and decides a
+`list /` at a server that then crashes, so that its lock stays there; and at the end one sweep of them all. Prints the
+processor seconds (the least of three runs) and the growth, and the same of OTHER, a program of the same service, where that is named,
+and the ratio to it. A poll, a Finish and a crash do not look at locks that have nothing to do with them: so the growth
+is 2, and the ratio does not rise with the rounds.
 """
 import sys
 
@@ -16,7 +16,7 @@ ROUND = "begin 0 1 1 0 list /\nstep 0 4\ncrash 0\nrun 0\nreturn 0\n"
 COUNTS = [16000, 32000, 64000]
 
 
-def timed(program: str, data: bytes) -> tuple[float, bytes]:
+def timed(program, data):
     """The least seconds of a program, and what it printed."""
     status, output, seconds = measure.work([program, "play"], data, 3)
     if status != 0:
@@ -24,12 +24,12 @@ def timed(program: str, data: bytes) -> tuple[float, bytes]:
     return seconds, output
 
 
-def main() -> None:
+def main():
     program, other = [*sys.argv[1:], *[measure.PROGRAM, None][len(sys.argv) - 1:]][:2]
     measure.head("Locks left behind")
     for title, tail in (("rounds", ""), ("rounds and a sweep", "sweep 0 0\nrun 0\n")):
         print(f"{title:>20}{'seconds':>10}{'growth':>8}" + (f"{'other':>10}{'ratio':>8}" if other else ""))
-        before = 0.0
+        before = None
         for count in COUNTS:
             data = (HEAD + ROUND * count + tail).encode()
             seconds, output = timed(program, data)

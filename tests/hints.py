@@ -23,13 +23,13 @@ TYPED = (
     ),
     (
         "tests",
-        "against-the-kernel checked-build damaged-copies damaged-scripts defaults-on-linux explained hints lies "
-        "long-and-many played reading scratch typed voted votes-left wrapper",
+        "against-the-kernel checked-build damaged-copies damaged-scripts defaults-on-linux explained hints "
+        "played reading scratch typed voted votes-left wrapper",
     ),
     ("tests", "votes"),
     (
         "bench",
-        "acl cache certify copies hints left lists locks measure names play serve server table transactions unproved",
+        "acl cache certify copies hints lists locks measure names play serve server table transactions unproved",
     ),
 )
 # A text of Markdown stands in it, whose lines are paragraphs.

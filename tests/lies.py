@@ -3,10 +3,10 @@
 
 Has jobs carried out by agents in threads, as `serve` does, with servers that crash and caches that are forgotten on
 the way, and tells lies about what servers served and what agents did: a hundred thousand seeded cases (CASES another
-number) over several scripts, each with one lie or two, of 27 kinds. A lie may leave a run that could have been, so
-its kind is no verdict: each case is judged by `certify`, and by tests/judging.py, which has `trace` play what the
-case tells and compares; and both have to say the same, also what was decided. Builds a program for it
-(tests/scratch.py, tests/programs/liar.rt.txt), which needs `rt`. Status 1 where they differ.
+number) over several scripts, each with one lie or two, of 27 kinds. A lie may leave a run that could have been, so its kind
+is no verdict: each case is judged by `certify`, and by tests/judging.py, which has `trace` play what the case tells and
+compares; and both have to say the same, also what was decided. Builds a program for it (tests/scratch.py,
+tests/programs/liar.rt.txt), which needs `rt`. Status 1 where they differ.
 """
 import collections
 import itertools
@@ -16,46 +16,31 @@ import subprocess
 import sys
 import tempfile
 import time
-import typing
 from concurrent.futures import ThreadPoolExecutor
 
 import judging
 import played
 import scratch
 
-CRATES = [
-    "agent_pool",
-    "byte_streams",
-    "rep_core",
-    "run_certify",
-    "run_core",
-    "script_text",
-    "server_lock",
-    "suite_content",
-    "suite_play",
-    "suite_prefix",
-    "suite_serve",
-    "txn_core",
-    "vote_core",
-]
+CRATES = ["agent_pool", "byte_streams", "rep_core", "run_certify", "run_core", "script_text", "server_lock", "suite_content",
+          "suite_play", "suite_prefix", "suite_serve", "txn_core", "vote_core"]
 MODULES = [os.path.join("tests", "programs", f"{name}.rt.txt") for name in ("lies", "story", "telling")]
 MODULES += [os.path.join("crates", "trace", "src", f"{name}.rt") for name in ("asked", "told", "words")]
-KINDS = """a reply that tells of a lock lost, the reply of another item, an item left out, an item doubled, a stamp a
-little off, a request's stamp a little off, another agent or the operator, two items exchanged, the
-request of another item, an item put to another server, two servers exchanged, a last item left out with
-all that its agent did from there on, the operator asks once more, the operator asks for the opposite, an
-entry left out, an entry doubled, two entries exchanged, an entry's stamp a little off, another server in
-an entry, the end of another job, another job begun, entries cut off, an agent that stops with its last
+KINDS = """a reply that tells of a lock lost, the reply of another item, an item left out, an item doubled, a stamp a little off,
+a request's stamp a little off, another agent or the operator, two items exchanged, the request of another item, an item put to
+another server, two servers exchanged, a last item left out with all that its agent did from there on, the operator asks once
+more, the operator asks for the opposite, an entry left out, an entry doubled, two entries exchanged, an entry's stamp a little
+off, another server in an entry, the end of another job, another job begun, entries cut off, an agent that stops with its last
 items gone, two agents exchanged, a job begun besides, a cache forgotten, a server that lacked something"""
 BATCH = 64
 
 
-def example(name: str) -> str:
+def example(name):
     with open(os.path.join(played.TOP, "examples", "serve", name), encoding="utf-8") as file:
         return file.read()
 
 
-def mixed(seed: int, head: list[str], folders: list[str], count: int) -> str:
+def mixed(seed, head, folders, count):
     """Jobs that are in one another's way: so many, of three users, on a few files."""
     chance = random.Random(seed)
     lines = list(head)
@@ -81,7 +66,7 @@ def mixed(seed: int, head: list[str], folders: list[str], count: int) -> str:
     return "\n".join(lines) + "\n"
 
 
-def scripts() -> list[typing.Any]:
+def scripts():
     """Scripts of jobs, each with its name, a number of agents, and what happens before which job that all agents do."""
     three = ["servers 3", "votes 1,1,1/2/2", "root 1000 100 777", "cache 0 0 0"]
     caches = ["servers 4", "votes 1,1,1,1/2/3", "root 1000 100 775", "cache 64 32 4"]
@@ -90,34 +75,21 @@ def scripts() -> list[typing.Any]:
         ("files.script", 4, [], example("files.script")),
         ("sweepers.script", 2, [], example("sweepers.script")),
         ("three servers", 4, [(6, "crash 0 0"), (12, "return 0 0"), (20, "crash 2 0")], mixed(1, three, [], 24)),
-        (
-            "small caches",
-            3,
-            [(5, "forget 1 0"), (9, "crash 3 0"), (9, "forget 0 1"), (15, "return 3 0")],
-            mixed(2, caches, ["d"], 20),
-        ),
-        (
-            "uneven votes",
-            8,
-            [(8, "forget 3 2"), (12, "crash 1 0"), (18, "return 1 0")],
-            mixed(3, uneven, ["d", "e"], 24),
-        ),
+        ("small caches", 3, [(5, "forget 1 0"), (9, "crash 3 0"), (9, "forget 0 1"), (15, "return 3 0")], mixed(2, caches, ["d"], 20)),
+        ("uneven votes", 8, [(8, "forget 3 2"), (12, "crash 1 0"), (18, "return 1 0")], mixed(3, uneven, ["d", "e"], 24)),
     ]
 
 
-def deeds(script: str, given: list[tuple[int, str]]) -> str:
+def deeds(script, given):
     """What happens before which job, as the liar reads it."""
     above = script.partition("\ntogether")[0].split("\n")
     alone = sum(line.startswith(("do ", "sweep ")) for line in above)
     return " ".join(f"{alone + place} {deed}" for place, deed in given)
 
 
-def cases_of(lines: typing.Iterable[str]) -> typing.Iterator[typing.Any]:
+def cases_of(lines):
     """The cases that the liar prints, each with its lies, its lists and what is certified."""
-    lies: list[str] = []
-    lists: dict[tuple[str, int], list[typing.Any]] = {}
-    decided: list[typing.Any] = []
-    own: typing.Any = None
+    lies, lists, decided, own = None, {}, [], None
     for line in lines:
         word, _, rest = line.rstrip("\n").partition(" ")
         if word == "case":
@@ -132,7 +104,7 @@ def cases_of(lines: typing.Iterable[str]) -> typing.Iterator[typing.Any]:
             own.append(judging.element(line.rstrip("\n")))
 
 
-def told(liar: str, agents: int, seed: int, cases: int, parts: typing.Any) -> typing.Iterator[typing.Any]:
+def told(liar, agents, seed, cases, parts):
     """The cases of a script, as the liar prints them."""
     script, given = parts
     with tempfile.TemporaryFile() as text:
@@ -147,27 +119,22 @@ def told(liar: str, agents: int, seed: int, cases: int, parts: typing.Any) -> ty
 class Tally:
     """What came of cases: how many of each kind of lie, and which differ."""
 
-    def __init__(self) -> None:
-        self.all: collections.Counter[str] = collections.Counter()
-        self.kinds: collections.Counter[tuple[int, str]] = collections.Counter()
-        self.differ = 0
+    def __init__(self):
+        self.all, self.kinds, self.differ = collections.Counter(), collections.Counter(), 0
 
-    def take(self, name: str, lies: list[str], own: typing.Any, other: typing.Any) -> None:
+    def take(self, name, lies, own, other):
         verdict = "a run" if own is not None else "found out"
         if other.verdict in ("unsaid", "open"):
             verdict = other.verdict
         elif (other.decided if other.verdict == "a run" else None) != own:
             self.differ += 1
-            print(
-                f"{name}: case {' '.join(lies)}: certify says {'a run' if own is not None else 'mismatch'}, the judge"
-                f" {other.verdict}: {other.why}"
-            )
+            print(f"{name}: case {' '.join(lies)}: certify says {'a run' if own is not None else 'mismatch'}, the judge {other.verdict}: {other.why}")
         self.all[verdict] += 1
         if len(lies) == 4:
             self.kinds[int(lies[0]), verdict] += 1
 
 
-def judge_script(liar: str, tally: Tally, cases: int, seed: int, row: typing.Any) -> None:
+def judge_script(liar, tally, cases, seed, row):
     """Judges the cases of a script."""
     name, agents, given, script = row
     begun, before = time.monotonic(), collections.Counter(tally.all)
@@ -183,32 +150,21 @@ def judge_script(liar: str, tally: Tally, cases: int, seed: int, row: typing.Any
             for (lies, _, own), other in zip(batch, pool.map(lambda one: whole.judge(one[1]), batch)):
                 tally.take(name, lies, own, other)
     counts = tally.all - before
-    print(
-        (
-            f"{name}: {agents} agents, {whole.size} items, {len(decided)} decided;"
-            f" {', '.join(f'{count} {what}' for what, count in sorted(counts.items()))};"
-            f" {time.monotonic() - begun:.1f} s"
-        ),
-        flush=True,
-    )
+    print(f"{name}: {agents} agents, {whole.size} items, {len(decided)} decided; {', '.join(f'{count} {what}' for what, count in sorted(counts.items()))};"
+          f" {time.monotonic() - begun:.1f} s", flush=True)
 
 
-def main() -> int:
+def main():
     cases = int(sys.argv[1]) if len(sys.argv) > 1 else 100_000
     seed = int(sys.argv[2]) if len(sys.argv) > 2 else 1
     liar, tally = scratch.built("liar", CRATES, MODULES), Tally()
     for place, row in enumerate(scripts()):
         judge_script(liar, tally, cases // len(scripts()), seed * len(scripts()) + place, row)
     for number, kind in enumerate(kind.strip() for kind in KINDS.replace("\n", " ").split(",")):
-        print(
-            f"  {kind}: {tally.kinds[number, 'found out']} found out, {tally.kinds[number, 'a run']} a run,"
-            f" {tally.kinds[number, 'unsaid']} unsaid, {tally.kinds[number, 'open']} open"
-        )
-    print(
-        f"{sum(tally.all.values())} cases: {tally.all['found out']} found out, {tally.all['a run']} a run,"
-        f" {tally.all['unsaid']} that no script can say, {tally.all['open']} that the words leave open;"
-        f" {tally.differ} differ"
-    )
+        print(f"  {kind}: {tally.kinds[number, 'found out']} found out, {tally.kinds[number, 'a run']} a run,"
+              f" {tally.kinds[number, 'unsaid']} unsaid, {tally.kinds[number, 'open']} open")
+    print(f"{sum(tally.all.values())} cases: {tally.all['found out']} found out, {tally.all['a run']} a run, {tally.all['unsaid']} that no script"
+          f" can say, {tally.all['open']} that the words leave open; {tally.differ} differ")
     return 1 if tally.differ else 0
 
 

@@ -4,16 +4,13 @@
 Runs of `serve` that are too long for a row. The program is the one that `./suites` runs (a checked build where nothing
 is proved), or the one that is named. Prints counts, seconds and memory; status 1 where something differs.
 
-many:   100,000 jobs by 64 agents on 16 servers: files made, written, read, given lists and dropped in 96 folders,
-sweeps
+many:   100,000 jobs by 64 agents on 16 servers: files made, written, read, given lists and dropped in 96 folders, sweeps
         of servers at work, and a server that is filled with suites. Chance decides how most jobs end; looked at is that
         each has its line, that each ending of those that the script is to bring about comes, and that the last line
         counts the steps of all jobs but those that a full server did not serve.
-long:   lists by 4 agents on one server, until its history is full: 1,000,000 steps are certified, and whoever asks
-after
+long:   lists by 4 agents on one server, until its history is full: 1,000,000 steps are certified, and whoever asks after
         that is told that the server is full.
-often:  a thousand runs (RUNS another number) of `examples/serve/files.script`, with 2, 4 and 64 agents in turn: one
-output.
+often:  a thousand runs (RUNS another number) of `examples/serve/files.script`, with 2, 4 and 64 agents in turn: one output.
 """
 import collections
 import os
@@ -33,15 +30,14 @@ SEED = 1
 # What a job may end with; a list and a read are cut off behind their first word.
 ENDINGS = re.compile(
     r"answered|denied op [1-8] suite \d+ wants [rwx-]{3} by \S+|refused F\d+ op \d|swept \d+ \d+ \d+"
-    r"|undecided U1 suite \d+ got \d+ of \d+|undecided U2 server \d+ holder \d+|undecided U[36] server \d+|undecided"
-    r" U[457]"
+    r"|undecided U1 suite \d+ got \d+ of \d+|undecided U2 server \d+ holder \d+|undecided U[36] server \d+|undecided U[457]"
 )
 
 
 class Run:
     """One run of the program: its lines, its status, its seconds and the most memory that it had, in MB."""
 
-    def __init__(self, program: str, agents: int, script: bytes) -> None:
+    def __init__(self, program, agents, script):
         with tempfile.TemporaryFile() as given, tempfile.TemporaryFile() as told:
             given.write(script)
             given.seek(0)
@@ -55,17 +51,17 @@ class Run:
             self.output = told.read()
         self.lines = self.output.decode().splitlines()
 
-    def cost(self) -> str:
+    def cost(self):
         return f"{self.seconds:.1f} s, {self.memory} MB"
 
 
-def some_votes(first: int) -> str:
+def some_votes(first):
     """One vote each at three servers in a row, of which two are a quorum."""
     named = {place % SERVERS for place in range(first, first + 3)}
     return ",".join("1" if place in named else "-" for place in range(max(named) + 1)) + "/2/2"
 
 
-def many_jobs() -> bytes:
+def many_jobs():
     """The script of many jobs."""
     chance = random.Random(SEED)
     last_server = ",".join(["-"] * (SERVERS - 1) + ["1"]) + "/1/1"
@@ -73,10 +69,10 @@ def many_jobs() -> bytes:
     lines += [f"do 1000 100 0 folder /d{folder} 777 {some_votes(folder)}" for folder in range(FOLDERS)]
     lines.append("together")
 
-    def path() -> str:
+    def path():
         return f"/d{chance.randrange(FOLDERS)}/f{chance.randrange(NAMES)}"
 
-    def own(number: int) -> str:
+    def own(number):
         name = f"/d{chance.randrange(FOLDERS)}/g{number}"
         return f"file {name} 600 ; write {name} 00 ; read {name}"
 
@@ -97,16 +93,15 @@ def many_jobs() -> bytes:
     return "\n".join(lines).encode() + b"\n"
 
 
-def kind_of(ending: str) -> str:
+def kind_of(ending):
     """An ending without its numbers, but with its code."""
     first, _, rest = ending.partition(" ")
     return f"{first} {rest.split()[0]}" if first in ("refused", "undecided") else first
 
 
-def judged(run: Run, jobs: int) -> tuple[collections.Counter[str], list[str], int]:
+def judged(run, jobs):
     """How often each ending came, what is wrong with a run of so many jobs, and their steps."""
-    wrong, steps = list[str](), 0
-    counts: collections.Counter[str] = collections.Counter()
+    wrong, counts, steps = [], collections.Counter(), 0
     if run.status != 0 or len(run.lines) != jobs + 1:
         wrong.append(f"status {run.status}, {len(run.lines)} lines: {run.lines[-1:]}")
     for job, line in enumerate(run.lines[:-1] if not wrong else []):
@@ -118,11 +113,11 @@ def judged(run: Run, jobs: int) -> tuple[collections.Counter[str], list[str], in
     return counts, wrong, steps
 
 
-def last(run: Run) -> str:
+def last(run):
     return run.lines[-1] if run.lines else ""
 
 
-def many(program: str) -> list[str]:
+def many(program):
     run = Run(program, AGENTS, many_jobs())
     counts, wrong, steps = judged(run, JOBS)
     served = steps - counts["undecided U6"]
@@ -135,7 +130,7 @@ def many(program: str) -> list[str]:
     return wrong
 
 
-def long(program: str) -> list[str]:
+def long(program):
     jobs = HISTORY // 5 + 200
     script = "servers 1\nvotes 1/1/1\nroot 1000 100 777\ncache 0 0 0\ntogether\n" + "do 1000 100 0 list /\n" * jobs
     run = Run(program, 4, script.encode())
@@ -150,26 +145,22 @@ def long(program: str) -> list[str]:
     return wrong
 
 
-def often(program: str, runs: int) -> list[str]:
+def often(program, runs):
     with open(FILES, "rb") as file:
         script = file.read()
-    outputs: collections.Counter[tuple[int, bytes]] = collections.Counter()
-    seconds = 0.0
+    outputs, seconds = collections.Counter(), 0
     for number in range(runs):
         run = Run(program, (2, 4, AGENTS)[number % 3], script)
         outputs[(run.status, run.output)] += 1
         seconds += run.seconds
     ends = b"certified 192 steps\n"
     wrong = [f"{count} runs: status {status}, {output!r}" for (status, output), count in outputs.items()]
-    print(
-        f"often: {runs} runs of files.script, by 2, 4 and {AGENTS} agents in turn: {len(outputs)} output;"
-        f" {seconds:.1f} s"
-    )
+    print(f"often: {runs} runs of files.script, by 2, 4 and {AGENTS} agents in turn: {len(outputs)} output; {seconds:.1f} s")
     is_one = len(outputs) == 1 and all(status == 0 and output.endswith(ends) for status, output in outputs)
     return [] if is_one else wrong
 
 
-def main() -> int:
+def main():
     program = played.program(sys.argv[1:])
     runs = int(sys.argv[2]) if len(sys.argv) > 2 else 1000
     wrong = often(program, runs) + many(program) + long(program)
