@@ -19,7 +19,7 @@ TYPED = (
     (
         "tools",
         "after build choose compare console explain faulty grammar guarded happened in_script looking scenario shapes "
-        "shown sources test trial votes worded wrong_bodies wrong_bodies_page gate gate_times named proved_page",
+        "shown sources trial votes worded wrong_bodies wrong_bodies_page gate gate_times named proved_page",
     ),
     (
         "tests",

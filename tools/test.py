@@ -1,21 +1,19 @@
 #!/usr/bin/env python3
 """./suites --test
 
-Runs all tests that need no proof, side by side: the rows of crates/rows/stdin through the program that `./suites`
-runs (which it first makes, where there is none), the tests of libraries, runs and commands without their proofs (`rt
-try`), the examples of docs/FAULTS.md, the command lines that README.md and docs/FAULTS.md show, what `./suites votes`
-tells, pictures, random scripts of `play` against the plain table, and the checks of documents. Prints a line for each
-part as it ends, of a part that fails also what it printed, and last how many passed and failed. Status 1 where one
-failed. The gate (.ci/run) begins with it.
+Runs all tests that need no proof, side by side: the rows of crates/rows/stdin through the program that `./suites` runs
+(which it first makes, where there is none), the tests of libraries, runs and commands without their proofs (`rt try`),
+the examples of docs/FAULTS.md, the command lines that README.md and docs/FAULTS.md show, what `./suites votes` tells,
+pictures, random scripts of `play` against the plain table, and the checks of documents. Prints a line for each part as
+it ends, of a part that fails also what it printed, and last how many passed and failed. Status 1 where one failed. The gate
+(.ci/run) begins with it.
 """
 import os
 import re
 import resource
-import subprocess
 import sys
 import tempfile
 import time
-import typing
 
 import console
 import gate
@@ -36,23 +34,17 @@ COUNTS = (
 class Part:
     """A part of the tests: its title, its command, and the titles of the parts that have to pass before it."""
 
-    def __init__(
-        self, title: str, words: list[str], after: typing.Sequence[str] = (), folder: str = ".", program: str = "suites"
-    ) -> None:
+    def __init__(self, title, words, after=(), folder=".", program="suites"):
         self.title, self.words, self.after = title, words, after
         self.folder, self.program = os.path.join(sources.TOP, folder), program
-        self.counts: tuple[int, int] | None = None
-        self.process: subprocess.Popen[bytes] | None = None
-        self.log: typing.IO[bytes] | None = None
-        self.begun, self.text = 0.0, ""
+        self.counts = self.process = self.log = self.begun = None
+        self.text = ""
 
-    def start(self) -> None:
+    def start(self):
         self.log, self.begun = tempfile.TemporaryFile(), time.monotonic()
-        self.process = console.start(
-            self.words, self.folder, self.log, env={**os.environ, "SUITES_PROGRAM": self.program}
-        )
+        self.process = console.start(self.words, self.folder, self.log, env={**os.environ, "SUITES_PROGRAM": self.program})
 
-    def has_ended(self) -> bool:
+    def has_ended(self):
         """Whether it has ended; counts what passed and failed."""
         late = time.monotonic() - self.begun > LIMIT
         if self.process.poll() is None and not late:
@@ -65,7 +57,7 @@ class Part:
         self.counts = passed, max(failed, int(self.process.returncode != 0 or late))
         return True
 
-    def lines(self) -> str:
+    def lines(self):
         """What is told of it, once it has ended or cannot be run."""
         if not self.process:
             return f"{self.title}: not run, since a part that it stands on failed"
@@ -74,11 +66,11 @@ class Part:
         return f"{line}\n{console.tail(self.text, 60)}status {self.process.returncode}" if failed else line
 
 
-def tool(path: str, *words: str) -> list[str]:
+def tool(path, *words):
     return [sys.executable, os.path.join(sources.TOP, path), *words]
 
 
-def tried(crate: str) -> dict[str, typing.Any]:
+def tried(crate):
     return {"words": TRY, "folder": os.path.join("crates", crate)}
 
 
@@ -103,9 +95,7 @@ PARTS = (
     Part("what explain says of damaged scripts", tool("tests/damaged-scripts.py", "--cases", "1000"), [PROGRAM]),
     Part("command lines of documents", tool("tests/typed.py"), [PROGRAM, TRACE]),
     Part("answers of may", tool("tests/may.py"), [MAY]),
-    Part(
-        "may against the kernel", tool("tests/may-against-the-kernel.py", "--questions", "300", "--if-possible"), [MAY]
-    ),
+    Part("may against the kernel", tool("tests/may-against-the-kernel.py", "--questions", "300", "--if-possible"), [MAY]),
     Part("what votes tells", tool("tests/votes.py"), [PROGRAM, TRACE]),
     Part("what votes tells of scripts", tool("tests/votes-left.py"), [PROGRAM, TRACE]),
     Part("pictures", tool("tests/drawn.py"), [TRACE]),
@@ -113,14 +103,14 @@ PARTS = (
 )
 
 
-def lanes() -> int:
+def lanes():
     """How many parts run side by side."""
     return max(1, min(gate.processors(), gate.free() // BYTES_A_PART))
 
 
-def play_all(parts: typing.Sequence[Part], number: int, teller: console.Teller) -> None:
+def play_all(parts, number, teller):
     """Plays the parts, so many at once, and tells of each; one that stands on a part that failed has failed with it."""
-    left, running = list(parts), list[Part]()
+    left, running = list(parts), []
     try:
         while left or running:
             counts = {part.title: part.counts for part in parts if part.counts}
@@ -139,15 +129,13 @@ def play_all(parts: typing.Sequence[Part], number: int, teller: console.Teller) 
             for part in [*vain, *ended]:
                 teller.clear()
                 print(part.lines(), flush=True)
-            teller.say(
-                f"{len(parts) - len(left) - len(running)} of {len(parts)} parts done, {teller.seconds()} s", False
-            )
+            teller.say(f"{len(parts) - len(left) - len(running)} of {len(parts)} parts done, {teller.seconds()} s", False)
     finally:
         for part in running:
             console.stop(part.process)
 
 
-def main() -> int:
+def main():
     if len(sys.argv) > 1:
         raise console.Stop("--test takes no other word")
     sources.Kit().wanted()
