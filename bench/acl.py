@@ -14,7 +14,7 @@ SINGLES = "u::rw,g::r,m::rw,o::-"
 LIMIT = 16 * 2**20
 
 
-def list_of_64(seed):
+def list_of_64(seed: int) -> tuple[bytes, bytes]:
     """A text of 64 entries, and the long text of their list."""
     choice = random.Random(seed)
     users = choice.sample(range(1, 2**32), 30)
@@ -28,7 +28,7 @@ def list_of_64(seed):
     return "\n".join(items).encode() + b"\n", "\n".join(lines).encode() + b"\n"
 
 
-def doubled_at_the_end():
+def doubled_at_the_end() -> tuple[bytes, int]:
     """A text of almost 16 MiB of distinct users, and at its end the first one again."""
     items, size = [SINGLES], len(SINGLES)
     user = 1
@@ -41,7 +41,7 @@ def doubled_at_the_end():
         user += 1
 
 
-def main():
+def main() -> None:
     count = 300
     measure.head("suites acl")
     spent = largest = 0.0

@@ -17,7 +17,7 @@ FILES, ROUNDS = 100, 20
 CRATES = "acl_core file_ops rep_core run_certify run_core server_lock suite_content suite_prefix txn_core vote_core"
 
 
-def script():
+def script() -> str:
     """The same jobs as a script."""
     lines = ["servers 3", "votes 1,1,1/2/2", "root 1000 100 777", "cache 0 0 0"]
     lines += [f"do 1000 100 0 file /f{number} 644" for number in range(FILES)]
@@ -27,7 +27,7 @@ def script():
     return "".join(line + "\n" for line in lines)
 
 
-def main():
+def main() -> None:
     if len(sys.argv) == 2:
         with open(sys.argv[1], "w", encoding="utf-8") as file:
             file.write(script())
@@ -37,7 +37,10 @@ def main():
     if int(decisions) != FILES + 2 * FILES * ROUNDS:
         sys.exit(f"not all was decided: {timed[0]}")
     nanos = min(int(one[3]) for one in timed)
-    print(f"{items} items, {decisions} decisions: {nanos / 1e6:.1f} ms, {nanos / int(items) / 1000:.3f} us an item, {int(items) * 1e9 / nanos:.0f} items a second")
+    print(
+        f"{items} items, {decisions} decisions: {nanos / 1e6:.1f} ms, {nanos / int(items) / 1000:.3f} us an item,"
+        f" {int(items) * 1e9 / nanos:.0f} items a second"
+    )
 
 
 main()

@@ -17,7 +17,7 @@ KINDS = ("encode", "decode", "plain")
 TIMES = 2000
 
 
-def main():
+def main() -> None:
     timed = scratch.runs("copies", "acl_core suite_content suite_prefix vote_core", KINDS)
     print(f"{'':8}{'copy':8}{'bytes':>8}{'us':>9}{'MB/s':>9}")
     for line in timed:

@@ -1,13 +1,15 @@
 """The hints on inlining that stand in the sources, put into a module that `rt try` made, which has none of them.
 
-A hint stands on the lines above a function (`#[inline(always)]`, `#[cold]` and the like). In the module a function has the
-path of its crate, its modules, its type, if it is a method, and its name: `rep_core::locks::LockTable::set`. A method of a
-trait has the type's name with more behind it, and what is generic has `::<#...>` behind its name. Functions are told apart
-by crate, type or module, and name, so a hint may fall on two functions of one name; that has not been seen to matter.
+A hint stands on the lines above a function (`#[inline(always)]`, `#[cold]` and the like). In the module a function
+has the path of its crate, its modules, its type, if it is a method, and its name: `rep_core::locks::LockTable::set`.
+A method of a trait has the type's name with more behind it, and what is generic has `::<#...>` behind its name.
+Functions are told apart by crate, type or module, and name, so a hint may fall on two functions of one name; that has
+not been seen to matter.
 """
 import glob
 import os
 import re
+import typing
 
 WORDS = {"inline": "inlinehint", "inline(always)": "alwaysinline", "inline(never)": "noinline", "cold": "cold"}
 HINT = re.compile(r"#\[(inline|inline\(always\)|inline\(never\)|cold)\]")
@@ -19,7 +21,7 @@ COMMON = re.compile(r"^attributes #0 = \{ (.*) \}$", re.MULTILINE)
 FIRST_GROUP = 200
 
 
-def type_of(head):
+def type_of(head: str) -> tuple[str | None, bool]:
     """The name of the type whose impl begins with this head, and whether it is that of a trait."""
     depth, bare = 0, ""
     for letter in head.replace("->", ""):
@@ -30,14 +32,15 @@ def type_of(head):
     return (found.group(1).split("::")[-1] if found else None, bool(trait))
 
 
-def hints_of(file):
+def hints_of(file: str) -> typing.Iterator[typing.Any]:
     """The hints in a source: for each function its crate, its type or its module, its name and its words."""
     folders = file.split(os.sep)
     place = len(folders) - 1 - folders[::-1].index("src")
     crate, stem = folders[place - 1], folders[-1].removesuffix(".rt")
     if stem in ("mod", "lib"):
         stem = crate if folders[-2] == "src" else folders[-2]
-    own, words = None, set()
+    own: typing.Any = None
+    words: set[str] = set()
     with open(file, encoding="utf-8", errors="replace") as lines:
         for line in lines:
             if line.startswith("}"):
@@ -52,7 +55,7 @@ def hints_of(file):
                 words = set()
 
 
-def fits(path, own):
+def fits(path: typing.Any, own: typing.Any) -> bool:
     """Whether a function of this path is of this type, or stands in this module."""
     name, is_trait = own
     if is_trait is None:
@@ -60,19 +63,21 @@ def fits(path, own):
     return bool(name) and (path[-2].startswith(name) if is_trait else path[-2] == name)
 
 
-def hinted(module, roots):
-    """The module with the hints of all sources under these roots; and none of its functions is checked for wrong accesses."""
-    known = {}
+def hinted(module: str, roots: list[str]) -> str:
+    """The module with the hints of all sources under these roots; and none of its functions is checked for wrong
+    accesses.
+    """
+    known: dict[tuple[str, str], list[tuple[typing.Any, frozenset[str]]]] = {}
     for root in roots:
         for file in glob.glob(os.path.join(root, "*", "src", "**", "*.rt"), recursive=True):
             for crate, name, own, words in hints_of(file):
                 known.setdefault((crate, name), []).append((own, words))
-    groups = {}
+    groups: dict[str, int] = {}
 
-    def with_hints(defined):
+    def with_hints(defined: re.Match[str]) -> str:
         path = GENERIC.sub("", defined.group(2)).split("::")
         found = [words for own, words in known.get((path[0], path[-1]), []) if len(path) > 1 and fits(path, own)]
-        words = set().union(*found)
+        words: set[str] = set().union(*found)
         words -= {"alwaysinline", "inlinehint"} if "noinline" in words else set()
         if not words:
             return defined.group(0)

@@ -1,9 +1,10 @@
 #!/usr/bin/env python3
 """bench/lists.py [PROGRAM [OTHER]]
 
-Lists a folder of many names by `serve`: 4,000 jobs `list /` of a folder of 10, 100 and 1,000 names of 64 bytes, by four agents;
-the least processor time of five runs. Where OTHER is named, a program of the same service, its seconds and the ratio to them stand
-beside that: what is done for each name is to cost both about the same, so that the ratio does not grow with the names.
+Lists a folder of many names by `serve`: 4,000 jobs `list /` of a folder of 10, 100 and 1,000 names of 64 bytes, by
+four agents; the least processor time of five runs. Where OTHER is named, a program of the same service, its seconds
+and the ratio to them stand beside that: what is done for each name is to cost both about the same, so that the ratio
+does not grow with the names.
 """
 import sys
 
@@ -14,7 +15,7 @@ LISTS = 4000
 COUNTS = [10, 100, 1000]
 
 
-def script(count):
+def script(count: int) -> bytes:
     """Jobs that make so many files with long names, and then list them again and again."""
     names = [f"{number:04d}".ljust(64, "x") for number in range(count)]
     lines = [" ; ".join(f"file /{name} 644" for name in names[at:at + 8]) for at in range(0, count, 8)]
@@ -22,7 +23,7 @@ def script(count):
     return (HEAD + "\n".join(jobs) + "\n").encode()
 
 
-def timed(program, count):
+def timed(program: str, count: int) -> float:
     """The least seconds of a program on so many names."""
     status, output, seconds = measure.work([program, "serve", "--agents", "4"], script(count))
     if status != 0 or b"\ncertified " not in output or output.count(b" answered list 0000x") != LISTS:
@@ -30,7 +31,7 @@ def timed(program, count):
     return seconds
 
 
-def main():
+def main() -> None:
     program, other = [*sys.argv[1:], *[measure.PROGRAM, None][len(sys.argv) - 1:]][:2]
     measure.head("Lists of a folder, by serve")
     print(f"{'names':>6}{'seconds':>10}" + (f"{'other':>10}{'ratio':>8}" if other else ""))

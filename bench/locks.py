@@ -13,7 +13,7 @@ sys.path.insert(0, os.path.join(os.path.dirname(os.path.abspath(__file__)), ".."
 import scratch
 
 
-def main():
+def main() -> None:
     timed = scratch.runs("locks", "acl_core rep_core server_lock suite_prefix vote_core", ("bare", "locked"))
     print(f"{'':10}{'us a request':>14}{'requests a second':>19}")
     for line in timed:

@@ -3,9 +3,12 @@ import os
 import subprocess
 import sys
 import tempfile
+import typing
 
 PROGRAM = os.path.join(os.path.dirname(os.path.abspath(__file__)), "..", "crates", "suites", "out", "suites")
 
+# How much was done of a run, its input, its seconds and its peak.
+Played = tuple[int, bytes, float, float]
 # A child's peak begins with that of the process that starts it, so a process of its own starts it, which is small.
 STARTER = """
 import os
@@ -20,7 +23,7 @@ with open(sys.argv[1], "w") as figures:
 """
 
 
-def run(words, data):
+def run(words: list[str], data: bytes) -> tuple[int, bytes, float, float]:
     """The status, the output, the seconds and the peak memory (MiB) of a run of these words, on these bytes."""
     if not os.path.exists(words[0]):
         sys.exit(f"{words[0]} is not there: run ./suites --prove first, which builds it")
@@ -34,16 +37,17 @@ def run(words, data):
         return int(status), target.read(), float(seconds), int(peak) / 1024
 
 
-def least(words, data, times=5):
+def least(words: list[str], data: bytes, times: int = 5) -> tuple[int, bytes, float, float]:
     """The same, with the least seconds of some runs."""
     runs = [run(words, data) for _ in range(times)]
     return min(runs, key=lambda one: one[2])
 
 
-def work(words, data, times=5):
-    """The status, the output and the processor seconds of a run of these words, on these bytes: the least seconds of some runs.
+def work(words: list[str], data: bytes, times: int = 5) -> tuple[int, bytes, float]:
+    """The status, the output and the processor seconds of a run of these words, on these bytes: the least seconds of
+    some runs.
     They say more than those of a clock where the machine has other work."""
-    least_one = None
+    least_one: tuple[int, bytes, float] | None = None
     for _ in range(times):
         with tempfile.TemporaryFile() as source, tempfile.TemporaryFile() as target:
             source.write(data)
@@ -57,18 +61,18 @@ def work(words, data, times=5):
     return least_one
 
 
-def suites(words, data, times=5):
+def suites(words: list[str], data: bytes, times: int = 5) -> tuple[int, bytes, float, float]:
     """The same, of the program `suites`."""
     return least([PROGRAM, *words], data, times)
 
 
-def head(title):
+def head(title: str) -> None:
     """Begins a table of figures."""
     idle = least(["/bin/true"], b"")
     print(f"{title} ({os.cpu_count()} cores; a program that does nothing: {1000 * idle[2]:.1f} ms, {idle[3]:.1f} MiB)")
 
 
-def growth(what, counts, played):
+def growth(what: str, counts: list[int], played: typing.Callable[[int], "Played"]) -> None:
     """A table of runs that grow, of the sizes that the command line names or else these. `played(count)` plays one: how
     much was done, the input, the seconds and the peak."""
     print(f"{what:>10} {'input MiB':>10} {'seconds':>8} {'a second':>10} {'peak MiB':>9}")

@@ -25,39 +25,41 @@ BITS = 14
 GROWTH = 2.3
 
 
-def colliding(count):
+def colliding(count: int) -> list[str]:
     """Names that collide."""
     with tempfile.TemporaryDirectory() as folder:
         search = os.path.join(folder, "names")
         subprocess.run(["cc", "-O2", "-o", search, os.path.join(HERE, "names.c")], check=True)
-        return subprocess.run([search, str(count), str(BITS)], stdout=subprocess.PIPE, check=True, text=True).stdout.split()
+        return subprocess.run(
+            [search, str(count), str(BITS)], stdout=subprocess.PIPE, check=True, text=True
+        ).stdout.split()
 
 
-def plain(count):
+def plain(count: int) -> list[str]:
     """As many that do not, of as many letters."""
     return [f"user{number:08d}" for number in range(count)]
 
 
-def by_script(program, names):
+def by_script(program: str, names: list[str]) -> tuple[list[str], bytes, bytes]:
     """A script that names users, and the words and the output that are wanted."""
     lines = ["root 0 0 755", *(f"user {name} 1" for name in names), "do 0 0 list /"]
     return [program, "table"], "\n".join(lines).encode() + b"\n", b"0 answered list -\n"
 
 
-def by_words(program, names):
+def by_words(program: str, names: list[str]) -> tuple[list[str], bytes, bytes]:
     """Words that name users, and an input and the output that are wanted."""
     return ([program, "acl", *(f"user:{name}=1" for name in names)], f"u::r,u:{names[-1]}:r,g::r,m::r,o::r".encode(),
             b"user::r--\nuser:1:r--\ngroup::r--\nmask::r--\nother::r--\n")
 
 
-def main():
+def main() -> None:
     program = sys.argv[1] if len(sys.argv) > 1 else measure.PROGRAM
     print(f"{'names that':20}{'names':>8}{'MB':>8}{'seconds':>10}{'growth':>8}")
     above = []
     hostile, usual = colliding(max(COUNTS)), plain(max(COUNTS))
     for title, form, counts in (("table", by_script, COUNTS), ("acl", by_words, WORDS)):
         for kind, names in (("collide", hostile), ("do not", usual)):
-            before = None
+            before = 0.0
             for count in counts:
                 words, data, wanted = form(program, names[:count])
                 status, output, seconds = measure.work(words, data)

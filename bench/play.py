@@ -20,7 +20,7 @@ HEADER = ["servers 3", "agents 2", "votes 1,1,1/2/2", "root 1000 100 777", "cach
 FILES = 100
 
 
-def events(steps):
+def events(steps: int) -> tuple[bytes, int]:
     """Lines of events that take about so many steps, and how many jobs they begin."""
     lines, taken, number = list(HEADER), 0, 0
     while taken < steps:
@@ -39,7 +39,7 @@ def events(steps):
     return "\n".join(lines).encode() + b"\n", number
 
 
-def reads(servers, operations, jobs):
+def reads(servers: int, operations: int, jobs: int) -> bytes:
     """A script of transactions that read a file so many times each."""
     quorum = servers // 2 + 1
     votes = ",".join(["1"] * servers) + f"/{quorum}/{quorum}"
@@ -50,7 +50,7 @@ def reads(servers, operations, jobs):
     return "\n".join(lines).encode() + b"\n"
 
 
-def steps_of(status, output, jobs):
+def steps_of(status: int, output: bytes, jobs: int) -> int:
     """How many steps the jobs took, each of which was answered; anything else ends the bench."""
     lines = output.decode().splitlines()
     if status != 0 or len(lines) != jobs or any(" answered " not in line for line in lines):
@@ -58,7 +58,7 @@ def steps_of(status, output, jobs):
     return sum(int(line.split()[1]) for line in lines)
 
 
-def by_servers():
+def by_servers() -> None:
     measure.head("suites play, one agent that reads a file")
     print(f"{'servers':>8} {'operations':>11} {'steps':>8} {'seconds':>8} {'a second':>10}")
     for servers in (1, 4, 16):
@@ -68,13 +68,13 @@ def by_servers():
             print(f"{servers:>8} {operations:>11} {taken:>8} {seconds:>8.3f} {taken / seconds:>10.0f}")
 
 
-def played(steps):
+def played(steps: int) -> measure.Played:
     data, jobs = events(steps)
     status, output, seconds, peak = measure.suites(["play"], data)
     return steps_of(status, output, jobs), data, seconds, peak
 
 
-def main():
+def main() -> None:
     if sys.argv[1:] == ["servers"]:
         by_servers()
         return

@@ -1,10 +1,10 @@
 #!/usr/bin/env python3
 """bench/serve.py [JOBS] [PROGRAM]
 
-Has agents carry out so many jobs (20,000) at once with `suites serve`, and prints the jobs a second (by the least of five
-runs) of 1, 2 and 4 agents: on files of their own, where no job is in another's way but for a file that comes round, and on
-one file, where most are; with how many of the jobs were answered. Eight files are made before. A run that is not certified
-ends the bench.
+Has agents carry out so many jobs (20,000) at once with `suites serve`, and prints the jobs a second (by the least of
+five runs) of 1, 2 and 4 agents: on files of their own, where no job is in another's way but for a file that comes
+round, and on one file, where most are; with how many of the jobs were answered. Eight files are made before. A run
+that is not certified ends the bench.
 """
 import sys
 
@@ -14,14 +14,14 @@ HEADER = ["servers 3", "votes 1,1,1/2/2", "root 1000 100 777", "cache 0 0 0"]
 FILES = 8
 
 
-def script(jobs, files):
+def script(jobs: int, files: int) -> bytes:
     """A script of so many writes, on so many of the files in turn."""
     made = [f"do 1000 100 0 file /file-{number} 644" for number in range(FILES)]
     written = [f"do 1000 100 0 write /file-{number % files} 00" for number in range(jobs)]
     return "\n".join([*HEADER, *made, "together", *written]).encode() + b"\n"
 
 
-def main():
+def main() -> None:
     jobs = int(sys.argv[1]) if len(sys.argv) > 1 else 20_000
     program = sys.argv[2] if len(sys.argv) > 2 else measure.PROGRAM
     for name, files in (("files of their own", FILES), ("one file", 1)):
@@ -31,7 +31,10 @@ def main():
             if status != 0 or b"\ncertified " not in printed:
                 sys.exit(f"{name}, {agents} agents: status {status}")
             answered = printed.count(b" answered ") - FILES
-            print(f"{name:20} {agents} agents {seconds:7.3f} s {jobs / seconds:9,.0f} jobs/s {answered:6} answered {peak:6.1f} MiB")
+            print(
+                f"{name:20} {agents} agents {seconds:7.3f} s {jobs / seconds:9,.0f} jobs/s {answered:6} answered"
+                f" {peak:6.1f} MiB"
+            )
 
 
 if __name__ == "__main__":

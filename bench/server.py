@@ -2,9 +2,10 @@
 """bench/server.py
 
 Times one server: transactions of four requests with 10, 1,000 and 4,096 copies, and with 10 and 1,000 locks of other
-transactions; verdicts that are refused by who takes the reply, and taken; verdicts that stand and verdicts that
-are newly recorded, with 1,000 and 1,000,000 verdicts there, the new ones of an agent that began late (so that they land
-among the others and not behind them). The figure that counts is how the time of a request grows (the best of five runs).
+transactions; verdicts that are refused by who takes the reply, and taken; verdicts that stand and verdicts that are
+newly recorded, with 1,000 and 1,000,000 verdicts there, the new ones of an agent that began late (so that they land
+among the others and not behind them). The figure that counts is how the time of a request grows (the best of five
+runs).
 
 The program (bench/server.rattle) is no crate of the repository: it is built in a scratch copy of it, by `rt run`.
 """
@@ -17,7 +18,7 @@ import scratch
 KINDS = ("copies", "locks", "told", "recorded", "refused", "taken")
 
 
-def main():
+def main() -> None:
     timed = scratch.runs("server", "acl_core file_ops rep_core suite_content suite_prefix vote_core", KINDS)
     print(f"{'':10}{'there':>10}{'us a request':>14}{'requests a second':>19}")
     for line in timed:

@@ -16,7 +16,7 @@ FOLDER = 1024
 LIST = "u::rw,u:1001:rw,u:1002:r,g::r,g:200:rw,m::rw,o::-"
 
 
-def operation(number, files):
+def operation(number: int, files: int) -> tuple[str, str]:
     """An operation with its number, and the beginning of its answer."""
     if number < files:
         return f"file /file-{number} {LIST}", f"answered made {8 * number + 1}"
@@ -28,9 +28,9 @@ def operation(number, files):
     return f"read {name}", "answered read "
 
 
-def script(count):
+def script(count: int) -> tuple[bytes, list[str]]:
     """A script of so many operations, and how the lines of its output begin."""
-    lines, answers = ["root 1000 100 777"], []
+    lines, answers = ["root 1000 100 777"], list[str]()
     files = min(FOLDER, count // 4)
     for number in range(count):
         asked, answer = operation(number, files)
@@ -40,7 +40,7 @@ def script(count):
     return "\n".join(lines).encode() + b"\n", answers
 
 
-def played(count):
+def played(count: int) -> measure.Played:
     data, answers = script(count)
     status, output, seconds, peak = measure.suites(["table"], data)
     lines = output.decode().splitlines()
@@ -52,7 +52,7 @@ def played(count):
     return count, data, seconds, peak
 
 
-def main():
+def main() -> None:
     measure.head("suites table, one operation a line")
     measure.growth("operations", [1_000, 10_000, 100_000, 340_000], played)
 

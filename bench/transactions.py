@@ -7,6 +7,7 @@ first seven are taken back. The figure that counts is the ratio of the two table
 measured by itself and taken off (each time is the least of five runs).
 """
 import sys
+import typing
 
 import measure
 
@@ -14,9 +15,9 @@ FOLDER = 1_000
 LIST = "u::rw,u:1001:rw,g::r,m::rw,o::-"
 
 
-def rows(count):
+def rows(count: int) -> tuple[list[str], list[str]]:
     """The lines that make so many rows beside the root folder, and the paths of the files."""
-    lines, paths = ["root 1000 100 777"], []
+    lines, paths = ["root 1000 100 777"], list[str]()
     for folder in range(0, count, FOLDER):
         lines.append(f"do 1000 100 folder /f{folder} 777")
         made = [f"/f{folder}/n{file}" for file in range(min(FOLDER, count - folder) - 1)]
@@ -26,21 +27,23 @@ def rows(count):
     return lines, paths
 
 
-def answered(path, other, number):
+def answered(path: str, other: str, number: int) -> tuple[str, str]:
     """Eight operations that are answered; none makes a row."""
     digits = f"{number:032x}"
     return (f"do 1000 100 write {path} {digits} ; read {path} ; write {other} {digits} ; read {other} ; "
             f"setacl {path} {LIST} ; getacl {path} ; write {other} - ; read {other}"), "answered wrote; read "
 
 
-def refused(path, other, number):
+def refused(path: str, other: str, number: int) -> tuple[str, str]:
     """Seven operations that change names, bytes and lists, and an eighth that is refused."""
     folder = path.rsplit("/", 1)[0]
-    return (f"do 1000 100 file {folder}/made 666 ; write {folder}/made {number:032x} ; write {path} {number:032x} ; "
-            f"setacl {path} {LIST} ; drop {other} ; getacl {path} ; read {path} ; read {folder}/none"), "refused F4 op 8"
+    return (
+        f"do 1000 100 file {folder}/made 666 ; write {folder}/made {number:032x} ; write {path} {number:032x} ; "
+        f"setacl {path} {LIST} ; drop {other} ; getacl {path} ; read {path} ; read {folder}/none"
+    ), "refused F4 op 8"
 
 
-def seconds_of(lines):
+def seconds_of(lines: list[str]) -> tuple[float, list[str]]:
     """The seconds of a script, and its output's lines."""
     data = "\n".join(lines).encode() + b"\n"
     status, output, seconds, _ = measure.suites(["table"], data)
@@ -49,7 +52,7 @@ def seconds_of(lines):
     return seconds, output.decode().splitlines()
 
 
-def microseconds(count, kind, transactions):
+def microseconds(count: int, kind: typing.Callable[[str, str, int], tuple[str, str]], transactions: int) -> float:
     """The microseconds of one transaction of this kind on a table of so many rows."""
     lines, paths = rows(count)
     base, _ = seconds_of(lines)
@@ -62,7 +65,7 @@ def microseconds(count, kind, transactions):
     return 1_000_000 * (whole - base) / transactions
 
 
-def main():
+def main() -> None:
     transactions = int(sys.argv[1]) if len(sys.argv) > 1 else 20_000
     measure.head(f"suites table, {transactions} transactions of eight operations")
     print(f"{'':>10} {'100 rows':>10} {'100000 rows':>12} {'ratio':>6}")

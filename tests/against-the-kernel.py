@@ -5,7 +5,8 @@ Compares random access lists with this Linux: what access(2) answers to random c
 them; and what setfacl takes and getfacl prints with what `suites acl` does. The program is `./suites` if none is named.
 
 Known to differ, each told apart and counted. Of Linux:
-  mask       Where the mask is `---` Linux looks at no list: whom only a named user or group matches gets what all others
+  mask       Where the mask is `---` Linux looks at no list: whom only a named user or group matches gets what all
+  others
              get. Here the mask takes all away, as acl(5) says. What Linux then answers is looked at too.
   last id    Linux refuses the user or group 4294967295; here it is one.
 Of setfacl and its library, in how they read text:
@@ -21,6 +22,7 @@ All else has to agree. Status 1 where it does not.
 It needs root, Debian's package acl, and a file system with lists, here /dev/shm (tmpfs). It is no part of the gate.
 """
 import argparse
+import collections
 import ctypes
 import os
 import random
@@ -29,23 +31,30 @@ import shutil
 import subprocess
 import sys
 import tempfile
+import typing
 
 TOP = os.path.join(os.path.dirname(os.path.abspath(__file__)), "..")
 UIDS, GIDS = [1001, 1002, 1003, 1004, 65534], [200, 201, 202, 203, 65533]
 LETTERS = {"u": "user", "g": "group", "m": "mask", "o": "other"}
 # What is asked of Linux, and how `table` is asked the same.
-ASKED = [("f", os.R_OK, "read /f"), ("f", os.W_OK, "write /f 00"), ("d", os.R_OK, "list /d"), ("d", os.X_OK, "read /d/f"), ("d", os.W_OK | os.X_OK, "file /d/n{} 600")]
+ASKED = [
+    ("f", os.R_OK, "read /f"),
+    ("f", os.W_OK, "write /f 00"),
+    ("d", os.R_OK, "list /d"),
+    ("d", os.X_OK, "read /d/f"),
+    ("d", os.W_OK | os.X_OK, "file /d/n{} 600"),
+]
 
 
 class Dice(random.Random):
-    def permissions(self):
+    def permissions(self) -> str:
         text = "".join(letter for letter in "rwx" if self.random() < 0.6)
         return text or "-" if self.random() < 0.5 else f"{text:-<3}"
 
-    def named(self, kind, ids):
+    def named(self, kind: str, ids: list[int]) -> list[str]:
         return [f"{kind}:{one}:{self.permissions()}" for one in self.sample(ids, self.choice([0, 0, 1, 2, 3]))]
 
-    def entries(self, prefix=""):
+    def entries(self, prefix: str = "") -> list[str]:
         """A valid list, as items in any order."""
         named = self.named("u", UIDS) + self.named("g", GIDS)
         single = [f"u::{self.permissions()}", f"g::{self.permissions()}", f"o::{self.permissions()}"]
@@ -54,10 +63,10 @@ class Dice(random.Random):
         self.shuffle(items)
         return [prefix + item for item in items]
 
-    def caller(self):
+    def caller(self) -> tuple[int, list[int]]:
         return self.choice(UIDS), self.sample(GIDS, self.choice([1, 1, 2, 3]))
 
-    def spoiled(self, items):
+    def spoiled(self, items: list[str]) -> list[str]:
         """A list that may have one fault or one oddity."""
         items, place = list(items), self.randrange(len(items))
         what = self.randrange(8)
@@ -74,17 +83,17 @@ class Dice(random.Random):
         elif what == 5:
             items[place] = items[place][:items[place].rindex(":") + 1]
         elif what == 6:
-            items[place] = re.sub("^([ugmo])", lambda letter: LETTERS[letter[0]], items[place])
+            items[place] = re.sub("^([ugmo])", lambda letter: LETTERS[str(letter[0])], items[place])
         else:
             items[place] += self.choice([" ", " # why", "\t"])
         return items
 
 
-def run(words, text=""):
+def run(words: list[str], text: str = "") -> subprocess.CompletedProcess[str]:
     return subprocess.run(words, input=text, stdout=subprocess.PIPE, stderr=subprocess.DEVNULL, text=True)
 
 
-def kernel_answers(place, callers):
+def kernel_answers(place: str, callers: typing.Any) -> list[list[bool]]:
     """What access(2) answers to each caller."""
     answers = []
     for uid, groups in callers:
@@ -102,19 +111,26 @@ def kernel_answers(place, callers):
     return answers
 
 
-def table_answers(program, owner, group, items, callers):
+def table_answers(program: str, owner: int, group: int, items: list[str], callers: typing.Any) -> list[list[bool]]:
     """What `suites table` does for each caller."""
     lists = ",".join(items)
-    script = ["root 1 1 777", f"do {owner} {group} folder /d 777 ; file /d/f 666 ; setacl /d {lists} ; file /f 666 ; setacl /f {lists}"]
+    script = [
+        "root 1 1 777",
+        f"do {owner} {group} folder /d 777 ; file /d/f 666 ; setacl /d {lists} ; file /f 666 ; setacl /f {lists}",
+    ]
     for number, (uid, groups) in enumerate(callers):
         script += [f"do {uid} {','.join(map(str, groups))} {op.format(number)}" for _, _, op in ASKED]
     done = run([program, "table"], "\n".join(script) + "\n")
     words = [line.split()[1] for line in done.stdout.splitlines()[1:]]
-    assert done.returncode == 0 and set(words) <= {"answered", "denied"} and len(words) == len(callers) * len(ASKED), done
-    return [[word == "answered" for word in words[place:place + len(ASKED)]] for place in range(0, len(words), len(ASKED))]
+    assert (
+        done.returncode == 0 and set(words) <= {"answered", "denied"} and len(words) == len(callers) * len(ASKED)
+    ), done
+    return [
+        [word == "answered" for word in words[place : place + len(ASKED)]] for place in range(0, len(words), len(ASKED))
+    ]
 
 
-def is_masked_out(owner, group, items, caller):
+def is_masked_out(owner: int, group: int, items: list[str], caller: tuple[int, list[int]]) -> bool:
     """Whether the mask is `---`, and only a named user or group matches the caller."""
     uid, groups = caller
     masks = [item for item in items if item.startswith("m:")]
@@ -123,13 +139,16 @@ def is_masked_out(owner, group, items, caller):
     return bool(masks) and not re.search("[rwx]", masks[0][1:]) and uid != owner and group not in groups and is_named
 
 
-def others_get(items):
+def others_get(items: list[str]) -> list[bool]:
     """What all others get of each thing that is asked."""
     own = next(item for item in items if item.startswith("o:"))[2:]
-    return [all(letter in own for letter, bit in (("r", os.R_OK), ("w", os.W_OK), ("x", os.X_OK)) if mode & bit) for _, mode, _ in ASKED]
+    return [
+        all(letter in own for letter, bit in (("r", os.R_OK), ("w", os.W_OK), ("x", os.X_OK)) if mode & bit)
+        for _, mode, _ in ASKED
+    ]
 
 
-def check_access(program, place, dice, tally):
+def check_access(program: str, place: str, dice: Dice, tally: dict[str, int]) -> None:
     """Compares a random list's answers to random callers."""
     items, owner, group = dice.entries(), dice.choice(UIDS), dice.choice(GIDS)
     callers = [(owner, [dice.choice(GIDS)])] + [dice.caller() for _ in range(11)]
@@ -149,23 +168,26 @@ def check_access(program, place, dice, tally):
             print(f"{','.join(items)} of {owner}:{group}, caller {caller}: Linux {kernel}, suites {own}")
 
 
-def told_by_getfacl(path):
+def told_by_getfacl(path: str) -> str:
     """What getfacl prints of a path, without its head and with one tab before each remark."""
     lines = run(["getfacl", "-np", path]).stdout.splitlines()
     return "".join(re.sub("\t+", "\t", line) + "\n" for line in lines if line and not line.startswith("#"))
 
 
-def is_valid(text):
+def is_valid(text: str) -> bool:
     """What acl_valid(3) says of each of the two lists of a text."""
     libacl = ctypes.CDLL("libacl.so.1")
     libacl.acl_from_text.restype = ctypes.c_void_p
     lines = text.splitlines()
-    lists = [[line for line in lines if not line.startswith("d")], [line[2:] for line in lines if line.startswith("d:")]]
+    lists = [
+        [line for line in lines if not line.startswith("d")],
+        [line[2:] for line in lines if line.startswith("d:")],
+    ]
     acls = [libacl.acl_from_text("\n".join(lines).encode()) for lines in lists if lines]
     return all(acl and libacl.acl_valid(ctypes.c_void_p(acl)) == 0 for acl in acls)
 
 
-def known_oddity(text, fault):
+def known_oddity(text: str, fault: str) -> str | None:
     """By what a text is known to differ, where the program answered it so."""
     ids = re.findall(r"[ug]\w*:(\d+):", text)
     if "4294967295" in ids:
@@ -181,7 +203,7 @@ def known_oddity(text, fault):
     return "nothing" if re.search(r":[ \t]*(#.*)?$", text, re.M) else None
 
 
-def check_text(program, place, dice, tally):
+def check_text(program: str, place: str, dice: Dice, tally: dict[str, int]) -> None:
     """Compares what is made of a random text."""
     items = dice.entries() + (dice.entries("d:") if dice.random() < 0.4 else [])
     if dice.random() < 0.6:
@@ -198,10 +220,13 @@ def check_text(program, place, dice, tally):
         tally[known_oddity(text, own.stdout.strip())] += 1
     else:
         tally["wrong"] += 1
-        print(f"{text!r}: Linux {'takes it as ' + repr(told) if taken else 'refuses it'}, suites {own.returncode}, {own.stdout!r}")
+        print(
+            f"{text!r}: Linux {'takes it as ' + repr(told) if taken else 'refuses it'}, suites {own.returncode},"
+            f" {own.stdout!r}"
+        )
 
 
-def main():
+def main() -> int:
     read = argparse.ArgumentParser(description=__doc__, formatter_class=argparse.RawDescriptionHelpFormatter)
     read.add_argument("--lists", type=int, default=300)
     read.add_argument("--seed", type=int, default=1)
@@ -211,7 +236,24 @@ def main():
     if wanting or os.geteuid() != 0:
         sys.exit("this needs root" if not wanting else f"this needs {wanting[0]}, of Debian's package acl")
     dice = Dice(given.seed)
-    tally = dict.fromkeys(["answers", "agree", "mask", "texts", "taken", "refused", "last id", "octal", "past", "nothing", "hyphens", "mended", "wrong"], 0)
+    tally = dict.fromkeys(
+        [
+            "answers",
+            "agree",
+            "mask",
+            "texts",
+            "taken",
+            "refused",
+            "last id",
+            "octal",
+            "past",
+            "nothing",
+            "hyphens",
+            "mended",
+            "wrong",
+        ],
+        0,
+    )
     with tempfile.TemporaryDirectory(dir="/dev/shm") as place:
         os.chmod(place, 0o755)
         os.mkdir(os.path.join(place, "d"))

@@ -13,6 +13,7 @@ import re
 import subprocess
 import sys
 import tempfile
+import typing
 
 TOP = os.path.join(os.path.dirname(os.path.abspath(__file__)), "..")
 ACCESS = "u::rwx,g::r-x,o::--x"
@@ -33,27 +34,27 @@ SHOWN = [
 ]
 
 
-def run(*words):
+def run(*words: str) -> str:
     return subprocess.run(words, check=True, stdout=subprocess.PIPE, text=True).stdout
 
 
-def with_default(default):
+def with_default(default: str) -> str:
     return ACCESS + "".join(f",d:{entry}" for entry in default.split(","))
 
 
-def listed(path):
+def listed(path: str) -> str:
     """The two lists of a path, as the short text of the service."""
     return ",".join(run("getfacl", "-cnpE", path).split())
 
 
-def folder_in(place, lists):
+def folder_in(place: str, lists: str) -> str:
     """A new folder with these lists and no others."""
     folder = tempfile.mkdtemp(dir=place)
     run("setfacl", "-n", "--set", lists, folder)
     return folder
 
 
-def created(folder, kind, mode, umask):
+def created(folder: str, kind: str, mode: int, umask: int) -> typing.Any:
     """The lists of what is made with a mode in a folder, under a umask."""
     path = os.path.join(folder, f"{kind}{umask:03o}")
     before = os.umask(umask)
@@ -67,7 +68,7 @@ def created(folder, kind, mode, umask):
     return found
 
 
-def creation_row(place, default):
+def creation_row(place: str, default: str) -> tuple[str, list[str], list[str]]:
     """A script that makes a file and a folder of each mode, and what Linux gives them whatever the umask is."""
     lists = with_default(default)
     folder = folder_in(place, lists)
@@ -83,7 +84,7 @@ def creation_row(place, default):
     return "table", script, printed
 
 
-def misplaced_row(place):
+def misplaced_row(place: str) -> tuple[str, list[str], list[str]]:
     """A file that is there gets no default list, and keeps the list that it has."""
     defaults = ",".join(f"d:{entry}" for entry in DEFAULTS[0].split(","))
     path = os.path.join(folder_in(place, ACCESS), "f")
@@ -96,7 +97,7 @@ def misplaced_row(place):
     return "table", script, ["0 answered made 1", "1 refused F12 op 1", f"2 answered acl {before}"]
 
 
-def shown_row(place, lists):
+def shown_row(place: str, lists: str) -> tuple[str, list[str], list[str]]:
     """What getfacl prints of a folder, and the same without its head and with one tab before each remark."""
     folder = folder_in(place, lists)
     told = run("getfacl", "-np", folder).replace(folder, "shared").splitlines()
@@ -104,7 +105,7 @@ def shown_row(place, lists):
     return "acl", told, plain
 
 
-def measured():
+def measured() -> typing.Iterator[typing.Any]:
     os.umask(0o022)
     with tempfile.TemporaryDirectory(dir="/dev/shm") as place:
         yield "What Linux gives to what is made in a folder with a default list, mode by mode"
@@ -115,7 +116,7 @@ def measured():
         yield from (shown_row(place, lists) for lists in SHOWN)
 
 
-def told(found):
+def told(found: typing.Any) -> str:
     """A title or a row, as a row of crates/rows/stdin."""
     if isinstance(found, str):
         return f"= {found}\n"
@@ -124,7 +125,7 @@ def told(found):
     return "".join(line.replace("\t", "\\t") + "\n" for line in lines)
 
 
-def main():
+def main() -> None:
     names = [word for word in sys.argv[1:] if word != "--rows"]
     if "--rows" in sys.argv[1:]:
         print("".join(told(found) for found in measured()), end="")
@@ -139,7 +140,7 @@ def main():
     sys.exit(1 if absent or differ else 0)
 
 
-def differences(program, rows):
+def differences(program: str, rows: list[typing.Any]) -> int:
     """How many rows the program prints otherwise than Linux has it."""
     count = 0
     for words, given, printed in rows:

@@ -19,10 +19,18 @@ TYPED = (
     (
         "tools",
         "after build choose compare console explain faulty grammar guarded happened in_script looking scenario shapes "
-        "shown sources trial votes worded",
+        "shown sources trial votes worded wrong_bodies wrong_bodies_page gate gate_times named proved_page",
     ),
-    ("tests", "checked-build damaged-scripts explained hints played typed wrapper"),
+    (
+        "tests",
+        "against-the-kernel checked-build damaged-copies damaged-scripts defaults-on-linux explained hints "
+        "played reading scratch typed voted votes-left wrapper",
+    ),
     ("tests", "votes"),
+    (
+        "bench",
+        "acl cache certify copies hints lists locks measure names play serve server table transactions unproved",
+    ),
 )
 # A text of Markdown stands in it, whose lines are paragraphs.
 HAS_TEXT = "wrong_bodies_page.py"
@@ -50,9 +58,9 @@ def checked(folder: str, names: str, room: str) -> list[str]:
     files = [os.path.join(TOP, folder, f"{name}.py") for name in names.split()]
     # a test that has the name of a tool stands in a package, and the tool in none
     is_alone = len(files) == 1
-    path = f"{TOP}:{TOP}/tools" if is_alone else f"{TOP}/tools:{TOP}/tests"
+    path = f"{TOP}:{TOP}/tools" if is_alone else f"{TOP}/tools:{TOP}/tests:{TOP}/bench"
     with open(os.path.join(room, "mypy.ini"), "w", encoding="utf-8") as file:
-        file.write(CONFIG.format(path=path, cache=os.path.join(room, str(is_alone))))
+        file.write(CONFIG.format(path=path, cache=os.path.join(room, folder)))
         file.write("explicit_package_bases = True\n" if is_alone else "")
     done = subprocess.run(["mypy", "--config-file", file.name, *files], cwd=TOP, stdout=subprocess.PIPE, text=True)
     found = [line for line in done.stdout.splitlines() if re.search(r": (error|note): ", line)]

@@ -1,6 +1,8 @@
-"""The first fault of a script or a list, by the rules that docs/FAULTS.md tells: written for cut inputs, and apart from the program.
+"""The first fault of a script or a list, by the rules that docs/FAULTS.md tells: written for cut inputs, and apart
+from the program.
 
-Of a script: the number of the line and the code, as `line 2: S1`. What is not known here is not met in inputs that are cut.
+Of a script: the number of the line and the code, as `line 2: S1`. What is not known here is not met in inputs that
+are cut.
 """
 import re
 
@@ -19,11 +21,15 @@ KINDS = {"u": "u", "user": "u", "g": "g", "group": "g", "m": "m", "mask": "m", "
 MOST_ID, MOST_BYTES = 4294967295, 268435456
 
 
+# The users and the groups that have names, by their letters.
+Names = dict[str, dict[str, int]]
+
+
 class Fault(Exception):
     """A fault, by its code."""
 
 
-def number(word, most=2**64 - 1):
+def number(word: str, most: int = 2**64 - 1) -> int:
     if not NUMBER.fullmatch(word) or int(word) > most:
         raise Fault("S1")
     return int(word)
@@ -31,7 +37,7 @@ def number(word, most=2**64 - 1):
 
 # ---- lists
 
-def entry(item, names):
+def entry(item: str, names: Names) -> tuple[bool, str, int | None]:
     """The kind, the number and whether it is a default list's, of an item that stands at this place."""
     parts = item.split(":")
     default = parts[0] in ("d", "default") and len(parts) > 2
@@ -40,7 +46,13 @@ def entry(item, names):
     right = kind and (len(parts) == 3 or (len(parts) == 2 and kind in "mo"))
     who, perms = (parts[1] if len(parts) == 3 else ""), parts[-1]
     marks = perms.replace("-", "")
-    if not right or set(marks) - set("rwx") or len(set(marks)) < len(marks) or perms.count("-") > 3 or (who and kind in "mo"):
+    if (
+        not right
+        or set(marks) - set("rwx")
+        or len(set(marks)) < len(marks)
+        or perms.count("-") > 3
+        or (who and kind in "mo")
+    ):
         raise Fault("A9")
     if NUMBER.fullmatch(who):
         if int(who) > MOST_ID:
@@ -51,7 +63,7 @@ def entry(item, names):
     return default, kind, names[kind][who] if who else None
 
 
-def list_fault(entries):
+def list_fault(entries: list[tuple[str, int | None]]) -> str | None:
     """The first of A1 to A8 that is wrong with the entries of one list."""
     single = [kind for kind, who in entries if who is None]
     named = [(kind, who) for kind, who in entries if who is not None]
@@ -69,7 +81,7 @@ def list_fault(entries):
     return "A8" if len(entries) > 128 else None
 
 
-def read_list(text, names):
+def read_list(text: str, names: Names) -> None:
     """Finds the first fault of a list."""
     entries, place = [], 0
     for item in re.split(r"[,\n]", text):
@@ -82,19 +94,19 @@ def read_list(text, names):
                 raise Fault(f"{fault} item {place}") from None
     for default in (False, True):
         own = [(kind, who) for other, kind, who in entries if other == default]
-        fault = list_fault(own) if own or not default else None
-        if fault:
-            raise Fault(f"A13 {fault}" if default else fault)
+        code = list_fault(own) if own or not default else None
+        if code:
+            raise Fault(f"A13 {code}" if default else code)
 
 
-def initial(word, names):
+def initial(word: str, names: Names) -> None:
     if not re.fullmatch("[0-7]{3}", word):
         read_list(word, names)
 
 
 # ---- votes
 
-def read_votes(word, servers):
+def read_votes(word: str, servers: int) -> None:
     parts = word.split("/")
     shares = parts[0].split(",")
     if len(parts) != 3 or len(shares) > 32:
@@ -102,15 +114,22 @@ def read_votes(word, servers):
     given = [None if share == "-" else number(share, 255) for share in shares]
     read, write = (number(part, 65535) for part in parts[1:])
     total = sum(share or 0 for share in given)
-    wrong = [all(share is None for share in given), any(share is not None for share in given[servers:]), False, total == 0,
-             not (0 < read <= total and 0 < write <= total), read + write <= total, 2 * write <= total]
+    wrong = [
+        all(share is None for share in given),
+        any(share is not None for share in given[servers:]),
+        False,
+        total == 0,
+        not (0 < read <= total and 0 < write <= total),
+        read + write <= total,
+        2 * write <= total,
+    ]
     if True in wrong:
         raise Fault(f"V{wrong.index(True) + 1}")
 
 
 # ---- lines
 
-def read_operation(words, names):
+def read_operation(words: list[str], names: Names) -> None:
     """Finds the first fault of an operation's words."""
     if words[0] in ("read", "list", "drop", "getacl", "getvotes"):
         need, most = 2, 2
@@ -134,7 +153,7 @@ def read_operation(words, names):
         raise Fault("S1")
 
 
-def read_transaction(words, names, has_site):
+def read_transaction(words: list[str], names: Names, has_site: bool) -> None:
     """Finds the first fault of what stands behind `do` or an agent."""
     need = 3 if has_site else 2
     for place, word in enumerate(words[:need]):
@@ -158,12 +177,13 @@ def read_transaction(words, names, has_site):
 class Script:
     """A script of a command, of which lines are read."""
 
-    def __init__(self, command):
+    def __init__(self, command: str) -> None:
         self.command, self.header = command, list(HEADERS[command])
         self.words = {"user", "group", *self.header, *EVENTS[command]}
-        self.sizes, self.names, self.begun, self.parted = {"servers": 32, "agents": 64}, {"u": {}, "g": {}}, False, False
+        self.sizes, self.begun, self.parted = {"servers": 32, "agents": 64}, False, False
+        self.names: Names = {"u": {}, "g": {}}
 
-    def read(self, words):
+    def read(self, words: list[str]) -> None:
         """Finds the first fault of a line."""
         if self.header:
             if words[0] not in self.words:
@@ -182,7 +202,7 @@ class Script:
             self.begun = True
             self.read_event(words)
 
-    def read_header(self, words):
+    def read_header(self, words: list[str]) -> None:
         need = {"servers": 2, "agents": 2, "votes": 2, "root": 4, "cache": 4}[words[0]]
         if len(words) < need:
             raise Fault("S1")
@@ -201,7 +221,7 @@ class Script:
         if len(words) > need:
             raise Fault("S1")
 
-    def read_name(self, words):
+    def read_name(self, words: list[str]) -> None:
         if len(words) != 3:
             raise Fault("S1")
         if not re.fullmatch(r"[!-~]{1,64}", words[1]) or re.search(r"[:,#\\]", words[1]) or words[1].isdigit():
@@ -210,7 +230,7 @@ class Script:
             raise Fault("N2")
         self.names[words[0][0]][words[1]] = number(words[2], MOST_ID)
 
-    def read_event(self, words):
+    def read_event(self, words: list[str]) -> None:
         servers, agents = self.sizes["servers"], self.sizes["agents"]
         places = {"crash": [servers], "return": [servers], "audit": [servers], "run": [agents], "forget": [agents, 16],
                   "step": [agents, 1000001], "sweep": [agents, servers] if self.command == "play" else [servers]}
@@ -230,7 +250,7 @@ class Script:
             raise Fault("S1")
 
 
-def script_fault(command, text):
+def script_fault(command: str, text: str) -> str | None:
     """The first fault of a script, or None."""
     script, lines = Script(command), text.split("\n")
     lines = lines[:-1] if lines[-1] == "" else lines
@@ -244,11 +264,11 @@ def script_fault(command, text):
     return f"line {len(lines) + 1}: S2" if script.header else None
 
 
-def fault(words, text):
+def fault(words: list[str], text: str) -> str | None:
     """The first fault of the input of a command, or None."""
     if words[0] != "acl":
         return script_fault(words[0], text)
-    names = {"u": {}, "g": {}}
+    names: Names = {"u": {}, "g": {}}
     for word in words[1:]:
         kind, _, rest = word.partition(":")
         name, _, value = rest.partition("=")

@@ -1,8 +1,10 @@
-"""Programs that are no crates of the repository: each stands as one more crate in a copy of the crates that it stands on.
+"""Programs that are no crates of the repository: each stands as one more crate in a copy of the crates that it stands
+on.
 
-Tests want nothing proved (`built`): their programs stand in tests/programs, are built unproved, with checks at run time, as
-tools/trial.py builds `suites`, and cost the gate nothing. What is built stays in out/ until a source of the crates that
-it stands on changes. Times are measured of proved programs (`runs`): those stand in bench/, and `rt run` makes them.
+Tests want nothing proved (`built`): their programs stand in tests/programs, are built unproved, with checks at run
+time, as tools/trial.py builds `suites`, and cost the gate nothing. What is built stays in out/ until a source of the
+crates that it stands on changes. Times are measured of proved programs (`runs`): those stand in bench/, and `rt run`
+makes them.
 """
 import hashlib
 import os
@@ -10,20 +12,21 @@ import shutil
 import subprocess
 import sys
 import tempfile
+import typing
 
 TOP = os.path.realpath(os.path.join(os.path.dirname(os.path.abspath(__file__)), ".."))
 BUILD = "import sys, trial; trial.build(sys.argv[1], lambda: None)"
 PARTS = ("src", "specs", "proofs")
 
 
-def needs_of_crates():
+def needs_of_crates() -> dict[str, list[str]]:
     """The crates of the repository, each with those that it names."""
     with open(os.path.join(TOP, "crates.txt"), encoding="utf-8") as lines:
         parted = [text.partition(":") for text in (line.split("#")[0] for line in lines) if ":" in text]
     return {name.split()[0]: needs.split() for name, _, needs in parted}
 
 
-def below(names, needs):
+def below(names: list[str], needs: dict[str, list[str]]) -> list[str]:
     """These crates and those that they stand on, as far as they are the repository's."""
     found, left = set(), list(names)
     while left:
@@ -34,7 +37,7 @@ def below(names, needs):
     return sorted(found)
 
 
-def sum_of(sources, crates):
+def sum_of(sources: typing.Iterable[str], crates: list[str]) -> str:
     """The sum of all that a program is made from."""
     total = hashlib.sha256()
     paths = list(sources)
@@ -48,8 +51,10 @@ def sum_of(sources, crates):
     return total.hexdigest()
 
 
-def placed(copy, program, direct, sources):
-    """Puts these crates and those below them into a folder, and the program, which stands on these, beside them. Its folder."""
+def placed(copy: str, program: str, direct: list[str], sources: dict[str, str]) -> str:
+    """Puts these crates and those below them into a folder, and the program, which stands on these, beside them. Its
+    folder.
+    """
     needs = needs_of_crates()
     crates = below(direct, needs)
     for name in crates:
@@ -68,7 +73,7 @@ def placed(copy, program, direct, sources):
     return own
 
 
-def lines(crate, kinds):
+def lines(crate: str, kinds: typing.Sequence[str]) -> list[list[str]]:
     """The words of each line of a run that begins with one of these words."""
     done = subprocess.run(["rt", "run"], cwd=crate, capture_output=True, text=True, check=False)
     found = [words for words in map(str.split, done.stdout.splitlines()) if words and words[0] in kinds]
@@ -77,15 +82,17 @@ def lines(crate, kinds):
     return found
 
 
-def runs(name, direct, kinds, times=5):
+def runs(name: str, direct: str, kinds: typing.Sequence[str], times: int = 5) -> list[tuple[list[str], ...]]:
     """For each line of bench/NAME.rattle that begins with one of these words, its words in each of some runs."""
     with tempfile.TemporaryDirectory() as copy:
         crate = placed(copy, f"{name}_bench", direct.split(), {"main": os.path.join(TOP, "bench", f"{name}.rattle")})
         return list(zip(*(lines(crate, kinds) for _ in range(times))))
 
 
-def built(program, direct, modules=()):
-    """The path of a program of tests/programs that names these crates, built where it is not there. Its modules are files too."""
+def built(program: str, direct: list[str], modules: typing.Sequence[str] = ()) -> str:
+    """The path of a program of tests/programs that names these crates, built where it is not there. Its modules are
+    files too.
+    """
     sources = {"main": os.path.join("tests", "programs", f"{program}.rt.txt")}
     sources.update({os.path.basename(path).split(".")[0]: path for path in modules})
     sources = {name: os.path.join(TOP, path) for name, path in sources.items()}

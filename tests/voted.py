@@ -4,6 +4,7 @@ import os
 import random
 import re
 import subprocess
+import typing
 
 import played
 

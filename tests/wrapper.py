@@ -19,7 +19,7 @@ import typing
 
 import played
 
-COPIED = ("suites", "crates", "crates.txt", "docs", "help", "tools", "CHANGELOG.md")
+COPIED = ("suites", "crates", "crates.txt", "docs", "help", "tools", "CHANGELOG.md", "README.md")
 LEFT_OUT = ("out", "__pycache__", "specs", "proofs", "must-fail", "wrong")
 # What `./suites` itself uses besides python3, git and rt.
 USED = ("sh", "cat", "find", "sleep", "readlink", "env", "head", "mktemp", "rm")
@@ -243,7 +243,7 @@ def tells_version(copy: Copy) -> None:
     with open(os.path.join(copy.top, "CHANGELOG.md"), encoding="utf-8") as file:
         version = next(line[3:].strip() for line in file if line.startswith("## "))
     with open(os.path.join(played.TOP, "README.md"), encoding="utf-8") as file:
-        logic = re.search(r"kit whose logic is `(\w+)`", file.read())[1]
+        logic = re.search(r"whose logic is `(\w+)`", file.read())[1]
     status, printed, _ = copy.at_once(["--version"])
     lines = printed.splitlines()
     copy.holds(

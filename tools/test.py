@@ -7,8 +7,8 @@ try`), the examples of docs/FAULTS.md, the command lines that README.md and docs
 tells, pictures, random scripts of `play` against the plain table, and the checks of documents; every program
 that only tests and measurements have is compiled. With --long those too that take minutes: allocations that are
 refused, reads and writes that fail, inputs that are cut off, lies about runs, and races between threads, some ten
-minutes more on four free processors. Prints a line for each part as it ends, of a part that fails also what it printed, and last how many passed and failed. Status 1 where one
-failed. The gate (.ci/run) begins with it.
+minutes more on four free processors. Prints a line for each part as it ends, of a part that fails also what it
+printed, and last how many passed and failed. Status 1 where one failed. The gate (.ci/run) begins with it.
 """
 import os
 import re
