@@ -392,7 +392,7 @@ def main():
     for one in judge.wrong[:20]:
         print(one)
     print(f"{judge.count} looked at, {len(judge.wrong)} differ")
-    return 1 if judge.wrong else 0
+    return 1 if judge.wrong or not judge.count else 0
 
 
 if __name__ == "__main__":

@@ -307,7 +307,7 @@ def main() -> int:
     os.umask(0)
     said = [ask(form, given) for form in ([given.form] if given.form else FORMS)]
     print(f"{sum(one for one, _ in said)} questions, {sum(bad for _, bad in said)} differ")
-    return 1 if any(bad for _, bad in said) else 0
+    return 1 if any(bad or not one for one, bad in said) else 0
 
 
 if __name__ == "__main__":

@@ -295,7 +295,7 @@ def main() -> int:
     reads_mounts(tests)
     shown_code_stands(tests)
     print(f"{tests.count} things, {tests.wrong} differ")
-    return 1 if tests.wrong else 0
+    return 1 if tests.wrong or not tests.count else 0
 
 
 if __name__ == "__main__":

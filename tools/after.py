@@ -2,9 +2,10 @@
 """tools/after.py six
 tools/after.py silent PROGRAM SCRIPT
 
-What `./suites` says once the program has ended, which does not say it itself. `six`: which of its three reasons status 6
-has, by the standard input and output that the program had too. `silent`: which lines of a script of `play` did nothing, and
-which agents still have a job at its end. The program plays the script once more for that, where it can matter.
+What `./suites` says once the program has ended, which does not say it itself. `six`: which of its three reasons
+status 6 has, by the standard input and output that the program had too. `silent`: which lines of a script of `play`
+did nothing, and which agents still have a job at its end. The program plays the script once more for that, where it
+can matter.
 """
 import argparse
 import os
@@ -84,7 +85,9 @@ def lines_of(script: str) -> list[Line]:
 
 
 def may_be_silent(lines: list[Line]) -> bool:
-    """Whether a line may do nothing, or a job be left: not where each that begins is run to its end before the next one."""
+    """Whether a line may do nothing, or a job be left: not where each that begins is run to its end before the next
+    one.
+    """
     busy: set[int] = set()
     for line in lines:
         if (line.first in ("begin", "sweep")) == (line.agent in busy) or line.first == "step":
@@ -95,7 +98,9 @@ def may_be_silent(lines: list[Line]) -> bool:
 
 def silent(lines: list[Line], printed: str) -> typing.Iterator[str]:
     """What is to be told of them, by the lines that the program printed of jobs that ended."""
-    requests = {(int(found[1]), int(found[2])): int(found[3]) for found in map(ENDED.match, printed.split("\n")) if found}
+    requests = {
+        (int(found[1]), int(found[2])): int(found[3]) for found in map(ENDED.match, printed.split("\n")) if found
+    }
     # of each agent: how many jobs it had, how many steps of the last one were taken, and the line where that begins
     jobs: dict[int, int] = {}
     steps: dict[int, int] = {}
@@ -126,7 +131,9 @@ def told_of(program: str, path: str) -> list[str]:
     if not may_be_silent(lines):
         return []
     try:
-        done = subprocess.run([program, "play"], input=script, stdout=subprocess.PIPE, stderr=subprocess.DEVNULL, timeout=PATIENCE)
+        done = subprocess.run(
+            [program, "play"], input=script, stdout=subprocess.PIPE, stderr=subprocess.DEVNULL, timeout=PATIENCE
+        )
     except subprocess.TimeoutExpired:
         return []
     found = list(silent(lines, done.stdout.decode("latin1"))) if done.returncode == 0 else []

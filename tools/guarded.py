@@ -1,6 +1,7 @@
 """Which list guarded a file or folder when an operation was denied, and how it came to that: by the plain table.
 
-The transactions before are played by `suites table`, and after them the list is asked for by its owner, who lets itself in.
+The transactions before are played by `suites table`, and after them the list is asked for by its owner, who lets
+itself in.
 """
 import functools
 import os
@@ -41,7 +42,9 @@ def program() -> str:
 def table(lines: list[str]) -> list[str]:
     """What `suites table` prints of a script; nothing where it has a fault."""
     text = "".join(f"{line}\n" for line in lines)
-    done = subprocess.run([program(), "table"], input=text.encode("latin1"), stdout=subprocess.PIPE, stderr=subprocess.DEVNULL)
+    done = subprocess.run(
+        [program(), "table"], input=text.encode("latin1"), stdout=subprocess.PIPE, stderr=subprocess.DEVNULL
+    )
     return done.stdout.decode("latin1").splitlines() if done.returncode == 0 else []
 
 
@@ -93,12 +96,17 @@ def case_of(text: str, owner: str, group: str, caller: Asked) -> str:
     groups = caller.groups.split(",")
     named = [who or group for kind, who, _ in listed if kind == "g" and (who or group) in groups]
     if named:
-        return f"is neither the owner nor named, but in group {' and '.join(named)}, whose entries count with the mask, if there is one"
+        return (
+            f"is neither the owner nor named, but in group {' and '.join(named)}, whose entries count with the mask, if"
+            " there is one"
+        )
     return "is neither the owner, nor named, nor in a group of the list, so the entry of all others counts, other::"
 
 
 def told(script: str, before: list[Asked], caller: Asked, place: int, path: str, decider: str) -> typing.Iterator[str]:
-    """The sentences about the list, the owner, and the caller of a transaction whose operation at this place was denied."""
+    """The sentences about the list, the owner, and the caller of a transaction whose operation at this place was
+    denied.
+    """
     jobs = before + ([caller._replace(operations=caller.operations[: place - 1])] if place > 1 else [])
     found = list_then(script, jobs, path)
     if not found:
@@ -108,4 +116,7 @@ def told(script: str, before: list[Asked], caller: Asked, place: int, path: str,
     if decider == "owner":
         yield f"User {caller.uid} is not the owner, and nobody else may do that."
     else:
-        yield f"User {caller.uid} of groups {caller.groups} {case_of(text, owner, group, caller)}. What decided is {decider}."
+        yield (
+            f"User {caller.uid} of groups {caller.groups} {case_of(text, owner, group, caller)}. What decided is"
+            f" {decider}."
+        )

@@ -1,7 +1,8 @@
 """What happened behind a line that `play` printed of a script: `./suites explain LINE SCRIPT`.
 
-The script is played once more by the program of `./suites trace`, up to where the line is printed. From that it is told which
-line of the script began the job, which path a number is, which servers were down, who was in the way, and why a home was one.
+The script is played once more by the program of `./suites trace`, up to where the line is printed. From that it is
+told which line of the script began the job, which path a number is, which servers were down, who was in the way, and
+why a home was one.
 """
 import re
 import subprocess
@@ -18,7 +19,11 @@ AUDITED = re.compile(r"t (\d+) uid (\d+) op (\d+) suite (\d+) wants (\S+) by (\S
 DENIED = re.compile(r"op (\d+) suite (\d+) wants (\S+) by (\S+)")
 POLL = re.compile(r"t \d+ (?:poll suite (\d+) (shared|exclusive)|upgrade suite (\d+))")
 OF = re.compile(r"t (\d+) (\w+)")
-WANTED = {"--x": "search it, to go on to what is in it", "-wx": "write and search it, to make or drop a name there", "---": "be its owner"}
+WANTED = {
+    "--x": "search it, to go on to what is in it",
+    "-wx": "write and search it, to make or drop a name there",
+    "---": "be its owner",
+}
 # Of so many servers and operations it is told one by one.
 FEW = 8
 
@@ -198,7 +203,8 @@ def short_of_votes(run: Played, job: Job, rest: str) -> typing.Iterator[str]:
 
 
 def lost_votes(run: Played, job: Job, script: str, number: int) -> typing.Iterator[str]:
-    """Where the votes were up all the same, as of a script that ends with this line: nobody who was asked knew of it."""
+    """Where the votes were up all the same, as of a script that ends with this line: nobody who was asked knew of
+    it."""
     import votes
     found = re.search(r"U1 suite (\d+)", job.ending)
     part = "".join(f"{line}\n" for line in faulty.lines_of(script)[:number])
@@ -211,8 +217,10 @@ def lost_votes(run: Played, job: Job, script: str, number: int) -> typing.Iterat
     down = frozenset(server for server in range(run.servers) if run.down_since(server, job.ended) is not None)
     is_read = not any(f"suite {found[1]} exclusive" in one.asked for one in job.requests)
     if suite and suite.is_up(down, is_read):
-        yield (f"Its votes are {suite.newest().text()} by then, and enough of them are up: they were moved, and of the servers "
-               f"that were asked none that is up knows where to.")
+        yield (
+            f"Its votes are {suite.newest().text()} by then, and enough of them are up: they were moved, and of the"
+            " servers that were asked none that is up knows where to."
+        )
 
 
 def in_the_way(run: Played, job: Job, rest: str) -> typing.Iterator[str]:
@@ -230,17 +238,26 @@ def in_the_way(run: Played, job: Job, rest: str) -> typing.Iterator[str]:
         return
     home = run.home(holder)
     since = run.down_since(home, job.ended)
-    is_prepared = any(one.server == server and " prepare " in one.asked and one.at < job.ended for one in holder.requests)
+    is_prepared = any(
+        one.server == server and " prepare " in one.asked and one.at < job.ended for one in holder.requests
+    )
     going_on = f"If agent {holder.agent} goes on (`run {holder.agent}`), it ends by itself."
     if is_prepared and since is not None:
-        yield (f"It is prepared at server {server}, and its home, server {home}, is down since line {since}. Nobody can tell how it "
-               f"ends, and no sweep ends it, before server {home} is back: `return {home}`, then `sweep {job.agent} {server}`.")
+        yield (
+            f"It is prepared at server {server}, and its home, server {home}, is down since line {since}. Nobody can"
+            f" tell how it ends, and no sweep ends it, before server {home} is back: `return {home}`, then `sweep"
+            f" {job.agent} {server}`."
+        )
     elif is_prepared:
-        yield (f"It is prepared at server {server}; its home, server {home}, is up. {going_on} If it has stopped for good, "
-               f"`sweep {job.agent} {server}` ends it as its home decided.")
+        yield (
+            f"It is prepared at server {server}; its home, server {home}, is up. {going_on} If it has stopped for good,"
+            f" `sweep {job.agent} {server}` ends it as its home decided."
+        )
     else:
-        yield (f"It is not prepared at server {server}. {going_on} If it has stopped for good, `sweep {job.agent} {server}` "
-               f"breaks its locks there.")
+        yield (
+            f"It is not prepared at server {server}. {going_on} If it has stopped for good, `sweep"
+            f" {job.agent} {server}` breaks its locks there."
+        )
 
 
 def lock_lost(run: Played, job: Job, rest: str) -> typing.Iterator[str]:
@@ -251,7 +268,10 @@ def lock_lost(run: Played, job: Job, rest: str) -> typing.Iterator[str]:
     server = int(found[1])
     for at, is_up, number in run.turns.get(server, []):
         if job.begun < at < job.ended and not is_up:
-            yield f"Server {server} crashed in line {number}, in the middle of the job, and lost the locks that were not prepared."
+            yield (
+                f"Server {server} crashed in line {number}, in the middle of the job, and lost the locks that were not"
+                " prepared."
+            )
     for other in run.jobs.values():
         for one in other.requests:
             if one.server == server and one.asked.startswith(f"t {job.t} break") and job.begun < one.at < job.ended:
@@ -263,8 +283,10 @@ def aborted(run: Played, job: Job) -> typing.Iterator[str]:
     """Which sweep had the transaction aborted."""
     for other in run.jobs.values():
         if any(one.asked == f"t {job.t} resolve" and one.reply == "verdict aborted" for one in other.requests):
-            yield (f"The sweep of {other.name()} ({other.about()}) asked its home, server {run.home(job)}, which had no decision by "
-                   f"then: so it is aborted for good.")
+            yield (
+                f"The sweep of {other.name()} ({other.about()}) asked its home, server {run.home(job)}, which had no"
+                " decision by then: so it is aborted for good."
+            )
             return
 
 
@@ -272,11 +294,16 @@ def home_down(run: Played, job: Job) -> typing.Iterator[str]:
     """Which server its home is, and why."""
     home = run.home(job)
     since = run.down_since(home, job.ended or 0)
-    yield (f"Its home is server {home}: ({job.agent} + {job.count}) mod {run.servers}, the number of the agent and that of the job "
-           f"together, modulo the number of servers.")
+    yield (
+        f"Its home is server {home}: ({job.agent} + {job.count}) mod {run.servers}, the number of the agent and that of"
+        " the job together, modulo the number of servers."
+    )
     if since is not None:
         yield f"Server {home} is down, since line {since}."
-    yield f"Begun again at once, it is job {job.count + 1}, whose home is server {(job.agent + job.count + 1) % run.servers}."
+    yield (
+        f"Begun again at once, it is job {job.count + 1}, whose home is server"
+        f" {(job.agent + job.count + 1) % run.servers}."
+    )
 
 
 def swept(job: Job) -> typing.Iterator[str]:
@@ -285,7 +312,11 @@ def swept(job: Job) -> typing.Iterator[str]:
         of = OF.match(one.asked)
         if of and of[2] in ("resolve", "break"):
             said = "is down" if one.reply == "down" else f"says {one.reply.removeprefix('verdict ')}"
-            what = f"its home, server {one.server}, {said}" if of[2] == "resolve" else "a lock of it that was not prepared is broken"
+            what = (
+                f"its home, server {one.server}, {said}"
+                if of[2] == "resolve"
+                else "a lock of it that was not prepared is broken"
+            )
             yield f"Transaction {of[1]}, job {int(of[1]) // 64} of agent {int(of[1]) % 64}: {what}."
 
 
@@ -316,7 +347,9 @@ def found_line(run: Played, text: str, name: str) -> tuple[str, int]:
             return line, number
     near = grammar.nearest(text, [line for line, _, _ in run.printed])
     like = f" It prints: {near[0]}" if near else ""
-    raise console.Stop(f"{name} prints no such line.{like} Was the script changed, or the line? ./suites play < {name} prints all")
+    raise console.Stop(
+        f"{name} prints no such line.{like} Was the script changed, or the line? ./suites play < {name} prints all"
+    )
 
 
 def of_run(run: Played, text: str, script: str, name: str) -> list[str]:

@@ -1,4 +1,6 @@
-"""What stands in a script behind a line that `table` or `serve` printed: which line it is of, whose, and which path a number is."""
+"""What stands in a script behind a line that `table` or `serve` printed: which line it is of, whose, and which path a
+number is.
+"""
 import re
 import typing
 
@@ -40,7 +42,9 @@ def path_of(suite: int, jobs: list[Job]) -> str:
     t, place = divmod(suite - 1, 8)
     if suite == 0:
         return "/"
-    return jobs[t].operations[place].split()[1] if t < len(jobs) and place < len(jobs[t].operations) else f"suite {suite}"
+    return (
+        jobs[t].operations[place].split()[1] if t < len(jobs) and place < len(jobs[t].operations) else f"suite {suite}"
+    )
 
 
 def of_line(text: str, script: str, name: str, language: str) -> list[str]:

@@ -1,7 +1,7 @@
 """How an agent finds the votes of a file or folder, where its cache has no hint: it begins at the opening votes.
 
-It asks the servers that have a vote by the newest votes that it has met, in listed order. One that has a newer copy of the
-list and votes tells of newer votes, which count from then on (tools/votes.py tells what that may miss).
+It asks the servers that have a vote by the newest votes that it has met, in listed order. One that has a newer copy
+of the list and votes tells of newer votes, which count from then on (tools/votes.py tells what that may miss).
 """
 import itertools
 import typing
@@ -37,7 +37,9 @@ def word_of(text: str) -> Word:
 
 
 class Suite(typing.NamedTuple):
-    """A file or folder: the votes with which a search begins, and what servers have of it, each a version and its votes."""
+    """A file or folder: the votes with which a search begins, and what servers have of it, each a version and its
+    votes.
+    """
 
     opening: Word
     copies: dict[int, tuple[int, Word]]
@@ -76,10 +78,13 @@ class Suite(typing.NamedTuple):
         return self.is_up(down, is_read) and not self.search(down, is_read).is_found
 
     def missed(self, is_read: bool = True) -> typing.Iterator[frozenset[int]]:
-        """The least sets of servers with which down the votes are up and are not found: of none of them a part is one too."""
+        """The least sets of servers with which down the votes are up and are not found: of none of them a part is one
+        too.
+        """
         servers, least = self.matters(), list[frozenset[int]]()
         for size in range(len(servers) + 1 if len(servers) <= ALL_OF else FEW + 1):
-            for chosen in map(frozenset, itertools.combinations(servers, size)):
+            for some in itertools.combinations(servers, size):
+                chosen = frozenset(some)
                 if not any(one <= chosen for one in least) and self.is_missed(chosen, is_read):
                     least.append(chosen)
                     yield chosen

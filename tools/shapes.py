@@ -1,8 +1,8 @@
 """Which votes so many servers may have, so that reads and writes go on without some of them (`./suites votes --of`).
 
-Each way to share votes is judged by what it costs and what it bears: how many requests a read and a write of a file take
-that has them, in a root folder that has them too, how many servers each may lose, and the chances that each is blocked, and
-that it is not done at the first try, since votes or its home are down.
+Each way to share votes is judged by what it costs and what it bears: how many requests a read and a write of a file
+take that has them, in a root folder that has them too, how many servers each may lose, and the chances that each is
+blocked, and that it is not done at the first try, since votes or its home are down.
 """
 import fractions
 import functools
@@ -24,8 +24,9 @@ class Shape(typing.NamedTuple):
 
     def is_better(self, other: "Shape") -> bool:
         """Whether it is as good in all, and better in something."""
-        pairs = [*zip(self.requests, other.requests), *zip(self.blocked, other.blocked)]
-        pairs += [(theirs, own) for own, theirs in zip(self.lost, other.lost)]
+        pairs: list[tuple[Chance, Chance]] = [*zip(self.blocked, other.blocked)]
+        pairs += [(Chance(own), Chance(theirs)) for own, theirs in zip(self.requests, other.requests)]
+        pairs += [(Chance(theirs), Chance(own)) for own, theirs in zip(self.lost, other.lost)]
         return all(own <= theirs for own, theirs in pairs) and any(own < theirs for own, theirs in pairs)
 
 
@@ -63,7 +64,8 @@ def not_at_first(shares: tuple[int, ...], needed: int, up: Chance) -> Chance:
 
 
 def requests(shares: tuple[int, ...], r: int, w: int) -> tuple[int, int]:
-    """How many requests a read and a write take: of the folder locks and a fetch, of the file locks, and for a read a fetch;
+    """How many requests a read and a write take: of the folder locks and a fetch, of the file locks, and for a read a
+    fetch;
     and then to prepare, to decide and to finish."""
     readers, writers = members(shares, r), members(shares, w)
     both = max(readers, writers)

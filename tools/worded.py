@@ -50,7 +50,8 @@ def operations() -> dict[str, str]:
 
 
 def words() -> dict[str, str]:
-    """The words of README.md's table, each with what it means; a word that is explained with another one has its row."""
+    """The words of README.md's table, each with what it means; a word that is explained with another one has its
+    row."""
     found: dict[str, str] = {}
     table = text_of("README.md").partition("\n## Words\n")[2].partition("\n## ")[0]
     rows = [row for row in map(ROW.match, table.split("\n")) if row and row[1].startswith("*")]
@@ -72,10 +73,16 @@ def meant(place: str, word: str) -> str:
         return f"{text}: the mode of the list {','.join(entries)}"
     if place == "HEX" and word != "-":
         plain = bytes.fromhex(word).decode("latin1")
-        return f"{text}: the text {plain}" if plain.isprintable() and plain.isascii() else f"{text}: {len(word) // 2} bytes"
+        return (
+            f"{text}: the text {plain}"
+            if plain.isprintable() and plain.isascii()
+            else f"{text}: {len(word) // 2} bytes"
+        )
     if place == "VOTES":
         fields, r, w = word.split("/")
-        shares = ", ".join(f"{field} of server {server}" for server, field in enumerate(fields.split(",")) if field != "-")
+        shares = ", ".join(
+            f"{field} of server {server}" for server, field in enumerate(fields.split(",")) if field != "-"
+        )
         return f"VOTES: {shares}; a read collects {r}, and a write {w}"
     return text
 
@@ -116,7 +123,12 @@ def own_line(text: str) -> str | None:
     given = text.split()
     for language, lines in grammar.LANGUAGES.items():
         form = {**grammar.HEADER, **grammar.NAMES, **lines.own}.get(given[0])
-        if given[0] in faulty.known_of(language) and form is not None and (len(given) > 1 or not form) and not fault_in(language, given):
+        if (
+            given[0] in faulty.known_of(language)
+            and form is not None
+            and (len(given) > 1 or not form)
+            and not fault_in(language, given)
+        ):
             head = f"A line of a script of `{language}`: {does().get((language, given[0]), '')}."
             return shown(head, told_words(given[0], form.split(), given[1:]))
     if given[0] in grammar.OPERATIONS and len(given) > 1 and given[1].startswith("/"):
@@ -132,24 +144,31 @@ def one_word(word: str) -> str | None:
     meaning = words().get(word)
     if meaning:
         told.append(filled(f"{meaning[0].upper()}{meaning[1:]}."))
-    forms = {}
+    forms: dict[tuple[str, str], list[str]] = {}
     for language in grammar.LANGUAGES:
         if word in faulty.known_of(language):
             said = does().get((language, word), "")
             forms.setdefault((grammar.form_of(word, language), said), []).append(f"`{language}`")
-    told += [filled(f"{form}: a line of a script of {grammar.either(of, 'and')}: {said}.") for (form, said), of in forms.items()]
+    told += [
+        filled(f"{form}: a line of a script of {grammar.either(of, 'and')}: {said}.")
+        for (form, said), of in forms.items()
+    ]
     if word in grammar.OPERATIONS:
         told.append(filled(f"{word} {grammar.OPERATIONS[word]}: an operation: {operations().get(word, '')}."))
     return "\n\n".join(told) or None
 
 
 def filled(text: str, first: str = "", after: str = "") -> str:
-    return textwrap.fill(text, WIDE, initial_indent=first, subsequent_indent=after, break_long_words=False, break_on_hyphens=False)
+    return textwrap.fill(
+        text, WIDE, initial_indent=first, subsequent_indent=after, break_long_words=False, break_on_hyphens=False
+    )
 
 
 def shown(head: str, rows: list[tuple[str, str]]) -> str:
     """A sentence, and a table of words."""
     cut = [(grammar.short(word) if len(word) <= 24 else f"{grammar.plain(word[:22])}..", told) for word, told in rows]
     wide = max((len(word) for word, _ in cut), default=0)
-    lines = [filled(told.replace("`", ""), f"{' ' * INDENT}{word:{wide}}  ", " " * (INDENT + wide + 2)) for word, told in cut]
+    lines = [
+        filled(told.replace("`", ""), f"{' ' * INDENT}{word:{wide}}  ", " " * (INDENT + wide + 2)) for word, told in cut
+    ]
     return "\n".join([filled(head.replace("..", ".")), "", *lines]).rstrip()

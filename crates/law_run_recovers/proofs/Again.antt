@@ -18,7 +18,7 @@ use Rattle.run_core.specs.Worlds.{Actor, World, actor_at, has_no_job, opening, s
 use Rattle.run_core.specs.Runs.{after, dones, outcomes, run}
 use Rattle.run_core.specs.TableOfRun.{table_of}
 use Rattle.run_core.proofs.Appending as appending
-use Rattle.run_core.proofs.Appending.{dones-append, outcomes-append, decisions_from-append}
+use Rattle.run_core.proofs.Appending.{dones-append, outcomes-append}
 use Rattle.law_runs.specs.Numbers.{begins_now}
 use Rattle.law_runs.proofs.Lengths.{so_many}
 use Rattle.law_headline.specs.Premises.{CanBe}

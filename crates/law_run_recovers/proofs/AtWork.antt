@@ -38,7 +38,8 @@ use Rattle.law_run_alone.proofs.Turns.{doing_of}
 use Rattle.law_run_alone.proofs.Untold.{begun_stands, started_untold}
 use Rattle.law_run_alone.proofs.Unswept.{is_resolve, never_resolves}
 use Rattle.law_run_alone.proofs.Whole.{Carried, carried_by}
-use Rattle.law_run_recovers.specs.Unmet.{runs, is_telling, world_after, takes, drops, up_and, of_up, robs, bereaves, hinders_itself, ToldAsAtItsBegin}
+use Rattle.law_run_recovers.specs.Unmet.{runs, is_telling, world_after, takes, up_and, of_up, robs, hinders_itself}
+use Rattle.law_run_recovers.proofs.AmongLocks.{drops, bereaves, ToldAsAtItsBegin}
 use Rattle.law_run_recovers.proofs.Keeps.{IsAtWork, Works, works, step_asks, operates_it, becomes_none, lacks_none, run_at, at_work_before}
 use Rattle.law_run_recovers.proofs.Still.{IsOpen, IsOpenPhase}
 use Rattle.law_run_recovers.proofs.Untaken.{TakesNothing, untaken_stands}
@@ -110,10 +111,12 @@ module _ (given : Opening) (accepted : IsAccepted given) (all : List Event) (age
   takes_nothing (Return server) calm what st served at up = of_value (Return server) request.Return what st (operates_it w server request.Return (server_at w server) what served) (refl, refl)
   takes_nothing (Crash server) calm what st served at up =
       let is = operates_it w server request.Crash (server_at w server) what served in
-      of_value (Crash server) request.Crash what st is
-      (refl, ap (drops t st) (sym is)
-      ∙ bereft (is_telling w agent) st.up (drops t st what.request.value) at_work.untold up
-      (sym (ap (λ found. not (is_telling w agent) && found) (ap (of_up (drops t) w) served ∙ ap (up_and (drops t) what.request.value) at)) ∙ calm))
+      of_value (Crash server) request.Crash what st is (
+        refl,
+        ap (drops t st) (sym is)
+            ∙ bereft (is_telling w agent) st.up (drops t st what.request.value) at_work.untold up
+            (sym (ap (λ found. not (is_telling w agent) && found) (ap (of_up (drops t) w) served ∙ ap (up_and (drops t) what.request.value) at)) ∙ calm),
+      )
   takes_nothing (Step other) calm what st served at up = of (other == agent) refl
     where
       asks : (actor : Actor) × (actor_at w other ≡ Some actor) × (next_of (fixed_of given) actor.agent ≡ Some (what.server, what.request.value))
@@ -189,7 +192,7 @@ module _ (given : Opening) (events later : List Event) (agent t : ℕ) (caller :
       (begun_stands given (λ z. machine_of given z (all_of [])) (world_at []) later t agent (subst (IsMine t) (sym (ap doing_of here.there)) (mine_where t here.actor.agent.doing here.runs_it)) carried
       (started_untold given (run given events) agent t caller site ops (actor_at (run given events) agent) refl begins_so) z here.actor here.there)
 
-  stands_next : (so_far rest : List Event) (event : Event) → later ≡ so_far ++ event ∷ rest → IsAtWork (world_at so_far) agent t → (z : ℕ) → Stands (machine_of given z (all_of so_far)) t → Stands (machine_of given z (all_of (so_far ++ event ∷ []))) t
+  pub stands_next : (so_far rest : List Event) (event : Event) → later ≡ so_far ++ event ∷ rest → IsAtWork (world_at so_far) agent t → (z : ℕ) → Stands (machine_of given z (all_of so_far)) t → Stands (machine_of given z (all_of (so_far ++ event ∷ []))) t
   stands_next so_far rest event is at z stands =
       let can' = can_front given (all_of so_far) (event ∷ rest) (can_then so_far (event ∷ rest) is) in
       let at' = subst (λ w. IsAtWork w agent t) (is_run so_far) at in

@@ -1,42 +1,31 @@
 -- A transaction that goes alone ends within a number of its own steps that its table tells.
-use Rattle.std.proofs.Common.{◌≡◌, ◌⊎◌, inl, inr, ⊎_elim, ℕ, zero, suc, ◌+◌, ◌<◌, ◌≤◌, Bool, true, false, cond, List, [], ◌∷◌, ◌++◌, append-nil, length, Option, Some, None, is_some, refl, sym, ap, subst, ◌∙◌, arith}
-use Rattle.std.specs.Prelude.{◌*◌, ◌==◌, ◌&&◌, not, map}
-use Rattle.std.specs.List.{cons_option, list_any}
-use Rattle.std.proofs.lemmas.Bool.{false≢true, and_parts, eqb-true}
+use Rattle.std.proofs.Common.{◌≡◌, ◌⊎◌, inl, inr, ⊎_elim, ℕ, zero, ◌+◌, ◌<◌, ◌≤◌, Bool, true, false, cond, List, [], ◌∷◌, ◌++◌, append-nil, length, Option, Some, None, is_some, refl, sym, ap, subst, ◌∙◌, arith}
+use Rattle.std.specs.Prelude.{◌*◌, ◌==◌, ◌&&◌, not}
+use Rattle.std.specs.List.{cons_option}
+use Rattle.std.proofs.lemmas.Bool.{false≢true, and_parts}
 use Rattle.std.proofs.lemmas.Bool.Decides.{nat_tests}
 use Rattle.std.proofs.lemmas.List.Folds.{list_all-append}
 use Rattle.std.proofs.lemmas.Option.{none-some, same_Some, slice_get_within}
 use Rattle.acl_core.specs.Identity.{Identity}
 use Rattle.suite_prefix.specs.SettingsRules.{Opening}
 use Rattle.suite_prefix.specs.declared.copies.Prefix.{Prefix}
-use Rattle.suite_prefix.specs.declared.lock_mode.LockMode.{LockMode}
-use Rattle.suite_prefix.specs.declared.lock_mode.LockMode.TheVariants.{Shared, Exclusive}
-use Rattle.suite_prefix.specs.LockModes.{serves}
 use Rattle.rep_core.specs.declared.request.Request.{Request}
-use Rattle.rep_core.specs.declared.request.Request.TheVariants as request
 use Rattle.rep_core.specs.declared.reply.Reply.{Reply}
 use Rattle.rep_core.specs.Service.{reply_of}
-use Rattle.rep_core.proofs.Members.{Has, any_has, has_any, map_has, contains_from}
+use Rattle.rep_core.proofs.Members.{Has, has_any, contains_from}
 use Rattle.file_ops.specs.declared.operation.Op.{Op}
 use Rattle.file_ops.specs.Rows.{PlainTable}
-use Rattle.suite_collect.specs.Collecting.{Asked, Poll, Upgrade, request_for}
-use Rattle.weak_cache.specs.Entries.{Cache}
 use Rattle.txn_core.specs.declared.ending.Ending.{Ending}
 use Rattle.txn_core.specs.declared.job.Job.{Job}
 use Rattle.txn_core.specs.declared.job.Job.TheVariants.{Transaction}
 use Rattle.txn_core.specs.declared.response.Response.{Response}
 use Rattle.txn_core.specs.declared.response.Response.TheVariants.{Replied}
-use Rattle.txn_core.specs.Suites.{ReadPoint, Suite, Suites, suite_of}
-use Rattle.txn_core.specs.Doing as doing
-use Rattle.txn_core.specs.Doing.{Fixed, Task, Phase, Gathering, Fetching, Preparing, Deciding, Finishing, TransactionRun, SweepRun, Doing, Running, RunningSweep, After, GoesOn, Ends, home_of}
+use Rattle.txn_core.specs.Doing.{Fixed, Task, TransactionRun, SweepRun, Doing, Running, RunningSweep, After, GoesOn, Ends}
 use Rattle.txn_core.specs.Sweeps as sweep
-use Rattle.txn_core.specs.Transactions.{numbers_from, asked_for, fetched_at, fetched_for, request_in, changes_of, decision_of, after_response}
-use Rattle.txn_core.specs.Writing.{parts_at}
+use Rattle.txn_core.specs.Transactions.{numbers_from, request_in, after_response}
 use Rattle.txn_core.specs.Agents as agents
-use Rattle.txn_core.specs.Agents.{Agent, fixed_of, is_idle, next_in, next_of, left, end_of, take_in, take, begin, after_all}
+use Rattle.txn_core.specs.Agents.{Agent, fixed_of, is_idle, next_in, next_of, left, end_of, take_in, begin}
 use Rattle.txn_core.specs.Laws.{Exchange, exchange_of, exchanges, among, asks_only, names_of, names_only}
-use Rattle.txn_core.proofs.Asks.{asks_same}
-use Rattle.txn_core.proofs.Bound.{ends_in_time}
 use Rattle.txn_core.proofs.Upheld.{exchanges-take}
 use Rattle.run_core.specs.declared.event.Event.{Event}
 use Rattle.run_core.specs.declared.event.Event.TheVariants.{Begin, Step, Crash, Return, Forget, Lack}
@@ -51,46 +40,35 @@ use Rattle.law_runs.proofs.Lengths.{so_many}
 use Rattle.law_suite_machine.specs.Registers.{WasPrefix}
 use Rattle.law_server_moves.specs.Laws.{beginning}
 use Rattle.law_run_machine.specs.Machines.{machine_of}
+use Rattle.law_run_recovers.specs.Standing.{is_up}
 use Rattle.law_run_recovers.specs.Alone.{hinders, unhindered_from, its_step, own_steps}
-use Rattle.law_run_recovers.specs.Demands.{has_asked, locks_asked}
+use Rattle.law_run_recovers.specs.Demands.{locks_asked}
 use Rattle.law_run_recovers.specs.Laws.{GoesAlone, OneEnded, EndsInTime}
-use Rattle.law_run_recovers.proofs.Asking.{onto, held_in, held_if}
 use Rattle.law_run_recovers.proofs.Took.{OwnTook, own_took}
 use Rattle.law_run_recovers.proofs.Moments.{Takes, beside, takes, moment_first, first_all, first_here, first_runs, first_told}
-use Rattle.law_run_recovers.proofs.Stands.{Ground, locks_on, PhaseStands}
-use Rattle.law_run_recovers.proofs.Heard.{asks_for}
+use Rattle.law_run_recovers.proofs.Stands.{Ground, locks_on}
 use Rattle.law_run_recovers.proofs.Knows.{among_numbers}
 use Rattle.law_run_recovers.proofs.Ends as ends
+use Rattle.law_run_recovers.proofs.Names.{itself, suites_named, names_for, CountedOf, few_enough}
 
 -- ---- lists
-
-onto_right : {X : Type 0} (so_far left : List X) (x : X) → Has left x → Has (onto so_far left) x
-onto_right [] left x has = has
-onto_right (y ∷ so_far) left x has = onto_right so_far (y ∷ left) x (inr has)
-
-onto_left : {X : Type 0} (so_far left : List X) (x : X) → Has so_far x → Has (onto so_far left) x
-onto_left [] left x has = absurd has
-onto_left (y ∷ so_far) left x has = ⊎_elim (λ same. onto_right so_far (y ∷ left) x (inl same)) (λ more. onto_left so_far (y ∷ left) x more) has
-
-itself : (n : ℕ) → (n == n) ≡ true
-itself n = grind (arith, nat_tests)
 
 pub has_after : {X : Type 0} (found : Option X) (xs : List X) (x : X) → Has xs x → Has (cons_option found xs) x
 has_after None xs x has = has
 has_after (Some y) xs x has = inr has
 
-one_longer : {X : Type 0} (xs : List X) (x : X) → length (xs ++ x ∷ []) ≡ length xs + 1
+pub one_longer : {X : Type 0} (xs : List X) (x : X) → length (xs ++ x ∷ []) ≡ length xs + 1
 one_longer [] x = refl
 one_longer (y ∷ xs) x = let rest = one_longer xs x in omega (arith, rest)
 
-and_one : (a b : Bool) → a ≡ true → b ≡ true → (a && (b && true)) ≡ true
+pub and_one : (a b : Bool) → a ≡ true → b ≡ true → (a && (b && true)) ≡ true
 and_one true true a b = refl
 and_one true false a b = absurd (false≢true b)
 and_one false b a _ = absurd (false≢true a)
 
 -- ---- its own steps
 
-step_of : (agent : ℕ) (event : Event) → its_step agent event ≡ true → event ≡ Step agent
+pub step_of : (agent : ℕ) (event : Event) → its_step agent event ≡ true → event ≡ Step agent
 step_of agent (Step other) is = ap Step (same_at other agent is)
   where
     same_at : (a b : ℕ) → (a == b) ≡ true → a ≡ b
@@ -125,10 +103,6 @@ ended_if fixed agent response (Some (RunningSweep sweep_run)) asked next idle = 
     of (GoesOn sweep_run) idle = absurd (false≢true idle)
     of (Ends ended) idle = (ended, refl)
 
-names_lock : (numbers : List ℕ) (t z : ℕ) (question : Asked) → names_of numbers (request_for t z question) ≡ among numbers z
-names_lock numbers t z (Poll mode) = refl
-names_lock numbers t z Upgrade = refl
-
 -- ---- what it asks, whom, and how often
 
 module _ (given : Opening) (events later : List Event) (agent t : ℕ) (caller : Identity) (site : ℕ) (ops : List Op) (actor : Actor) (goes : GoesAlone given events later agent t caller site ops actor) where
@@ -153,7 +127,7 @@ module _ (given : Opening) (events later : List Event) (agent t : ℕ) (caller :
   abbrev Was : ℕ → Prefix → Type 0
   Was z = WasPrefix (beginning z given) (machine_of given z events).log
 
-  abbrev ground : Ground fixed first actor.agent.cache site Was
+  abbrev ground : Ground fixed first (is_up first) actor.agent.cache site (locks_on table its) Was
   ground = ends.ground given events later agent t caller site ops actor goes
 
   abbrev Now : World → List Event → Type 0
@@ -166,61 +140,12 @@ module _ (given : Opening) (events later : List Event) (agent t : ℕ) (caller :
   servers = numbers_from 0 given.servers
 
   abbrev suites_on : List ℕ
-  suites_on = map (λ (one : ℕ × LockMode). one.0) (locks_on table its)
-
-  -- the suites that it names are those that it locks
-  lock_named : (one : ℕ × LockMode) → Has (locks_on table its) one → among suites_on one.0 ≡ true
-  lock_named one has = has_any (λ n. n == one.0) suites_on one.0 (map_has (λ (one : ℕ × LockMode). one.0) (locks_on table its) one has) (itself one.0)
-
-  asked_named : (asked left : List (ℕ × LockMode)) (z : ℕ) → locks_on table its ≡ onto asked left → list_any (λ (lock : ℕ × LockMode). lock.0 == z) asked ≡ true → among suites_on z ≡ true
-  asked_named asked left z are is =
-      let found = any_has (λ (lock : ℕ × LockMode). lock.0 == z) asked is in
-      subst (λ z. among suites_on z ≡ true) (eqb-true found.0.0 z found.2) (lock_named found.0 (subst (λ locks. Has locks found.0) (sym are) (onto_left asked left found.0 found.1)))
-
-  fetch_found : (suites : Suites) (z server : ℕ) (asked : Request) (found : Option Suite) → fetched_for its z found ≡ Some (server, asked) → held_in Shared found ≡ true
-  fetch_found suites z server asked None is = absurd (none-some (server, asked) is)
-  fetch_found suites z server asked (Some suite) is = of suite.first is
-    where
-      shared : (mode : LockMode) → serves mode Shared ≡ true
-      shared Shared = refl
-      shared Exclusive = refl
-
-      of : (first : Option ReadPoint) → fetched_at its z first ≡ Some (server, asked) → held_if suite Shared first ≡ true
-      of (Some _) is = shared suite.mode
-      of None is = absurd (none-some (server, asked) is)
-
-  any_wider : (asked : List (ℕ × LockMode)) (z : ℕ) → has_asked asked z Shared ≡ true → list_any (λ (lock : ℕ × LockMode). lock.0 == z) asked ≡ true
-  any_wider asked z is =
-      let found = any_has (λ (lock : ℕ × LockMode). (lock.0 == z) && serves lock.1 Shared) asked is in
-      has_any (λ (lock : ℕ × LockMode). lock.0 == z) asked found.0 found.1 (and_parts (found.0.0 == z) (serves found.0.1 Shared) found.2).0
-
-  names_for : (now : Cache) (suites : Suites) (phase : Phase) → PhaseStands fixed first table its actor.agent.cache Was ground suites now phase → (server : ℕ) (asked : Request) → request_in fixed its suites phase ≡ Some (server, asked)
-      → names_of suites_on asked ≡ true
-  names_for now suites (Gathering z) at server asked is =
-      let g = at.0 in
-      let asks = asks_for its z g.suite.collector server asked (sym (ap (asked_for its z) g.there) ∙ is) in
-      ap (names_of suites_on) asks.asked_is ∙ names_lock suites_on its.t z asks.question
-      ∙ lock_named (z, g.mode) (subst (λ locks. Has locks (z, g.mode)) (sym (g.asks.order ∙ ap (onto g.asked) g.next_is)) (onto_right g.asked _ (z, g.mode) (inl refl)))
-  names_for now suites (Fetching z) at server asked is =
-      let ready = at.0 in
-      let held = sym (ready.asks.modes z Shared) ∙ fetch_found suites z server asked (suite_of suites z) is in
-      ap (names_of suites_on) (ends.fetch_is its z (suite_of suites z) server asked is) ∙ asked_named ready.asked _ z ready.asks.order (any_wider ready.asked z held)
-  names_for now suites (doing.Widening [] granted) at server asked is = absurd (none-some (server, asked) is)
-  names_for now suites (doing.Widening (z ∷ numbers) granted) at server asked is =
-      let asks = asks_for its z at.suite.collector server asked (sym (ap (asked_for its z) at.there) ∙ is) in
-      ap (names_of suites_on) asks.asked_is ∙ names_lock suites_on its.t z asks.question ∙ asked_named at.sets.so_far [] z at.sets.all (at.sets.locked (z, at.votes) (inl refl))
-  names_for now suites (Preparing [] outcome) at server asked is = absurd (none-some (server, asked) is)
-  names_for now suites (Preparing (now' ∷ numbers) outcome) at server asked is = ap (names_of suites_on) (sym (asks_same now' server (request.Prepare its.t (parts_at suites (changes_of outcome) now')) asked is))
-  names_for now suites (Deciding outcome) at server asked is = ap (names_of suites_on) (sym (asks_same (home_of fixed.service its.t) server (request.Decide its.t (decision_of its outcome)) asked is))
-  names_for now suites (Finishing [] v ended) at server asked is = absurd (none-some (server, asked) is)
-  names_for now suites (Finishing (now' ∷ numbers) v ended) at server asked is = ap (names_of suites_on) (sym (asks_same now' server (request.Finish its.t v) asked is))
+  suites_on = suites_named table its
 
   -- ---- so far
 
-  pub record Counted (told : List agents.Event) (so_far : ℕ) : Type 0 where
-    pub asks : asks_only servers (past told) ≡ true
-    pub names : names_only suites_on (past told) ≡ true
-    pub many : length (past told) ≡ so_far
+  abbrev pub Counted : List agents.Event → ℕ → Type 0
+  Counted told so_far = CountedOf fixed begun servers suites_on told so_far
 
   -- a job of it ended; or it still runs, and took so many steps
   pub record OneEnds (w : World) (rest : List Event) : Type 0 where
@@ -257,7 +182,7 @@ module _ (given : Opening) (events later : List Event) (agent t : ℕ) (caller :
         of None is good = absurd (none-some tk.asked (sym (ap (next_in fixed) is) ∙ tk.next))
         of (Some (RunningSweep sweep_run)) is good = absurd good
         of (Some (Running txn_run)) is good =
-            names_for n.m.here.agent.cache txn_run.suites txn_run.phase good.1 tk.asked.0 tk.asked.1
+            names_for fixed first (is_up first) table its actor.agent.cache Was ground n.m.here.agent.cache txn_run.suites txn_run.phase good.1 tk.asked.0 tk.asked.1
             (subst (λ task. request_in fixed task txn_run.suites txn_run.phase ≡ Some (tk.asked.0, tk.asked.1)) good.0 (sym (ap (next_in fixed) is) ∙ tk.next))
 
     counted_on : (so_far : ℕ) → Counted n.m.told so_far → Counted tk.new.told (so_far + 1)
@@ -377,23 +302,7 @@ module _ (given : Opening) (events later : List Event) (agent t : ℕ) (caller :
 
   at_most : (so_far : ℕ) (told : List agents.Event) → Counted told so_far → so_far ≤ bound (length (locks_asked table t caller ops)) given.servers
   at_most so_far told c =
-      let idle = (moment_first given events later agent t caller site ops actor goes).idle in
-      let most = ends_in_time fixed actor.agent caller site ops told servers suites_on idle c.asks c.names in
-      let same : bound (length suites_on) (length servers) ≡ bound (length (locks_asked table t caller ops)) given.servers =
-      ap (λ k. bound k (length servers)) (mapped (locks_on table its) ∙ ap (λ n. length (locks_asked table n caller ops)) (ends.number_is given events later agent t caller site ops actor goes))
-      ∙ ap (bound (length (locks_asked table t caller ops))) (counted given.servers 0) in
-      within (length (past told)) so_far (bound (length suites_on) (length servers)) (bound (length (locks_asked table t caller ops)) given.servers) c.many most same
-    where
-      mapped : (xs : List (ℕ × LockMode)) → length (map (λ (one : ℕ × LockMode). one.0) xs) ≡ length xs
-      mapped [] = refl
-      mapped (x ∷ xs) = ap (λ n. suc n) (mapped xs)
-
-      counted : (count start : ℕ) → length (numbers_from start count) ≡ count
-      counted zero start = refl
-      counted (suc count) start = ap (λ n. suc n) (counted count (start + 1))
-
-      within : (a b c d : ℕ) → a ≡ b → a ≤ c → c ≡ d → b ≤ d
-      within a b c d x y z = omega (arith, x, y, z)
+      few_enough given events actor.agent t caller site ops (ends.number_is given events later agent t caller site ops actor goes) (moment_first given events later agent t caller site ops actor goes).idle so_far told c
 
   in_time : bound (length (locks_asked table t caller ops)) given.servers < own_steps agent later → OneEnded (outcomes (dones fixed begun_world later)) agent
   in_time more = of it_lasts

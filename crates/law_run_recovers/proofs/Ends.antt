@@ -22,7 +22,7 @@ use Rattle.file_ops.specs.declared.operation.Op.{Op}
 use Rattle.file_ops.specs.Rows as rows
 use Rattle.file_ops.specs.Rows.{PlainTable, row_of}
 use Rattle.file_exec.specs.Known.{AgreesWith}
-use Rattle.suite_collect.specs.Collecting.{Collector, request_for}
+use Rattle.suite_collect.specs.Collecting.{Collector, request_for, mode_asked}
 use Rattle.weak_cache.specs.Entries.{Cache}
 use Rattle.txn_core.specs.declared.ending.Ending.{Ending}
 use Rattle.txn_core.specs.declared.job.Job.{Job}
@@ -51,7 +51,6 @@ use Rattle.law_runs.proofs.Table.{service_stays}
 use Rattle.law_runs.proofs.Worlds.{agent_of}
 use Rattle.law_suite_machine.specs.Registers.{WasPrefix}
 use Rattle.law_suite_machine.specs.Machine as machine
-use Rattle.law_suite_machine.specs.Machine.{Answered}
 use Rattle.law_server_moves.specs.Laws.{beginning}
 use Rattle.law_run_machine.specs.Machines.{moved, machine_of}
 use Rattle.law_one_table.proofs.Effects as effects
@@ -67,18 +66,18 @@ use Rattle.law_run_alone.proofs.Unhindered.{all_consistent}
 use Rattle.law_run_alone.proofs.Unswept.{is_resolve}
 use Rattle.law_run_recovers.specs.Standing.{up_in, is_up}
 use Rattle.law_run_recovers.specs.Alone.{hinders, unhindered_from}
-use Rattle.law_run_recovers.specs.Demands.{demands, first_short}
+use Rattle.law_run_recovers.specs.Demands.{demands, first_short, MayStart}
 use Rattle.law_run_recovers.specs.Laws.{GoesAlone, EndsByVotes, EndsAreByVotes, ending_by, answer_on}
 use Rattle.law_run_recovers.proofs.Aside.{Aside, event_aside}
 use Rattle.law_run_recovers.proofs.Found.{all_answer}
-use Rattle.law_run_recovers.proofs.Led.{rules_of}
+use Rattle.law_run_recovers.proofs.Led.{Rules, rules_of}
 use Rattle.law_run_recovers.proofs.Polled.{Answers, answers_so}
 use Rattle.law_run_recovers.proofs.Rows.{start_was}
 use Rattle.law_run_recovers.proofs.Took.{OwnTook, own_took}
 use Rattle.law_run_recovers.proofs.Still.{IsOpen, IsOpenPhase, open_before, open_undecided}
 use Rattle.law_run_recovers.proofs.Moments.{Moment, mine, own_up, own_resolve, Beside, Takes, beside, takes, moment_first, first_all, first_here}
 use Rattle.law_run_recovers.proofs.OwnAsks.{own_asks, own_fetch, own_prepare, own_decide}
-use Rattle.law_run_recovers.proofs.Stands.{Ground, EndsRight, PhaseStands, AfterStands, StepStands}
+use Rattle.law_run_recovers.proofs.Stands.{Ground, locks_on, EndsRight, PhaseStands, AfterStands, StepStands}
 use Rattle.law_run_recovers.proofs.Executes.{begin_stands}
 use Rattle.law_run_recovers.proofs.Heard.{RightFor, MayExecute, AsksFor, asks_for, reply_stands}
 use Rattle.law_one_table.proofs.Logs.{no_task}
@@ -86,7 +85,7 @@ use Rattle.law_run_recovers.proofs.Knew.{undecided_aside, undecided_own, stands_
 
 -- ---- where it may execute next
 
-early_open : (phase : Phase) → MayExecute phase → IsOpenPhase phase
+pub early_open : (phase : Phase) → MayExecute phase → IsOpenPhase phase
 early_open (Gathering number) may = tt
 early_open (Fetching number) may = tt
 early_open (Widening left granted) may = absurd may
@@ -103,7 +102,7 @@ early_stands w t (Deciding outcome) may stands = absurd may
 early_stands w t (Finishing left v ended) may stands = absurd may
 
 -- it asks for nothing that takes a lock away, or that decides
-early_asks : (fixed : Fixed) (task : Task) (suites : Suites) (phase : Phase) → MayExecute phase → (server : ℕ) (asked : Request) → request_in fixed task suites phase ≡ Some (server, asked) → (releases asked ≡ false) × (is_decide asked ≡ false)
+pub early_asks : (fixed : Fixed) (task : Task) (suites : Suites) (phase : Phase) → MayExecute phase → (server : ℕ) (asked : Request) → request_in fixed task suites phase ≡ Some (server, asked) → (releases asked ≡ false) × (is_decide asked ≡ false)
 early_asks fixed task suites (Gathering number) may server asked is =
     (asked_as releases false task number (suite_of suites number) server asked (λ mode. refl) refl is, asked_as is_decide false task number (suite_of suites number) server asked (λ mode. refl) refl is)
 early_asks fixed task suites (Fetching number) may server asked is =
@@ -167,11 +166,16 @@ module _ (given : Opening) (events later : List Event) (agent t : ℕ) (caller :
   pub can : CanBe given events
   can = can_front given events (Begin agent job ∷ later) goes.can
 
-  pub ground : Ground (fixed_of given) (run given events) actor.agent.cache site (λ z. WasPrefix (beginning z given) (machine_of given z events).log)
+  pub all_rules : (z : ℕ) (start : Prefix) → MayStart (fixed_of given) actor.agent.cache site z start
+      → Rules (fixed_of given) (run given events) (is_up (run given events)) z (WasPrefix (beginning z given) (machine_of given z events).log) start
+  all_rules z start may =
+      rules_of given z (machine_of given z events) (run given events) (effects.inv given events (all_keep given events can) z) (is_up (run given events))
+      (all_answer given z (machine_of given z events) (run given events) (effects.inv given events (all_keep given events can) z) (effects.follows given events (all_keep given events can) z).shows (all_consistent given events) goes.free) start
+      (start_was given events can z agent site actor start goes.there may)
+
+  pub ground : Ground (fixed_of given) (run given events) (is_up (run given events)) actor.agent.cache site (locks_on (table_of given events) task) (λ z. WasPrefix (beginning z given) (machine_of given z events).log)
   ground = record {
-    rules = λ z start may. rules_of given z (machine_of given z events) (run given events) (effects.inv given events (all_keep given events can) z) (is_up (run given events))
-        (all_answer given z (machine_of given z events) (run given events) (effects.inv given events (all_keep given events can) z) (effects.follows given events (all_keep given events can) z).shows (all_consistent given events) goes.free) start
-        (start_was given events can z agent site actor start goes.there may);
+    rules = λ z start asked may. all_rules z start may;
     valid = λ z prefix was. subst (λ (p : Prefix). IsValid p.votes) was.1 ((effects.inv given events (all_keep given events can) z).logged.valid prefix.pver);
   }
 
@@ -185,35 +189,35 @@ module _ (given : Opening) (events later : List Event) (agent t : ℕ) (caller :
   number_is = ap (λ n. 64 * actor.agent.count + n) ((holds_of given goes.can.accepted events).agents.index agent actor.agent (ap agent_of goes.there)) ∙ begun.0
 
   abbrev pub Right : Ending → Type 0
-  Right ended = EndsRight fixed first table task cache ended
+  Right ended = EndsRight fixed first (is_up first) table task cache ended
 
   abbrev pub Good : CourseStep → Type 0
-  Good step = StepStands fixed first table task cache Was ground step
+  Good step = StepStands fixed first (is_up first) table task cache Was ground step
 
   -- how it stands
   abbrev pub StandsIn : Cache → Option Doing → Type 0
   StandsIn now None = Unit {0}
   StandsIn now (Some (RunningSweep sweep_run)) = ⊥
-  StandsIn now (Some (Running txn_run)) = (txn_run.task ≡ task) × PhaseStands fixed first table task cache Was ground txn_run.suites now txn_run.phase
+  StandsIn now (Some (Running txn_run)) = (txn_run.task ≡ task) × PhaseStands fixed first (is_up first) table task cache Was ground txn_run.suites now txn_run.phase
 
   stands_left : (step : CourseStep) → Good step → StandsIn step.cache (left Running step.after)
   stands_left step = of step.after
     where
-      of : (after : After TransactionRun) → AfterStands fixed first table task cache Was ground step.cache after → StandsIn step.cache (left Running after)
+      of : (after : After TransactionRun) → AfterStands fixed first (is_up first) table task cache Was ground step.cache after → StandsIn step.cache (left Running after)
       of (GoesOn txn_run) good = good
       of (Ends ended) good = tt
 
   right_end : (step : CourseStep) → Good step → (ended : Ending) → end_of step.after ≡ Some ended → Right ended
   right_end step = of step.after
     where
-      of : (after : After TransactionRun) → AfterStands fixed first table task cache Was ground step.cache after → (ended : Ending) → end_of after ≡ Some ended → Right ended
+      of : (after : After TransactionRun) → AfterStands fixed first (is_up first) table task cache Was ground step.cache after → (ended : Ending) → end_of after ≡ Some ended → Right ended
       of (GoesOn txn_run) good ended is = absurd (none-some ended is)
-      of (Ends other) good ended is = subst (EndsRight fixed first table task cache) (same_Some other ended is) good
+      of (Ends other) good ended is = subst (EndsRight fixed first (is_up first) table task cache) (same_Some other ended is) good
 
   pub first_stands : StandsIn (begin fixed actor.agent job).cache (begin fixed actor.agent job).doing
   first_stands =
       subst (λ b. StandsIn (begin_if b).cache (begin_if b).doing) (sym begun.1)
-      (stands_left (execute fixed task (record { suites = []; cache = actor.agent.cache })) (begin_stands fixed first table task cache Was ground same_service))
+      (stands_left (execute fixed task (record { suites = []; cache = actor.agent.cache })) (begin_stands fixed first (is_up first) table task cache Was ground same_service))
     where
       begin_if : Bool → Agent
       begin_if b = cond b (record (started (fixed_of given) actor.agent job) { count = actor.agent.count + 1 }) actor.agent
@@ -244,7 +248,7 @@ module _ (given : Opening) (events later : List Event) (agent t : ℕ) (caller :
       asks_here z c asks =
           let is : tk.asked.1 ≡ request_for t z asks.question = asks.asked_is ∙ ap (λ n. request_for n z asks.question) number_is in
           let four = own_asks given first agent t actor.agent caller site ops w (event ∷ rest) m tk.asked.0 tk.st tk.at z asks.question (asks_so (request_for t z asks.question) is) in
-          subst (λ asked. Answers fixed first (is_up first) z tk.asked.0 (reply_of tk.st asked)) (sym is) (answers_so fixed first (is_up first) z tk.asked.0 t tk.st four.0 four.1 four.2 asks.question four.3)
+          subst (λ asked. Answers fixed first (is_up first) z tk.asked.0 (reply_of tk.st asked)) (sym is) (answers_so fixed first (is_up first) z tk.asked.0 t tk.st four.0 four.1 asks.question (λ up. four.2 up (mode_asked asks.question)) four.3)
 
       fetches_here : (z : ℕ) → tk.asked.1 ≡ request.Fetch task.t z → is_some (given_in said) ≡ true
       fetches_here z asked =
@@ -258,7 +262,7 @@ module _ (given : Opening) (events later : List Event) (agent t : ℕ) (caller :
           of (Some old) at up = ap (λ asked. is_some (given_in (reply_of tk.st asked))) is
               ∙ ap (λ said. is_some (given_in said)) (own_fetch given first agent t actor.agent caller site ops w (event ∷ rest) m tk.asked.0 tk.st tk.at z old (asks_so (request.Fetch t z) is) at).1
 
-      pub right_for : (now : Cache) (suites : Suites) (phase : Phase) → PhaseStands fixed first table task cache Was ground suites now phase → request_in fixed task suites phase ≡ Some (tk.asked.0, tk.asked.1) → RightFor fixed first task phase tk.asked.0 said
+      pub right_for : (now : Cache) (suites : Suites) (phase : Phase) → PhaseStands fixed first (is_up first) table task cache Was ground suites now phase → request_in fixed task suites phase ≡ Some (tk.asked.0, tk.asked.1) → RightFor fixed first (is_up first) task phase tk.asked.0 said
       right_for now suites (Gathering z) at asks =
           let g = at.0 in asks_here z g.suite.collector (asks_for task z g.suite.collector tk.asked.0 tk.asked.1 (sym (ap (asked_for task z) g.there) ∙ asks))
       right_for now suites (Fetching z) at asks = fetches_here z (fetch_is task z (suite_of suites z) tk.asked.0 tk.asked.1 asks)
@@ -298,7 +302,7 @@ module _ (given : Opening) (events later : List Event) (agent t : ℕ) (caller :
 
       -- ---- of its course
 
-      module _ (txn_run : TransactionRun) (running : m.here.agent.doing ≡ Some (Running txn_run)) (good : (txn_run.task ≡ task) × PhaseStands fixed first table task cache Was ground txn_run.suites m.here.agent.cache txn_run.phase)
+      module _ (txn_run : TransactionRun) (running : m.here.agent.doing ≡ Some (Running txn_run)) (good : (txn_run.task ≡ task) × PhaseStands fixed first (is_up first) table task cache Was ground txn_run.suites m.here.agent.cache txn_run.phase)
           (none : IsOpen m.here.agent.doing → decisions given m.all ≡ decisions given events) where
         abbrev pub step_of : Task → CourseStep
         step_of task = after_reply fixed task m.here.agent.cache txn_run.suites txn_run.phase tk.asked.0 tk.asked.1 said
@@ -359,8 +363,8 @@ module _ (given : Opening) (events later : List Event) (agent t : ℕ) (caller :
         pub good_step : Good (step_of txn_run.task)
         good_step =
             subst (λ task. Good (step_of task)) (sym good.0)
-            (reply_stands fixed first table task cache Was ground same_service m.here.agent.cache txn_run.suites txn_run.phase good.1 tk.asked.0 tk.asked.1 request_is said
-            (right_for m.here.agent.cache txn_run.suites txn_run.phase good.1 request_is) knows_on)
+            (reply_stands fixed first (is_up first) table task cache Was ground same_service m.here.agent.cache txn_run.suites txn_run.phase good.1 tk.asked.0 tk.asked.1 request_is said
+            (right_for m.here.agent.cache txn_run.suites txn_run.phase good.1 request_is) (λ may more is z _. knows_on may more is z))
 
         pub course_on : StandsIn tk.new.here.agent.cache tk.new.here.agent.doing
         course_on = subst (λ (agent : Agent). StandsIn agent.cache agent.doing) (sym here_is) (stands_left (step_of txn_run.task) good_step)

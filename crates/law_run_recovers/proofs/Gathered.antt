@@ -25,14 +25,13 @@ use Rattle.txn_core.specs.Doing.{Fixed, Task}
 use Rattle.txn_core.specs.Transactions.{Step, short_cause, gather_by, locked_at}
 use Rattle.txn_core.proofs.Gathers.{self, with_at, each_but, each_with}
 use Rattle.run_core.specs.Worlds.{World}
-use Rattle.law_run_recovers.specs.Standing.{is_up}
-use Rattle.law_run_recovers.specs.Demands.{is_met, demand, led_to, has_asked}
+use Rattle.law_run_recovers.specs.Demands.{is_met, demand_by, led_to_by, has_asked}
 use Rattle.law_run_recovers.proofs.Asking.{onto, held_in, held_if}
 use Rattle.law_run_recovers.proofs.Led.{reached_short, reached_current}
 use Rattle.law_run_recovers.proofs.Polled.{gathering, nobody_busy, at_current}
 use Rattle.law_run_recovers.proofs.Widened.{short_busy}
 use Rattle.law_run_recovers.proofs.Downs.{holds_shared}
-use Rattle.law_run_recovers.proofs.Stands.{Ground, of_lock, EndsRight, ends_short, short_lock, IsRight, IsHad, start_of, starts, may_start, had_met, SameStart, had_with, Hints, IsFound, found_start, found_right, HasLock, IsWhole, IsReady, IsGathering, StepStands, told_stands}
+use Rattle.law_run_recovers.proofs.Stands.{Ground, locks_on, of_lock, EndsRight, ends_short, short_lock, IsRight, IsHad, start_of, starts, may_start, had_met, SameStart, had_with, Hints, IsFound, found_start, found_right, HasLock, IsWhole, IsReady, IsGathering, StepStands, told_stands}
 
 -- ---- voters
 
@@ -65,58 +64,58 @@ one_of true b so = refl
 one_of false true so = so refl
 one_of false false so = refl
 
-module _ (fixed : Fixed) (world : World) (table : PlainTable) (task : Task) (cache : Cache) (Was : ℕ → Prefix → Type 0) (ground : Ground fixed world cache task.site Was) where
+module _ (fixed : Fixed) (world : World) (answers : ℕ → Bool) (table : PlainTable) (task : Task) (cache : Cache) (Was : ℕ → Prefix → Type 0) (ground : Ground fixed world answers cache task.site (locks_on table task) Was) where
   abbrev Good : Step → Type 0
-  Good step = StepStands fixed world table task cache Was ground step
+  Good step = StepStands fixed world answers table task cache Was ground step
 
   abbrev Now : Suites → ℕ → Type 0
-  Now suites number = IsGathering fixed world table task cache Was ground suites number
+  Now suites number = IsGathering fixed world answers table task cache Was ground suites number
 
   abbrev Right : ℕ → Suite → Type 0
-  Right z suite = IsRight fixed world table task cache z suite
+  Right z suite = IsRight fixed world answers table task cache z suite
 
   abbrev Whole : ℕ → Suite → Type 0
-  Whole z suite = IsWhole fixed world table task cache Was ground z suite
+  Whole z suite = IsWhole fixed world answers table task cache Was ground z suite
 
   -- ---- it falls short
 
   module _ (suites : Suites) (number : ℕ) (g : Now suites number) where
     abbrev led : Prefix → Prefix
-    led from = led_to fixed world number from
+    led from = led_to_by fixed world answers number from
 
-    same_start : starts fixed world table task cache suites number ≡ g.found.start
-    same_start = ap (start_of fixed world table task cache) g.there ∙ found_start fixed world table task cache Was ground number g.suite g.found
+    same_start : starts fixed world answers table task cache suites number ≡ g.found.start
+    same_start = ap (start_of fixed world answers table task cache) g.there ∙ found_start fixed world answers table task cache Was ground number g.suite g.found
 
-    pub gathering_short : (had wanting : ℕ) (busy : Option (ℕ × ℕ)) → next g.suite.collector ≡ Short had wanting busy → EndsRight fixed world table task cache (Undecided (short_cause number had wanting busy))
+    pub gathering_short : (had wanting : ℕ) (busy : Option (ℕ × ℕ)) → next g.suite.collector ≡ Short had wanting busy → EndsRight fixed world answers table task cache (Undecided (short_cause number had wanting busy))
     gathering_short had wanting busy is =
-        let start = starts fixed world table task cache suites in
-        let ends = reached_short fixed world (is_up world) number (Was number) g.found.start (ground.rules number g.found.start g.found.may) g.suite.collector g.found.reached had wanting busy is in
-        let not_busy : busy ≡ None = sym (short_busy g.suite.collector had wanting busy is) ∙ nobody_busy fixed world (is_up world) number (all_told g.suite.collector) (found_right fixed world table task cache Was ground number g.suite g.found).right in
-        let unmet : not (is_met (of_lock fixed world start (number, g.mode))) ≡ true =
-        ap (λ p. not (is_met (demand world number g.mode (led p).votes))) same_start
-        ∙ ap (λ mode. not (is_met (demand world number mode (led g.found.start).votes))) (sym g.mode_is) ∙ ap not ends.too_few in
-        subst (λ busy. EndsRight fixed world table task cache (Undecided (short_cause number had wanting busy))) (sym not_busy)
-        (ends_short fixed world table task cache start (may_start fixed world table task cache suites g.asks.right) (of_lock fixed world start (number, g.mode))
-        (short_lock fixed world table task cache start g.asked _ (number, g.mode) (g.asks.order ∙ ap (onto g.asked) g.next_is)
-        (λ other has. had_met fixed world table task cache suites other (g.asks.had other has)) unmet)
+        let start = starts fixed world answers table task cache suites in
+        let ends = reached_short fixed world answers number (Was number) g.found.start (ground.rules number g.found.start g.found.asked g.found.may) g.suite.collector g.found.reached had wanting busy is in
+        let not_busy : busy ≡ None = sym (short_busy g.suite.collector had wanting busy is) ∙ nobody_busy fixed world answers number (all_told g.suite.collector) (found_right fixed world answers table task cache Was ground number g.suite g.found).right in
+        let unmet : not (is_met (of_lock fixed world answers start (number, g.mode))) ≡ true =
+        ap (λ p. not (is_met (demand_by answers number g.mode (led p).votes))) same_start
+        ∙ ap (λ mode. not (is_met (demand_by answers number mode (led g.found.start).votes))) (sym g.mode_is) ∙ ap not ends.too_few in
+        subst (λ busy. EndsRight fixed world answers table task cache (Undecided (short_cause number had wanting busy))) (sym not_busy)
+        (ends_short fixed world answers table task cache start (may_start fixed world answers table task cache suites g.asks.right) (of_lock fixed world answers start (number, g.mode))
+        (short_lock fixed world answers table task cache start g.asked _ (number, g.mode) (g.asks.order ∙ ap (onto g.asked) g.next_is)
+        (λ other has. had_met fixed world answers table task cache suites other (g.asks.had other has)) unmet)
         number had wanting refl
-        (ends.had_is ∙ sym (ap (λ p. votes_in (led p).votes.reps (is_up world)) same_start))
+        (ends.had_is ∙ sym (ap (λ p. votes_in (led p).votes.reps answers) same_start))
         (ends.wanting_is ∙ ap (λ mode. needed_of mode (led g.found.start).votes) g.mode_is ∙ sym (ap (λ p. needed_of g.mode (led p).votes) same_start)))
 
     -- or asks on
-    pub gather_by_stands : (now : Cache) → Hints fixed world table task cache suites now → Good (gather_by task now suites number (next g.suite.collector))
+    pub gather_by_stands : (now : Cache) → Hints fixed world answers table task cache suites now → Good (gather_by task now suites number (next g.suite.collector))
     gather_by_stands now hints = of (next g.suite.collector) refl
       where
         of : (after : Next) → next g.suite.collector ≡ after → Good (gather_by task now suites number after)
         of (Short had wanting busy) is =
-            told_stands fixed world table task cache Was ground now suites verdict.Aborted (Undecided (short_cause number had wanting busy)) (locked_at suites) (gathering_short had wanting busy is)
+            told_stands fixed world answers table task cache Was ground now suites verdict.Aborted (Undecided (short_cause number had wanting busy)) (locked_at suites) (gathering_short had wanting busy is)
         of (Ask server asked) is = (refl, (g, hints))
         of (Current prefix dver members) is = (refl, (g, hints))
 
   -- ---- it had a Current
 
-  has_lock : (z : ℕ) (suite : Suite) → (found : IsFound fixed world table task cache Was ground z suite) → (prefix : Prefix) (dver : ℕ) (members : List ℕ) → next suite.collector ≡ Current prefix dver members
-      → (new : Suite) → new.collector ≡ suite.collector → HasLock fixed world table task cache Was ground new
+  has_lock : (z : ℕ) (suite : Suite) → (found : IsFound fixed world answers table task cache Was ground z suite) → (prefix : Prefix) (dver : ℕ) (members : List ℕ) → next suite.collector ≡ Current prefix dver members
+      → (new : Suite) → new.collector ≡ suite.collector → HasLock fixed world answers table task cache Was ground new
   has_lock z suite found prefix dver members is new same =
       let at = found.reached in
       let c : Collector = gathering found.start at.mode at.told in
@@ -131,9 +130,9 @@ module _ (fixed : Fixed) (world : World) (table : PlainTable) (task : Task) (cac
         holds = ap (λ (c : Collector). holds Shared (all_told c) voter.rep.0) (same ∙ at.is) ∙ holds_shared at.mode at.told voter.rep.0 voter.holds;
       }
 
-  pub current_whole : (z : ℕ) (suite : Suite) → IsFound fixed world table task cache Was ground z suite → (prefix : Prefix) (dver : ℕ) (members : List ℕ) → next suite.collector ≡ Current prefix dver members → Whole z (settled prefix dver members suite)
+  pub current_whole : (z : ℕ) (suite : Suite) → IsFound fixed world answers table task cache Was ground z suite → (prefix : Prefix) (dver : ℕ) (members : List ℕ) → next suite.collector ≡ Current prefix dver members → Whole z (settled prefix dver members suite)
   current_whole z suite found prefix dver members is = record {
-    found = record { start = found.start; may = found.may; reached = found.reached; led = λ first. led_of suite.first refl first };
+    found = record { start = found.start; may = found.may; asked = found.asked; reached = found.reached; led = λ first. led_of suite.first refl first };
     had = some suite.first _;
     mode_is = refl;
     lock = has_lock z suite found prefix dver members is (settled prefix dver members suite) refl;
@@ -143,11 +142,11 @@ module _ (fixed : Fixed) (world : World) (table : PlainTable) (task : Task) (cac
       some (Some first) given = refl
       some None given = refl
 
-      led_of : (old : Option ReadPoint) → suite.first ≡ old → (first : ReadPoint) → first_or old (record { prefix = prefix; dver = dver; source = source_of suite.collector dver members }) ≡ Some first → first.prefix ≡ led_to fixed world z found.start
+      led_of : (old : Option ReadPoint) → suite.first ≡ old → (first : ReadPoint) → first_or old (record { prefix = prefix; dver = dver; source = source_of suite.collector dver members }) ≡ Some first → first.prefix ≡ led_to_by fixed world answers z found.start
       led_of (Some old) was first same = ap (λ (first : ReadPoint). first.prefix) (sym (same_Some old first same)) ∙ found.led old was
       led_of None was first same =
           ap (λ (first : ReadPoint). first.prefix) (sym (same_Some _ first same))
-          ∙ (reached_current fixed world (is_up world) z (Was z) found.start (ground.rules z found.start found.may) suite.collector found.reached prefix dver members is).prefix_is
+          ∙ (reached_current fixed world answers z (Was z) found.start (ground.rules z found.start found.asked found.may) suite.collector found.reached prefix dver members is).prefix_is
 
   module _ (suites : Suites) (number : ℕ) (g : Now suites number) (prefix : Prefix) (dver : ℕ) (members : List ℕ) (is : next g.suite.collector ≡ Current prefix dver members) where
     abbrev new : Suite
@@ -156,13 +155,13 @@ module _ (fixed : Fixed) (world : World) (table : PlainTable) (task : Task) (cac
     whole : Whole number new
     whole = current_whole number g.suite g.found prefix dver members is
 
-    met : is_met (demand world number g.mode (led_to fixed world number g.suite.collector.start).votes) ≡ true
+    met : is_met (demand_by answers number g.mode (led_to_by fixed world answers number g.suite.collector.start).votes) ≡ true
     met =
-        let ends = reached_current fixed world (is_up world) number (Was number) g.found.start (ground.rules number g.found.start g.found.may) g.suite.collector g.found.reached prefix dver members is in
-        ap (λ p. is_met (demand world number g.mode (led_to fixed world number p).votes)) (found_start fixed world table task cache Was ground number g.suite g.found)
-        ∙ ap (λ mode. is_met (demand world number mode (led_to fixed world number g.found.start).votes)) (sym g.mode_is) ∙ ends.enough
+        let ends = reached_current fixed world answers number (Was number) g.found.start (ground.rules number g.found.start g.found.asked g.found.may) g.suite.collector g.found.reached prefix dver members is in
+        ap (λ p. is_met (demand_by answers number g.mode (led_to_by fixed world answers number p).votes)) (found_start fixed world answers table task cache Was ground number g.suite g.found)
+        ∙ ap (λ mode. is_met (demand_by answers number mode (led_to_by fixed world answers number g.found.start).votes)) (sym g.mode_is) ∙ ends.enough
 
-    same_from : SameStart fixed world table task cache suites number new
+    same_from : SameStart fixed world answers table task cache suites number new
     same_from old there = ap (λ (suite : Suite). suite.collector.start) (same_Some g.suite old (sym g.there ∙ there))
 
     held_new : (mode : LockMode) → held_in mode (Some new) ≡ serves g.suite.collector.mode mode
@@ -180,16 +179,16 @@ module _ (fixed : Fixed) (world : World) (table : PlainTable) (task : Task) (cac
     modes_on z mode false same = g.asks.modes z mode ∙ sym (ap (λ b. (b && serves g.mode mode) || has_asked g.asked z mode) same)
 
     -- then it has asked for this too
-    pub settled_ready : IsReady fixed world table task cache Was ground (with_suite number (settled prefix dver members g.suite) suites)
+    pub settled_ready : IsReady fixed world answers table task cache Was ground (with_suite number (settled prefix dver members g.suite) suites)
     settled_ready = record {
       asked = (number, g.mode) ∷ g.asked;
       asks = record {
         ordered = IsOrdered-insert nat_cmp_total suites number new g.asks.ordered;
-        right = each_with Right number suites new (each_but Right number suites g.asks.right) (found_right fixed world table task cache Was ground number new whole.found);
+        right = each_with Right number suites new (each_but Right number suites g.asks.right) (found_right fixed world answers table task cache Was ground number new whole.found);
         had = λ one has. ⊎_elim
-            (λ same. subst (IsHad fixed world table task cache (with_suite number new suites)) same
+            (λ same. subst (IsHad fixed world answers table task cache (with_suite number new suites)) same
             (record { suite = new; there = with_at number new suites number ∙ ap (λ b. cond b (Some new) (suite_of suites number)) (self number); met = met }))
-            (λ rest. had_with fixed world table task cache suites number new one same_from (g.asks.had one rest)) has;
+            (λ rest. had_with fixed world answers table task cache suites number new one same_from (g.asks.had one rest)) has;
         modes = λ z mode. ap (held_in mode) (with_at number new suites z) ∙ modes_on z mode (number == z) refl;
         order = g.asks.order ∙ ap (onto g.asked) g.next_is;
       };

@@ -30,7 +30,7 @@ use Rattle.txn_core.specs.Agents.{Agent, fixed_of, is_idle, has_sense, max_jobs,
 use Rattle.run_core.specs.declared.done.Served.{Served}
 use Rattle.run_core.specs.declared.event.Event.{Event}
 use Rattle.run_core.specs.declared.event.Event.TheVariants.{Begin, Step, Crash, Return, Forget, Lack}
-use Rattle.run_core.specs.Worlds.{Actor, World, Stepped, server_at, actor_at, becomes, serve, operated, operates, asks_at, asks, answered, steps_once, lacks_for, lacks, step}
+use Rattle.run_core.specs.Worlds.{Actor, World, server_at, actor_at, becomes, serve, operated, operates, asks_at, asks, answered, steps_once, lacks_for, lacks, step}
 use Rattle.run_core.specs.Worlds as worlds
 use Rattle.run_core.specs.Decisions.{Decided, decisions}
 use Rattle.run_core.specs.Runs.{after, run}
@@ -42,7 +42,8 @@ use Rattle.law_headline.specs.Premises.{CanBe}
 use Rattle.law_run_alone.specs.Alone.{begins_job}
 use Rattle.law_run_alone.proofs.Unhindered.{all_consistent}
 use Rattle.law_run_recovers.specs.Near.{asks_for, is_open_way, way_in, is_open_at}
-use Rattle.law_run_recovers.specs.Unmet.{runs, running_in, is_running, is_told, tells, telling_in, is_telling, world_after, takes, up_and, of_up, robs, hinders_itself, shows_same, SameWay, told_as_first, AsAtItsBegin, GoesAmongLocks}
+use Rattle.law_run_recovers.specs.Unmet.{runs, running_in, is_running, is_told, tells, telling_in, is_telling, world_after, takes, up_and, of_up, robs, hinders_itself}
+use Rattle.law_run_recovers.proofs.AmongLocks.{shows_same, SameWay, told_as_first, AsAtItsBegin, GoesAmongLocks}
 use Rattle.law_run_recovers.proofs.Serves.{Serves}
 use Rattle.law_run_recovers.proofs.Still.{IsOpen, IsOpenPhase, open_before, open_next}
 use Rattle.law_run_recovers.proofs.Open.{begun_there, begun_servers, its_begin}
@@ -138,7 +139,7 @@ works w agent t at = of (actor_at w agent) refl at.running at.untold
     of None is running told = absurd (false≢true running)
     of (Some actor) is running told = record { actor = actor; there = is; is_open = open_of t actor.agent.doing running told; runs_it = running }
 
-at_work : (w : World) (agent t : ℕ) (actor : Actor) → actor_at w agent ≡ Some actor → IsOpen actor.agent.doing → runs t actor.agent.doing ≡ true → IsAtWork w agent t
+pub at_work : (w : World) (agent t : ℕ) (actor : Actor) → actor_at w agent ≡ Some actor → IsOpen actor.agent.doing → runs t actor.agent.doing ≡ true → IsAtWork w agent t
 at_work w agent t actor there open' runs = record { running = ap (running_in t) there ∙ runs; untold = ap telling_in there ∙ of actor.agent.doing open' }
   where
     of : (doing : Option Doing) → IsOpen doing → tells doing ≡ false
@@ -330,7 +331,7 @@ module _ (given : Opening) (events later : List Event) (agent t : ℕ) (caller :
     open_at : (so_far rest : List Event) → later ≡ so_far ++ rest → IsAtWork (world_then so_far) agent t → is_open_at (world_then so_far) t one.0 one.1 server ≡ true
     open_at so_far rest is at = ap is_open_way ((goes.stays so_far rest is at.running).way server one near has) ∙ open'
 
-    abbrev Same : World → Type 0
+    abbrev pub Same : World → Type 0
     Same w = (st old : State) → server_at w server ≡ Some st → server_at first server ≡ Some old → copy_of st.store one.0 ≡ copy_of old.store one.0
 
     same_first : Same (world_then [])
@@ -339,7 +340,7 @@ module _ (given : Opening) (events later : List Event) (agent t : ℕ) (caller :
         (same_Some st old (sym at ∙ begun_servers given events later agent t caller site ops actor goes.can goes.there goes.begins server ∙ was))
 
     -- one event
-    same_next : (so_far rest : List Event) (event : Event) → later ≡ so_far ++ event ∷ rest → IsAtWork (world_then so_far) agent t → Same (world_then so_far) → Same (step (fixed_of given) (world_then so_far) event).world
+    pub same_next : (so_far rest : List Event) (event : Event) → later ≡ so_far ++ event ∷ rest → IsAtWork (world_then so_far) agent t → Same (world_then so_far) → Same (step (fixed_of given) (world_then so_far) event).world
     same_next so_far rest event is at same new old now was =
         let w = world_then so_far in
         let is_open = open_at so_far (event ∷ rest) is at in

@@ -200,14 +200,18 @@ unanswered given all can t none z is =
 
 -- ---- what is known
 
--- where no lock of it was taken away and it is not answered, what a transaction knows is so on the table of the run so far
+-- where no lock of it was taken away and it is not answered, what a transaction knows is what the registers of the run so far hold
+pub knows_registers : (given : Opening) (all : List Event) → CanBe given all → (agent : ℕ) (here : Actor) (txn_run : TransactionRun) → actor_at (run given all) agent ≡ Some here → here.agent.doing ≡ Some (Running txn_run)
+    → ((z : ℕ) → Stands (machine_of given z all) txn_run.task.t) → ((z : ℕ) → (machine_of given z all).verdict txn_run.task.t ≢ Some Answered)
+    → (z : ℕ) (suite : Suite) (first : ReadPoint) → suite_of txn_run.suites z ≡ Some suite → suite.first ≡ Some first → IsKnown (register given z all) (known_by first suite)
+knows_registers given all can agent here txn_run there running stands unanswered z suite first is had =
+    is_known (beginning z given) (machine_of given z all) (holds_after given all can z).inv txn_run.task.t (stands z) (unanswered z) (known_by first suite)
+    (known_owed given z (machine_of given z all) (run given all) (holds_after given all can z) agent here txn_run there running suite first is had)
+
+-- and so on its table
 pub knows_table : (given : Opening) (all : List Event) → CanBe given all → (agent : ℕ) (here : Actor) (txn_run : TransactionRun) → actor_at (run given all) agent ≡ Some here → here.agent.doing ≡ Some (Running txn_run) → IsOrdered nat_cmp txn_run.suites
     → ((z : ℕ) → Stands (machine_of given z all) txn_run.task.t) → ((z : ℕ) → (machine_of given z all).verdict txn_run.task.t ≢ Some Answered)
     → AgreesWith (known_of txn_run.suites) (row_of (table_of given all).rows)
 knows_table given all can agent here txn_run there running ordered stands unanswered =
-    agrees txn_run.suites (table_of given all).rows (λ z. register given z all) ordered (all_shown given all (all_keep given all can)) knows
-  where
-    knows : (z : ℕ) (suite : Suite) (first : ReadPoint) → suite_of txn_run.suites z ≡ Some suite → suite.first ≡ Some first → IsKnown (register given z all) (known_by first suite)
-    knows z suite first is had =
-        is_known (beginning z given) (machine_of given z all) (holds_after given all can z).inv txn_run.task.t (stands z) (unanswered z) (known_by first suite)
-        (known_owed given z (machine_of given z all) (run given all) (holds_after given all can z) agent here txn_run there running suite first is had)
+    agrees txn_run.suites (table_of given all).rows (λ z. register given z all) ordered (all_shown given all (all_keep given all can))
+    (knows_registers given all can agent here txn_run there running stands unanswered)

@@ -19,6 +19,7 @@ use Rattle.file_ops.specs.Rows.{PlainTable, row_of}
 use Rattle.file_exec.specs.declared.need.Need.TheVariants.{Hold, Know}
 use Rattle.file_exec.specs.declared.executor.Outcome.{Outcome as Executed}
 use Rattle.file_exec.specs.declared.executor.Outcome.TheVariants as exec
+use Rattle.file_exec.specs.Known as known
 use Rattle.file_exec.specs.Known.{IsSoAt, AgreesWith}
 use Rattle.suite_collect.specs.Telling.{holds}
 use Rattle.suite_collect.specs.Collecting.{raise, all_told, Next, Current, Ask, Short, next}
@@ -27,12 +28,12 @@ use Rattle.txn_core.specs.declared.ending.Ending.{Ending}
 use Rattle.txn_core.specs.declared.ending.Ending.TheVariants.{Undecided}
 use Rattle.txn_core.specs.Suites.{ReadPoint, Suite, Suites, suite_of, with_suite, known_of, holds_lock, has_locks}
 use Rattle.txn_core.specs.Doing as doing
-use Rattle.txn_core.specs.Doing.{Fixed, Task, Granted, TransactionRun, After, GoesOn, Ends}
+use Rattle.txn_core.specs.Doing.{Fixed, Task, Granted, TransactionRun, GoesOn}
 use Rattle.txn_core.specs.Transactions.{Step, Gathered, numbers_from, locked_at, tell_end, prepare, short_cause, gather_by, gather, raised_or_new, widened, widen_by, widen_one, widen_all, to_widen, proceed, opened, heard_on, execute}
 use Rattle.txn_core.proofs.Gathers.{with_at}
 use Rattle.run_core.specs.Worlds.{World}
 use Rattle.law_run_recovers.proofs.Asking.{known_in, known_if_first, known_is}
-use Rattle.law_run_recovers.proofs.Stands.{Ground, Hints, IsReady}
+use Rattle.law_run_recovers.proofs.Stands.{Ground, asks_of, locks_on, Hints, IsReady}
 use Rattle.law_run_recovers.proofs.Executes.{Opened, opened_stands}
 
 -- ---- some server holds a lock
@@ -185,18 +186,17 @@ module _ (task : Task) (now : Cache) (suites : Suites) where
 
 -- ---- so what is known once it went on was known as it executed
 
-module _ (fixed : Fixed) (world : World) (table : PlainTable) (task : Task) (cache : Cache) (Was : ℕ → Prefix → Type 0) (ground : Ground fixed world cache task.site Was) where
-  pub agreed : (all : Gathered) → IsReady fixed world table task cache Was ground all.suites → Hints fixed world table task cache all.suites all.cache → (number : ℕ) → is_some (suite_of all.suites number) ≡ true
-      → ((txn_run : TransactionRun) → (execute fixed task all).after ≡ GoesOn txn_run → AgreesWith (known_of txn_run.suites) (row_of table.rows))
+module _ (fixed : Fixed) (world : World) (answers : ℕ → Bool) (table : PlainTable) (task : Task) (cache : Cache) (Was : ℕ → Prefix → Type 0) (ground : Ground fixed world answers cache task.site (locks_on table task) Was) where
+  pub agreed : (all : Gathered) → IsReady fixed world answers table task cache Was ground all.suites → Hints fixed world answers table task cache all.suites all.cache → (number : ℕ) → is_some (suite_of all.suites number) ≡ true
+      → ((txn_run : TransactionRun) → (execute fixed task all).after ≡ GoesOn txn_run → (z : ℕ) → asks_of (locks_on table task) z ≡ true → IsSoAt (known.known_of (known_of txn_run.suites) z) (row_of table.rows z))
       → AgreesWith (known_of (opened (length all.suites) fixed task all).suites) (row_of table.rows)
-  agreed all ready hints number some so z =
-      subst (λ found. IsSoAt found (row_of table.rows z)) (known_is goes.txn_run.suites goes.like.ordered z ∙ goes.like.same z ∙ sym (known_is more.suites now.ready.asks.ordered z)) (so goes.txn_run goes.is z)
+  agreed all ready hints number some so z = of (suite_of (opened (length all.suites) fixed task all).suites z) refl
     where
       more : Gathered
       more = opened (length all.suites) fixed task all
 
-      now : Opened fixed world table task cache Was ground all (opened (length all.suites) fixed task all)
-      now = opened_stands fixed world table task cache Was ground (length all.suites) all ready hints
+      now : Opened fixed world answers table task cache Was ground all (opened (length all.suites) fixed task all)
+      now = opened_stands fixed world answers table task cache Was ground (length all.suites) all ready hints
 
       some_in : (found : Option Suite) → suite_of (opened (length all.suites) fixed task all).suites number ≡ found → is_some found ≡ true → HasSome (opened (length all.suites) fixed task all).suites
       some_in None there is = absurd (false≢true is)
@@ -210,3 +210,10 @@ module _ (fixed : Fixed) (world : World) (table : PlainTable) (task : Task) (cac
         same = λ z. refl;
         some = some_in (suite_of more.suites number) refl (now.there number some);
       }) (heard_on fixed task more.suites)
+
+      -- what is gathered was asked for
+      of : (found : Option Suite) → suite_of (opened (length all.suites) fixed task all).suites z ≡ found → IsSoAt (known.known_of (known_of (opened (length all.suites) fixed task all).suites) z) (row_of table.rows z)
+      of None is = subst (λ found. IsSoAt found (row_of table.rows z)) (sym (known_is more.suites now.ready.asks.ordered z ∙ ap known_in is)) tt
+      of (Some suite) is =
+          subst (λ found. IsSoAt found (row_of table.rows z)) (known_is goes.txn_run.suites goes.like.ordered z ∙ goes.like.same z ∙ sym (known_is more.suites now.ready.asks.ordered z))
+          (so goes.txn_run goes.is z (now.ready.whole z suite is).found.asked)

@@ -59,3 +59,17 @@ pub mod AtWork
 pub mod Unfixed
 pub mod Unrobbed
 pub mod NearRows
+pub mod Contending
+pub mod Blocking
+pub mod Apart
+pub mod AsBegun
+pub mod NearGround
+pub mod Asked
+pub mod UnmetAt
+pub mod UnmetKnows
+pub mod UnmetCourse
+pub mod UnmetEnds
+pub mod UnmetLaws
+pub mod Names
+pub mod UnmetTime
+pub mod AmongLocks

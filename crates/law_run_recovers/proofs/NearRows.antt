@@ -65,7 +65,7 @@ module _ (given : Opening) (events : List Event) (t : ℕ) (caller : Identity) (
   AllNear prefix = (server : ℕ) → has_vote prefix.votes server ≡ true → near server ≡ true
 
   -- a near server is open where it is up
-  open_is_up : (one : ℕ × LockMode) → Contains (asks_for given events t caller ops) one → (server : ℕ) → near server ≡ true → is_open_at world t one.0 one.1 server ≡ is_up world server
+  pub open_is_up : (one : ℕ × LockMode) → Contains (asks_for given events t caller ops) one → (server : ℕ) → near server ≡ true → is_open_at world t one.0 one.1 server ≡ is_up world server
   open_is_up one has server is = ap is_open_way (plain_way t one.0 one.1 (server_at world server) (clear one server has is)) ∙ of (up_in (server_at world server))
     where
       of : (b : Bool) → is_open_way (cond b (Some None) None) ≡ b
@@ -75,10 +75,8 @@ module _ (given : Opening) (events : List Event) (t : ℕ) (caller : Identity) (
   votes_near : (prefix : Prefix) → AllNear prefix → (rep : Representative) → Has prefix.votes.reps rep → nat_lt 0 rep.1 ≡ true → near rep.0 ≡ true
   votes_near prefix all rep has some = all rep.0 (has_any (λ (other : Representative). (other.0 == rep.0) && nat_lt 0 other.1) prefix.votes.reps rep has (ap (λ b. b && nat_lt 0 rep.1) (eq-eqb rep.0 rep.0 refl) ∙ some))
 
-  module _ (one : ℕ × LockMode) (has : Contains (asks_for given events t caller ops) one) where
-    abbrev opens : ℕ → Bool
-    opens = is_open_at (run given events) t one.0 one.1
-
+  -- by any servers that are the near ones that are up, or more that are not near
+  module _ (one : ℕ × LockMode) (has : Contains (asks_for given events t caller ops) one) (opens : ℕ → Bool) (agree : (server : ℕ) → near server ≡ true → opens server ≡ is_up (run given events) server) where
     same_newer : (prefix : Prefix) → AllNear prefix → newer_by (fixed_of given) world (is_up world) one.0 prefix ≡ newer_by (fixed_of given) world opens one.0 prefix
     same_newer prefix all =
         ap (option_map (λ (rep : Representative). shown_at (fixed_of given) world one.0 rep.0))
@@ -86,7 +84,7 @@ module _ (given : Opening) (events : List Event) (t : ℕ) (caller : Identity) (
       where
         of : (rep : Representative) → Has prefix.votes.reps rep → (b : Bool) → nat_lt 0 rep.1 ≡ b
             → (b && is_up world rep.0 && nat_lt prefix.pver (shown_at (fixed_of given) world one.0 rep.0).pver) ≡ (b && opens rep.0 && nat_lt prefix.pver (shown_at (fixed_of given) world one.0 rep.0).pver)
-        of rep there true some = ap (λ b. true && b && nat_lt prefix.pver (shown_at (fixed_of given) world one.0 rep.0).pver) (sym (open_is_up one has rep.0 (votes_near prefix all rep there some)))
+        of rep there true some = ap (λ b. true && b && nat_lt prefix.pver (shown_at (fixed_of given) world one.0 rep.0).pver) (sym (agree rep.0 (votes_near prefix all rep there some)))
         of rep there false some = refl
 
     near_newer : (prefix next : Prefix) → AllNear prefix → newer_by (fixed_of given) world (is_up world) one.0 prefix ≡ Some next → AllNear next
@@ -99,7 +97,7 @@ module _ (given : Opening) (events : List Event) (t : ℕ) (caller : Identity) (
             let parts = and_parts (nat_lt 0 rep.1) (is_up world rep.0) (and_parts (nat_lt 0 rep.1 && is_up world rep.0) (nat_lt prefix.pver (shown_at (fixed_of given) world one.0 rep.0).pver) there.1).0 in
             subst AllNear (same_Some (shown_at (fixed_of given) world one.0 rep.0) next is) (λ server vote. are.shown one rep.0 server has (votes_near prefix all rep there.0 parts.0) parts.1 vote)
 
-    same_so_far : (n : ℕ) (prefix : Prefix) → AllNear prefix
+    pub same_so_far : (n : ℕ) (prefix : Prefix) → AllNear prefix
         → (led_so_far_by n (fixed_of given) world (is_up world) one.0 prefix ≡ led_so_far_by n (fixed_of given) world opens one.0 prefix) × AllNear (led_so_far_by n (fixed_of given) world (is_up world) one.0 prefix)
     same_so_far zero prefix all = (refl, all)
     same_so_far (suc n) prefix all = of (newer_by (fixed_of given) world (is_up world) one.0 prefix) refl (same_so_far n)
@@ -122,10 +120,10 @@ module _ (given : Opening) (events : List Event) (t : ℕ) (caller : Identity) (
             )
 
     -- by votes of near servers, those that are open are those that are up
-    same_got : (prefix : Prefix) → AllNear prefix → votes_in prefix.votes.reps (is_up world) ≡ votes_in prefix.votes.reps opens
-    same_got prefix all = votes_alike prefix.votes.reps (is_up world) opens (λ rep there some. sym (open_is_up one has rep.0 (votes_near prefix all rep there some)))
+    pub same_got : (prefix : Prefix) → AllNear prefix → votes_in prefix.votes.reps (is_up world) ≡ votes_in prefix.votes.reps opens
+    same_got prefix all = votes_alike prefix.votes.reps (is_up world) opens (λ rep there some. sym (agree rep.0 (votes_near prefix all rep there some)))
 
-  start_near : (one : ℕ × LockMode) → Contains (asks_for given events t caller ops) one → (start : Prefix) → MayStart (fixed_of given) actor.agent.cache site one.0 start → AllNear start
+  pub start_near : (one : ℕ × LockMode) → Contains (asks_for given events t caller ops) one → (start : Prefix) → MayStart (fixed_of given) actor.agent.cache site one.0 start → AllNear start
   start_near one has start (inl absent) server vote = are.first server (ap (λ (prefix : Prefix). has_vote prefix.votes server) (sym absent) ∙ vote)
   start_near one has start (inr hinted) server vote = are.hints one start server has hinted vote
 
@@ -137,10 +135,10 @@ module _ (given : Opening) (events : List Event) (t : ℕ) (caller : Identity) (
         let asked : List (ℕ × LockMode) = asks_for given events t caller ops in
         let first : LockMode = first_mode asked one.0 in
         let contains = contains_from asked (one.0, first) (first_in asked one has) in
-        let led = same_so_far (one.0, first) contains (length world.servers) start (start_near (one.0, first) contains start may) in
+        let led = same_so_far (one.0, first) contains (is_open_at (run given events) t one.0 first) (open_is_up (one.0, first) contains) (length world.servers) start (start_near (one.0, first) contains start may) in
         let here = contains_from asked one has in
         let met' : nat_le (needed_of one.1 (led_to (fixed_of given) world one.0 start).votes) (votes_in (led_to (fixed_of given) world one.0 start).votes.reps (is_open_at world t one.0 one.1)) ≡ true =
-        ap (nat_le (needed_of one.1 (led_to (fixed_of given) world one.0 start).votes)) (sym (same_got one here (led_to (fixed_of given) world one.0 start) led.1)) ∙ met in
+        ap (nat_le (needed_of one.1 (led_to (fixed_of given) world one.0 start).votes)) (sym (same_got one here (is_open_at (run given events) t one.0 one.1) (open_is_up one here) (led_to (fixed_of given) world one.0 start) led.1)) ∙ met in
         let row = votes_of_row (fixed_of given) (row_of (table_of given events).rows one.0) in
         up_to (needed_of one.1 row) (votes_in row.reps (is_open_at world t one.0 one.1)) (votes_in row.reps (is_up world))
         (open_row given events can agent t caller site ops actor there begins one.0 start may one.1 first (weaker_first [] (needs (row_of (table_of given events).rows) [] (transaction (table_of given events).service t caller ops)) one has)

@@ -40,7 +40,8 @@ use Rattle.law_run_recovers.specs.Standing.{up_in, is_up}
 use Rattle.law_run_recovers.specs.Alone.{hinders, unhindered_from}
 use Rattle.law_run_recovers.specs.Laws.{GoesAlone}
 use Rattle.law_run_recovers.specs.Near.{asks_for, way_in, is_way_met, in_its_way}
-use Rattle.law_run_recovers.specs.Unmet.{runs, running_in, is_running, is_telling, begun_world, world_after, takes, of_up, robs, hinders_itself, StandsOpen, StandsStill, GoesUnmet, GoesAmongLocks}
+use Rattle.law_run_recovers.specs.Unmet.{runs, running_in, is_running, is_telling, begun_world, world_after, takes, of_up, robs, hinders_itself, StandsOpen, GoesUnmet}
+use Rattle.law_run_recovers.proofs.AmongLocks.{StandsStill, GoesAmongLocks}
 use Rattle.law_run_recovers.proofs.Serves.{Serves, event_serves}
 use Rattle.law_run_recovers.proofs.Moments.{is_calm, moment_first}
 
@@ -253,7 +254,7 @@ module _ (given : Opening) (events later : List Event) (agent t : ℕ) (caller :
   abbrev first_of : World
   first_of = run given events
 
-  open_first : (server : ℕ) (one : ℕ × LockMode) → goes.near server ≡ true → Contains (asks_for given events t caller ops) one → in_its_way (run given events) t one.0 one.1 server ≡ false
+  pub open_first : (server : ℕ) (one : ℕ × LockMode) → goes.near server ≡ true → Contains (asks_for given events t caller ops) one → in_its_way (run given events) t one.0 one.1 server ≡ false
   open_first server one near has =
       ap (λ found. is_way_met (way_in t one.0 one.1 found)) (sym (begun_servers given events later agent t caller site ops actor goes.can goes.there goes.begins server))
       ∙ (goes.unmet [] later refl (begun_runs given events later agent t caller site ops actor goes.can goes.there goes.begins)).way server one near has
@@ -277,6 +278,10 @@ module _ (given : Opening) (events later : List Event) (agent t : ℕ) (caller :
     stays = λ so_far rest is running. still (world_after given events agent caller site ops so_far) (goes.unmet so_far rest is running);
     free_hand = goes.free_hand;
   }
+
+  pub near_among : (server : ℕ) → goes.near server ≡ true → unmet_is_among_locks.near server ≡ true
+  unfolding unmet_is_among_locks
+  near_among server near = near
 
 -- so who goes alone is among locks that stay
 pub alone_is_among_locks : (given : Opening) (events later : List Event) (agent t : ℕ) (caller : Identity) (site : ℕ) (ops : List Op) (actor : Actor)

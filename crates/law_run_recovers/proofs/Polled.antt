@@ -109,23 +109,23 @@ module _ (fixed : Fixed) (world : World) (answers : ℕ → Bool) (suite : ℕ) 
   -- so does a server that is up or down as it was, has stored what it showed, and has no lock in the way
   pub answers_so : (server t : ℕ) (st : State) → st.up ≡ answers server
       → (answers server ≡ true → (copy_of st.store suite).prefix ≡ shown_at fixed world suite server)
-      → (answers server ≡ true → (mode : LockMode) → in_the_way t suite mode st.locks ≡ None)
-      → (asked : Asked) → (asked ≡ Upgrade → answers server ≡ true → has_lock t suite st.locks ≡ true)
+      → (asked : Asked) → (answers server ≡ true → in_the_way t suite (mode_asked asked) st.locks ≡ None) → (asked ≡ Upgrade → answers server ≡ true → has_lock t suite st.locks ≡ true)
       → Answers server (reply_of st (request_for t suite asked))
-  answers_so server t st up stored free asked own = of (answers server) refl asked own
+  answers_so server t st up stored asked free own = of (answers server) refl asked free own
     where
       serves_it : (b : Bool) (asked : Request) → answers server ≡ b → reply_of st asked ≡ cond b (reply_up st asked) (reply_down asked)
       serves_it b asked is = ap (λ b. cond b (reply_up st asked) (reply_down asked)) (up ∙ is)
 
-      of : (b : Bool) → answers server ≡ b → (asked : Asked) → (asked ≡ Upgrade → answers server ≡ true → has_lock t suite st.locks ≡ true) → Answers server (reply_of st (request_for t suite asked))
-      of true is (Poll mode) own =
-          subst (Answers server) (sym (serves_it true (request_for t suite (Poll mode)) is ∙ ap (λ found. locking_reply found (copy_of st.store suite)) (free is mode))) (is, stored is)
-      of true is Upgrade own =
+      of : (b : Bool) → answers server ≡ b → (asked : Asked) → (answers server ≡ true → in_the_way t suite (mode_asked asked) st.locks ≡ None) → (asked ≡ Upgrade → answers server ≡ true → has_lock t suite st.locks ≡ true)
+          → Answers server (reply_of st (request_for t suite asked))
+      of true is (Poll mode) free own =
+          subst (Answers server) (sym (serves_it true (request_for t suite (Poll mode)) is ∙ ap (λ found. locking_reply found (copy_of st.store suite)) (free is))) (is, stored is)
+      of true is Upgrade free own =
           subst (Answers server)
-          (sym (serves_it true (request_for t suite Upgrade) is ∙ ap (λ b. cond b (poll_reply st t suite Exclusive) reply.Lost) (own refl is) ∙ ap (λ found. locking_reply found (copy_of st.store suite)) (free is Exclusive)))
+          (sym (serves_it true (request_for t suite Upgrade) is ∙ ap (λ b. cond b (poll_reply st t suite Exclusive) reply.Lost) (own refl is) ∙ ap (λ found. locking_reply found (copy_of st.store suite)) (free is)))
           (is, stored is)
-      of false is (Poll mode) own = subst (Answers server) (sym (serves_it false (request_for t suite (Poll mode)) is)) is
-      of false is Upgrade own = subst (Answers server) (sym (serves_it false (request_for t suite Upgrade) is)) is
+      of false is (Poll mode) free own = subst (Answers server) (sym (serves_it false (request_for t suite (Poll mode)) is)) is
+      of false is Upgrade free own = subst (Answers server) (sym (serves_it false (request_for t suite Upgrade) is)) is
 
   abbrev pub RightSaid : ℕ → Said → Type 0
   RightSaid server (Held prefix dver) = (answers server ≡ true) × (prefix ≡ shown_at fixed world suite server)

@@ -15,6 +15,7 @@ use Rattle.law_run_alone.proofs.Same.{endings_are_one}
 use Rattle.law_run_recovers.specs.Promises.{IsAvailable, Lends}
 use Rattle.law_run_recovers.proofs.Again.{one_of_them_is_decided}
 use Rattle.law_run_recovers.proofs.Counts.{they_end_in_time}
+use Rattle.law_run_recovers.proofs.Blocking.{blocked_by_doubts, some_server_blocks, one_crash_blocks}
 use Rattle.law_run_recovers.proofs.Calm.{sweeps_keep_effects}
 use Rattle.law_run_recovers.proofs.Ends.{ends_are_by_votes}
 use Rattle.law_run_recovers.proofs.Free.{no_lock_is_left}
@@ -26,6 +27,8 @@ use Rattle.law_run_recovers.proofs.Rows.{met_demands_are_rows}
 use Rattle.law_run_recovers.proofs.Stored.{all_is_stored}
 use Rattle.law_run_recovers.proofs.Swept.{sweeps_leave_doubts}
 use Rattle.law_run_recovers.proofs.Taken.{taken_away_are_never_decided}
+use Rattle.law_run_recovers.proofs.UnmetLaws.{unmet_end_by_votes, unmet_had_votes_up, unmet_are_decided_where_votes_are}
+use Rattle.law_run_recovers.proofs.UnmetTime.{unmet_end_in_time}
 use Rattle.law_run_recovers.proofs.Unmoved.{decided_where_votes_are}
 
 pub available : RunsKeepToSites → (given : Opening) (events : List Event) → CanBe given events → IsAvailable given events
@@ -35,11 +38,18 @@ available sites given events can = record {
   in_time = they_end_in_time given events;
   where_votes = decided_where_votes_are ends_are_by_votes given events;
   rows = met_demands_are_rows given events can;
+  unmet_ends = unmet_end_by_votes given events;
+  unmet_in_time = unmet_end_in_time given events;
+  unmet_had_votes = unmet_had_votes_up given events;
+  unmet_where_votes = unmet_are_decided_where_votes_are given events;
   homes = homes_go_round given;
   again = one_of_them_is_decided given events;
   sweep = sweeps_leave_doubts given events;
   effects = sweeps_keep_effects given events;
   doubts = only_doubts_are_left given events;
+  blocked = blocked_by_doubts given events;
+  blocker = some_server_blocks given events;
+  one_crash = one_crash_blocks given events;
   free = no_lock_is_left given events;
   stored = all_is_stored given events;
   never = taken_away_are_never_decided given events;

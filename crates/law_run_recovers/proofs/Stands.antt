@@ -7,17 +7,19 @@ use Rattle.std.proofs.lemmas.Bool.{eqb-true}
 use Rattle.std.proofs.lemmas.Cmp.{nat_cmp_total}
 use Rattle.sorted_map.specs.SortedMap.{IsOrdered}
 use Rattle.sorted_map.specs.Laws.{IsOrdered-insert}
+use Rattle.acl_core.specs.Identity.{Identity}
 use Rattle.vote_core.specs.Quorums.{Configuration, votes_in}
 use Rattle.vote_core.specs.Validity.{IsValid, max_servers}
 use Rattle.suite_prefix.specs.Absent.{absent_prefix}
 use Rattle.suite_prefix.specs.declared.copies.Prefix.{Prefix}
 use Rattle.suite_prefix.specs.declared.lock_mode.LockMode.{LockMode}
-use Rattle.suite_prefix.specs.declared.lock_mode.LockMode.TheVariants.{Shared}
+use Rattle.suite_prefix.specs.declared.lock_mode.LockMode.TheVariants.{Shared, Exclusive}
 use Rattle.suite_prefix.specs.LockModes.{serves}
 use Rattle.rep_core.proofs.Members.{Has}
 use Rattle.rep_core.specs.declared.reply.Verdict.{Verdict}
 use Rattle.file_ops.specs.declared.answer.Answer.{Answer}
 use Rattle.file_ops.specs.declared.refusal.Refusal.{Refusal}
+use Rattle.file_ops.specs.declared.operation.Op.{Op}
 use Rattle.file_ops.specs.Rows.{PlainTable, row_of}
 use Rattle.file_exec.specs.declared.need.Need.{Need}
 use Rattle.file_exec.specs.Following.{Ended, needs, ending}
@@ -36,7 +38,7 @@ use Rattle.txn_core.specs.Transactions.{Step, tell_end, prepare}
 use Rattle.txn_core.proofs.Gathers.{Each, EachBut, with_at, each_but, each_with}
 use Rattle.run_core.specs.Worlds.{World}
 use Rattle.law_run_recovers.specs.Standing.{is_up}
-use Rattle.law_run_recovers.specs.Demands.{Demand, demand, demands, is_met, first_short, led_to, has_asked, not_asked, locks_asked, votes_set, MayStart, MayStartAll}
+use Rattle.law_run_recovers.specs.Demands.{Demand, demand_by, is_met, first_short, led_to_by, has_asked, not_asked, locks_asked, votes_set, MayStart, MayStartAll}
 use Rattle.law_run_recovers.specs.Laws.{ending_by, answer_on}
 use Rattle.law_run_recovers.proofs.Asking.{onto, find_past, held_in}
 use Rattle.law_run_recovers.proofs.Led.{Rules, Reached}
@@ -45,9 +47,13 @@ use Rattle.law_run_recovers.proofs.VotesSet.{IsSet}
 
 -- ---- what it stands on
 
--- of each suite, what a prefix from which it is looked for leads to; Was says what a prefix is said to be, as that the suite had it
-pub record Ground (fixed : Fixed) (world : World) (cache : Cache) (site : ℕ) (Was : ℕ → Prefix → Type 0) : Type 0 where
-  pub rules : (z : ℕ) (start : Prefix) → MayStart fixed cache site z start → Rules fixed world (is_up world) z (Was z) start
+-- whether a suite is among those that are asked for
+abbrev pub asks_of : List (ℕ × LockMode) → ℕ → Bool
+asks_of asked z = list_any (λ (one : ℕ × LockMode). one.0 == z) asked
+
+-- of each suite that is asked for, what a prefix from which it is looked for leads to; Was says what a prefix is said to be, as that the suite had it
+pub record Ground (fixed : Fixed) (world : World) (answers : ℕ → Bool) (cache : Cache) (site : ℕ) (asked : List (ℕ × LockMode)) (Was : ℕ → Prefix → Type 0) : Type 0 where
+  pub rules : (z : ℕ) (start : Prefix) → asks_of asked z ≡ true → MayStart fixed cache site z start → Rules fixed world answers z (Was z) start
   pub valid : (z : ℕ) (prefix : Prefix) → Was z prefix → IsValid prefix.votes
 
 -- what a transaction needs on a table, and what its operations come to there
@@ -67,24 +73,29 @@ abbrev pub answer_to : PlainTable → Task → Result (List Answer) Refusal
 answer_to table task = answer_on table task.t task.caller task.ops
 
 -- what is demanded of one
-abbrev pub of_lock : Fixed → World → (ℕ → Prefix) → ℕ × LockMode → Demand
-of_lock fixed world start one = demand world one.0 one.1 (led_to fixed world one.0 (start one.0)).votes
+abbrev pub of_lock : Fixed → World → (ℕ → Bool) → (ℕ → Prefix) → ℕ × LockMode → Demand
+of_lock fixed world answers start one = demand_by answers one.0 one.1 (led_to_by fixed world answers one.0 (start one.0)).votes
 
-abbrev pub of_votes : World → ℕ × Configuration → Demand
-of_votes world one = record { suite = one.0; got = votes_in one.1.reps (is_up world); needed = one.1.w }
+abbrev pub of_votes : (ℕ → Bool) → ℕ × Configuration → Demand
+of_votes answers one = record { suite = one.0; got = votes_in one.1.reps answers; needed = one.1.w }
+
+-- all that is demanded, as demands has it, by the votes of servers that answer
+abbrev pub demands_by : Fixed → World → (ℕ → Bool) → PlainTable → ℕ → Identity → List Op → (ℕ → Prefix) → List Demand
+demands_by fixed world answers table t caller ops start =
+    map (of_lock fixed world answers start) (locks_asked table t caller ops) ++ map (of_votes answers) (votes_set table t caller ops)
 
 abbrev unmet : Demand → Bool
 unmet one = not (is_met one)
 
 -- ---- how it ends
 
-module _ (fixed : Fixed) (world : World) (table : PlainTable) (task : Task) (cache : Cache) where
+module _ (fixed : Fixed) (world : World) (answers : ℕ → Bool) (table : PlainTable) (task : Task) (cache : Cache) where
   pub record EndsRight (ended : Ending) : Type 0 where
     pub start : ℕ → Prefix
     pub from : MayStartAll fixed cache task.site start
-    pub ends : ended ≡ ending_by (first_short (demands fixed world table task.t task.caller task.ops start)) (is_up world (home_of fixed.service task.t)) (answer_to table task)
+    pub ends : ended ≡ ending_by (first_short (demands_by fixed world answers table task.t task.caller task.ops start)) (is_up world (home_of fixed.service task.t)) (answer_to table task)
 
-  pub ends_short : (start : ℕ → Prefix) → MayStartAll fixed cache task.site start → (short : Demand) → first_short (demands fixed world table task.t task.caller task.ops start) ≡ Some short
+  pub ends_short : (start : ℕ → Prefix) → MayStartAll fixed cache task.site start → (short : Demand) → first_short (demands_by fixed world answers table task.t task.caller task.ops start) ≡ Some short
       → (number got wanting : ℕ) → number ≡ short.suite → got ≡ short.got → wanting ≡ short.needed → EndsRight (Undecided (Unavailable number got wanting))
   ends_short start from short is number got wanting a b c = record {
     start = start;
@@ -95,38 +106,38 @@ module _ (fixed : Fixed) (world : World) (table : PlainTable) (task : Task) (cac
 
   -- a lock that it asks for is not to be had, and all before were
   pub short_lock : (start : ℕ → Prefix) (so_far left : List (ℕ × LockMode)) (one : ℕ × LockMode) → locks_on table task ≡ onto so_far (one ∷ left)
-      → ((other : ℕ × LockMode) → Has so_far other → unmet (of_lock fixed world start other) ≡ false) → unmet (of_lock fixed world start one) ≡ true
-      → first_short (demands fixed world table task.t task.caller task.ops start) ≡ Some (of_lock fixed world start one)
+      → ((other : ℕ × LockMode) → Has so_far other → unmet (of_lock fixed world answers start other) ≡ false) → unmet (of_lock fixed world answers start one) ≡ true
+      → first_short (demands_by fixed world answers table task.t task.caller task.ops start) ≡ Some (of_lock fixed world answers start one)
   short_lock start so_far left one are met short =
-      ap (λ locks. find unmet (map (of_lock fixed world start) locks ++ map (of_votes world) (sets_on table task))) are
-      ∙ find_past (of_lock fixed world start) unmet so_far (one ∷ left) (map (of_votes world) (sets_on table task)) met
-      ∙ ap (λ b. cond b (Some (of_lock fixed world start one)) (find unmet (map (of_lock fixed world start) left ++ map (of_votes world) (sets_on table task)))) short
+      ap (λ locks. find unmet (map (of_lock fixed world answers start) locks ++ map (of_votes answers) (sets_on table task))) are
+      ∙ find_past (of_lock fixed world answers start) unmet so_far (one ∷ left) (map (of_votes answers) (sets_on table task)) met
+      ∙ ap (λ b. cond b (Some (of_lock fixed world answers start one)) (find unmet (map (of_lock fixed world answers start) left ++ map (of_votes answers) (sets_on table task)))) short
 
   -- all locks are had
-  past_locks : (start : ℕ → Prefix) (so_far : List (ℕ × LockMode)) → locks_on table task ≡ onto so_far [] → ((other : ℕ × LockMode) → Has so_far other → unmet (of_lock fixed world start other) ≡ false)
-      → first_short (demands fixed world table task.t task.caller task.ops start) ≡ find unmet (map (of_votes world) (sets_on table task))
+  past_locks : (start : ℕ → Prefix) (so_far : List (ℕ × LockMode)) → locks_on table task ≡ onto so_far [] → ((other : ℕ × LockMode) → Has so_far other → unmet (of_lock fixed world answers start other) ≡ false)
+      → first_short (demands_by fixed world answers table task.t task.caller task.ops start) ≡ find unmet (map (of_votes answers) (sets_on table task))
   past_locks start so_far are met =
-      ap (λ locks. find unmet (map (of_lock fixed world start) locks ++ map (of_votes world) (sets_on table task))) are
-      ∙ find_past (of_lock fixed world start) unmet so_far [] (map (of_votes world) (sets_on table task)) met
+      ap (λ locks. find unmet (map (of_lock fixed world answers start) locks ++ map (of_votes answers) (sets_on table task))) are
+      ∙ find_past (of_lock fixed world answers start) unmet so_far [] (map (of_votes answers) (sets_on table task)) met
 
-  past_sets : (done left : List (ℕ × Configuration)) → sets_on table task ≡ onto done left → ((other : ℕ × Configuration) → Has done other → unmet (of_votes world other) ≡ false)
-      → find unmet (map (of_votes world) (sets_on table task)) ≡ find unmet (map (of_votes world) left)
+  past_sets : (done left : List (ℕ × Configuration)) → sets_on table task ≡ onto done left → ((other : ℕ × Configuration) → Has done other → unmet (of_votes answers other) ≡ false)
+      → find unmet (map (of_votes answers) (sets_on table task)) ≡ find unmet (map (of_votes answers) left)
   past_sets done left are met =
-      ap (λ sets. find unmet (map (of_votes world) sets)) are
-      ∙ ap (find unmet) (sym (append-nil (map (of_votes world) (onto done left))))
-      ∙ find_past (of_votes world) unmet done left [] met
-      ∙ ap (find unmet) (append-nil (map (of_votes world) left))
+      ap (λ sets. find unmet (map (of_votes answers) sets)) are
+      ∙ ap (find unmet) (sym (append-nil (map (of_votes answers) (onto done left))))
+      ∙ find_past (of_votes answers) unmet done left [] met
+      ∙ ap (find unmet) (append-nil (map (of_votes answers) left))
 
   pub short_votes : (start : ℕ → Prefix) (so_far : List (ℕ × LockMode)) (done left : List (ℕ × Configuration)) (one : ℕ × Configuration) → locks_on table task ≡ onto so_far []
-      → ((other : ℕ × LockMode) → Has so_far other → unmet (of_lock fixed world start other) ≡ false) → sets_on table task ≡ onto done (one ∷ left)
-      → ((other : ℕ × Configuration) → Has done other → unmet (of_votes world other) ≡ false) → unmet (of_votes world one) ≡ true
-      → first_short (demands fixed world table task.t task.caller task.ops start) ≡ Some (of_votes world one)
+      → ((other : ℕ × LockMode) → Has so_far other → unmet (of_lock fixed world answers start other) ≡ false) → sets_on table task ≡ onto done (one ∷ left)
+      → ((other : ℕ × Configuration) → Has done other → unmet (of_votes answers other) ≡ false) → unmet (of_votes answers one) ≡ true
+      → first_short (demands_by fixed world answers table task.t task.caller task.ops start) ≡ Some (of_votes answers one)
   short_votes start so_far done left one are met sets sets_met short =
-      past_locks start so_far are met ∙ past_sets done (one ∷ left) sets sets_met ∙ ap (λ b. cond b (Some (of_votes world one)) (find unmet (map (of_votes world) left))) short
+      past_locks start so_far are met ∙ past_sets done (one ∷ left) sets sets_met ∙ ap (λ b. cond b (Some (of_votes answers one)) (find unmet (map (of_votes answers) left))) short
 
   pub none_short : (start : ℕ → Prefix) (so_far : List (ℕ × LockMode)) (done : List (ℕ × Configuration)) → locks_on table task ≡ onto so_far []
-      → ((other : ℕ × LockMode) → Has so_far other → unmet (of_lock fixed world start other) ≡ false) → sets_on table task ≡ onto done []
-      → ((other : ℕ × Configuration) → Has done other → unmet (of_votes world other) ≡ false) → first_short (demands fixed world table task.t task.caller task.ops start) ≡ None
+      → ((other : ℕ × LockMode) → Has so_far other → unmet (of_lock fixed world answers start other) ≡ false) → sets_on table task ≡ onto done []
+      → ((other : ℕ × Configuration) → Has done other → unmet (of_votes answers other) ≡ false) → first_short (demands_by fixed world answers table task.t task.caller task.ops start) ≡ None
   none_short start so_far done are met sets sets_met = past_locks start so_far are met ∙ past_sets done [] sets sets_met
 
   -- ---- the suites that it gathered
@@ -134,13 +145,13 @@ module _ (fixed : Fixed) (world : World) (table : PlainTable) (task : Task) (cac
   -- a suite is looked for from where it may be, and what was told of it is right
   pub record IsRight (z : ℕ) (suite : Suite) : Type 0 where
     pub may : MayStart fixed cache task.site z suite.collector.start
-    pub right : AllRight fixed world (is_up world) z (all_told suite.collector)
+    pub right : AllRight fixed world answers z (all_told suite.collector)
 
   -- a lock that was had
   pub record IsHad (suites : Suites) (one : ℕ × LockMode) : Type 0 where
     pub suite : Suite
     pub there : suite_of suites one.0 ≡ Some suite
-    pub met : is_met (demand world one.0 one.1 (led_to fixed world one.0 suite.collector.start).votes) ≡ true
+    pub met : is_met (demand_by answers one.0 one.1 (led_to_by fixed world answers one.0 suite.collector.start).votes) ≡ true
 
   abbrev pub start_of : Option Suite → Prefix
   start_of (Some suite) = suite.collector.start
@@ -156,8 +167,8 @@ module _ (fixed : Fixed) (world : World) (table : PlainTable) (task : Task) (cac
       of None is = inl refl
       of (Some suite) is = (right z suite is).may
 
-  pub had_met : (suites : Suites) (one : ℕ × LockMode) → IsHad suites one → unmet (of_lock fixed world (starts suites) one) ≡ false
-  had_met suites one had = ap (λ found. unmet (demand world one.0 one.1 (led_to fixed world one.0 (start_of found)).votes)) had.there ∙ ap not had.met
+  pub had_met : (suites : Suites) (one : ℕ × LockMode) → IsHad suites one → unmet (of_lock fixed world answers (starts suites) one) ≡ false
+  had_met suites one had = ap (λ found. unmet (demand_by answers one.0 one.1 (led_to_by fixed world answers one.0 (start_of found)).votes)) had.there ∙ ap not had.met
 
   -- another suite in its place that is looked for from the same prefix
   abbrev pub SameStart : Suites → ℕ → Suite → Type 0
@@ -170,7 +181,7 @@ module _ (fixed : Fixed) (world : World) (table : PlainTable) (task : Task) (cac
       of true is = record {
         suite = new;
         there = with_at number new suites one.0 ∙ ap (λ b. cond b (Some new) (suite_of suites one.0)) is;
-        met = subst (λ prefix. is_met (demand world one.0 one.1 (led_to fixed world one.0 prefix).votes) ≡ true) (sym (same had.suite (ap (suite_of suites) (eqb-true number one.0 is) ∙ had.there))) had.met;
+        met = subst (λ prefix. is_met (demand_by answers one.0 one.1 (led_to_by fixed world answers one.0 prefix).votes) ≡ true) (sym (same had.suite (ap (suite_of suites) (eqb-true number one.0 is) ∙ had.there))) had.met;
       }
       of false is = record { suite = had.suite; there = with_at number new suites one.0 ∙ ap (λ b. cond b (Some new) (suite_of suites one.0)) is ∙ had.there; met = had.met }
 
@@ -206,7 +217,7 @@ module _ (fixed : Fixed) (world : World) (table : PlainTable) (task : Task) (cac
   pub record HasAll (answer : Result (List Answer) Refusal) : Type 0 where
     pub start : ℕ → Prefix
     pub from : MayStartAll fixed cache task.site start
-    pub none : first_short (demands fixed world table task.t task.caller task.ops start) ≡ None
+    pub none : first_short (demands_by fixed world answers table task.t task.caller task.ops start) ≡ None
     pub answer_is : answer ≡ answer_to table task
 
   abbrev pub answer_in : doing.Proposal → Result (List Answer) Refusal
@@ -221,10 +232,11 @@ module _ (fixed : Fixed) (world : World) (table : PlainTable) (task : Task) (cac
     pub all : locks_on table task ≡ onto so_far []
     pub answer_is : Ok granted.answers ≡ answer_to table task
     pub sets : sets_on table task ≡ onto done left
-    pub met : (one : ℕ × Configuration) → Has done one → is_met (of_votes world one) ≡ true
+    pub met : (one : ℕ × Configuration) → Has done one → is_met (of_votes answers one) ≡ true
     pub are_set : (one : ℕ × Configuration) → Has left one → IsSet granted.changes one
     pub there : (one : ℕ × Configuration) → Has left one → is_some (suite_of suites one.0) ≡ true
     pub locked : (one : ℕ × Configuration) → Has left one → list_any (λ (lock : ℕ × LockMode). lock.0 == one.0) so_far ≡ true
+    pub exclusive : (one : ℕ × Configuration) → Has left one → has_asked so_far one.0 Exclusive ≡ true
 
   -- the first of them now
   pub record IsWidening (suites : Suites) (number : ℕ) (left : List ℕ) (granted : Granted) : Type 0 where
@@ -241,13 +253,14 @@ module _ (fixed : Fixed) (world : World) (table : PlainTable) (task : Task) (cac
 
   -- ---- the phases before
 
-  module _ (Was : ℕ → Prefix → Type 0) (ground : Ground fixed world cache task.site Was) where
+  module _ (Was : ℕ → Prefix → Type 0) (ground : Ground fixed world answers cache task.site (locks_on table task) Was) where
     -- a suite whose collector goes alone
     pub record IsFound (z : ℕ) (suite : Suite) : Type 0 where
       pub start : Prefix
       pub may : MayStart fixed cache task.site z start
-      pub reached : Reached fixed world (is_up world) z (Was z) start (ground.rules z start may) suite.collector
-      pub led : (first : ReadPoint) → suite.first ≡ Some first → first.prefix ≡ led_to fixed world z start
+      pub asked : asks_of (locks_on table task) z ≡ true
+      pub reached : Reached fixed world answers z (Was z) start (ground.rules z start asked may) suite.collector
+      pub led : (first : ReadPoint) → suite.first ≡ Some first → first.prefix ≡ led_to_by fixed world answers z start
 
     pub found_start : (z : ℕ) (suite : Suite) (found : IsFound z suite) → suite.collector.start ≡ found.start
     found_start z suite found = ap (λ (c : Collector). c.start) found.reached.is
@@ -255,7 +268,7 @@ module _ (fixed : Fixed) (world : World) (table : PlainTable) (task : Task) (cac
     pub found_right : (z : ℕ) (suite : Suite) → IsFound z suite → IsRight z suite
     found_right z suite found = record {
       may = subst (MayStart fixed cache task.site z) (sym (found_start z suite found)) found.may;
-      right = subst (AllRight fixed world (is_up world) z) (sym (ap all_told found.reached.is)) found.reached.going.right;
+      right = subst (AllRight fixed world answers z) (sym (ap all_told found.reached.is)) found.reached.going.right;
     }
 
     -- and that had a Current: some server holds a lock on it

@@ -30,6 +30,7 @@ module _ (fixed : Fixed) (w : World) (agent : ℕ) (here : Actor) (there : actor
     pub now : actor_at stepped.world agent ≡ Some new
     pub took : new.agent ≡ (take fixed here.agent (Replied (reply_of st asked.1))).agent
     pub ended : stepped.done.outcome ≡ outcome_of agent here (take fixed here.agent (Replied (reply_of st asked.1))).ending
+    pub done : stepped.done.served ≡ Some (record { server = asked.0; request = with_stamp asked.1; reply = answer_of st (with_stamp asked.1) })
 
   served_took : (asked : ℕ × Request) (st : State) → next_of fixed here.agent ≡ Some asked → server_at w asked.0 ≡ Some st → is_some (answered fixed w agent here st (serve asked.0 st (with_stamp asked.1))).done.served ≡ true
       → OwnTook (answered fixed w agent here st (serve asked.0 st (with_stamp asked.1)))
@@ -38,7 +39,7 @@ module _ (fixed : Fixed) (w : World) (agent : ℕ) (here : Actor) (there : actor
         | true ↦ λ _ is. absurd (false≢true is)
         | false ↦ λ room _.
             let new = moved here (answer_of st (with_stamp asked.1)).stamp (take fixed here.agent (Replied (reply_of st asked.1))) in
-            record { asked = asked; st = st; next = next; at = at; room = room; servers = refl; new = new; now = (puts_in w.agents agent here new there).here; took = refl; ended = refl }
+            record { asked = asked; st = st; next = next; at = at; room = room; servers = refl; new = new; now = (puts_in w.agents agent here new there).here; took = refl; ended = refl; done = refl }
       ] refl
     where
       what : Served

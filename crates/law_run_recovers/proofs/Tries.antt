@@ -23,7 +23,7 @@ use Rattle.txn_core.specs.declared.job.Job.TheVariants.{Transaction}
 use Rattle.txn_core.specs.Doing.{Fixed, Task, Doing, home_of}
 use Rattle.txn_core.specs.Transactions.{Step as CourseStep, execute}
 use Rattle.txn_core.specs.Agents as agents
-use Rattle.txn_core.specs.Agents.{Agent, fixed_of, is_idle, has_sense, max_jobs, next_in, next_of, left, end_of, take_in, take, begin, started, forget, after_all}
+use Rattle.txn_core.specs.Agents.{Agent, fixed_of, is_idle, next_of, left, take, begin, started, forget, after_all}
 use Rattle.run_core.specs.declared.event.Event.{Event}
 use Rattle.run_core.specs.declared.event.Event.TheVariants.{Begin}
 use Rattle.run_core.specs.Worlds.{Actor, World, server_at, actor_at, has_no_job, becomes, opening, step}
@@ -31,7 +31,6 @@ use Rattle.run_core.specs.Runs.{after, dones, outcomes, run}
 use Rattle.run_core.specs.Decisions.{decisions}
 use Rattle.run_core.specs.TableOfRun.{table_of, table_after_all}
 use Rattle.run_core.proofs.Appending as appending
-use Rattle.run_core.proofs.Appending.{dones-append, outcomes-append, decisions_from-append}
 use Rattle.law_runs.proofs.Agents.{take_keeps}
 use Rattle.law_runs.proofs.Lengths.{so_many}
 use Rattle.law_suite_machine.specs.Registers.{WasPrefix}
@@ -43,10 +42,10 @@ use Rattle.law_run_recovers.specs.Standing.{up_in, is_up, up_free, shown_in, sho
 use Rattle.law_run_recovers.specs.Alone.{own_steps}
 use Rattle.law_run_recovers.specs.Demands.{demands, first_short, VotesAreUp}
 use Rattle.law_run_recovers.specs.Laws as laws
-use Rattle.law_run_recovers.specs.Laws.{GoesAlone, EndsByVotes, ending_of, answer_on, again, goes_again, OneIsDecided, OneOfThemIsDecided}
+use Rattle.law_run_recovers.specs.Laws.{GoesAlone, EndsByVotes, ending_of, answer_on, OneIsDecided}
 use Rattle.law_run_alone.proofs.Clear.{at_has}
 use Rattle.law_run_recovers.proofs.Moments.{moment_first, first_all, first_here}
-use Rattle.law_run_recovers.proofs.Stands.{Ground, EndsRight}
+use Rattle.law_run_recovers.proofs.Stands.{Ground, locks_on, EndsRight}
 use Rattle.law_run_recovers.proofs.SameDemands.{HintsLed, still_up}
 use Rattle.law_run_recovers.proofs.Executes.{begin_stands}
 use Rattle.law_run_recovers.proofs.Hinted.{execute_hints}
@@ -139,14 +138,14 @@ module _ (given : Opening) (events later : List Event) (agent t : ℕ) (caller :
   number = ends.number_is given events later agent t caller site ops actor goes
 
   -- where its votes are up it ends as its home and the table say
-  met_end : (ended : Ending) → EndsRight fixed first table its actor.agent.cache ended → ended ≡ laws.ending_by None (is_up first (home_of fixed.service t)) (answer_on table t caller ops)
+  met_end : (ended : Ending) → EndsRight fixed first (is_up first) table its actor.agent.cache ended → ended ≡ laws.ending_by None (is_up first (home_of fixed.service t)) (answer_on table t caller ops)
   met_end ended right =
       right.ends
       ∙ ap (λ n. laws.ending_by (first_short (demands fixed first table n caller ops right.start)) (is_up first (home_of fixed.service n)) (answer_on table n caller ops)) number
       ∙ ap (λ found. laws.ending_by found (is_up first (home_of fixed.service t)) (answer_on table t caller ops)) (none_of (demands fixed first table t caller ops right.start) (met right.start right.from))
 
   -- it goes on from its begin
-  abbrev ground : Ground fixed first actor.agent.cache site Was
+  abbrev ground : Ground fixed first (is_up first) actor.agent.cache site (locks_on table its) Was
   ground = ends.ground given events later agent t caller site ops actor goes
 
   begin_is : begin fixed actor.agent job ≡ record (started fixed actor.agent job) { count = actor.agent.count + 1 }
@@ -188,7 +187,7 @@ module _ (given : Opening) (events later : List Event) (agent t : ℕ) (caller :
         left = subst (leaves.LeftBy given events later agent t caller site ops actor goes down met begun_world)
             (sym (ap (λ (agent : Agent). agent.doing) (first_here given events later agent t caller site ops actor goes) ∙ ap (λ (agent : Agent). agent.doing) begin_is))
             (leaves.before_left given events later agent t caller site ops actor goes down met begun_world begins.cache begins.after
-            (begin_stands fixed first table its actor.agent.cache Was ground (ends.same_service given events later agent t caller site ops actor goes)) (execute_not fixed its (record { suites = []; cache = actor.agent.cache })));
+            (begin_stands fixed first (is_up first) table its actor.agent.cache Was ground (ends.same_service given events later agent t caller site ops actor goes)) (execute_not fixed its (record { suites = []; cache = actor.agent.cache })));
         stored = λ i st old at was z. ap (λ (st : State). copy_of st.store z) (same_Some st old (sym at ∙ servers_begun i ∙ was));
         none = counts.decisions_begun given events later agent t caller site ops actor goes;
         led = subst (λ (agent : Agent). HintsLed fixed first actor.agent.cache site agent.cache) (sym (first_here given events later agent t caller site ops actor goes ∙ begin_is))
@@ -264,7 +263,7 @@ module _ (given : Opening) (events later : List Event) (agent t : ℕ) (caller :
       pub votes_then : (t' : ℕ) → VotesAreUp fixed first table actor.agent.cache t' site caller ops → VotesAreUp fixed last_world (table_of given last_events) last.now.m.here.agent.cache t' site caller ops
       votes_then t' votes =
           subst (λ table. VotesAreUp fixed last_world table last.now.m.here.agent.cache t' site caller ops) (sym table_same)
-          (still_up fixed first last_world many up_same shown_same table actor.agent.cache last.now.m.here.agent.cache t' site caller ops (λ z start may. (ground.rules z start may).last) last.still.led votes)
+          (still_up fixed first last_world many up_same shown_same table actor.agent.cache last.now.m.here.agent.cache t' site caller ops (λ z start may. (ends.all_rules given events later agent t caller site ops actor goes z start may).last) last.still.led votes)
 
       -- what is there then
       pub record Left : Type 0 where

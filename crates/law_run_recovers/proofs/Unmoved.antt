@@ -43,7 +43,7 @@ decided_ending (Ok answers) = refl
 decided_ending (Err refusal) = refl
 
 -- it is decided where all is met and the home is up
-decided_by : (all : List Demand) (up : Bool) (answer : Result (List Answer) Refusal) → is_decided (ending_by (first_short all) up answer) ≡ (all_met all && up)
+pub decided_by : (all : List Demand) (up : Bool) (answer : Result (List Answer) Refusal) → is_decided (ending_by (first_short all) up answer) ≡ (all_met all && up)
 decided_by [] true answer = decided_ending answer
 decided_by [] false answer = refl
 decided_by (one ∷ all) up answer = elim (is_met one) as (λ b. is_decided (ending_by (cond (not b) (Some one) (first_short all)) up answer) ≡ (b && all_met all && up)) [
@@ -51,16 +51,17 @@ decided_by (one ∷ all) up answer = elim (is_met one) as (λ b. is_decided (end
   | false ↦ refl
 ]
 
-module _ (given : Opening) (events : List Event) (can : CanBe given events) (free : up_free (run given events) ≡ true) (unmoved : VotesNeverMoved given events) where
-  -- each prefix that a suite had has the first votes
-  first_votes : (z : ℕ) (prefix : Prefix) → WasPrefix (beginning z given) (machine_of given z events).log prefix → prefix.votes ≡ given.c0
-  first_votes z prefix was =
-      let had = versions.prefix_was given events (all_keep given events can) z prefix was in
-      ⊎_elim
-      (λ never. ap (λ (prefix : Prefix). prefix.votes) (had.never never))
-      (λ some. let row' = had.had some in row'.is.1.votes ∙ subst (HasFirstVotes given.c0) row'.there (unmoved row'.before row'.later z row'.parts))
-      (none_or_some prefix.pver)
+-- each prefix that a suite had whose votes were never moved has the first votes
+pub first_votes_at : (given : Opening) (events : List Event) → CanBe given events → (z : ℕ) → ((before later : List Event) → events ≡ before ++ later → HasFirstVotes given.c0 (row_of (table_of given before).rows z)) → (prefix : Prefix)
+    → WasPrefix (beginning z given) (machine_of given z events).log prefix → prefix.votes ≡ given.c0
+first_votes_at given events can z unmoved prefix was =
+    let had = versions.prefix_was given events (all_keep given events can) z prefix was in
+    ⊎_elim
+    (λ never. ap (λ (prefix : Prefix). prefix.votes) (had.never never))
+    (λ some. let row' = had.had some in row'.is.1.votes ∙ subst (HasFirstVotes given.c0) row'.there (unmoved row'.before row'.later row'.parts))
+    (none_or_some prefix.pver)
 
+module _ (given : Opening) (events : List Event) (can : CanBe given events) (free : up_free (run given events) ≡ true) (unmoved : VotesNeverMoved given events) where
   row_first : (z : ℕ) → votes_of_row (fixed_of given) (row_of (table_of given events).rows z) ≡ given.c0
   row_first z = of (row_of (table_of given events).rows z) (unmoved events [] z (sym (append-nil events)))
     where
@@ -72,7 +73,7 @@ module _ (given : Opening) (events : List Event) (can : CanBe given events) (fre
   found_first z agent site actor start there may =
       let kept = all_keep given events can in
       let end = led given z (machine_of given z events) (run given events) (effects.inv given events kept z) (is_up (run given events)) (all_answer given z (machine_of given z events) (run given events) (effects.inv given events kept z) (effects.follows given events kept z).shows (all_consistent given events) free) (start z) (start_was given events can z agent site actor (start z) there (may z)) in
-      first_votes z (led_to (fixed_of given) (run given events) z (start z)) end.was
+      first_votes_at given events can z (λ before later parts. unmoved before later z parts) (led_to (fixed_of given) (run given events) z (start z)) end.was
 
   same_demands : (t : ℕ) (caller : Identity) (ops : List Op) (agent site : ℕ) (actor : Actor) (start : ℕ → Prefix) → actor_at (run given events) agent ≡ Some actor → MayStartAll (fixed_of given) actor.agent.cache site start
       → demands (fixed_of given) (run given events) (table_of given events) t caller ops start ≡ demands_of_rows (fixed_of given) (run given events) (table_of given events) t caller ops

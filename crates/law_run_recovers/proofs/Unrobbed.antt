@@ -1,6 +1,6 @@
 -- What a transaction that nobody robs finds at each moment at which it is at work: no server has it recorded, its locks are there, and what it knows is so on the table of that moment.
 use Rattle.std.proofs.Common.{◌≡◌, ◌≢◌, ℕ, List, [], ◌∷◌, ◌++◌, append_assoc, append-nil, Option, Some, None, refl, sym, ap, subst, ◌∙◌}
-use Rattle.std.specs.Prelude.{false, ◌||◌}
+use Rattle.std.specs.Prelude.{true, false, ◌||◌}
 use Rattle.std.specs.Ordering.{nat_cmp}
 use Rattle.sorted_map.specs.SortedMap.{IsOrdered}
 use Rattle.acl_core.specs.Identity.{Identity}
@@ -15,6 +15,7 @@ use Rattle.txn_core.specs.declared.job.Job.TheVariants.{Transaction}
 use Rattle.txn_core.specs.Suites.{known_of}
 use Rattle.txn_core.specs.Doing.{TransactionRun, Running}
 use Rattle.txn_core.specs.Agents.{fixed_of, next_of}
+use Rattle.txn_core.specs.Undecided.{stands_on_locks}
 use Rattle.run_core.specs.declared.event.Event.{Event}
 use Rattle.run_core.specs.declared.event.Event.TheVariants.{Begin}
 use Rattle.run_core.specs.Worlds.{Actor, World, server_at, actor_at, step}
@@ -24,13 +25,14 @@ use Rattle.law_suite_machine.specs.Machine.{Answered}
 use Rattle.law_run_machine.specs.Machines.{machine_of}
 use Rattle.law_headline.specs.Premises.{CanBe}
 use Rattle.law_run_alone.specs.Alone.{begins_job}
-use Rattle.law_run_alone.proofs.Holding.{doing_any}
+use Rattle.law_run_alone.proofs.Holding.{PhaseStands, doing_any}
 use Rattle.law_run_alone.proofs.Named.{no_record}
 use Rattle.law_run_alone.proofs.Reached.{can_front}
-use Rattle.law_run_alone.proofs.Requests.{Finds, finds}
+use Rattle.law_run_alone.proofs.Requests.{Finds, HasSome, finds, stands_where}
 use Rattle.law_run_alone.proofs.Standing.{Stands}
 use Rattle.law_run_alone.proofs.Whole.{Carried, carried_by}
-use Rattle.law_run_recovers.specs.Unmet.{world_after, robs, bereaves, hinders_itself}
+use Rattle.law_run_recovers.specs.Unmet.{world_after, robs, hinders_itself}
+use Rattle.law_run_recovers.proofs.AmongLocks.{bereaves}
 use Rattle.law_run_recovers.proofs.AtWork.{locks_stand}
 use Rattle.law_run_recovers.proofs.Keeps.{IsAtWork, after_append, run_at, at_work_before}
 use Rattle.law_run_recovers.proofs.Knew.{unanswered, knows_table}
@@ -95,13 +97,21 @@ module _ (given : Opening) (events later : List Event) (agent t : ℕ) (caller :
       (λ z. subst (λ t. (machine_of given z (so_all so_far)).verdict t ≢ Some Answered) (sym number) (unanswered given (so_all so_far) can' t (subst Unrecorded (is_run so_far) (unrecorded_at so_far rest is at)) z))
 
   -- and what its requests stand on is there
-  pub finds_then : (so_far rest : List Event) → later ≡ so_far ++ rest → IsAtWork (world_at so_far) agent t → (here : Actor) (txn_run : TransactionRun) → actor_at (world_at so_far) agent ≡ Some here → here.agent.doing ≡ Some (Running txn_run) → txn_run.task.t ≡ t
-      → (asked : ℕ × Request) → next_of (fixed_of given) here.agent ≡ Some asked → (st : State) → server_at (world_at so_far) asked.0 ≡ Some st → Finds st asked.1
-  finds_then so_far rest is at here txn_run there' running number asked next st found =
-      finds given can.c0 (world_at so_far) rest (λ z. machine_of given z (so_all so_far))
-      (subst (λ w. Carried given (λ z. machine_of given z (so_all so_far)) w rest) (sym (is_run so_far))
-      (carried_by given (so_all so_far) rest (subst (CanBe given) (ap (λ later. events ++ Begin agent (Transaction caller site ops) ∷ later) is ∙ sym (append_assoc events (Begin agent (Transaction caller site ops) ∷ so_far) rest)) can)))
-      agent here txn_run there' running
-      (λ z. doing_any (machine_of given z (so_all so_far)) txn_run.task.t (Some (Running txn_run))
-      (subst (Stands (machine_of given z (so_all so_far))) (sym number) (locks_stand given events later agent t caller site ops actor can there begins_so spares so_far rest is at z)))
-      asked next st found
+  module _ (so_far rest : List Event) (is : later ≡ so_far ++ rest) (at : IsAtWork (world_at so_far) agent t) (here : Actor) (txn_run : TransactionRun) (there' : actor_at (world_at so_far) agent ≡ Some here) (running : here.agent.doing ≡ Some (Running txn_run))
+      (number : txn_run.task.t ≡ t) (asked : ℕ × Request) (next : next_of (fixed_of given) here.agent ≡ Some asked) (st : State) (found : server_at (world_at so_far) asked.0 ≡ Some st) where
+    carried : Carried given (λ z. machine_of given z (so_all so_far)) (world_at so_far) rest
+    carried =
+        subst (λ w. Carried given (λ z. machine_of given z (so_all so_far)) w rest) (sym (is_run so_far))
+        (carried_by given (so_all so_far) rest (subst (CanBe given) (ap (λ later. events ++ Begin agent (Transaction caller site ops) ∷ later) is ∙ sym (append_assoc events (Begin agent (Transaction caller site ops) ∷ so_far) rest)) can))
+
+    any_phase : (z : ℕ) → PhaseStands (machine_of given z (so_all so_far)) txn_run.task.t txn_run.phase
+    any_phase z =
+        doing_any (machine_of given z (so_all so_far)) txn_run.task.t (Some (Running txn_run))
+        (subst (Stands (machine_of given z (so_all so_far))) (sym number) (locks_stand given events later agent t caller site ops actor can there begins_so spares so_far rest is at z))
+
+    pub finds_then : Finds st asked.1
+    finds_then = finds given can.c0 (world_at so_far) rest (λ z. machine_of given z (so_all so_far)) carried agent here txn_run there' running any_phase asked next st found
+
+    -- a lock, where its request stands on one
+    pub stands_then : stands_on_locks asked.1 ≡ true → HasSome txn_run.task.t st
+    stands_then on = stands_where given can.c0 (world_at so_far) rest (λ z. machine_of given z (so_all so_far)) carried agent here txn_run there' running any_phase asked next on st found

@@ -29,7 +29,7 @@ use Rattle.run_core.specs.declared.done.Served.{Served}
 use Rattle.run_core.specs.declared.event.Event.{Event}
 use Rattle.run_core.specs.declared.event.Event.TheVariants.{Begin, Step, Crash, Return, Forget, Lack}
 use Rattle.run_core.specs.Worlds as worlds
-use Rattle.run_core.specs.Worlds.{Actor, server_at, actor_at, serve, answered, asks_at, asks, steps_once, operated, operates, step}
+use Rattle.run_core.specs.Worlds.{Actor, server_at, actor_at, answered, asks_at, asks, steps_once, operated, operates, step}
 use Rattle.law_suite_machine.specs.Registers.{Beginning}
 use Rattle.law_suite_machine.specs.Machine.{Hold, Verdict, World}
 use Rattle.law_suite_machine.specs.Events as machine
@@ -42,7 +42,8 @@ use Rattle.law_run_machine.specs.Deciding.{decision_by, own_events}
 use Rattle.law_run_machine.specs.Machines.{home_in, servers_of, answered_events, asked_at_events, asked_events, step_events, lacks_for_events, lack_events, begin_events, operated_events, operator_events, moved}
 use Rattle.law_run_machine.proofs.Joining.{run-append}
 use Rattle.law_run_alone.proofs.Standing.{StandsAs, Stands, Spares, AllSpare, stands_all, spare_begun, spare_own, spare_decision, spare_moves}
-use Rattle.law_run_recovers.specs.Unmet.{takes, drops}
+use Rattle.law_run_recovers.specs.Unmet.{takes}
+use Rattle.law_run_recovers.proofs.AmongLocks.{drops}
 
 -- ---- locks at a server
 

@@ -20,7 +20,6 @@ use Rattle.suite_collect.proofs.Fewness.{all_told-tell}
 use Rattle.txn_core.specs.Doing.{Fixed}
 use Rattle.txn_core.specs.Transactions as txn_run
 use Rattle.run_core.specs.Worlds.{World}
-use Rattle.law_run_recovers.specs.Standing.{is_up}
 use Rattle.law_run_recovers.proofs.Picks.{votes_alike, find_fails, three}
 use Rattle.law_run_recovers.proofs.Polled.{Answers, AllRight, held_up, refused_down, nobody_busy, told_is, at_current, at_short}
 
@@ -80,15 +79,15 @@ same_mode t number Upgrade = refl
 
 -- ---- whose servers answer rightly
 
-module _ (fixed : Fixed) (world : World) (suite : ℕ) where
+module _ (fixed : Fixed) (world : World) (answers : ℕ → Bool) (suite : ℕ) where
   -- whatever the server that is asked answers is said
-  pub hears : (c : Collector) → AllRight fixed world (is_up world) suite (all_told c) → (server : ℕ) (asked : Asked) → next c ≡ Ask server asked → (answer : Reply) → Answers fixed world (is_up world) suite server answer → (said : Said) × (said_to asked answer ≡ Some said)
+  pub hears : (c : Collector) → AllRight fixed world answers suite (all_told c) → (server : ℕ) (asked : Asked) → next c ≡ Ask server asked → (answer : Reply) → Answers fixed world answers suite server answer → (said : Said) × (said_to asked answer ≡ Some said)
   hears c right server asked is answer so = says asked answer so (λ upgrade. up (is ∙ ap (λ asked. Ask server asked) upgrade))
     where
-      up : next c ≡ Ask server Upgrade → is_up world server ≡ true
-      up is = (held_up fixed world (is_up world) suite (absent_prefix fixed.service.c0) (all_told c) right Shared server (upgrade_holds c server is)).0
+      up : next c ≡ Ask server Upgrade → answers server ≡ true
+      up is = (held_up fixed world answers suite (absent_prefix fixed.service.c0) (all_told c) right Shared server (upgrade_holds c server is)).0
 
-      says : (asked : Asked) (answer : Reply) → Answers fixed world (is_up world) suite server answer → (asked ≡ Upgrade → is_up world server ≡ true) → (said : Said) × (said_to asked answer ≡ Some said)
+      says : (asked : Asked) (answer : Reply) → Answers fixed world answers suite server answer → (asked ≡ Upgrade → answers server ≡ true) → (said : Said) × (said_to asked answer ≡ Some said)
       says asked (reply.Held prefix dver) so up = (Held prefix dver, refl)
       says (Poll mode) reply.Down so up = (Down, refl)
       says Upgrade reply.Down so up = absurd (false≢true (sym so ∙ up refl))
@@ -101,20 +100,20 @@ module _ (fixed : Fixed) (world : World) (suite : ℕ) where
       says asked (reply.Locked locks) so up = absurd so
 
   -- and what it was told stays right
-  pub right_more : (c : Collector) → AllRight fixed world (is_up world) suite (all_told c) → (answer : Reply) (one : Told) → ((server : ℕ) (asked : Asked) → next c ≡ Ask server asked → Answers fixed world (is_up world) suite server answer)
-      → told_by (next c) answer ≡ Some one → AllRight fixed world (is_up world) suite (all_told (tell one c))
-  right_more c right answer one so is = subst (AllRight fixed world (is_up world) suite) (sym (all_told-tell one c)) ((told_is fixed world (is_up world) suite (next c) answer one is so).0, right)
+  pub right_more : (c : Collector) → AllRight fixed world answers suite (all_told c) → (answer : Reply) (one : Told) → ((server : ℕ) (asked : Asked) → next c ≡ Ask server asked → Answers fixed world answers suite server answer)
+      → told_by (next c) answer ≡ Some one → AllRight fixed world answers suite (all_told (tell one c))
+  right_more c right answer one so is = subst (AllRight fixed world answers suite) (sym (all_told-tell one c)) ((told_is fixed world answers suite (next c) answer one is so).0, right)
 
   -- where nobody is left to be asked, the members that are held are those that are up
-  held_are_up : (reps : List Representative) (mode : LockMode) (told : List Told) → AllRight fixed world (is_up world) suite told
-      → find (λ (rep : Representative). nat_lt 0 rep.1 && not (holds mode told rep.0) && not (has_refused told rep.0)) reps ≡ None → votes_in reps (holds mode told) ≡ votes_in reps (is_up world)
+  held_are_up : (reps : List Representative) (mode : LockMode) (told : List Told) → AllRight fixed world answers suite told
+      → find (λ (rep : Representative). nat_lt 0 rep.1 && not (holds mode told rep.0) && not (has_refused told rep.0)) reps ≡ None → votes_in reps (holds mode told) ≡ votes_in reps answers
   held_are_up reps mode told right none =
-      votes_alike reps (holds mode told) (is_up world)
+      votes_alike reps (holds mode told) answers
       (λ rep has some. of rep (find_fails (λ (rep : Representative). nat_lt 0 rep.1 && not (holds mode told rep.0) && not (has_refused told rep.0)) reps none rep has) some (holds mode told rep.0) (has_refused told rep.0) refl refl)
     where
-      of : (rep : Representative) → (nat_lt 0 rep.1 && not (holds mode told rep.0) && not (has_refused told rep.0)) ≡ false → nat_lt 0 rep.1 ≡ true → (m r : Bool) → holds mode told rep.0 ≡ m → has_refused told rep.0 ≡ r → holds mode told rep.0 ≡ is_up world rep.0
-      of rep fails some true r member refused = member ∙ sym (held_up fixed world (is_up world) suite (absent_prefix fixed.service.c0) told right mode rep.0 member).0
-      of rep fails some false true member refused = member ∙ sym (refused_down fixed world (is_up world) suite told right rep.0 refused)
+      of : (rep : Representative) → (nat_lt 0 rep.1 && not (holds mode told rep.0) && not (has_refused told rep.0)) ≡ false → nat_lt 0 rep.1 ≡ true → (m r : Bool) → holds mode told rep.0 ≡ m → has_refused told rep.0 ≡ r → holds mode told rep.0 ≡ answers rep.0
+      of rep fails some true r member refused = member ∙ sym (held_up fixed world answers suite (absent_prefix fixed.service.c0) told right mode rep.0 member).0
+      of rep fails some false true member refused = member ∙ sym (refused_down fixed world answers suite told right rep.0 refused)
       of rep fails some false false member refused = absurd (false≢true (sym fails ∙ three (nat_lt 0 rep.1) (holds mode told rep.0) (has_refused told rep.0) some member refused))
 
   -- ---- widened
@@ -123,12 +122,12 @@ module _ (fixed : Fixed) (world : World) (suite : ℕ) where
   by_votes c votes since = record c { widening = Some (record { votes = votes; told = since }) }
 
   pub record WidenedShort (votes : Configuration) (had wanting : ℕ) (busy : Option (ℕ × ℕ)) : Type 0 where
-    pub had_is : had ≡ votes_in votes.reps (is_up world)
+    pub had_is : had ≡ votes_in votes.reps answers
     pub wanting_is : wanting ≡ votes.w
-    pub too_few : nat_le votes.w (votes_in votes.reps (is_up world)) ≡ false
+    pub too_few : nat_le votes.w (votes_in votes.reps answers) ≡ false
     pub not_busy : busy ≡ None
 
-  pub widened_short : (c : Collector) (votes : Configuration) (since : List Told) → AllRight fixed world (is_up world) suite (since ++ c.told) → (had wanting : ℕ) (busy : Option (ℕ × ℕ)) → next (by_votes c votes since) ≡ Short had wanting busy → WidenedShort votes had wanting busy
+  pub widened_short : (c : Collector) (votes : Configuration) (since : List Told) → AllRight fixed world answers suite (since ++ c.told) → (had wanting : ℕ) (busy : Option (ℕ × ℕ)) → next (by_votes c votes since) ≡ Short had wanting busy → WidenedShort votes had wanting busy
   widened_short c votes since right had wanting busy is =
       let at = at_short (by_votes c votes since) had wanting busy is in
       let up = held_are_up votes.reps Exclusive (since ++ c.told) right at.nobody in
@@ -136,14 +135,14 @@ module _ (fixed : Fixed) (world : World) (suite : ℕ) where
         had_is = sym at.had_is ∙ up;
         wanting_is = sym at.wanting_is;
         too_few = ap (nat_le votes.w) (sym up) ∙ at.too_few;
-        not_busy = sym (short_busy (by_votes c votes since) had wanting busy is) ∙ nobody_busy fixed world (is_up world) suite (since ++ c.told) right;
+        not_busy = sym (short_busy (by_votes c votes since) had wanting busy is) ∙ nobody_busy fixed world answers suite (since ++ c.told) right;
       }
 
-  pub widened_current : (c : Collector) (votes : Configuration) (since : List Told) → AllRight fixed world (is_up world) suite (since ++ c.told) → (prefix : Prefix) (dver : ℕ) (members : List ℕ) → next (by_votes c votes since) ≡ Current prefix dver members
-      → nat_le votes.w (votes_in votes.reps (is_up world)) ≡ true
+  pub widened_current : (c : Collector) (votes : Configuration) (since : List Told) → AllRight fixed world answers suite (since ++ c.told) → (prefix : Prefix) (dver : ℕ) (members : List ℕ) → next (by_votes c votes since) ≡ Current prefix dver members
+      → nat_le votes.w (votes_in votes.reps answers) ≡ true
   widened_current c votes since right prefix dver members is =
-      up_to votes.w (votes_in votes.reps (holds Exclusive (since ++ c.told))) (votes_in votes.reps (is_up world)) (at_current (by_votes c votes since) prefix dver members is).enough
-      (votes_in-wider votes.reps (holds Exclusive (since ++ c.told)) (is_up world) (λ server has. (held_up fixed world (is_up world) suite (absent_prefix fixed.service.c0) (since ++ c.told) right Exclusive server has).0))
+      up_to votes.w (votes_in votes.reps (holds Exclusive (since ++ c.told))) (votes_in votes.reps answers) (at_current (by_votes c votes since) prefix dver members is).enough
+      (votes_in-wider votes.reps (holds Exclusive (since ++ c.told)) answers (λ server has. (held_up fixed world answers suite (absent_prefix fixed.service.c0) (since ++ c.told) right Exclusive server has).0))
     where
       up_to : (a b c : ℕ) → nat_le a b ≡ true → b ≤ c → nat_le a c ≡ true
       up_to a b c le more = grind (arith, nat_tests)

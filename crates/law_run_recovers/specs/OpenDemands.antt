@@ -1,6 +1,6 @@
 -- The demands of a transaction by the servers that are open to it: up, and with nothing in its way in the mode that it wants. Where no lock is in its way
 -- anywhere these are the demands by servers that are up.
-use Rattle.std.specs.Prelude.{ℕ, ◌==◌, Bool, not, if◌then◌else◌, List, [], ◌∷◌, ◌++◌, map, find, Option, Some, None}
+use Rattle.std.specs.Prelude.{ℕ, ◌==◌, List, ◌++◌, map, find, Option, Some, None}
 use Rattle.acl_core.specs.Identity.{Identity}
 use Rattle.vote_core.specs.Quorums.{Configuration}
 use Rattle.suite_prefix.specs.declared.copies.Prefix.{Prefix}
@@ -10,7 +10,7 @@ use Rattle.file_ops.specs.declared.operation.Op.{Op}
 use Rattle.file_ops.specs.Rows.{PlainTable, row_of}
 use Rattle.txn_core.specs.Doing.{Fixed}
 use Rattle.run_core.specs.Worlds.{World}
-use Rattle.law_run_recovers.specs.Demands.{Demand, demand_by, led_to_by, is_met, locks_asked, votes_set, votes_of_row}
+use Rattle.law_run_recovers.specs.Demands.{Demand, demand_by, led_to_by, locks_asked, votes_set, votes_of_row}
 use Rattle.law_run_recovers.specs.Near.{is_open_at}
 
 -- ---- what it wants
@@ -25,21 +25,13 @@ pub record Want : Type 0 where
 abbrev pub open_demand : World → ℕ → Want → Demand
 open_demand world t want = demand_by (is_open_at world t want.suite want.mode) want.suite want.mode want.votes
 
--- The mode in which a suite is asked for first: in that mode its votes are found. The mode in which it is asked for last, if at all.
+-- The mode in which a suite is asked for first: in that mode its votes are found.
 abbrev pub mode_or : LockMode → Option (ℕ × LockMode) → LockMode
 mode_or other (Some one) = one.1
 mode_or other None = other
 
 abbrev pub first_mode : List (ℕ × LockMode) → ℕ → LockMode
 first_mode asked suite = mode_or Shared (find (λ (one : ℕ × LockMode). one.0 == suite) asked)
-
-abbrev pub later_or : Option LockMode → Bool → LockMode → Option LockMode
-later_or (Some later) here mode = Some later
-later_or None here mode = if here then Some mode else None
-
-abbrev pub last_mode : List (ℕ × LockMode) → ℕ → Option LockMode
-last_mode [] suite = None
-last_mode (one ∷ asked) suite = later_or (last_mode asked suite) (one.0 == suite) one.1
 
 -- All that a transaction wants on a table, in its order, as demands lists it; what it sets votes of, exclusive.
 abbrev pub wants_by : List (ℕ × LockMode) → List (ℕ × Configuration) → (ℕ × LockMode → Configuration) → List Want
@@ -59,7 +51,3 @@ wants_of_rows fixed table t caller ops =
 
 abbrev pub open_demands : World → ℕ → List Want → List Demand
 open_demands world t all = map (open_demand world t) all
-
--- the first that is not to be had
-abbrev pub first_wanting : World → ℕ → List Want → Option Want
-first_wanting world t all = find (λ (one : Want). not (is_met (open_demand world t one))) all

@@ -11,6 +11,8 @@ use Rattle.law_run_alone.specs.Endings.{EndAsTheTable, EndingsAreOne, Undisturbe
 use Rattle.law_run_alone.specs.Undisturbed.{NothingIsInTheWayAt, UndisturbedAreDecidedAt}
 use Rattle.law_run_recovers.specs.Laws.{EndsAreByVotesAt, EndsInTimeAt, MetDemandsAreRowsAt, DecidedWhereVotesAreAt, HomesGoRoundOf, OneOfThemIsDecidedAt, DecidedHadVotesUpAt}
 use Rattle.law_run_recovers.specs.InTime.{RunsEndByTheBoundsAt}
+use Rattle.law_run_recovers.specs.Local.{UnmetEndByVotesAt, UnmetEndInTimeAt, UnmetHadVotesUpAt, UnmetAreDecidedWhereVotesAreAt}
+use Rattle.law_run_recovers.specs.Blocking.{BlockedByDoubtsAt, SomeServerBlocksAt, OneCrashBlocksAt}
 use Rattle.law_run_recovers.specs.Sweeping.{SweepsLeaveDoubtsAt, SweepsKeepEffectsAt, OnlyDoubtsAreLeftAt, NoLockIsLeftAt, AllIsStoredAt, TakenAwayAreNeverDecidedAt}
 
 -- after these events of a run
@@ -26,6 +28,11 @@ pub record IsAvailable (given : Opening) (events : List Event) : Type 0 where
   pub where_votes : DecidedWhereVotesAreAt given events
   -- where servers that are up have enough votes of all that a transaction locks, as these votes are found, they have enough by the rows of the table
   pub rows : MetDemandsAreRowsAt given events
+  -- one that begins now and that nobody meets ends so too, whatever locks others have elsewhere, and whatever they do there
+  pub unmet_ends : UnmetEndByVotesAt given events
+  pub unmet_in_time : UnmetEndInTimeAt given events
+  pub unmet_had_votes : UnmetHadVotesUpAt given events
+  pub unmet_where_votes : UnmetAreDecidedWhereVotesAreAt given events
   -- of as many jobs in a row of one agent as there are servers, each server is the home of one
   pub homes : HomesGoRoundOf given
   -- so one of as many tries of a transaction is decided, where some server is up and enough votes are, from wherever suites may be looked for
@@ -37,6 +44,11 @@ pub record IsAvailable (given : Opening) (events : List Event) : Type 0 where
   pub effects : SweepsKeepEffectsAt given events
   -- after sweeps of all servers that are up just the locks in doubt are left there
   pub doubts : OnlyDoubtsAreLeftAt given events
+  -- enough votes are then open for a lock just where those leave enough that are down or have one in doubt which conflicts; so where they are not enough
+  -- some server is so; and where one server alone crashes, they are not enough only where it has a vote, or was the home of one that stood prepared
+  pub blocked : BlockedByDoubtsAt given events
+  pub blocker : SomeServerBlocksAt given events
+  pub one_crash : OneCrashBlocksAt given events
   -- after sweeps of all servers, where all are up, none has a lock, whatever other agents are in the middle of
   pub free : NoLockIsLeftAt given events
   -- and then what each server has stored is what was in effect there

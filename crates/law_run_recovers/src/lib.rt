@@ -9,28 +9,38 @@
 //!   decided had its votes up (`decided_had_votes_up`).
 //! - Votes that are found are those of the table's rows (`met_demands_are_rows`). Where votes were never moved,
 //!   they and the home say exactly what is decided (`decided_where_votes_are`).
+//! - One that nobody meets so ends too, whatever others do elsewhere (`unmet_end_by_votes`,
+//!   `unmet_end_in_time`, `unmet_had_votes_up`, `unmet_are_decided_where_votes_are`); what goes alone is one
+//!   (`alone_are_unmet`). Its votes are those of the rows (`near_votes_are_rows`, `open_votes_are_rows`).
 //! - Homes go round. So where the votes are up, of as many tries as there are servers one is decided
 //!   (`homes_go_round`, `one_of_them_is_decided`).
 //! - Sweeps leave only locks in doubt, change no copy in effect, and with all servers up leave none
 //!   (`sweeps_leave_doubts`, `sweeps_keep_effects`, `only_doubts_are_left`, `no_lock_is_left`, `all_is_stored`).
+//! - After sweeps a suite is blocked by servers that are down and by locks in doubt, and by nothing else
+//!   (`blocked_by_doubts`, `some_server_blocks`, `one_crash_blocks`).
 //! - Each job that ended in a run took steps within its bound, with no premise (`runs_end_by_the_bounds`).
 //! - A transaction whose lock was taken away is never decided (`taken_away_are_never_decided`).
 //! - `promise` lends all this of a world. In `some_runs_recover` it says something.
+//! - Not promised: that of transactions that meet one is decided (`some_runs_starve`).
 //!
 //! **The caller owes** to `promise` a world that some events made of accepted settings (`IsOfRun`).
 //!
 //! **Files**: `lib`, `promises`. **Definitions** (`specs/`): `Standing`, `Alone`, `Demands`, `InTime`, `Laws`,
-//! `Sweeping`, `Promises`, `Worked`. The proofs follow a transaction over its agent's steps (`proofs/Ends.antt`,
-//! `Stands.antt`, `Asking.antt`) and a sweep by its list (`Sweeps.antt`, `Swept.antt`, `Rounds.antt`).
+//! `Sweeping`, `Promises`, `Worked`, `Near`, `Unmet`, `OpenDemands`, `Local`, `Blocking`, `Contending`. The
+//! proofs follow a transaction over its agent's steps (`proofs/Ends.antt`, `Stands.antt`, `Asking.antt`; where
+//! others go on `UnmetCourse.antt`, `UnmetEnds.antt`) and a sweep by its list (`Sweeps.antt`, `Swept.antt`,
+//! `Rounds.antt`).
 #![tactic(auto)]
 
 mod promises;
 
 ghost use Rattle.law_run_recovers.specs.Laws.{EndsAreByVotes, EndsInTime, MetDemandsAreRows, DecidedWhereVotesAre, HomesGoRound, OneOfThemIsDecided, DecidedHadVotesUp};
-ghost use Rattle.law_run_recovers.specs.Local.{NearVotesAreRows, OpenVotesAreRows};
+ghost use Rattle.law_run_recovers.specs.Local.{AloneAreUnmet, NearVotesAreRows, OpenVotesAreRows, UnmetAreDecidedWhereVotesAre, UnmetEndByVotes, UnmetEndInTime, UnmetHadVotesUp};
 ghost use Rattle.law_run_recovers.specs.InTime.{RunsEndByTheBounds};
 ghost use Rattle.law_run_recovers.specs.Sweeping.{SweepsLeaveDoubts, SweepsKeepEffects, OnlyDoubtsAreLeft, NoLockIsLeft, AllIsStored, TakenAwayAreNeverDecided};
 ghost use Rattle.law_run_recovers.specs.Worked.{SomeRunsRecover};
+ghost use Rattle.law_run_recovers.specs.Blocking.{BlockedByDoubts, SomeServerBlocks, OneCrashBlocks};
+ghost use Rattle.law_run_recovers.specs.Contending.{SomeRunsStarve};
 
 pub use promises::promise;
 
@@ -79,6 +89,36 @@ pub fn near_votes_are_rows()
     ensures { NearVotesAreRows }
 {}
 
+/// A law: a transaction that goes alone is met by nobody: what is promised to one that nobody meets is promised to it. It
+/// does nothing.
+pub fn alone_are_unmet()
+    ensures { AloneAreUnmet }
+{}
+
+/// A law: a transaction that nobody meets ends as the votes say that are up when it begins, whatever others do elsewhere:
+/// nothing conflicts with what it asks for at servers that it may ask, these stay up or down, its steps are served, and no
+/// sweep takes anything of it. It does nothing.
+pub fn unmet_end_by_votes()
+    ensures { UnmetEndByVotes }
+{}
+
+/// A law: and it ends, within so many steps of its agent as its locks and the servers bound. It does nothing.
+pub fn unmet_end_in_time()
+    ensures { UnmetEndInTime }
+{}
+
+/// A law: and it is decided only where its home was up as it began, and the votes of the rows of all that it locks and
+/// sets. It does nothing.
+pub fn unmet_had_votes_up()
+    ensures { UnmetHadVotesUp }
+{}
+
+/// A law: and where the votes of what it asks for were never moved, it is decided exactly where its home and the votes of
+/// the rows are up. It does nothing.
+pub fn unmet_are_decided_where_votes_are()
+    ensures { UnmetAreDecidedWhereVotesAre }
+{}
+
 /// A law: where votes were never moved, such a transaction is decided exactly where its home and the votes of the rows are
 /// up. It does nothing.
 pub fn decided_where_votes_are()
@@ -122,6 +162,24 @@ pub fn all_is_stored()
     ensures { AllIsStored }
 {}
 
+/// A law: after such sweeps enough votes are open for a lock just where those leave enough that are down, or that have a lock
+/// in doubt which is in the way. It does nothing.
+pub fn blocked_by_doubts()
+    ensures { BlockedByDoubts }
+{}
+
+/// A law: so where they are not enough some server with a vote is down, or has such a lock of a transaction that stands
+/// prepared there and whose home is down. It does nothing.
+pub fn some_server_blocks()
+    ensures { SomeServerBlocks }
+{}
+
+/// A law: where all servers are up, one crashes and the others are swept, too few votes are open only where it has one, or
+/// was the home of a transaction that stood prepared at a server with one and had a lock in the way. It does nothing.
+pub fn one_crash_blocks()
+    ensures { OneCrashBlocks }
+{}
+
 /// A law: a transaction whose locks at a server were taken away before it was decided is never decided. It does nothing.
 pub fn taken_away_are_never_decided()
     ensures { TakenAwayAreNeverDecided }
@@ -131,4 +189,10 @@ pub fn taken_away_are_never_decided()
 /// than to read, and an agent that stops for good. It does nothing.
 pub fn some_runs_recover()
     ensures { SomeRunsRecover }
+{}
+
+/// A law: runs in which two and three transactions that meet all end undecided, though all servers are up and nobody crashes
+/// or sweeps: so it is not promised that one of such is decided. It does nothing.
+pub fn some_runs_starve()
+    ensures { SomeRunsStarve }
 {}

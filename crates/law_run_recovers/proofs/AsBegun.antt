@@ -1,0 +1,118 @@
+-- A suite whose copies in effect are at a quorum what they were is the register that it was; and where nothing is in the way what is stored is in effect.
+use Rattle.std.proofs.Common.{◌≡◌, ◌≢◌, ◌⊎◌, inl, inr, ℕ, ◌≤◌, ◌<◌, Bool, true, false, cond, Option, Some, None, refl, sym, ap, subst, ◌∙◌, arith}
+use Rattle.std.specs.Prelude.{◌==◌, unwrap_or}
+use Rattle.std.specs.Ordering.{nat_cmp}
+use Rattle.std.proofs.lemmas.Bool.{false≢true, eqb-true}
+use Rattle.sorted_map.specs.SortedMap.{get}
+use Rattle.suite_prefix.specs.SettingsRules.{Opening}
+use Rattle.suite_prefix.specs.declared.lock_mode.LockMode.{LockMode}
+use Rattle.suite_prefix.specs.declared.copies.Replica.{Replica}
+use Rattle.rep_core.specs.Intentions as server
+use Rattle.rep_core.specs.Consistency.{IsConsistent}
+use Rattle.rep_core.specs.Locks.{conflicts, in_the_way}
+use Rattle.rep_core.specs.Store.{copy_of, left_by}
+use Rattle.rep_core.specs.State as state
+use Rattle.rep_core.specs.State.{State}
+use Rattle.rep_core.proofs.Members.{has_from, find_none}
+use Rattle.run_core.specs.Worlds as worlds
+use Rattle.run_core.specs.Worlds.{server_at}
+use Rattle.law_suite_machine.specs.Laws.{Stays}
+use Rattle.law_suite_machine.specs.Registers.{Beginning, row, prefix_at, content_at, empty_of}
+use Rattle.law_suite_machine.specs.Machine.{World, Verdict, Answered, Refused, Aborted, IsQuorum, is_answered, in_effect, effect}
+use Rattle.law_suite_machine.proofs.Knowing.{within_row}
+use Rattle.law_suite_machine.proofs.Invariant.{Inv}
+use Rattle.law_server_moves.specs.Views.{plan_of, Shows}
+use Rattle.law_run_machine.specs.Machines.{servers_of, home_in}
+use Rattle.law_run_recovers.proofs.Stand.{in_conflict}
+
+-- ---- two machines of a suite
+
+module _ (start : Beginning) (old now : World) (inv_old : Inv start old) (inv_now : Inv start now) (stays : Stays start old now) (set : ℕ → Bool) (quorum : IsQuorum (row start now.log).prefix.votes set)
+    (same : (i : ℕ) → set i ≡ true → effect now i ≡ effect old i) where
+  version_same : (row start now.log).prefix.pver ≡ (row start old.log).prefix.pver
+  version_same =
+      let x = inv_now.current.reach (row start now.log).prefix.pver (omega arith) set (subst (λ p. IsQuorum p.votes set) (sym inv_now.logged.own.0.1) quorum) in
+      let top = (inv_now.current.were x.0).0.0 in
+      let is = reached x.0 top x.2 in
+      let shown = ap (λ (copy : Replica). copy.prefix.pver) (same x.0 x.1) in
+      let most = (inv_old.current.were x.0).0.0 in
+      let grown = (stays.prefixes (row start old.log).prefix inv_old.logged.own.0).0 in
+      omega (arith, is, shown, most, grown)
+    where
+      reached : (i : ℕ) → (effect now i).prefix.pver ≤ (row start now.log).prefix.pver
+          → ((row start now.log).prefix.pver < (effect now i).prefix.pver) ⊎ ((effect now i).prefix.pver ≡ (row start now.log).prefix.pver) → (effect now i).prefix.pver ≡ (row start now.log).prefix.pver
+      reached i top (inl above) = absurd (omega (arith, top, above))
+      reached i top (inr is) = is
+
+  prefix_same : (row start now.log).prefix ≡ (row start old.log).prefix
+  prefix_same = sym inv_now.logged.own.0.1 ∙ ap (prefix_at start now.log) version_same ∙ (stays.prefixes (row start old.log).prefix inv_old.logged.own.0).1
+
+  dver_same : (row start now.log).dver ≡ (row start old.log).dver
+  dver_same =
+      let y = inv_now.current.content set quorum in
+      let is = y.2 in
+      let shown = ap (λ (copy : Replica). copy.dver) (same y.0 y.1) in
+      let most = within_row start old inv_old y.0 in
+      let grown = grows in
+      omega (arith, is, shown, most, grown)
+    where
+      grows : (row start old.log).dver ≤ (row start now.log).dver
+      grows = elim (inv_old.logged.own.1) [
+        | inl own ↦ (stays.contents (row start old.log).dver (row start old.log).content own).1
+        | inr none ↦ let zero' = none.0 in omega (arith, zero')
+      ]
+
+  content_same : (row start now.log).content ≡ (row start old.log).content
+  content_same = elim (inv_now.logged.own.1) [
+    | inl own ↦ sym own.2 ∙ ap (content_at start now.log) dver_same ∙ elim (inv_old.logged.own.1) [
+      | inl was ↦ (stays.contents (row start old.log).dver (row start old.log).content was).2
+      | inr none ↦ let some = own.0 in let zero' = none.0 in let both = dver_same in absurd (omega (arith, some, zero', both))
+    ]
+    | inr none ↦ none.1 ∙ ap empty_of prefix_same ∙ elim (inv_old.logged.own.1) [
+      | inl was ↦ let some = was.0 in let zero' = none.0 in let both = dver_same in absurd (omega (arith, some, zero', both))
+      | inr before ↦ sym before.1
+    ]
+  ]
+
+  pub row_same : row start now.log ≡ row start old.log
+  row_same =
+      ap (λ prefix. the (record { prefix = prefix; dver = (row start now.log).dver; content = (row start now.log).content })) prefix_same
+      ∙ ap (λ dver. the (record { prefix = (row start old.log).prefix; dver = dver; content = (row start now.log).content })) dver_same
+      ∙ ap (λ content. the (record { prefix = (row start old.log).prefix; dver = (row start old.log).dver; content = content })) content_same
+    where
+      the : Replica → Replica
+      the copy = copy
+
+-- ---- what is in effect where nothing is in the way
+
+module _ (given : Opening) (z : ℕ) (w : World) (world : worlds.World) (shows : Shows z (home_in given) (servers_of given world) w) (all : (i : ℕ) (st : State) → server_at world i ≡ Some st → IsConsistent st)
+    (t : ℕ) (mode : LockMode) (unanswered : w.verdict t ≢ Some Answered) where
+  none_yet : is_answered (w.verdict t) ≡ false
+  none_yet = of (w.verdict t) refl
+    where
+      of : (found : Option Verdict) → w.verdict t ≡ found → is_answered found ≡ false
+      of None is = refl
+      of (Some Answered) is = absurd (unanswered is)
+      of (Some Refused) is = refl
+      of (Some Aborted) is = refl
+
+  -- where nothing is in a transaction's way that is not answered, what is stored is in effect
+  pub stored_effect : (i : ℕ) (st : State) → server_at world i ≡ Some st → in_the_way t z mode st.locks ≡ None → effect w i ≡ copy_of st.store z
+  stored_effect i st at free =
+      let same : servers_of given world i ≡ st = ap (λ found. unwrap_or found (state.opening i given)) at in
+      ap (λ plan. in_effect w.verdict plan (w.copy i)) ((shows.at i).plan ∙ ap (λ (st : State). plan_of (get nat_cmp st.store.intentions z) (copy_of st.store z)) same)
+      ∙ ap (in_effect w.verdict (plan_of (get nat_cmp st.store.intentions z) (copy_of st.store z))) ((shows.at i).copy ∙ ap (λ (st : State). copy_of st.store z) same)
+      ∙ of (get nat_cmp st.store.intentions z) refl
+    where
+      of : (found : Option server.Intention) → get nat_cmp st.store.intentions z ≡ found → in_effect w.verdict (plan_of found (copy_of st.store z)) (copy_of st.store z) ≡ copy_of st.store z
+      of None is = refl
+      of (Some intention) is = by (intention.t == t) refl
+        where
+          by : (b : Bool) → (intention.t == t) ≡ b → in_effect w.verdict (plan_of (Some intention) (copy_of st.store z)) (copy_of st.store z) ≡ copy_of st.store z
+          by true its = ap (λ b. cond b (left_by intention.take (copy_of st.store z)) (copy_of st.store z)) (ap (λ u. is_answered (w.verdict u)) (eqb-true intention.t t its) ∙ none_yet)
+          by false other =
+              let beside = (all i st at).locked z intention is in
+              let has = has_from st.locks beside.lock beside.there in
+              absurd (false≢true
+              (sym (find_none (conflicts t z mode) st.locks beside.lock free has)
+              ∙ in_conflict t z mode beside.lock beside.on_it (ap (λ u. u == t) beside.of_it ∙ other) beside.exclusive))

@@ -1,0 +1,240 @@
+-- What blocks a suite after sweeps: whoever is down, and whoever has a lock on it in doubt.
+use Rattle.std.proofs.Common.{◌≡◌, ◌⊎◌, inl, inr, ⊎_elim, ℕ, ◌+◌, ◌<◌, ◌≤◌, Bool, true, false, cond, List, [], ◌∷◌, ◌++◌, Option, Some, None, is_some, refl, sym, ap, subst, ◌∙◌, arith}
+use Rattle.std.specs.Prelude.{◌%◌, ◌/◌, ◌==◌, ◌&&◌, ◌||◌, not, nat_lt, nat_le, option_map, Contains}
+use Rattle.std.proofs.Math.Nat.{mod-lt}
+use Rattle.std.proofs.lemmas.Bool.{false≢true, and_parts, and_from, eqb-true, eq-eqb}
+use Rattle.std.proofs.lemmas.Bool.Decides.{nat_tests}
+use Rattle.std.proofs.lemmas.List.Elements.{All-contains}
+use Rattle.vote_core.specs.Quorums.{Representative, Configuration, votes_in, total_votes}
+use Rattle.vote_core.specs.Validity.{IsValid, IsAccepted}
+use Rattle.suite_prefix.specs.SettingsRules.{Opening}
+use Rattle.suite_prefix.specs.declared.lock_mode.LockMode.{LockMode}
+use Rattle.suite_prefix.specs.declared.lock_mode.LockMode.TheVariants.{Shared, Exclusive}
+use Rattle.rep_core.specs.declared.lock.Lock.{Lock}
+use Rattle.rep_core.specs.declared.request.Request.{Request}
+use Rattle.rep_core.specs.declared.request.Request.TheVariants as request
+use Rattle.rep_core.specs.declared.stamped.Stamped.{Stamped}
+use Rattle.rep_core.specs.Locks.{conflicts, in_the_way, has_prepared}
+use Rattle.rep_core.specs.State.{State}
+use Rattle.rep_core.specs.Serving.{served, is_full, answer_of}
+use Rattle.rep_core.proofs.Members.{Has, contains_from, has_filter, any_has, has_any}
+use Rattle.rep_core.proofs.Finding.{find_some}
+use Rattle.suite_collect.specs.Collecting.{needed_of}
+use Rattle.txn_core.specs.Writing.{has_vote}
+use Rattle.txn_core.specs.Doing.{Fixed, home_of}
+use Rattle.txn_core.specs.Agents.{fixed_of}
+use Rattle.run_core.specs.declared.event.Event.{Event}
+use Rattle.run_core.specs.declared.event.Event.TheVariants.{Crash}
+use Rattle.run_core.specs.Worlds.{World, server_at, operates, operated, opening, step}
+use Rattle.run_core.specs.Runs.{run}
+use Rattle.run_core.proofs.Appending.{after-append}
+use Rattle.law_runs.proofs.Places.{same_or}
+use Rattle.law_runs.proofs.Worlds.{puts_in}
+use Rattle.law_run_alone.specs.Undisturbed.{all_up}
+use Rattle.law_run_recovers.specs.Standing.{up_in, is_up, locks_in, locks_at, is_in_doubt, in_doubt}
+use Rattle.law_run_recovers.specs.Near.{way_in, is_open_way, is_open_at}
+use Rattle.law_run_recovers.specs.OpenDemands.{Want}
+use Rattle.law_run_recovers.specs.Sweeping.{sweeps}
+use Rattle.law_run_recovers.specs.Blocking.{blocks, SweepsAll, can_have, BlockedByDoubts, DoubtedAt, IsBlocker, SomeServerBlocks, WasItsHome, OneCrashBlocks}
+use Rattle.law_run_recovers.proofs.Free.{is_up_of}
+use Rattle.law_run_recovers.proofs.Rounds.{Ends, ends}
+
+-- ---- votes
+
+-- what one set has of the votes, and what it has not
+votes_apart : (reps : List Representative) (set other : ℕ → Bool) → ((server : ℕ) → set server ≡ not (other server)) → votes_in reps set + votes_in reps other ≡ total_votes reps
+votes_apart [] set other so = refl
+votes_apart (rep ∷ reps) set other so =
+    let rest = votes_apart reps set other so in
+    ap (λ b. (cond b rep.1 0 + votes_in reps set) + (cond (other rep.0) rep.1 0 + votes_in reps other)) (so rep.0) ∙ of (other rep.0) rest
+  where
+    of : (b : Bool) → votes_in reps set + votes_in reps other ≡ total_votes reps → (cond (not b) rep.1 0 + votes_in reps set) + (cond b rep.1 0 + votes_in reps other) ≡ rep.1 + total_votes reps
+    of true rest = omega (arith, rest)
+    of false rest = omega (arith, rest)
+
+-- one that has some
+record Voter (reps : List Representative) (set : ℕ → Bool) : Type 0 where
+  rep : Representative
+  has : Has reps rep
+  inside : set rep.0 ≡ true
+  votes : nat_lt 0 rep.1 ≡ true
+
+some_voter : (reps : List Representative) (set : ℕ → Bool) → 0 < votes_in reps set → Voter reps set
+some_voter [] set some = absurd (omega (arith, some))
+some_voter (rep ∷ reps) set some = of (set rep.0) refl (nat_lt 0 rep.1) refl (some_voter reps set) some
+  where
+    later : Voter reps set → Voter (rep ∷ reps) set
+    later voter = record { rep = voter.rep; has = inr voter.has; inside = voter.inside; votes = voter.votes }
+
+    none : (n : ℕ) → nat_lt 0 n ≡ false → 0 < n + votes_in reps set → 0 < votes_in reps set
+    none n is some = grind (arith, nat_tests)
+
+    of : (b : Bool) → set rep.0 ≡ b → (c : Bool) → nat_lt 0 rep.1 ≡ c → (0 < votes_in reps set → Voter reps set) → 0 < cond b rep.1 0 + votes_in reps set → Voter (rep ∷ reps) set
+    of true inside true votes go some = record { rep = rep; has = inl refl; inside = inside; votes = votes }
+    of true inside false votes go some = later (go (none rep.1 votes some))
+    of false inside c votes go some = later (go (omega (arith, some)))
+
+voter_has : (votes : Configuration) (set : ℕ → Bool) (voter : Voter votes.reps set) → has_vote votes voter.rep.0 ≡ true
+voter_has votes set voter =
+    has_any (λ (rep : Representative). (rep.0 == voter.rep.0) && nat_lt 0 rep.1) votes.reps voter.rep voter.has
+    (and_from (voter.rep.0 == voter.rep.0) (nat_lt 0 voter.rep.1) (eq-eqb voter.rep.0 voter.rep.0 refl) voter.votes)
+
+-- ---- a server after the sweeps
+
+open_by : (t suite : ℕ) (mode : LockMode) (found : Option State) → is_open_way (way_in t suite mode found) ≡ (up_in found && not (is_some (in_the_way t suite mode (locks_in found))))
+open_by t suite mode None = refl
+open_by t suite mode (Some st) = of st.up (in_the_way t suite mode st.locks)
+  where
+    of : (b : Bool) (other : Option Lock) → is_open_way (cond b (Some (option_map (λ (lock : Lock). lock.t) other)) None) ≡ (b && not (is_some other))
+    of true None = refl
+    of true (Some lock) = refl
+    of false other = refl
+
+module _ (given : Opening) (events : List Event) (agent : ℕ) (sweep_run : List (ℕ × List Event)) (sweeps_all : SweepsAll given events agent sweep_run) where
+  abbrev first : World
+  first = run given events
+
+  abbrev last : World
+  last = run given (events ++ sweeps agent sweep_run)
+
+  whole : Ends given agent first events sweep_run
+  whole = ends given agent first sweep_run events (record { ups = λ x. refl; locks = λ x. inl refl }) sweeps_all.goes sweeps_all.up
+
+  module _ (t suite : ℕ) (mode : LockMode) where
+    open_so : (server : ℕ) → is_open_at last t suite mode server ≡ not (blocks (fixed_of given) first t suite mode server)
+    open_so server =
+        open_by t suite mode (server_at last server)
+        ∙ ap (λ b. b && not (is_some (in_the_way t suite mode (locks_at last server)))) (whole.since.ups server)
+        ∙ of (is_up first server) refl
+      where
+        of : (b : Bool) → is_up first server ≡ b
+            → (b && not (is_some (in_the_way t suite mode (locks_at last server)))) ≡ not (not b || is_some (in_the_way t suite mode (in_doubt (fixed_of given) first (locks_at first server))))
+        of true up = ap (λ locks. not (is_some (in_the_way t suite mode locks))) (whole.swept server (sweeps_all.all server up))
+        of false up = refl
+
+    counted : (votes : Configuration) → votes_in votes.reps (is_open_at last t suite mode) + votes_in votes.reps (blocks (fixed_of given) first t suite mode) ≡ total_votes votes.reps
+    counted votes = votes_apart votes.reps (is_open_at last t suite mode) (blocks (fixed_of given) first t suite mode) open_so
+
+  pub met_so : (t : ℕ) (want : Want)
+      → can_have given (events ++ sweeps agent sweep_run) t want ≡ nat_le (needed_of want.mode want.votes + votes_in want.votes.reps (blocks (fixed_of given) first t want.suite want.mode)) (total_votes want.votes.reps)
+  met_so t want = enough (needed_of want.mode want.votes) _ _ _ (counted t want.suite want.mode want.votes)
+    where
+      enough : (needed free blocked total : ℕ) → free + blocked ≡ total → nat_le needed free ≡ nat_le (needed + blocked) total
+      enough needed free blocked total is = grind (arith, nat_tests)
+
+  -- ---- who blocks
+
+  doubted : (t : ℕ) (want : Want) (server : ℕ) → is_some (in_the_way t want.suite want.mode (in_doubt (fixed_of given) first (locks_at first server))) ≡ true → DoubtedAt given first t want server
+  doubted t want server = of (in_the_way t want.suite want.mode (in_doubt (fixed_of given) first (locks_at first server))) refl
+    where
+      of : (found : Option Lock) → in_the_way t want.suite want.mode (in_doubt (fixed_of given) first (locks_at first server)) ≡ found → is_some found ≡ true → DoubtedAt given first t want server
+      of None is some = absurd (false≢true some)
+      of (Some lock) is some =
+          let found = find_some (conflicts t want.suite want.mode) (in_doubt (fixed_of given) first (locks_at first server)) lock is in
+          let has = has_filter (is_in_doubt (fixed_of given) first (locks_at first server)) (locks_at first server) lock found.0 in
+          let parts = and_parts (has_prepared lock.t (locks_at first server)) (not (is_up first (home_of (fixed_of given).service lock.t))) has.1 in
+          record {
+            lock = lock;
+            there = contains_from (locks_at first server) lock has.0;
+            way = found.1;
+            prepared = parts.0;
+            home_down = not_so (is_up first (home_of (fixed_of given).service lock.t)) parts.1;
+          }
+        where
+          not_so : (b : Bool) → not b ≡ true → b ≡ false
+          not_so true is = sym is
+          not_so false is = refl
+
+  pub blocker : (t : ℕ) (want : Want) → IsValid want.votes → can_have given (events ++ sweeps agent sweep_run) t want ≡ false → IsBlocker given first t want
+  blocker t want valid short =
+      let some = too_few (needed_of want.mode want.votes) (votes_in want.votes.reps (blocks (fixed_of given) first t want.suite want.mode)) (total_votes want.votes.reps) (within want.mode) (sym (met_so t want) ∙ short) in
+      let voter = some_voter want.votes.reps (blocks (fixed_of given) first t want.suite want.mode) some in
+      record { server = voter.rep.0; votes = voter_has want.votes (blocks (fixed_of given) first t want.suite want.mode) voter; why = of voter.rep.0 (is_up first voter.rep.0) refl voter.inside }
+    where
+      within : (mode : LockMode) → needed_of mode want.votes ≤ total_votes want.votes.reps
+      within Shared = valid.r_in_range.1
+      within Exclusive = valid.w_in_range.1
+
+      too_few : (needed blocked total : ℕ) → needed ≤ total → nat_le (needed + blocked) total ≡ false → 0 < blocked
+      too_few needed blocked total within is = grind (arith, nat_tests)
+
+      of : (server : ℕ) (b : Bool) → is_up first server ≡ b → (not b || is_some (in_the_way t want.suite want.mode (in_doubt (fixed_of given) first (locks_at first server)))) ≡ true
+          → (is_up first server ≡ false) ⊎ DoubtedAt given first t want server
+      of server true up is = inr (doubted t want server is)
+      of server false up is = inl up
+
+pub blocked_by_doubts : BlockedByDoubts
+blocked_by_doubts given events agent sweep_run sweeps_all t want = met_so given events agent sweep_run sweeps_all t want
+
+pub some_server_blocks : SomeServerBlocks
+some_server_blocks given events agent sweep_run sweeps_all t want valid short = blocker given events agent sweep_run sweeps_all t want valid short
+
+-- ---- one crash
+
+-- it changes no other server
+crash_apart : (fixed : Fixed) (w : World) (server other : ℕ) → (other ≡ server → ⊥) → server_at (step fixed w (Crash server)).world other ≡ server_at w other
+crash_apart fixed w server other apart = of (server_at w server) refl
+  where
+    of : (found : Option State) → server_at w server ≡ found → server_at (operates w server request.Crash found).world other ≡ server_at w other
+    of None at = refl
+    of (Some st) at = by (is_full st (record { stamp = 0; value = request.Crash }))
+      where
+        asked : Stamped Request
+        asked = record { stamp = 0; value = request.Crash }
+
+        by : (b : Bool) → server_at (operated w st (cond b None (Some (record { server = server; request = asked; reply = answer_of st asked })))).world other ≡ server_at w other
+        by true = refl
+        by false = (puts_in w.servers server st (served st asked) at).apart other apart
+
+module _ (given : Opening) (events : List Event) (server : ℕ) (up : all_up (run given events) ≡ true) where
+  abbrev before : World
+  before = run given events
+
+  abbrev crashed : World
+  crashed = run given (events ++ Crash server ∷ [])
+
+  path : crashed ≡ (step (fixed_of given) before (Crash server)).world
+  path = after-append (fixed_of given) (opening given) events (Crash server ∷ [])
+
+  stays : (other : ℕ) → (other ≡ server → ⊥) → server_at crashed other ≡ server_at before other
+  stays other apart = ap (λ w. server_at w other) path ∙ crash_apart (fixed_of given) before server other apart
+
+  -- who is down then is the one that crashed
+  it_is : (other : ℕ) → other < given.servers → is_up crashed other ≡ false → other ≡ server
+  it_is other less down =
+      ⊎_elim (λ same. same) (λ apart. absurd (false≢true (sym down ∙ ap up_in (stays other apart) ∙ is_up_of given events up other less))) (same_or other server)
+
+voter_known : (servers : ℕ) (votes : Configuration) → IsAccepted servers votes → (server : ℕ) → has_vote votes server ≡ true → server < servers
+voter_known servers votes accepted server has =
+    let some = any_has (λ (rep : Representative). (rep.0 == server) && nat_lt 0 rep.1) votes.reps has in
+    let parts = and_parts (some.0.0 == server) (nat_lt 0 some.0.1) some.2 in
+    subst (λ server. server < servers) (eqb-true some.0.0 server parts.0) (All-contains (λ (rep : Representative). rep.0 < servers) votes.reps some.0 accepted.known (contains_from votes.reps some.0 some.1))
+
+pub one_crash_blocks : OneCrashBlocks
+one_crash_blocks given events server agent sweep_run up sweeps_all t want accepted short = of block.why
+  where
+    block : IsBlocker given (run given (events ++ Crash server ∷ [])) t want
+    block = blocker given (events ++ Crash server ∷ []) agent sweep_run sweeps_all t want accepted.valid short
+
+    some_servers : 0 < given.servers
+    some_servers = let some = sweeps_all.can.accepted.some_servers.0 in omega (arith, some)
+
+    same_votes : block.server ≡ server → has_vote want.votes server ≡ true
+    same_votes same = subst (λ at. has_vote want.votes at ≡ true) same block.votes
+
+    of : (is_up (run given (events ++ Crash server ∷ [])) block.server ≡ false) ⊎ DoubtedAt given (run given (events ++ Crash server ∷ [])) t want block.server → (has_vote want.votes server ≡ true) ⊎ WasItsHome given (run given events) t want server
+    of (inl down) = inl (same_votes (it_is given events server up block.server (voter_known given.servers want.votes accepted block.server block.votes) down))
+    of (inr doubt) = ⊎_elim
+        (λ same. inl (same_votes same))
+        (λ apart.
+        let locks = ap locks_in (stays given events server up block.server apart) in
+        inr (record {
+          server = block.server;
+          votes = block.votes;
+          lock = doubt.lock;
+          there = subst (λ locks. Contains locks doubt.lock) locks doubt.there;
+          way = doubt.way;
+          prepared = subst (λ locks. has_prepared doubt.lock.t locks ≡ true) locks doubt.prepared;
+          is_home = it_is given events server up (home_of (fixed_of given).service doubt.lock.t) (mod-lt (doubt.lock.t % 64 + doubt.lock.t / 64) some_servers) doubt.home_down;
+        }))
+        (same_or block.server server)

@@ -1,0 +1,47 @@
+-- Runs by computation.
+use Rattle.std.proofs.Common.{refl}
+use Rattle.law_run_recovers.specs.Contending.{NoneOfTwoCrossed, NoneOfTwoThatRaise, NoneOfTwoThatWriteAll, NoneOfThree, NoneOfTwoThatSetVotes, SomeRunsStarve}
+
+crossed : NoneOfTwoCrossed
+crossed = record {
+  up = refl;
+  free = refl;
+  ends = refl;
+}
+
+raised : NoneOfTwoThatRaise
+raised = record {
+  up = refl;
+  free = refl;
+  ends = refl;
+}
+
+write_all : NoneOfTwoThatWriteAll
+write_all = record {
+  up = refl;
+  free = refl;
+  ends = refl;
+}
+
+three : NoneOfThree
+three = record {
+  up = refl;
+  free = refl;
+  ends = refl;
+}
+
+votes_set : NoneOfTwoThatSetVotes
+votes_set = record {
+  up = refl;
+  free = refl;
+  ends = refl;
+}
+
+pub some_runs_starve : SomeRunsStarve
+some_runs_starve = record {
+  crossed = crossed;
+  raised = raised;
+  write_all = write_all;
+  three = three;
+  votes_set = votes_set;
+}

@@ -1,0 +1,138 @@
+-- Which suites the requests of a transaction name, and how many requests it may make.
+use Rattle.std.proofs.Common.{◌≡◌, inl, ℕ, zero, suc, ◌+◌, ◌≤◌, Bool, true, List, [], ◌∷◌, length, Option, Some, None, refl, sym, ap, subst, ◌∙◌, arith}
+use Rattle.std.specs.Prelude.{◌*◌, ◌==◌, ◌&&◌, map}
+use Rattle.std.specs.List.{list_any}
+use Rattle.std.proofs.lemmas.Bool.{and_parts, eqb-true}
+use Rattle.std.proofs.lemmas.Bool.Decides.{nat_tests}
+use Rattle.std.proofs.lemmas.Option.{none-some}
+use Rattle.acl_core.specs.Identity.{Identity}
+use Rattle.suite_prefix.specs.SettingsRules.{Opening}
+use Rattle.suite_prefix.specs.declared.copies.Prefix.{Prefix}
+use Rattle.suite_prefix.specs.declared.lock_mode.LockMode.{LockMode}
+use Rattle.suite_prefix.specs.declared.lock_mode.LockMode.TheVariants.{Shared, Exclusive}
+use Rattle.suite_prefix.specs.LockModes.{serves}
+use Rattle.rep_core.specs.declared.request.Request.{Request}
+use Rattle.rep_core.specs.declared.request.Request.TheVariants as request
+use Rattle.rep_core.proofs.Members.{Has, any_has, has_any, map_has}
+use Rattle.file_ops.specs.declared.operation.Op.{Op}
+use Rattle.file_ops.specs.Rows.{PlainTable}
+use Rattle.suite_collect.specs.Collecting.{Asked, Poll, Upgrade, request_for}
+use Rattle.weak_cache.specs.Entries.{Cache}
+use Rattle.txn_core.specs.declared.job.Job.TheVariants.{Transaction}
+use Rattle.txn_core.specs.Suites.{ReadPoint, Suite, Suites, suite_of}
+use Rattle.txn_core.specs.Doing as doing
+use Rattle.txn_core.specs.Doing.{Fixed, Task, Phase, Gathering, Fetching, Preparing, Deciding, Finishing, home_of}
+use Rattle.txn_core.specs.Transactions.{numbers_from, asked_for, fetched_at, fetched_for, request_in, changes_of, decision_of}
+use Rattle.txn_core.specs.Writing.{parts_at}
+use Rattle.txn_core.specs.Agents as agents
+use Rattle.txn_core.specs.Agents.{Agent, fixed_of, is_idle, begin}
+use Rattle.txn_core.specs.Laws.{exchanges, among, asks_only, names_of, names_only}
+use Rattle.txn_core.proofs.Asks.{asks_same}
+use Rattle.txn_core.proofs.Bound.{ends_in_time}
+use Rattle.run_core.specs.declared.event.Event.{Event}
+use Rattle.run_core.specs.Worlds.{World}
+use Rattle.run_core.specs.TableOfRun.{table_of}
+use Rattle.law_run_recovers.specs.Demands.{has_asked, locks_asked}
+use Rattle.law_run_recovers.proofs.Asked.{onto_left, onto_so_far}
+use Rattle.law_run_recovers.proofs.Asking.{onto, held_in, held_if}
+use Rattle.law_run_recovers.proofs.Ends.{fetch_is}
+use Rattle.law_run_recovers.proofs.Heard.{asks_for}
+use Rattle.law_run_recovers.proofs.Stands.{Ground, locks_on, PhaseStands}
+
+pub itself : (n : ℕ) → (n == n) ≡ true
+itself n = grind (arith, nat_tests)
+
+names_lock : (numbers : List ℕ) (t z : ℕ) (question : Asked) → names_of numbers (request_for t z question) ≡ among numbers z
+names_lock numbers t z (Poll mode) = refl
+names_lock numbers t z Upgrade = refl
+
+-- ---- what it names
+
+-- the suites that it locks on a table
+abbrev pub suites_named : PlainTable → Task → List ℕ
+suites_named table task = map (λ (one : ℕ × LockMode). one.0) (locks_on table task)
+
+module _ (fixed : Fixed) (world : World) (answers : ℕ → Bool) (table : PlainTable) (task : Task) (cache : Cache) (Was : ℕ → Prefix → Type 0) (ground : Ground fixed world answers cache task.site (locks_on table task) Was) where
+  -- the suites that it names are those that it locks
+  lock_named : (one : ℕ × LockMode) → Has (locks_on table task) one → among (suites_named table task) one.0 ≡ true
+  lock_named one has = has_any (λ n. n == one.0) (suites_named table task) one.0 (map_has (λ (one : ℕ × LockMode). one.0) (locks_on table task) one has) (itself one.0)
+
+  asked_named : (asked left : List (ℕ × LockMode)) (z : ℕ) → locks_on table task ≡ onto asked left → list_any (λ (lock : ℕ × LockMode). lock.0 == z) asked ≡ true → among (suites_named table task) z ≡ true
+  asked_named asked left z are is =
+      let found = any_has (λ (lock : ℕ × LockMode). lock.0 == z) asked is in
+      subst (λ z. among (suites_named table task) z ≡ true) (eqb-true found.0.0 z found.2) (lock_named found.0 (subst (λ locks. Has locks found.0) (sym are) (onto_so_far asked left found.0 found.1)))
+
+  fetch_found : (suites : Suites) (z server : ℕ) (asked : Request) (found : Option Suite) → fetched_for task z found ≡ Some (server, asked) → held_in Shared found ≡ true
+  fetch_found suites z server asked None is = absurd (none-some (server, asked) is)
+  fetch_found suites z server asked (Some suite) is = of suite.first is
+    where
+      shared : (mode : LockMode) → serves mode Shared ≡ true
+      shared Shared = refl
+      shared Exclusive = refl
+
+      of : (first : Option ReadPoint) → fetched_at task z first ≡ Some (server, asked) → held_if suite Shared first ≡ true
+      of (Some _) is = shared suite.mode
+      of None is = absurd (none-some (server, asked) is)
+
+  any_wider : (asked : List (ℕ × LockMode)) (z : ℕ) → has_asked asked z Shared ≡ true → list_any (λ (lock : ℕ × LockMode). lock.0 == z) asked ≡ true
+  any_wider asked z is =
+      let found = any_has (λ (lock : ℕ × LockMode). (lock.0 == z) && serves lock.1 Shared) asked is in
+      has_any (λ (lock : ℕ × LockMode). lock.0 == z) asked found.0 found.1 (and_parts (found.0.0 == z) (serves found.0.1 Shared) found.2).0
+
+  pub names_for : (now : Cache) (suites : Suites) (phase : Phase) → PhaseStands fixed world answers table task cache Was ground suites now phase → (server : ℕ) (asked : Request) → request_in fixed task suites phase ≡ Some (server, asked)
+      → names_of (suites_named table task) asked ≡ true
+  names_for now suites (Gathering z) at server asked is =
+      let g = at.0 in
+      let asks = asks_for task z g.suite.collector server asked (sym (ap (asked_for task z) g.there) ∙ is) in
+      ap (names_of (suites_named table task)) asks.asked_is ∙ names_lock (suites_named table task) task.t z asks.question
+      ∙ lock_named (z, g.mode) (subst (λ locks. Has locks (z, g.mode)) (sym (g.asks.order ∙ ap (onto g.asked) g.next_is)) (onto_left g.asked _ (z, g.mode) (inl refl)))
+  names_for now suites (Fetching z) at server asked is =
+      let ready = at.0 in
+      let held = sym (ready.asks.modes z Shared) ∙ fetch_found suites z server asked (suite_of suites z) is in
+      ap (names_of (suites_named table task)) (fetch_is task z (suite_of suites z) server asked is) ∙ asked_named ready.asked _ z ready.asks.order (any_wider ready.asked z held)
+  names_for now suites (doing.Widening [] granted) at server asked is = absurd (none-some (server, asked) is)
+  names_for now suites (doing.Widening (z ∷ numbers) granted) at server asked is =
+      let asks = asks_for task z at.suite.collector server asked (sym (ap (asked_for task z) at.there) ∙ is) in
+      ap (names_of (suites_named table task)) asks.asked_is ∙ names_lock (suites_named table task) task.t z asks.question ∙ asked_named at.sets.so_far [] z at.sets.all (at.sets.locked (z, at.votes) (inl refl))
+  names_for now suites (Preparing [] outcome) at server asked is = absurd (none-some (server, asked) is)
+  names_for now suites (Preparing (now' ∷ numbers) outcome) at server asked is = ap (names_of (suites_named table task)) (sym (asks_same now' server (request.Prepare task.t (parts_at suites (changes_of outcome) now')) asked is))
+  names_for now suites (Deciding outcome) at server asked is = ap (names_of (suites_named table task)) (sym (asks_same (home_of fixed.service task.t) server (request.Decide task.t (decision_of task outcome)) asked is))
+  names_for now suites (Finishing [] v ended) at server asked is = absurd (none-some (server, asked) is)
+  names_for now suites (Finishing (now' ∷ numbers) v ended) at server asked is = ap (names_of (suites_named table task)) (sym (asks_same now' server (request.Finish task.t v) asked is))
+
+-- ---- how often it asks
+
+-- so many requests were made so far, of these servers and naming these suites
+pub record CountedOf (fixed : Fixed) (begun : Agent) (servers suites : List ℕ) (told : List agents.Event) (so_far : ℕ) : Type 0 where
+  pub asks : asks_only servers (exchanges fixed begun told) ≡ true
+  pub names : names_only suites (exchanges fixed begun told) ≡ true
+  pub many : length (exchanges fixed begun told) ≡ so_far
+
+module _ (given : Opening) (events : List Event) (before : Agent) (t : ℕ) (caller : Identity) (site : ℕ) (ops : List Op) (number : 64 * before.count + before.index ≡ t) (idle : is_idle before.doing ≡ true) where
+  abbrev its : Task
+  its = record { t = 64 * before.count + before.index; caller = caller; site = site; ops = ops }
+
+  abbrev bound : ℕ → ℕ → ℕ
+  bound k n = k * (2 * n + 1) + 2 * n + 1
+
+  pub few_enough : (so_far : ℕ) (told : List agents.Event) → CountedOf (fixed_of given) (begin (fixed_of given) before (Transaction caller site ops)) (numbers_from 0 given.servers) (suites_named (table_of given events) its) told so_far
+      → so_far ≤ length (locks_asked (table_of given events) t caller ops) * (2 * given.servers + 1) + 2 * given.servers + 1
+  few_enough so_far told c =
+      let servers = numbers_from 0 given.servers in
+      let suites = suites_named (table_of given events) its in
+      let most = ends_in_time (fixed_of given) before caller site ops told servers suites idle c.asks c.names in
+      let same : bound (length suites) (length servers) ≡ bound (length (locks_asked (table_of given events) t caller ops)) given.servers =
+      ap (λ k. bound k (length servers)) (mapped (locks_on (table_of given events) its) ∙ ap (λ n. length (locks_asked (table_of given events) n caller ops)) number)
+      ∙ ap (bound (length (locks_asked (table_of given events) t caller ops))) (counted given.servers 0) in
+      within (length (exchanges (fixed_of given) (begin (fixed_of given) before (Transaction caller site ops)) told)) so_far (bound (length suites) (length servers)) (bound (length (locks_asked (table_of given events) t caller ops)) given.servers) c.many most same
+    where
+      mapped : (xs : List (ℕ × LockMode)) → length (map (λ (one : ℕ × LockMode). one.0) xs) ≡ length xs
+      mapped [] = refl
+      mapped (x ∷ xs) = ap (λ n. suc n) (mapped xs)
+
+      counted : (count start : ℕ) → length (numbers_from start count) ≡ count
+      counted zero start = refl
+      counted (suc count) start = ap (λ n. suc n) (counted count (start + 1))
+
+      within : (a b c d : ℕ) → a ≡ b → a ≤ c → c ≡ d → b ≤ d
+      within a b c d x y z = omega (arith, x, y, z)

@@ -1,0 +1,101 @@
+-- What a transaction stands on that nobody meets: near servers answer what is in effect, and prefixes that are found name near servers.
+use Rattle.std.proofs.Common.{◌≡◌, ℕ, Bool, true, List, ◌∷◌, subst, ◌∙◌}
+use Rattle.std.specs.Prelude.{◌*◌, ◌+◌, ◌==◌, ◌&&◌, Contains}
+use Rattle.std.proofs.lemmas.Bool.{and_parts, eqb-true}
+use Rattle.acl_core.specs.Identity.{Identity}
+use Rattle.vote_core.specs.Validity.{IsValid}
+use Rattle.suite_prefix.specs.SettingsRules.{Opening}
+use Rattle.suite_prefix.specs.declared.copies.Prefix.{Prefix}
+use Rattle.suite_prefix.specs.declared.lock_mode.LockMode.{LockMode}
+use Rattle.file_ops.specs.declared.operation.Op.{Op}
+use Rattle.rep_core.proofs.Members.{Has, any_has, contains_from}
+use Rattle.txn_core.specs.declared.job.Job.TheVariants.{Transaction}
+use Rattle.txn_core.specs.Writing.{has_vote}
+use Rattle.txn_core.specs.Doing.{Task}
+use Rattle.txn_core.specs.Agents.{fixed_of}
+use Rattle.run_core.specs.declared.event.Event.{Event}
+use Rattle.run_core.specs.declared.event.Event.TheVariants.{Begin}
+use Rattle.run_core.specs.Worlds.{Actor}
+use Rattle.run_core.specs.Runs.{run}
+use Rattle.run_core.specs.TableOfRun.{table_of}
+use Rattle.law_suite_machine.specs.Registers.{WasPrefix}
+use Rattle.law_server_moves.specs.Laws.{beginning}
+use Rattle.law_run_machine.specs.Machines.{machine_of}
+use Rattle.law_one_table.proofs.Effects as effects
+use Rattle.law_headline.specs.Premises.{CanBe}
+use Rattle.law_headline.proofs.Keeping.{all_keep}
+use Rattle.law_run_alone.proofs.Named.{no_lock}
+use Rattle.law_run_alone.proofs.Reached.{can_front}
+use Rattle.law_run_alone.proofs.Unhindered.{all_consistent}
+use Rattle.law_run_recovers.specs.Standing.{is_up}
+use Rattle.law_run_recovers.specs.Demands.{locks_asked, MayStart}
+use Rattle.law_run_recovers.specs.Near.{asks_for, is_open_at}
+use Rattle.law_run_recovers.specs.Unmet.{GoesUnmet}
+use Rattle.law_run_recovers.proofs.Found.{Answering}
+use Rattle.law_run_recovers.proofs.Led.{Rules, rules_of}
+use Rattle.law_run_recovers.proofs.NearRows.{open_is_up, start_near}
+use Rattle.law_run_recovers.proofs.Open.{number_is, open_first}
+use Rattle.law_run_recovers.proofs.OpenRows.{open_answer}
+use Rattle.law_run_recovers.proofs.Rows.{start_was}
+use Rattle.law_run_recovers.proofs.Stands.{Ground, asks_of, locks_on}
+
+module _ (given : Opening) (events later : List Event) (agent t : ℕ) (caller : Identity) (site : ℕ) (ops : List Op) (actor : Actor) (goes : GoesUnmet given events later agent t caller site ops actor) where
+  abbrev pub its : Task
+  its = record { t = 64 * actor.agent.count + actor.agent.index; caller = caller; site = site; ops = ops }
+
+  abbrev asked : List (ℕ × LockMode)
+  asked = asks_for given events t caller ops
+
+  -- who answers it: near servers that are up
+  abbrev pub answers : ℕ → Bool
+  answers server = goes.near server && is_up (run given events) server
+
+  -- a prefix that the suite had, and that names near servers
+  abbrev pub Known : ℕ → Prefix → Type 0
+  Known z prefix = WasPrefix (beginning z given) (machine_of given z events).log prefix × ((server : ℕ) → has_vote prefix.votes server ≡ true → goes.near server ≡ true)
+
+  pub can_first : CanBe given events
+  can_first = can_front given events (Begin agent (Transaction caller site ops) ∷ later) goes.can
+
+  pub number : 64 * actor.agent.count + actor.agent.index ≡ t
+  number = number_is given events later agent t caller site ops actor goes.can goes.there goes.begins
+
+  -- a suite of its asks, in some mode
+  pub asked_in : (z : ℕ) → asks_of (locks_on (table_of given events) its) z ≡ true → (mode : LockMode) × Contains asked (z, mode)
+  asked_in z is =
+      let some = any_has (λ (one : ℕ × LockMode). one.0 == z) asked (subst (λ n. asks_of (locks_asked (table_of given events) n caller ops) z ≡ true) number is) in
+      (some.0.1, contains_from asked (z, some.0.1) (subst (λ z. Has asked (z, some.0.1)) (eqb-true some.0.0 z some.2) some.1))
+
+  pub near_open : (z : ℕ) (mode : LockMode) → Contains asked (z, mode) → (server : ℕ) → answers server ≡ true → is_open_at (run given events) t z mode server ≡ true
+  near_open z mode has server is =
+      let parts = and_parts (goes.near server) (is_up (run given events) server) is in
+      open_is_up given events t caller site ops actor goes.near goes.are_near (λ one server has near. open_first given events later agent t caller site ops actor goes server one near has) (z, mode) has server parts.0 ∙ parts.1
+
+  pub answering : (z : ℕ) (mode : LockMode) → Contains asked (z, mode) → Answering (fixed_of given) (run given events) z (machine_of given z events) answers
+  answering z mode has =
+      let open' = open_answer given z (machine_of given z events) (run given events) (effects.follows given events (all_keep given events can_first) z).shows (all_consistent given events) t
+      (no_lock given goes.can.accepted events agent t (Transaction caller site ops) goes.begins) mode in
+      record { up = λ i is. (and_parts (goes.near i) (is_up (run given events) i) is).1; stored = λ i is. open'.stored i (near_open z mode has i is) }
+
+  rules : (z : ℕ) (start : Prefix) → asks_of (locks_on (table_of given events) its) z ≡ true → MayStart (fixed_of given) actor.agent.cache site z start → Rules (fixed_of given) (run given events) answers z (Known z) start
+  rules z start is may =
+      let one = asked_in z is in
+      let base = rules_of given z (machine_of given z events) (run given events) (effects.inv given events (all_keep given events can_first) z) answers (answering z one.0 one.1) start
+      (start_was given events can_first z agent site actor start goes.there may) in
+      record {
+        begins = (base.begins, start_near given events t caller site ops actor goes.near goes.are_near (λ one server has near. open_first given events later agent t caller site ops actor goes server one near has) (z, one.0) one.1 start may);
+        goes = λ server up. (
+          base.goes server up,
+          λ x vote.
+              let parts = and_parts (goes.near server) (is_up (run given events) server) up in
+              goes.are_near.shown (z, one.0) server x one.1 parts.0 parts.1 vote,
+        );
+        settled = λ mode prefix held known. base.settled mode prefix held known.0;
+        last = base.last;
+      }
+
+  pub ground : Ground (fixed_of given) (run given events) answers actor.agent.cache site (locks_on (table_of given events) its) Known
+  ground = record {
+    rules = rules;
+    valid = λ z prefix known. subst (λ (p : Prefix). IsValid p.votes) known.0.1 ((effects.inv given events (all_keep given events can_first) z).logged.valid prefix.pver);
+  }
