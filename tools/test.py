@@ -4,11 +4,11 @@
 Runs all tests that need no proof, side by side: the rows of crates/rows/stdin through the program that `./suites`
 runs (which it first makes, where there is none), the tests of libraries, runs and commands without their proofs (`rt
 try`), the examples of docs/FAULTS.md, the command lines that README.md and docs/FAULTS.md show, what `./suites votes`
-tells, pictures, random scripts of `play` against the plain table, and the checks of documents; every program
-that only tests and measurements have is compiled. With --long those too that take minutes: allocations that are
-refused, reads and writes that fail, inputs that are cut off, lies about runs, and races between threads, some ten
-minutes more on four free processors. Prints a line for each part as it ends, of a part that fails also what it
-printed, and last how many passed and failed. Status 1 where one failed. The gate (.ci/run) begins with it.
+tells, pictures, random scripts of `play` against the plain table, and the checks of documents. With --long those too
+that take minutes: every program that only tests and measurements have is compiled, allocations are refused, reads and
+writes fail, inputs are cut off, lies are told about runs, and races between threads are looked for: some ten minutes
+more on four free processors. Prints a line for each part as it ends, of a part that fails also what it printed, and
+last how many passed and failed. Status 1 where one failed. The gate (.ci/run) begins with it.
 """
 import os
 import re
@@ -129,10 +129,10 @@ PARTS = (
     Part("events", tool("tests/events.py"), [TRACE]),
     Part("pages in a browser", tool("tests/shown_page.py"), [TRACE]),
     Part("random scripts", tool("tools/compare.py", "--seeds", "200"), [PROGRAM, TRACE]),
-    Part("programs of tests and measurements", tool("tests/compiled.py")),
 )
 # What --long adds; of allocations each 61st is refused, and inputs are cut at each 29th byte.
 LONG = (
+    Part("programs of tests and measurements", tool("tests/compiled.py")),
     Part("races", tool("tests/races.py", "1")),
     Part("lies about runs", tool("tests/lies.py", "1000"), [TRACE]),
     Part(
