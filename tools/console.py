@@ -4,6 +4,7 @@ stopped.
 import contextlib
 import fcntl
 import os
+import shlex
 import signal
 import subprocess
 import sys
@@ -90,6 +91,12 @@ def stop(process: subprocess.Popen[bytes]) -> None:
             os.killpg(process.pid, number)
         with contextlib.suppress(subprocess.TimeoutExpired):
             process.wait(10)
+
+
+def name_of_input() -> str:
+    """The name of the file that standard input is, as a shell takes it; what stands for it where it is none."""
+    name = os.readlink("/proc/self/fd/0")
+    return shlex.quote(os.path.relpath(name)) if os.path.isfile(name) else "SCRIPT"
 
 
 def tail(text: str, lines: int = 20) -> str:

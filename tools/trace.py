@@ -45,9 +45,7 @@ PIECE, PAUSE = 4 << 20, 0.02
 # After how many seconds it is said how far a tool is, and after how many more again.
 PATIENCE, AGAIN = 2, 0.5
 # What a terminal is told where the program ends so (as `./suites` tells it of the other commands).
-EXPLAINED = {
-    6: "the input is above 16 MiB, or a read or a write failed (./suites explain 'status 6')",
-}
+EXPLAINED = {6: "the input is above 16 MiB, or a read or a write failed (./suites explain 'status 6')"}
 ENV = {**os.environ, "SUITES_PROGRAM": "trace"}
 
 
@@ -159,7 +157,7 @@ class Run:
         sys.stdout.write(text)
         sys.stdout.flush()
         if sys.stderr.isatty() and self.process.returncode == 3:
-            console.Teller().say(f"./suites explain {shlex.quote(text.strip())} {script_name()} shows it")
+            console.Teller().say(f"./suites explain {shlex.quote(text.strip())} {console.name_of_input()} shows it")
         elif sys.stderr.isatty() and self.process.returncode in EXPLAINED:
             console.Teller().say(EXPLAINED[self.process.returncode])
         sys.exit(self.process.returncode)
@@ -364,12 +362,6 @@ def number_of(suite, known):
     return found[-1]
 
 
-def script_name():
-    """The name of the file that standard input is, as a shell takes it; what stands for it where it is none."""
-    name = os.readlink("/proc/self/fd/0")
-    return shlex.quote(os.path.relpath(name)) if os.path.isfile(name) else "SCRIPT"
-
-
 def script(agent=None):
     """The script that is read from standard input; ends the tool where it has no such agent."""
     if sys.stdin is None:
@@ -378,8 +370,8 @@ def script(agent=None):
     if sys.stdin.isatty() and sys.stderr.isatty():
         console.Teller().say("reading from the terminal, up to its end (Ctrl-D at the start of a line)")
     text = sys.stdin.buffer.read()
-    count = AGENTS.search(text)
-    if agent is not None and count and not 0 <= agent < int(count[1]):
+    count = agent is not None and AGENTS.search(text)
+    if count and not 0 <= agent < int(count[1]):
         raise console.Bad(f"there is no agent {agent}: the script has {int(count[1])}, and the first one is 0")
     return text
 
