@@ -1,19 +1,82 @@
 #!/usr/bin/env python3
 """bench/left.py [PROGRAM [OTHER]]
 
-Locks that are left behind: 16,000, 32,000 and 64,000 rounds of `play`, in each of which an agent prepares and decides a
-`list /` at a server that then crashes, so that its lock stays there; and at the end one sweep of them all. Prints the
-processor seconds (the least of three runs) and the growth, and the same of OTHER, a program of the same service, where that is named,
-and the ratio to it. A poll, a Finish and a crash do not look at locks that have nothing to do with them: so the growth
-is 2, and the ratio does not rise with the rounds.
+Inputs of `play` that are made to be slow, each in three sizes of which one is double the one before: much that was left behind.
+
+    left       an agent prepares and decides a `list /` at a server that then crashes, so that its lock stays; N times
+    swept      the same, and at the end one sweep of them all
+    relisted   an agent leaves N locks over nine files and folders; one of lower number then ends N/16 transactions of 65 locks
+    in-flight  64 agents, each with 65 locks; the oldest ends and begins anew, N times; nothing crashes
+    verdicts   N verdicts are put in front of N others
+    crashes    N times a crash with one lock that is not prepared, behind N prepared ones
+    among      N times a lock is set in front of N that were left
+
+Prints the processor seconds (the least of three runs) and the growth, and the same of OTHER, a program of the same service, where
+that is named, and the ratio to it. Where time is linear the growth is 2.
 """
 import sys
 
 import measure
 
-HEAD = "servers 1\nagents 1\nvotes 1/1/1\nroot 1 1 777\ncache 0 0 0\n"
-ROUND = "begin 0 1 1 0 list /\nstep 0 4\ncrash 0\nrun 0\nreturn 0\n"
-COUNTS = [16000, 32000, 64000]
+HEAD = "servers 1\nagents {}\nvotes 1/1/1\nroot 1 1 777\ncache 0 0 0\n"
+LIST = "begin {0} 1 1 0 list /\n"
+# A transaction that is prepared and decided at a server that then crashes: its lock stays.
+LEFT = LIST + "step {0} 4\ncrash 0\nrun {0}\nreturn 0\n"
+# Eight folders in one another, eight times.
+DEEP = ["".join(f"/{branch}{depth}" for depth in range(8)) for branch in "abcdefgh"]
+READ_ALL = " ; ".join(f"getacl {path}" for path in DEEP)
+READ_TOPS = " ; ".join(f"getacl {path[:3]}" for path in DEEP)
+# How many steps until the transaction that reads all is prepared, and the one that reads the tops is decided.
+HOLDS_ALL, DECIDED = 80, 12
+
+
+def job(agent, words):
+    return f"begin {agent} 1 1 0 {words}\nrun {agent}\n"
+
+
+def folders():
+    return "".join(job(0, f"folder {path[:end]} 777") for path in DEEP for end in range(3, len(DEEP[0]) + 1, 3))
+
+
+def left(count):
+    return HEAD.format(1) + LEFT.format(0) * count
+
+
+def swept(count):
+    return left(count) + "sweep 0 0\nrun 0\n"
+
+
+def relisted(count):
+    rounds = count // 16
+    leaves = f"begin 1 1 1 0 {READ_TOPS}\nstep 1 {DECIDED}\ncrash 0\nrun 1\nreturn 0\n"
+    # agent 1 numbers its transactions above those of agent 0 that follow
+    return HEAD.format(2) + folders() + job(1, "read x") * (rounds + 99) + leaves * (count // 9) + job(0, READ_ALL) * rounds
+
+
+def in_flight(count):
+    begins = [f"begin {agent} 1 1 0 {READ_ALL}\nstep {agent} {HOLDS_ALL}\n" for agent in range(64)]
+    later = "".join(job(agent, "read x") * 64 for agent in range(1, 64))
+    return HEAD.format(64) + folders() + later + "".join(begins) + "".join(f"run {turn % 64}\n{begins[turn % 64]}" for turn in range(count))
+
+
+def verdicts(count):
+    recorded = LIST.format(1) + "step 1 3\ncrash 0\nrun 1\nreturn 0\n"
+    return HEAD.format(2) + recorded * count + job(1, "read x") * count + "sweep 0 0\nrun 0\n"
+
+
+def crashes(count):
+    return HEAD.format(2) + LEFT.format(1) * count + (LIST.format(1) + "step 1 1\ncrash 0\nrun 1\nreturn 0\n") * count
+
+
+def among(count):
+    return HEAD.format(2) + LEFT.format(1) * count + (LIST.format(0) + "run 0\n") * count
+
+
+MANY = (16_000, 32_000, 64_000)
+INPUTS = (
+    ("left", left, MANY), ("swept", swept, MANY), ("relisted", relisted, (4_000, 8_000, 16_000)), ("in-flight", in_flight, (500, 1_000, 2_000)),
+    ("verdicts", verdicts, MANY), ("crashes", crashes, MANY), ("among", among, MANY),
+)
 
 
 def timed(program, data):
@@ -26,12 +89,12 @@ def timed(program, data):
 
 def main():
     program, other = [*sys.argv[1:], *[measure.PROGRAM, None][len(sys.argv) - 1:]][:2]
-    measure.head("Locks left behind")
-    for title, tail in (("rounds", ""), ("rounds and a sweep", "sweep 0 0\nrun 0\n")):
+    measure.head("Much that was left behind")
+    for title, made, counts in INPUTS:
         print(f"{title:>20}{'seconds':>10}{'growth':>8}" + (f"{'other':>10}{'ratio':>8}" if other else ""))
         before = None
-        for count in COUNTS:
-            data = (HEAD + ROUND * count + tail).encode()
+        for count in counts:
+            data = made(count).encode()
             seconds, output = timed(program, data)
             line = f"{count:>20}{seconds:>10.3f}" + (f"{seconds / before:>8.2f}" if before else f"{'':8}")
             if other:

@@ -8,7 +8,9 @@ PROGRAM = os.path.join(os.path.dirname(os.path.abspath(__file__)), "..", "crates
 
 # A child's peak begins with that of the process that starts it, so a process of its own starts it, which is small.
 STARTER = """
-import os, sys, time
+import os
+import sys
+import time
 begin = time.monotonic()
 child = os.posix_spawn(sys.argv[2], sys.argv[2:], os.environ)
 _, status, usage = os.wait4(child, 0)

@@ -220,7 +220,7 @@ def main():
             check_access(given.program, place, dice, tally)
             check_text(given.program, place, dice, tally)
     print(", ".join(f"{count} {what}" for what, count in tally.items()))
-    return 1 if tally["wrong"] else 0
+    return 1 if tally["wrong"] or not tally["answers"] else 0
 
 
 if __name__ == "__main__":

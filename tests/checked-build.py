@@ -8,18 +8,19 @@ played once more over an input that cannot be read. Status 1 where a row differs
 import os
 import subprocess
 import sys
+import typing
 
 import played
 
 
-def differs(program, row, source):
+def differs(program: str, row: played.Row, source: dict[str, typing.Any]) -> subprocess.CompletedProcess[bytes] | None:
     """What the program does otherwise than the row says, with this as its standard input."""
     done = subprocess.run([program, *row["words"]], capture_output=True, **source)
     wanted = (row["status"], row["output"], b"")
     return None if (done.returncode, done.stdout, done.stderr) == wanted else done
 
 
-def main():
+def main() -> int:
     program = played.program(sys.argv[1:])
     count = wrong = 0
     for row in played.rows():
@@ -33,7 +34,7 @@ def main():
             print(f"line {row['line']}: status {found.returncode}, wanted {row['status']}; printed:")
             print((found.stdout + found.stderr).decode("latin1"))
     print(f"{count} rows, {wrong} differ")
-    return 1 if wrong else 0
+    return 1 if wrong or not count else 0
 
 
 if __name__ == "__main__":

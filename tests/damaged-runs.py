@@ -143,8 +143,8 @@ def main():
     wrong = failed(program, [*rows, long_row()]) + cut(program, rows)
     for one in wrong[:20]:
         print(one)
-    print(f"{len(wrong)} differ")
-    return 1 if wrong else 0
+    print(f"{len(rows)} inputs, {len(wrong)} differ")
+    return 1 if wrong or not rows else 0
 
 
 if __name__ == "__main__":

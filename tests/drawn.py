@@ -7,6 +7,8 @@ something differs.
 
 whole    nothing is off the canvas, no text is on another one, each label is on its arrow, and what is cut is there whole
 names    agents and servers are named at the top and again within each screen; those that do nothing are left out
+begun    the number of a job stands where it begins, and no names stand between that and its first arrow
+folded   with --fold each request stands in one arrow or dot
 chosen   --agent, --suite, --from and --to draw what they say, and --all all; what was so before is drawn as such
 many     above 2,000 requests nothing is drawn without --anyway, and it is said how many there are and how to choose
 told     a trace that is written piece by piece is the one that is written as a whole, and tells each line of the script; of
@@ -78,6 +80,7 @@ class Picture:
         ways = [path.get("d") for path in root.iter(f"{SVG}path") if path.get("class") in ("ask", "told")]
         self.arrows = [tuple(map(int, re.findall(r"\d+", way))) for way in ways]
         self.boxes = [tuple(int(box.get(key)) for key in ("x", "y", "width", "height")) for box in root.iter(f"{SVG}rect") if box.get("class")]
+        self.dots = [dot for dot in root.iter(f"{SVG}circle") if dot.get("r") == "4"]
         self.greys = [tuple(int(box.get(key)) for key in ("x", "y", "width", "height")) for box in root.iter(f"{SVG}rect") if box.get("class") == "down"]
 
     def requests(self):
@@ -183,6 +186,29 @@ def named(judge, name, script, picture, lines):
     judge.holds(set(shown[0] if shown else ()) == acting, name, "named are", shown[:1], "and not", sorted(acting))
 
 
+def begun_there(judge, name, picture, lines):
+    """Jobs have the numbers with which they end, and are on one screen with their first arrow."""
+    ended = [re.match(r"(\d+)\.(\d+) ", line) for line in lines]
+    jobs = {(int(found[1]), int(found[2])) for found in ended if found}
+    shown = {(int(where[6:]), int(found[1])): int(found[2]) for where, words in picture.said() for found in [re.match(r"job (\d+) \(t (\d+)\)", words)] if found}
+    judge.holds(jobs <= shown.keys(), name, "jobs that are not named", sorted(jobs - shown.keys()))
+    judge.holds(all(t == 64 * job + agent for (agent, job), t in shown.items()), name, "t of a job", shown)
+    rows = sorted({text.y for text in picture.names})
+    arrows = sorted(y for _, y, _ in picture.arrows)
+    for text in picture.texts:
+        first = next((y for y in arrows if y > text.y), None) if text.style == "event" and text.whole.startswith("job ") else None
+        is_near = first is not None and first - text.y < draw.NEAR * draw.BAND
+        judge.holds(not is_near or not any(text.y < row < first for row in rows), name, "names between a job and its first arrow", text.whole)
+
+
+def folded(judge, name, script, lines):
+    picture = drawn(script, "--fold", "--anyway")
+    count = sum("->" in line for line in lines if line.startswith("  "))
+    judge.holds(len(picture.arrows) // 2 + len(picture.dots) == count, name, "--fold leaves out requests", len(picture.arrows) // 2, len(picture.dots), count)
+    for one in picture.texts:
+        judge.holds(0 <= one.left and one.right <= picture.width, name, "--fold: off the canvas", one.shown)
+
+
 def everybody(judge):
     for name, script in SCRIPTS.items():
         counts = [(word, int(re.search(rf"^{word}s (\d+)", script, re.M)[1])) for word in ("agent", "server")]
@@ -218,9 +244,9 @@ def stands(judge):
     at = next(place for place, one in enumerate(picture.requests(), 1) if one[0] == "agent 1") + 1
     later = drawn(script_of(3, 2, "1,1,1/2/2", *lines), "--from", str(at))
     judge.holds(later.requests() == picture.requests()[at - 1 :], "--from in a job")
-    judge.holds(later.said()[:2] == [("server 2", "is down"), ("agent 1", "begun before, user 1000: write /a 00")], "before", later.said())
+    judge.holds(later.said()[:2] == [("server 2", "is down"), ("agent 1", "begun before, job 0 (t 1), user 1000: write /a 00")], "before", later.said())
     server = next(x for x, name in later.places.items() if name == "server 2")
-    judge.holds([(x + wide / 2, high > later.height - 100) for x, _, wide, high in later.greys] == [(server, True)], "grey from before", later.greys)
+    judge.holds([(x + wide / 2, high > later.height - 100 - draw.LEGEND) for x, _, wide, high in later.greys] == [(server, True)], "grey from before", later.greys)
     judge.holds(all("file /a" not in words for _, words in later.said()), "a job that ended before is drawn")
 
 
@@ -229,7 +255,8 @@ def about(judge, program):
     lines = [begun(0, "file /a 666"), begun(0, "file /b 666"), begun(0, "read /a"), begun(0, "write /b 00"), begun(0, "read /b"), begun(0, "read /a")]
     counts = jobs(program, script_of(3, 1, "1,1,1/2/2", *lines))
     picture = drawn(script_of(3, 1, "1,1,1/2/2", *lines), "--suite", "/b")
-    judge.holds([words for _, words in picture.said()] == [f"user 1000: {asked}" for asked in ("file /b 666", "write /b 00", "read /b")], "--suite /b", picture.said())
+    wanted = [f"job {job} (t {64 * job}), user 1000: {asked}" for job, asked in ((1, "file /b 666"), (3, "write /b 00"), (4, "read /b"))]
+    judge.holds([words for _, words in picture.said()] == wanted, "--suite /b", picture.said())
     own = counts[1] + counts[3] + counts[4]
     # of a job is drawn what it asks of the suite itself, and of its transaction
     judge.holds(0 < len(picture.requests()) <= own, "requests about /b", len(picture.requests()), own)
@@ -350,6 +377,8 @@ def main():
         whole(judge, name, picture)
         named(judge, name, script, picture, lines)
         told(judge, name, script, lines)
+        begun_there(judge, name, picture, lines)
+        folded(judge, name, script, lines)
         judge.holds(len(picture.requests()) == sum("->" in line for line in lines if line.startswith("  ")), name, "requests that are drawn")
         cut += sum(text.is_cut for text in picture.texts)
     judge.holds(cut > 0, "no label was cut")
@@ -363,7 +392,7 @@ def main():
     for one in judge.wrong[:20]:
         print(one)
     print(f"{judge.count} looked at, {len(judge.wrong)} differ")
-    return 1 if judge.wrong else 0
+    return 1 if judge.wrong or not judge.count else 0
 
 
 if __name__ == "__main__":

@@ -20,7 +20,6 @@ import sys
 
 import played
 
-sys.path.insert(0, os.path.join(played.TOP, "tools"))
 import trace  # noqa: E402
 
 Item = collections.namedtuple("Item", "stamp agent sent numbers server request reply")

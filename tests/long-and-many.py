@@ -27,9 +27,10 @@ FILES = os.path.join(played.TOP, "examples", "serve", "files.script")
 SERVERS, AGENTS, JOBS, FOLDERS, NAMES = 16, 64, 100_000, 96, 64
 HISTORY = 1_000_000
 SEED = 1
-# What a job may end with; a list and a read are cut off behind their first word.
+# What is told of an operation that was done, and how a job may end.
+REPLY = r"(?:made \d+|read (?:-|[0-9a-f]+)|wrote|dropped|set|(?:list|acl|votes) \S+)"
 ENDINGS = re.compile(
-    r"answered|denied op [1-8] suite \d+ wants [rwx-]{3} by \S+|refused F\d+ op \d|swept \d+ \d+ \d+"
+    rf"answered {REPLY}(?:; {REPLY})*" + r"|denied op [1-8] suite \d+ wants [rwx-]{3} by \S+|refused F\d+ op \d|swept \d+ \d+ \d+"
     r"|undecided U1 suite \d+ got \d+ of \d+|undecided U2 server \d+ holder \d+|undecided U[36] server \d+|undecided U[457]"
 )
 
@@ -108,7 +109,7 @@ def judged(run, jobs):
         number, own_steps, ending = line.split(" ", 2)
         steps += int(own_steps)
         counts[kind_of(ending)] += 1
-        if int(number) != job or not ENDINGS.match(ending):
+        if int(number) != job or not ENDINGS.fullmatch(ending):
             wrong.append(f"job {job}: {line}")
     return counts, wrong, steps
 
@@ -166,8 +167,8 @@ def main():
     wrong = often(program, runs) + many(program) + long(program)
     for one in wrong[:20]:
         print(one)
-    print(f"{len(wrong)} differ")
-    return 1 if wrong else 0
+    print(f"{runs + 2} runs, {len(wrong)} differ")
+    return 1 if wrong or runs < 1 else 0
 
 
 if __name__ == "__main__":

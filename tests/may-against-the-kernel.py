@@ -1,191 +1,301 @@
 #!/usr/bin/env python3
-"""tests/may-against-the-kernel.py [--questions N] [--seed SEED] [--if-possible] [PROGRAM]
+"""tests/may-against-the-kernel.py [--questions N] [--seed SEED] [--form FORM] [--mounts] [--if-possible] [PROGRAM]
 
-Compares what `./suites may` tells with what this Linux does, on random trees of files, folders and links with random
-lists and default lists. Each question is put to `may`, and then tried as that user, in a process that takes its groups
-and its number: by access(2), and by opening where that can be asked so. PROGRAM is a build of the program `may`.
+Compares what `./suites may` tells with what this Linux does, on random trees of files, folders, links, pipes,
+devices and
+scripts with random lists and default lists. Each question is put to `may`, and then tried as that user, in a process
+that
+takes its groups and its number: by opening, executing, making and taking away, of a folder by access(2). PROGRAM is
+a build
+of the program `may`. FORM is one of user, names, who, under, change, lint; without it all are asked, N questions each.
+With --mounts a part of each tree is a mount with random flags of ro, noexec, nodev and nosymfollow.
 
-Known to differ, told by `may` and counted: a list whose mask is `---`, which Linux looks at for the owner alone, and root.
-Status 1 where anything else differs.
-
-It needs root and a file system with lists, here /dev/shm (tmpfs). With --if-possible it says where these are wanting, and
-ends well: so `./suites --test` runs some questions.
+Status 1 where anything differs. It needs root and a file system with lists, here /dev/shm (tmpfs). With
+--if-possible it
+says where these are wanting, and ends well: so `./suites --test` runs some questions.
 """
-import argparse
-import ctypes
-import errno
-import json
-import os
-import random
-import shutil
-import sys
-import tempfile
+from __future__ import annotations
 
-TOP = os.path.join(os.path.dirname(os.path.abspath(__file__)), "..")
-sys.path.insert(0, os.path.join(TOP, "tools"))
-import may
+import argparse
+import os
+import subprocess
+import shutil
+import tempfile
+from typing import Callable
+
+import kernel_trees as trees
+from kernel_trees import DENIED, GRANTED, Dice, Tree, tried
+from machine import changes, everybody, lint, lists, mounts, names, telling, under
+from machine.lists import BITS, Bad, Unread
+from machine.people import Caller
+from machine.ways import way
 
 PLACE = "/dev/shm"
-DEFAULT = "system.posix_acl_default"
-UIDS, GIDS = [1001, 1002, 1003, 65534], [200, 201, 202, 203]
-NOTHING = 0xFFFFFFFF
+# Files whose lists are not changed.
+FIXED = mounts.IMMUTABLE | mounts.APPEND
 # So many questions are asked of one tree.
 OF_A_TREE = 100
-ANSWERS = {may.GRANTED: "granted", may.DENIED: "denied", may.UNREAD: "unread"}
+ANSWERS = {telling.GRANTED: GRANTED, telling.DENIED: DENIED, telling.UNREAD: trees.UNREAD}
+Count = tuple[int, int]
 
 
-class Dice(random.Random):
-    def perms(self):
-        return self.choice([0, 4, 5, 5, 7, 7, 7, self.randrange(8)])
-
-    def value(self):
-        """A valid list, as the kernel takes it: in the order of its tags and numbers."""
-        entries = [(may.USER_OBJ, self.perms(), NOTHING), (may.GROUP_OBJ, self.perms(), NOTHING), (may.OTHER, self.perms(), NOTHING)]
-        named = [(tag, self.perms(), one) for tag, ids in ((may.USER, UIDS), (may.GROUP, GIDS)) for one in self.sample(ids, self.choice([0, 0, 1, 2]))]
-        mask = [(may.MASK, self.choice([0, 4, 5, 7, 7, self.randrange(8)]), NOTHING)] if named or self.random() < 0.2 else []
-        all_of_it = sorted(entries + named + mask, key=lambda entry: (entry[0], entry[2]))
-        return may.HEAD.pack(may.VERSION) + b"".join(may.ENTRY.pack(*entry) for entry in all_of_it)
-
-    def caller(self):
-        many = self.random() < 0.1
-        groups = self.sample(GIDS, self.choice([0, 1, 2])) + (list(range(5000, 5040)) if many else [])
-        uid = self.choice([*UIDS, *UIDS, *UIDS, 0])
-        return may.Caller(str(uid), uid, self.choice([*GIDS, 65533]), tuple(groups))
+def differs(about: object, told: str, linux: str, lines: list[str]) -> int:
+    print(f"{about}: may says {told}, Linux {linux}", *lines, sep="\n  ")
+    return 1
 
 
-class Tree:
-    """A random tree, and the paths in it, links and missing names too."""
-
-    def __init__(self, dice, top):
-        self.dice, self.top, self.paths = dice, top, []
-        os.chmod(top, 0o755)
-        self.fill(top, 1)
-        folders = [path for path in self.paths if os.path.isdir(path)] or [top]
-        for count in range(3):
-            link = os.path.join(dice.choice(folders), f"l{count}")
-            target = dice.choice(self.paths)
-            os.symlink(dice.choice([target, os.path.relpath(target, os.path.dirname(link))]), link)
-            self.paths.append(link)
-            if os.path.isdir(target):
-                self.paths += [os.path.join(link, name) for name in os.listdir(target)]
-        self.paths += [os.path.join(dice.choice(folders), "missing"), os.path.join(dice.choice(folders), "..", dice.choice(os.listdir(top)))]
-
-    def fill(self, folder, depth):
-        for count in range(self.dice.choice([2, 3])):
-            is_folder = depth < 4 and (count == 0 or self.dice.random() < 0.4)
-            path = os.path.join(folder, f"{'d' if is_folder else 'f'}{count}")
-            mode = self.dice.choice([0o755, 0o750, 0o711, 0o640, self.dice.randrange(0o1000)])
-            if is_folder:
-                os.mkdir(path, mode)
-            else:
-                os.close(os.open(path, os.O_CREAT | os.O_WRONLY, mode))
-            os.chown(path, self.dice.choice([0, *UIDS]), self.dice.choice([0, *GIDS]))
-            if self.dice.random() < 0.6:
-                os.setxattr(path, may.XATTR, self.dice.value())
-            elif self.dice.random() < 0.5:
-                os.chmod(path, mode)
-            if is_folder and self.dice.random() < 0.4:
-                os.setxattr(path, DEFAULT, self.dice.value())
-            self.paths.append(path)
-            if is_folder:
-                self.fill(path, depth + 1)
-
-
-def outcome(call):
-    """What came of a call: `granted`, `denied`, or `unread` where there is no such path."""
-    try:
-        call()
-        return "granted"
-    except OSError as error:
-        return "denied" if error.errno == errno.EACCES else "unread"
-
-
-def opened(path, wanted):
-    """What comes of opening, where what is wanted can be asked so."""
-    if wanted & 1 or os.path.isdir(path) and wanted != 4:
-        return None
-    flags = {4: os.O_RDONLY, 2: os.O_WRONLY, 6: os.O_RDWR}[wanted]
-    return outcome(lambda: os.close(os.open(path, flags)))
-
-
-def checked(libc, path, wanted):
-    def call():
-        if libc.access(os.fsencode(path), wanted) != 0:
-            number = ctypes.get_errno()
-            raise OSError(number, os.strerror(number))
-    return outcome(call)
-
-
-def tried(caller, asked):
-    """What Linux answers to a user, by access(2) and by opening, for each of some paths and what is wanted of it."""
-    reading, writing = os.pipe()
-    child = os.fork()
-    if child == 0:
-        status = 1
-        try:
-            os.close(reading)
-            os.setgroups(caller.groups)
-            os.setresgid(caller.gid, caller.gid, caller.gid)
-            os.setresuid(caller.uid, caller.uid, caller.uid)
-            libc = ctypes.CDLL(None, use_errno=True)
-            said = [(checked(libc, path, wanted), opened(path, wanted)) for path, wanted in asked]
-            with os.fdopen(writing, "w") as told:
-                json.dump(said, told)
-            status = 0
-        finally:
-            os._exit(status)
-    os.close(writing)
-    with os.fdopen(reading) as told:
-        text = told.read()
-    if os.waitpid(child, 0)[1] != 0:
-        raise SystemExit("a process that tries what a user may do has failed")
-    return json.loads(text)
-
-
-def questions_of(dice, top, count):
-    """Questions about a new tree, each with what Linux answers."""
-    tree, found = Tree(dice, top), []
-    while len(found) < count:
+def ask_users(dice: Dice, tree: Tree, count: int) -> Count:
+    """May this user?"""
+    asked, wrong = 0, 0
+    while asked < count:
         caller = dice.caller()
-        asked = [(dice.choice(tree.paths), dice.choice([1, 2, 4, 4, 5, 6, 7])) for _ in range(min(10, count - len(found)))]
-        found += [(caller, path, wanted, *may.way(path, wanted), said) for (path, wanted), said in zip(asked, tried(caller, asked))]
-    return found
+        some = [(dice.choice(tree.paths), dice.choice([1, 2, 4, 4, 5, 6, 7])) for _ in range(min(10, count - asked))]
+        for (path, wanted), said in zip(some, tried(caller, some)):
+            told = telling.judge(caller, wanted, path)
+            if ANSWERS[told.status] != said:
+                wrong += differs(
+                    f"{path} {lists.letters(wanted)} {caller}", ANSWERS[told.status], said, [*told.lines, told.last]
+                )
+        asked += len(some)
+    return asked, wrong
 
 
-def compare(found, counts):
-    """Compares what `may` tells of questions with what Linux answered. Answers how many differ."""
-    lines = may.answers([may.question(place, caller) for caller, _, _, places, _, _ in found for place in places])
-    wrong, begin = 0, 0
-    for caller, path, wanted, places, end, (by_access, by_opening) in found:
-        given, begin = lines[begin:begin + len(places)], begin + len(places)
-        told, last, status = may.judged(caller, wanted, path, False, places, end, given)
-        said = ANSWERS[status]
-        counts[said] += 1
-        counts["told of an empty mask"] += any("its mask is" in line for line in told)
-        counts["root"] += caller.uid == 0
-        counts["opened"] += by_opening is not None
-        if said != by_access or by_opening not in (None, said):
-            wrong += 1
-            print(f"{path} {may.letters(wanted)} {caller}: may {said}, access(2) {by_access}, opening {by_opening}", *told, last, sep="\n  ")
-    return wrong
+def ask_names(dice: Dice, tree: Tree, count: int) -> Count:
+    """May this user make a name, or take it away? What was made is taken away again, and what was taken is put back."""
+    wrong = 0
+    for _ in range(count):
+        caller, path = dice.caller(), dice.choice(tree.paths)
+        is_there = os.path.lexists(path)
+        if is_there and dice.random() < 0.7:
+            told, is_folder = names.judge_name(caller, names.DELETE, path), os.path.isdir(path) and not os.path.islink(
+                path
+            )
+            put_back = trees.kept(path) if told.status != telling.UNREAD else None
+            said = str(trees.as_user(caller, lambda: trees.taken(path, is_folder)))
+            if not os.path.lexists(path) and put_back:
+                put_back()
+            # a folder with names is told as such
+            said = DENIED if said == trees.FULL else said
+        else:
+            path = (
+                path
+                if is_there and dice.random() < 0.3
+                else os.path.join(path if os.path.isdir(path) else os.path.dirname(path), "new")
+            )
+            told = names.judge_name(caller, names.CREATE, path)
+            said = str(trees.as_user(caller, lambda: trees.made(path)))
+            if said == GRANTED:
+                subprocess.run(["chattr", "-a", os.path.dirname(path)], stderr=subprocess.DEVNULL)
+                os.unlink(path)
+            said = DENIED if said == trees.UNREAD and os.path.lexists(path) else said
+        if ANSWERS[told.status] != said:
+            wrong += differs(f"{path} {caller}", ANSWERS[told.status], said, [*told.lines, told.last])
+    return count, wrong
 
 
-def is_possible():
+def ask_who(dice: Dice, tree: Tree, count: int) -> Count:
+    """Who may? Of some users that have no accounts, as if these were all that have one."""
+    asked, wrong = 0, 0
+    while asked < count:
+        callers = [dice.caller()._replace(name=f"n{number}") for number in range(10)]
+        path, wanted = dice.choice(tree.paths), dice.choice([1, 2, 4, 6])
+        try:
+            lines = everybody.tell_who(callers, wanted, path, way(path, wanted))
+        except Unread:
+            continue
+        if wanted & 1 and os.path.isfile(path):
+            continue
+        may = set(lines[0].partition("  ")[2].replace(",", " ").replace(";", " ").split())
+        for caller in callers:
+            said = tried(caller, [(path, wanted)])[0]
+            told = GRANTED if caller.name in may else DENIED
+            if told != said:
+                wrong += differs(f"who {path} {lists.letters(wanted)} {caller}", told, said, lines)
+        asked += len(callers)
+    return asked, wrong
+
+
+def ask_under(dice: Dice, tree: Tree, count: int) -> Count:
+    """What under the tree?"""
+    asked, wrong = 0, 0
+    while asked < count:
+        caller, wanted = dice.caller(), dice.choice([1, 2, 4, 6])
+        rows = [
+            row
+            for row in under.rows_under(caller, wanted, tree.top, under.tree_of(tree.top, wanted))
+            if row.may is not None
+        ]
+        for row, said in zip(rows, tried(caller, [(row.path, wanted) for row in rows])):
+            told = GRANTED if row.may else DENIED
+            said = DENIED if said == trees.UNREAD and "a script for" in row.by else said
+            if told != said:
+                wrong += differs(f"{row.path} {lists.letters(wanted)} {caller}", told, said, [row.by])
+        asked += len(rows)
+    return asked, wrong
+
+
+def bits_of(caller: Caller, path: str) -> int:
+    said = trees.as_user(
+        caller,
+        lambda: [
+            trees.checked(path, 1) if bit == 1 and os.path.isfile(path) else trees.done(path, bit) for _, bit in BITS
+        ],
+    )
+    assert isinstance(said, list)
+    return sum(bit for (_, bit), one in zip(BITS, said) if one == GRANTED)
+
+
+def ask_changes(dice: Dice, tree: Tree, count: int) -> Count:
+    """Who gains and who loses? setfacl makes the change, which is tried before and after, and taken back."""
+    asked, wrong = 0, 0
+    while asked < count:
+        path = dice.choice(tree.paths)
+        if (
+            os.path.islink(path)
+            or not os.path.exists(path)
+            or way(path, 4).end
+            or way(path, 4).places[-1].attributes & FIXED
+        ):
+            continue
+        is_put, computes = dice.random() < 0.6, dice.random() < 0.7
+        text = dice.choice(
+            [f"u:{dice.choice(trees.UIDS)}", f"g:{dice.choice(trees.GIDS)}"] + ["m:", "u:", "g:", "o:"] * is_put
+        )
+        text += f":{lists.letters(dice.perms())}" * is_put
+        callers = [dice.caller()._replace(name=f"n{number}") for number in range(6)]
+        try:
+            change = changes.Change(changes.read_entry(text, is_put), is_put, computes)
+            lines = changes.tell_change(callers, change, path, way(path, 4))
+        except (Bad, Unread):
+            continue
+        before = [bits_of(caller, path) for caller in callers]
+        value = os.getxattr(path, lists.ACCESS) if lists.ACCESS in os.listxattr(path) else None
+        mode = os.stat(path).st_mode & 0o7777
+        done = subprocess.run(
+            ["setfacl", *([] if computes else ["-n"]), "-m" if is_put else "-x", text, path],
+            stderr=subprocess.PIPE,
+            text=True,
+        )
+        if done.returncode != 0:
+            continue
+        after = [bits_of(caller, path) for caller in callers]
+        kept = lists.of_file(path, os.stat(path).st_mode)
+        if lists.ACCESS in os.listxattr(path):
+            os.removexattr(path, lists.ACCESS)
+        os.chmod(path, mode)
+        if value is not None:
+            os.setxattr(path, lists.ACCESS, value)
+        wanted = {
+            f"gains {lists.letters(new & ~old)} {caller.name}"
+            for caller, old, new in zip(callers, before, after)
+            if new & ~old
+        }
+        wanted |= {
+            f"loses {lists.letters(old & ~new)} {caller.name}"
+            for caller, old, new in zip(callers, before, after)
+            if old & ~new
+        }
+        told = {
+            f"{word} {lists.letters(lists.perms_of(perms))} {name}"
+            for line in lines
+            for word, perms, rest in [line.replace(":", "").split(None, 2)]
+            if word in ("gains", "loses")
+            for name in rest.split(", ")
+        }
+        if told != wanted or lists.list_text(kept, lists.name_of) != lines[0].rpartition("  would be  ")[2]:
+            wrong += differs(f"{text} {path}", f"{sorted(told)}", f"{sorted(wanted)}, {lists.list_text(kept)}", lines)
+        asked += len(callers) * 3
+    return asked, wrong
+
+
+def ask_lint(dice: Dice, tree: Tree, count: int) -> Count:
+    """What is to be mended? Whom an entry does not reach is tried, and whom none is told of reaches the file's
+    folder."""
+    asked, wrong = 0, 0
+    while asked < count:
+        callers = [Caller(f"n{uid}", uid, dice.choice(trees.GIDS), ()) for uid in trees.UIDS]
+        people_of = lint.accounts
+        lint.accounts = lambda: callers
+        try:
+            told, _ = lint.lint(tree.top)
+        finally:
+            lint.accounts = people_of
+        stopped = {
+            (line.split(": ", 1)[0], line.split(": ", 1)[1].split(" reaches nobody")[0])
+            for line in told
+            if " reaches nobody" in line
+        }
+        for path in tree.paths:
+            if os.path.islink(path) or not os.path.exists(path) or path != os.path.realpath(path):
+                continue
+            entries = lists.of_file(path, os.stat(path).st_mode)
+            for entry in entries:
+                whom = [
+                    one
+                    for one in callers
+                    if entry.tag == lists.USER and one.uid == entry.id or entry.tag == lists.GROUP and one.has(entry.id)
+                ]
+                if not whom or not entry.perms & (lists.mask_of(entries) or 0):
+                    continue
+                reach = [trees.as_user(one, lambda: trees.checked(os.path.dirname(path), 1)) == GRANTED for one in whom]
+                said, is_told = not any(reach), (path, lists.entry_text(entry, lists.name_of)) in stopped
+                asked += 1
+                # each may be stopped by another folder: that is not told
+                if is_told and not said or said and not is_told and len(whom) == 1:
+                    wrong += differs(f"{path} {lists.entry_text(entry)}", f"{is_told}", f"{said}", told[:3])
+        if asked == 0:
+            return count, wrong
+    return asked, wrong
+
+
+FORMS: dict[str, Callable[[Dice, Tree, int], Count]] = {
+    "user": ask_users,
+    "names": ask_names,
+    "who": ask_who,
+    "under": ask_under,
+    "change": ask_changes,
+    "lint": ask_lint,
+}
+
+
+def is_possible() -> bool:
     """Whether this is root, on a file system that keeps lists."""
     if os.geteuid() != 0 or not os.path.isdir(PLACE):
         return False
     try:
         with tempfile.NamedTemporaryFile(dir=PLACE) as file:
-            os.setxattr(file.name, may.XATTR, Dice(1).value())
+            os.setxattr(file.name, lists.ACCESS, Dice(1).value())
     except OSError:
         return False
     return True
 
 
-def main():
-    parser = argparse.ArgumentParser()
+def ask(form: str, given: argparse.Namespace) -> Count:
+    dice, wrong, asked = Dice(given.seed), 0, 0
+    while asked < given.questions:
+        top = tempfile.mkdtemp(dir=PLACE)
+        tree = None
+        try:
+            tree = Tree(dice, top, given.mounts and form in ("user", "under", "who"))
+            mounts.mounts.cache_clear()
+            mounts.by_id.cache_clear()
+            mounts.points.cache_clear()
+            some, bad = FORMS[form](dice, tree, min(OF_A_TREE, given.questions - asked))
+            asked, wrong = asked + some, wrong + bad
+        finally:
+            if tree:
+                tree.close()
+            shutil.rmtree(top, ignore_errors=True)
+    print(f"{form}: {asked} questions, {wrong} differ")
+    return asked, wrong
+
+
+def main() -> int:
+    parser = argparse.ArgumentParser(description=__doc__)
     parser.add_argument("--questions", type=int, default=2000)
     parser.add_argument("--seed", type=int, default=1)
+    parser.add_argument("--form", choices=sorted(FORMS))
+    parser.add_argument("--mounts", action="store_true")
     parser.add_argument("--if-possible", action="store_true")
     parser.add_argument("program", nargs="?")
     given = parser.parse_args()
@@ -194,21 +304,14 @@ def main():
     if not is_possible():
         print(f"this needs root, and lists in {PLACE}\n0 questions, 0 differ")
         return 0 if given.if_possible else 1
-    dice, wrong, left = Dice(given.seed), 0, given.questions
-    counts = dict.fromkeys(["granted", "denied", "unread", "opened", "root", "told of an empty mask"], 0)
     os.umask(0)
-    while left > 0:
-        top = tempfile.mkdtemp(dir=PLACE)
-        try:
-            found = questions_of(dice, top, min(OF_A_TREE, left))
-            wrong += compare(found, counts)
-            left -= len(found)
-        finally:
-            shutil.rmtree(top)
-    print(", ".join(f"{count} {name}" for name, count in counts.items()))
-    print(f"{given.questions} questions, {wrong} differ")
-    return 1 if wrong else 0
+    said = [ask(form, given) for form in ([given.form] if given.form else FORMS)]
+    print(f"{sum(one for one, _ in said)} questions, {sum(bad for _, bad in said)} differ")
+    return 1 if any(bad or not one for one, bad in said) else 0
 
 
 if __name__ == "__main__":
-    sys.exit(main())
+    try:
+        raise SystemExit(main())
+    except Unread as error:
+        raise SystemExit(str(error)) from None

@@ -1,10 +1,15 @@
 #!/usr/bin/env python3
 """tests/may.py [PROGRAM]
 
-Plays rows of the program `may` (lines of questions, and the status and the output that are wanted), and `./suites may` on
-a few files of its own. Looks whether the Rust code that README shows stands in crates/may/src, which the gate proves. PROGRAM
-is a build of `may`; where none is named, that which `./suites may` takes. Prints what differs; status 1 where something does.
+Plays rows of the program `may` (lines of questions, and the status and the output that are wanted), and `./suites
+may` on
+a few files of its own. Looks whether the Rust code that README shows stands in crates/may/src, which the gate
+proves. PROGRAM
+is a build of `may`; where none is named, that which `./suites may` takes. Prints what differs; status 1 where
+something does.
 """
+from __future__ import annotations
+
 import os
 import re
 import subprocess
@@ -13,7 +18,9 @@ import tempfile
 
 TOP = os.path.realpath(os.path.join(os.path.dirname(os.path.abspath(__file__)), ".."))
 sys.path.insert(0, os.path.join(TOP, "tools"))
-import may
+from machine import changes, everybody, lint, lists, mounts, people, program
+from machine.people import Caller
+from machine.ways import way
 
 LIST = "u::rw,u:1001:rw,g::r,m::r,o::-"
 MANY = ",".join(str(one) for one in range(1, 34))
@@ -23,7 +30,11 @@ ROWS = [
     (f"1000 100 1000 7 rw {LIST}", 0, "granted\n"),
     (f"1000 100 1001 7 r {LIST}\r\n", 0, "granted\n"),
     (f"\t1000  100 1001 7 rw {LIST} \n", 0, "denied rw- by mask::\n"),
-    (f"1000 100 1001 7 wr {LIST}\n1000 100 1002 7,100 -w- {LIST}\n", 0, "denied rw- by mask::\ndenied -w- by group::\n"),
+    (
+        f"1000 100 1001 7 wr {LIST}\n1000 100 1002 7,100 -w- {LIST}\n",
+        0,
+        "denied rw- by mask::\ndenied -w- by group::\n",
+    ),
     (f"1000 100 4294967295 {MANY} r {LIST}\n", 0, "denied r-- by other::\n"),
     ("1 1 1 1 x user::rwx\\ngroup::-,other::-\n".replace("\\n", ","), 0, "granted\n"),
     ("1 1 2 1 x u::rw,g::rw,o::x,d:u::rwx,d:g::rwx,d:o::rwx\n", 0, "denied --x by group::\n"),
@@ -45,39 +56,49 @@ ROWS = [
 
 
 class Tests:
-    def __init__(self):
+    def __init__(self) -> None:
         self.count = self.wrong = 0
 
-    def holds(self, given, about):
+    def holds(self, given: object, about: str) -> None:
         self.count += 1
         if not given:
             self.wrong += 1
             print(about)
 
 
-def plays_rows(tests):
+def plays_rows(tests: Tests) -> None:
     for given, status, printed in ROWS:
-        done = subprocess.run([may.program()], input=given.encode(), stdout=subprocess.PIPE)
-        tests.holds((done.returncode, done.stdout.decode()) == (status, printed), f"{given!r}: {done.returncode} {done.stdout!r}, and not {status} {printed!r}")
+        done = subprocess.run([program.program()], input=given.encode(), stdout=subprocess.PIPE)
+        tests.holds(
+            (done.returncode, done.stdout.decode()) == (status, printed),
+            f"{given!r}: {done.returncode} {done.stdout!r}, and not {status} {printed!r}",
+        )
     for words, status, printed in ((["--help"], 0, "Answers questions"), (["-x"], 2, "fault command line\n")):
-        done = subprocess.run([may.program(), *words], stdin=subprocess.DEVNULL, stdout=subprocess.PIPE)
+        done = subprocess.run([program.program(), *words], stdin=subprocess.DEVNULL, stdout=subprocess.PIPE)
         tests.holds(done.returncode == status and done.stdout.decode().startswith(printed), f"{words}: {done}")
     with open("/dev/full", "wb") as full:
-        done = subprocess.run([may.program()], input=f"1 1 1 1 r {LIST}\n".encode(), stdout=full)
+        done = subprocess.run([program.program()], input=f"1 1 1 1 r {LIST}\n".encode(), stdout=full)
     tests.holds(done.returncode == 6, f"a write that fails: {done.returncode}")
-    done = subprocess.run([may.program()], stdin=os.open("/", os.O_RDONLY), stdout=subprocess.PIPE)
+    done = subprocess.run([program.program()], stdin=os.open("/", os.O_RDONLY), stdout=subprocess.PIPE)
     tests.holds((done.returncode, done.stdout) == (6, b""), f"a read that fails: {done}")
 
 
-def asks(tests, words, status, last):
+def asks(tests: Tests, words: list[str], status: int, last: str, strict: bool = False) -> None:
     """The command, its status, and what its last line has."""
-    done = subprocess.run([sys.executable, os.path.join(TOP, "tools", "may.py"), *words], stdin=subprocess.DEVNULL, stdout=subprocess.PIPE, stderr=subprocess.PIPE, text=True)
-    # a checked build says so each time
+    env = {**os.environ, **({"PYTHONIOENCODING": "utf-8:strict", "LC_ALL": "C"} if strict else {})}
+    command = [sys.executable, os.path.join(TOP, "tools", "may.py"), *words]
+    done = subprocess.run(
+        command, env=env, stdin=subprocess.DEVNULL, stdout=subprocess.PIPE, stderr=subprocess.PIPE, text=True
+    )
+    # a checked build says so
     lines = [line for line in (done.stdout + done.stderr).splitlines() if not line.startswith("suites: checked build")]
-    tests.holds(done.returncode == status and last in lines[-1], f"may {words}: {done.returncode}, and not {status} with {last!r}: {lines}")
+    tests.holds(
+        done.returncode == status and lines and last in lines[-1],
+        f"may {words}: {done.returncode}, and not {status} with {last!r}: {lines}",
+    )
 
 
-def asks_of_files(tests):
+def asks_of_files(tests: Tests) -> None:
     with tempfile.TemporaryDirectory(prefix="suites-") as room:
         os.chmod(room, 0o755)
         file, folder = os.path.join(room, "f"), os.path.join(room, "d")
@@ -87,7 +108,9 @@ def asks_of_files(tests):
         os.chmod(folder, 0o700)
         os.symlink("../f", os.path.join(folder, "l"))
         other = ["--groups", "65000", "65000"]
-        asks(tests, [*other, "r", file], 1, f"65000 (65000; groups 65000) may not r: {file} wants r--, other grants ---")
+        asks(
+            tests, [*other, "r", file], 1, f"65000 (65000; groups 65000) may not r: {file} wants r--, other grants ---"
+        )
         asks(tests, [*other, "r", os.path.join(folder, "l")], 1, f"{folder} wants --x, other grants ---")
         asks(tests, ["--groups", str(os.stat(file).st_gid), "65000", "r", file], 0, f"may r: {file}")
         os.chmod(folder, 0o711)
@@ -97,16 +120,159 @@ def asks_of_files(tests):
         asks(tests, [*other, "r", os.path.join(file, "no")], 3, "Not a directory")
         asks(tests, ["0", "rw", file], 0, "Linux lets root pass")
         asks(tests, ["0", "x", file], 1, "Linux lets root execute no file that nobody may execute")
-    for words in ([], ["root", "r"], ["root", "q", "/"], ["no one", "r", "/"], ["--groups", "a", "1", "r", "/"], ["--json", "root", "r", "/"]):
-        asks(tests, words, 2, "(./suites may --help)")
+        asks(tests, ["0", "x", folder, "--under", room], 2, "a user and what it wants are told")
+    bad: tuple[list[str], ...] = (
+        [],
+        ["root", "r"],
+        ["root", "q", "/"],
+        ["no one", "r", "/"],
+        ["--groups", "a", "1", "r", "/"],
+        ["--json", "root", "r", "/"],
+        ["--who", "r"],
+        ["--who", "q", "/"],
+        ["--with", "u:1", "/"],
+        ["--without", "u::", "/"],
+        ["--with", "x:1:r", "/"],
+        ["--denied", "0", "r", "/"],
+        ["--lint", "/", "/"],
+        ["--no-mask", "0", "r", "/"],
+        ["--who", "r", "--lint", "/"],
+        ["--with", "m:7:r", "/"],
+        ["--without", "u:no one", "/"],
+    )
+    for words in bad:
+        asks(tests, list(words), 2, "(./suites may --help)")
 
 
-def plain(code):
+def asks_of_names(tests: Tests) -> None:
+    """Names that are no text or that would forge a line, and paths that there cannot be."""
+    with tempfile.TemporaryDirectory(prefix="suites-") as room:
+        os.chmod(room, 0o755)
+        odd, forged = os.path.join(os.fsencode(room), b"\xff"), os.path.join(room, "a\n1 (1; groups 1) may r: b")
+        for path in (odd, os.fsencode(forged)):
+            open(path, "w").close()
+            os.chmod(path, 0o600)
+        other = ["--groups", "65000", "65000"]
+        for strict in (False, True):
+            asks(tests, [*other, "r", os.fsdecode(odd)], 1, f'"{room}/\\377" wants r--', strict)
+            asks(tests, [*other, "r", forged], 1, f'"{room}/a\\n1 (1; groups 1) may r: b" wants r--', strict)
+            asks(tests, [*other, "r", "--under", room], 0, room, strict)
+        asks(tests, ["0", "r", ""], 3, '"": No such file or directory')
+        asks(tests, ["0", "r", "/" + "a/" * 2100], 3, "File name too long")
+        asks(tests, ["0", "w", os.path.join(room, "no")], 3, "whether it may be made: ./suites may 0 create ")
+        asks(tests, ["0", "create", os.path.join(room, "no")], 0, "Linux lets root pass")
+        asks(tests, ["0", "create", forged], 1, "is there already")
+        asks(tests, ["0", "delete", os.path.join(room, "no")], 3, "No such file or directory")
+        asks(tests, [*other, "create", os.path.join(room, "no")], 1, f"{room} wants -wx, other grants r-x")
+        asks(tests, [*other, "delete", forged], 1, f"{room} wants -wx, other grants r-x")
+        os.chmod(room, 0o1777)
+        asks(tests, [*other, "delete", forged], 1, "is sticky")
+        asks(tests, [*other, "r", "/proc/self/status"], 3, "the kernel decides there by other rules")
+        asks(tests, ["0", "w", "/sys/kernel"], 3, "the kernel decides there by other rules")
+        asks(tests, ["0", "x", "/dev/null"], 1, "is a device, and Linux executes files alone")
+
+
+def value_of(entries: list[tuple[int, int, int]]) -> bytes:
+    return lists.HEAD.pack(lists.VERSION) + b"".join(lists.ENTRY.pack(*entry) for entry in entries)
+
+
+def base(perms: int = 0) -> list[tuple[int, int, int]]:
+    nobody = 0xFFFFFFFF
+    return [
+        (lists.USER_OBJ, 6, nobody),
+        (lists.GROUP_OBJ, perms, nobody),
+        (lists.MASK, 7, nobody),
+        (lists.OTHER, 0, nobody),
+    ]
+
+
+def asks_of_lists(tests: Tests) -> None:
+    """Lists that are not judged here, beside one that is; lists of others that are, by what denies or grants."""
+    callers = [
+        Caller(f"n{uid}", uid, gid, ()) for uid, gid in ((0, 0), (1001, 300), (1002, 200), (1003, 300), (1004, 200))
+    ]
+    with tempfile.TemporaryDirectory(prefix="suites-", dir="/dev/shm" if os.path.isdir("/dev/shm") else None) as room:
+        os.chmod(room, 0o755)
+        many, plain_one, twice = (os.path.join(room, name) for name in ("many", "one", "twice"))
+        for path in (many, plain_one, twice):
+            open(path, "w").close()
+        os.chmod(plain_one, 0o644)
+        try:
+            os.setxattr(
+                many,
+                lists.ACCESS,
+                value_of(
+                    sorted(
+                        [*base(), *((lists.USER, 4, 2000 + one) for one in range(150))],
+                        key=lambda one: (one[0], one[2]),
+                    )
+                ),
+            )
+            os.setxattr(
+                twice,
+                lists.ACCESS,
+                value_of([*base()[:1], (lists.USER, 4, 1001), *base(4)[1:2], (lists.GROUP, 4, 200), *base()[2:]]),
+            )
+        except OSError:
+            print("no lists here, so they are not asked of")
+            return
+        other = ["--groups", "65000", "65000"]
+        asks(tests, [*other, "r", plain_one, many], 3, f"{many}: not judged here: its list has 154 entries")
+        asks(tests, [*other, "r", many, plain_one], 3, f"{many}: not judged here")
+        told = everybody.tell_who(callers, 4, twice, way(twice, 4))
+        wanted = [
+            f"{twice}  r--  n0 (Linux lets root pass); n1001 by user:1001; n1002, n1004 by group:200",
+            f"  denied at {twice}: n1003 by other::---",
+        ]
+        tests.holds(told == wanted, f"who: {told}")
+        change = changes.Change(changes.read_entry("g:200", False), False, True)
+        told = changes.tell_change(callers, change, twice, way(twice, 4))
+        tests.holds(told[1:] == ["  loses r: n1002, n1004", "  loses x: n0"], f"without: {told}")
+        change = changes.Change(changes.read_entry("u:1003:w", True), True, True)
+        told = changes.tell_change(callers, change, twice, way(twice, 4))
+        # root executes what anybody may, and the new mask lets nobody
+        tests.holds(told[1:] == ["  gains w: n1003", "  loses x: n0"], f"with: {told}")
+        lint.accounts, kept = (lambda: callers), lint.accounts
+        found, _ = lint.lint(room)
+        os.chmod(room, 0o700)
+        stopped, _ = lint.lint(room)
+        lint.accounts = kept
+        tests.holds(any(f"{many}: its list has 154 entries" in line for line in found), f"lint: {found[:3]}")
+        tests.holds(any(f"{twice}: user:1001:r-- reaches nobody" in line for line in stopped), f"lint: {stopped[-3:]}")
+        os.chmod(room, 0o755)
+    tests.holds(
+        lists.fault(tuple(lists.Entry(lists.USER, 7, 4) for _ in range(2))) == "its list names user 7 twice",
+        "a user twice",
+    )
+
+
+def reads_mounts(tests: Tests) -> None:
+    """Mounts, as /proc/self/mountinfo tells them."""
+    text = "\n".join(
+        [
+            "22 27 0:21 / /proc rw,relatime - proc proc rw,hidepid=2",
+            r"30 27 0:5 / /a\040b ro,noexec,idmapped shared:1 - ext4 /dev/x rw",
+            "31 27 0:6 / /f rw - fuse.sshfs x rw,user_id=0",
+            "32 27 0:7 / /n rw - nfs4 x rw",
+            "33 27 0:8 / /t rw,nosymfollow - tmpfs x rw",
+        ]
+    )
+    found = mounts.read_mounts(text)
+    tests.holds([one.point for one in found] == ["/proc", "/a b", "/f", "/n", "/t"], f"mounts: {found}")
+    tests.holds(
+        [bool(one.unjudged(f"{one.point}/x")) for one in found] == [True, True, True, True, False],
+        "mounts that are not judged",
+    )
+    tests.holds(found[1].has("noexec") and found[1].has("ro") and found[4].has("nosymfollow"), "flags of mounts")
+    tests.holds(people.caller_of("0", "5,6") == Caller("root", 0, 5, (6,)), "a caller by its number")
+
+
+def plain(code: str) -> str:
     """Code without the spaces before its lines."""
     return re.sub(r"^ +", "", code, flags=re.M)
 
 
-def shown_code_stands(tests):
+def shown_code_stands(tests: Tests) -> None:
     with open(os.path.join(TOP, "README.md"), encoding="utf-8") as file:
         code = re.findall(r"^```rust\n(.*?)^```", file.read(), re.M | re.S)
     sources = ""
@@ -118,15 +284,18 @@ def shown_code_stands(tests):
         tests.holds(plain(block) in sources, f"this code of README stands in no file of crates/may/src:\n{block}")
 
 
-def main():
+def main() -> int:
     if len(sys.argv) > 1:
         os.environ["MAY"] = os.path.abspath(sys.argv[1])
     tests = Tests()
     plays_rows(tests)
     asks_of_files(tests)
+    asks_of_names(tests)
+    asks_of_lists(tests)
+    reads_mounts(tests)
     shown_code_stands(tests)
     print(f"{tests.count} things, {tests.wrong} differ")
-    return 1 if tests.wrong else 0
+    return 1 if tests.wrong or not tests.count else 0
 
 
 if __name__ == "__main__":

@@ -21,7 +21,6 @@ import time
 
 import played
 
-sys.path.insert(0, os.path.join(played.TOP, "tools"))
 import console  # noqa: E402
 import sources  # noqa: E402
 import trial  # noqa: E402

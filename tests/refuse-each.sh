@@ -16,14 +16,18 @@
 # The first word `trace` stands for the program of `./suites trace`, which takes the words behind it.
 #
 # Without words: every command on every file of examples/, and what else the command line has, with counts at the end.
-# SUITES and TRACE name other programs, MOST another number of allocations to look at (default 2000), EVERY looks at each
+# The programs are those that `./suites` runs; SUITES and TRACE name others, MOST another number of allocations to look at (default 2000), EVERY looks at each
 # so many-th of them, AGENTS is another number of agents (default 4), ONLY a part of the files' names.
 set -u
 here=$(cd "$(dirname "$0")/.." && pwd)
-program=${SUITES:-$here/crates/suites/out/suites}
-tracer=${TRACE:-$here/crates/trace/out/trace}
+# The program that `./suites` runs, or with `trace` the one of `./suites trace`: proved, or a checked build, which is made where it is wanting.
+chosen() { SUITES_PROGRAM=$1 python3 "$here/tools/choose.py" < /dev/null | while read -r kind path; do [ "$kind" = trial ] || echo "$here/$path"; done; }
 most=${MOST:-2000} every=${EVERY:-1}
-[ $# -ne 1 ] && [ -x "$program" ] && { [ "${2-trace}" != trace ] || [ -x "$tracer" ]; } || { sed -n '2s/^# /usage: /p' "$0" >&2; exit 2; }
+[ $# -ne 1 ] || { sed -n '2s/^# /usage: /p' "$0" >&2; exit 2; }
+program=${SUITES:-$(chosen suites)} tracer=
+[ "${2-trace}" != trace ] || tracer=${TRACE:-$(chosen trace)}
+[ -x "$program" ] || { echo "there is no program '$program': ./suites --prove makes it, or SUITES names another one" >&2; exit 2; }
+[ "${2-trace}" != trace ] || [ -x "$tracer" ] || { echo "there is no program '$tracer': ./suites --prove trace makes it, or TRACE names another one" >&2; exit 2; }
 work=$(mktemp -d) || exit 2
 trap 'rm -rf "$work"' EXIT
 
@@ -160,4 +164,4 @@ else
     fi
     echo "$commands commands, $rows with a row, $refused refusals: $memories times status 4, $wholes times the full output, $others times other ends of jobs, $differ differ"
 fi
-[ "$differ" -eq 0 ]
+[ "$differ" -eq 0 ] && { [ "$refused" -gt 0 ] || [ $# -ge 2 ]; }

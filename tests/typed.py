@@ -1,19 +1,20 @@
 #!/usr/bin/env python3
 """tests/typed.py
 
-Types each command line that README.md and docs/FAULTS.md show, behind a `$` or of `./suites`, in blocks and in lines of
-text, at the top of the repository. Each has to end with status 0, and to print what is shown below it. Left out are those with a word to
-be filled in, as `./suites explain CODE`, those that take an hour or are the tests themselves, and `--is-fresh`, whose
-status is that of the build. Prints each that differs; status 1 where one does.
+Types each command line that README.md and docs/FAULTS.md show, behind a `$` or of `./suites`, in blocks and in lines
+of text, at the top of the repository. Each has to end with status 0 (`may` with 1 where it shows a denial), and to
+print what is shown below it. Left out are those with a word to be filled in, as `./suites explain CODE`, those that
+take an hour or are the tests themselves, and `--is-fresh`, whose status is that of the build. Prints each that
+differs; status 1 where one does.
 """
 import os
 import re
 import subprocess
 import sys
+import typing
 
 import played
 
-sys.path.insert(0, os.path.join(played.TOP, "tools"))
 import shown
 
 DOCUMENTS = ("README.md", "docs/FAULTS.md")
@@ -22,12 +23,14 @@ COMMAND = re.compile(r"\$ (.*)|(?:\./suites |\.ci/run\b).*")
 SPAN = re.compile(r"`(\./suites (?!\w+`)[^`]+)`")
 # A word to be filled in, as CODE or N, and what may be left out or goes on.
 FILLED_IN = re.compile(r"(?<![\w/])(?:[A-Z]{2,}|[A-Z])(?!\w)|\[|\.\.\.|< \.\.")
+# So many command lines at least are shown, so that a change of the form of documents is told.
+FEWEST = 12
 LEFT_OUT = ("./suites --prove", "./suites --test", "./suites --is-fresh", ".ci/run")
 
 
-def of_block(number, block):
+def of_block(number: int, block: list[bytes]) -> list[tuple[int, str, str | None]]:
     """The commands of a block, each with its line, and what is shown below it where it begins with a `$`."""
-    found = []
+    found: list[tuple[int, str, list[str] | None]] = []
     for place, line in enumerate(line.decode() for line in block):
         command = COMMAND.match(line)
         if command:
@@ -37,7 +40,7 @@ def of_block(number, block):
     return [(place, command, None if lines is None else "".join(lines)) for place, command, lines in found]
 
 
-def commands(document):
+def commands(document: str) -> typing.Iterator[tuple[int, str, str | None]]:
     """All commands that a document shows, with their lines and what is to be printed, where that is shown."""
     text = shown.content(document)
     for number, block in shown.blocks(text):
@@ -47,22 +50,39 @@ def commands(document):
             yield from ((number, command, None) for command in SPAN.findall(line))
 
 
-def is_typed(command):
+def is_typed(command: str) -> bool:
     return not command.startswith(LEFT_OUT) and not FILLED_IN.search(re.sub(r"#.*", "", command))
 
 
-def main():
+def status_of(wanted: str | None) -> int:
+    """The status of a command with this output: `may` ends with 1 where something is denied."""
+    return 1 if wanted and " may not " in wanted else 0
+
+
+def main() -> int:
     count = wrong = 0
     for document in DOCUMENTS:
         for number, command, wanted in commands(document):
             if not is_typed(command):
                 continue
-            done = subprocess.run(["sh", "-c", command], cwd=played.TOP, stdin=subprocess.DEVNULL, stdout=subprocess.PIPE, stderr=subprocess.PIPE)
+            done = subprocess.run(
+                ["sh", "-c", command],
+                cwd=played.TOP,
+                stdin=subprocess.DEVNULL,
+                stdout=subprocess.PIPE,
+                stderr=subprocess.PIPE,
+            )
             printed = done.stdout.decode("latin1")
             count += 1
-            if done.returncode != 0 or wanted not in (None, printed):
+            if done.returncode != status_of(wanted) or wanted not in (None, printed):
                 wrong += 1
-                print(f"{document}:{number}: {command} ends with {done.returncode} and prints\n{printed}{done.stderr.decode('latin1')}")
+                print(
+                    f"{document}:{number}: {command} ends with {done.returncode} and"
+                    f" prints\n{printed}{done.stderr.decode('latin1')}"
+                )
+    if count < FEWEST:
+        wrong += 1
+        print(f"of at least {FEWEST} command lines {count} were found")
     print(f"{count} command lines, {wrong} differ")
     return 1 if wrong else 0
 

@@ -1,17 +1,16 @@
 #!/usr/bin/env python3
 """tests/votes.py [--all] [--seed SEED] [PROGRAM]
 
-Compares what `./suites votes` tells with what `play` answers. The program is the one that `./suites` runs (a checked build
-where nothing is proved), or the one that is named.
+Compares what `./suites votes` tells with what `play` answers. The program is the one that `./suites` runs (a checked
+build where nothing is proved), or the one that is named.
 
 - The three examples of Gifford's paper have the chances that stand there.
-- Of votes of up to eight servers every set of servers crashes, and a file with these votes is read and written as often
-  in a row as there are servers, so that each of them is the home once. From which of it ended U1 and U5 all that is told
-  is found anew: how many may be lost, the least sets, both chances.
+- Of votes of up to eight servers every set of servers crashes, and a file with these votes is read and written as
+  often in a row as there are servers, so that each of them is the home once. From which of it ended U1 and U5 all
+  that is told is found anew: how many may be lost, the least sets, both chances.
 - Of votes of up to 32 servers the sets that are told crash, and then all but one server of each; and as many servers,
   any of them, as are told that may be lost.
 - Faulty words are told with the codes that `table` and `play` tell.
-- Of scripts those votes are told that are in effect at their end (this wants the program of `./suites trace`).
 
 Votes of up to three servers are tried all, where a server is not listed or has up to two votes; others are chosen by
 chance, with SEED. With --all those of up to five servers are tried all. Status 1 where something differs. It takes half
@@ -28,40 +27,24 @@ import re
 import subprocess
 import sys
 import tempfile
+import typing
 
 import played
+import voted
 
-sys.path.insert(0, os.path.join(played.TOP, "tools"))
 import explain
-import trace
 import votes
 
 HEADER = "agents 1\nvotes {}/1/{}\nroot 1000 100 777\ncache 0 0 0\n"
-SECTION = re.compile(r"(read|write|read and write): \d+ of \d+ votes\n    may be lost +(.*)\n    stopped by +([^:]*)\n    blocked +(.*)\n    U5 at first +(.*)\n")
 CHANCES = ["0.99", "0.9", "0.5", "0.995"]
 # How many files a script has: the folder with their names is looked at on each path.
 FILES = 40
-Told = collections.namedtuple("Told", "lost sets more blocked ends_u5")
 # How a try ended: of which file, whether a read or a write, with which servers down, its home perhaps among them; the
 # word behind `undecided`, or `answered`, and what stands behind it; and the number of the file.
 End = collections.namedtuple("End", "place kind down home_is_down how rest suite")
 
 
-def told(word, servers, up):
-    """What the tool tells of a read and of a write. How many servers there are it is told where the word says less."""
-    text = "\n".join(votes.told_of_word(word, servers if word.count(",") + 1 < servers else None, up)) + "\n"
-    found = {}
-    for kinds, lost, sets, blocked, ends_u5 in SECTION.findall(text):
-        least, _, more = " ".join(sets.split()).partition(" and ")
-        least = [tuple(map(int, one.split(","))) for one in re.findall(r"\{([\d,]+)\}", least)]
-        lost = 0 if lost == "none" else int(lost.removeprefix("any "))
-        more = int(more.split()[0].replace(",", "")) if more else 0
-        for kind in kinds.split(" and "):
-            found[kind] = Told(lost, least, more, blocked, ends_u5)
-    return found
-
-
-def parts_of(word):
+def parts_of(word: str) -> tuple[list[int], dict[str, int]]:
     """The votes of each server, and how many a read and a write collect."""
     fields, r, w = word.split("/")
     return [0 if field == "-" else int(field) for field in fields.split(",")], {"read": int(r), "write": int(w)}
@@ -70,49 +53,62 @@ def parts_of(word):
 class Play:
     """A script of `play` with files of these votes, which one agent reads and writes while servers are down."""
 
-    def __init__(self, servers, words):
-        self.servers, self.words, self.down, self.count = servers, words, set(), 0
-        self.lines, self.tries = [f"servers {servers}\n" + HEADER.format(",".join(["1"] * servers), servers)], []
+    def __init__(self, servers: int, words: list[str]) -> None:
+        self.servers, self.words, self.count = servers, words, 0
+        self.down: set[int] = set()
+        self.lines = [f"servers {servers}\n" + HEADER.format(",".join(["1"] * servers), servers)]
+        self.tries: list[tuple[int, str, frozenset[int], bool]] = []
         for place, word in enumerate(words):
             self.begin(f"file /{place} 666 {word}")
 
-    def begin(self, operation):
+    def begin(self, operation: str) -> None:
         self.lines.append(f"begin 0 1000 100 0 {operation}\nrun 0\n")
         self.count += 1
 
-    def fall(self, down):
+    def fall(self, down: set[int]) -> None:
         """These servers are down from here on, and no others."""
         self.lines += [f"crash {server}\n" for server in sorted(down - self.down)]
         self.lines += [f"return {server}\n" for server in sorted(self.down - down)]
         self.down = set(down)
 
-    def tried(self, place, kind):
+    def tried(self, place: int, kind: str) -> None:
         """A file is read or written once; notes which, which servers are down, and whether its home is."""
         self.tries.append((place, kind, frozenset(self.down), self.count % self.servers in self.down))
         self.begin(f"read /{place}" if kind == "read" else f"write /{place} 00")
 
-    def answers(self, program):
+    def answers(self, program: str) -> typing.Iterator[End]:
         """How each try ended."""
-        done = subprocess.run([program, "play"], input="".join(self.lines), stdout=subprocess.PIPE, stderr=subprocess.DEVNULL, text=True)
+        done = subprocess.run(
+            [program, "play"], input="".join(self.lines), stdout=subprocess.PIPE, stderr=subprocess.DEVNULL, text=True
+        )
         lines = done.stdout.splitlines()
-        if done.returncode != 0 or len(lines) != self.count or not all(" answered made " in line for line in lines[: len(self.words)]):
+        if (
+            done.returncode != 0
+            or len(lines) != self.count
+            or not all(" answered made " in line for line in lines[: len(self.words)])
+        ):
             sys.exit(f"play ends with {done.returncode}: {lines[-1:]}\n{''.join(self.lines)[:400]}")
         suites = [line.split()[-1] for line in lines[: len(self.words)]]
         for one, line in zip(self.tries, lines[len(self.words):]):
             how = line.split()[2:]
-            yield End(*one, how[1] if how[0] == "undecided" else how[0], " ".join(how[2:]), suites[one[0]])
+            word = how[1] if how[0] == "undecided" else how[0]
+            yield End(one[0], one[1], one[2], one[3], word, " ".join(how[2:]), suites[one[0]])
 
 
-def is_odd(end, servers, word):
-    """Whether a try ended in a way that no rule allows: U1 names the file, with the votes that are up, or the folder where all are down."""
+def is_odd(end: End, servers: int, word: str) -> bool:
+    """Whether a try ended in a way that no rule allows: U1 names the file, with the votes that are up, or the folder
+    where all are down.
+    """
     if end.how == "U1":
         shares, needed = parts_of(word)
         got = sum(share for server, share in enumerate(shares) if server not in end.down)
-        return end.rest != ("suite 0 got 0 of 1" if len(end.down) == servers else f"suite {end.suite} got {got} of {needed[end.kind]}")
+        return end.rest != (
+            "suite 0 got 0 of 1" if len(end.down) == servers else f"suite {end.suite} got {got} of {needed[end.kind]}"
+        )
     return end.how != ("U5" if end.home_is_down else "answered")
 
 
-def chance_text(chance):
+def chance_text(chance: fractions.Fraction) -> str:
     """A chance with two digits."""
     exponent = 0
     while chance and chance < 1:
@@ -123,19 +119,31 @@ def chance_text(chance):
     return f"{digits // 10}.{digits % 10}e{exponent:+d}" if chance else "0"
 
 
-def found_anew(servers, ends, up):
-    """What is to be told, from how the tries ended with each set of servers down: how many may be lost, the least sets, both chances."""
+def found_anew(servers: int, ends: dict[frozenset[int], list[str]], up: fractions.Fraction) -> voted.Told:
+    """What is to be told, from how the tries ended with each set of servers down: how many may be lost, the least
+    sets, both chances.
+    """
     blocked = {down: all(how == "U1" for how in hows) for down, hows in ends.items()}
     lost = min(len(down) for down in blocked if blocked[down]) - 1
-    least = sorted((len(down), tuple(sorted(down))) for down in blocked if blocked[down] and not any(blocked[down - {one}] for one in down))
+    least = sorted(
+        (len(down), tuple(sorted(down)))
+        for down in blocked
+        if blocked[down] and not any(blocked[down - {one}] for one in down)
+    )
     weight = {down: up ** (servers - len(down)) * (1 - up) ** len(down) for down in blocked}
-    never = sum(weight[down] for down in blocked if blocked[down])
-    ends_u5 = sum(weight[down] * fractions.Fraction(hows.count("U5"), len(hows)) for down, hows in ends.items()) / (1 - never)
-    return Told(lost, [some for _, some in least[:20]], max(0, len(least) - 20), chance_text(never), chance_text(ends_u5))
+    none = fractions.Fraction(0)
+    never = sum((weight[down] for down in blocked if blocked[down]), none)
+    parts = (weight[down] * fractions.Fraction(hows.count("U5"), len(hows)) for down, hows in ends.items())
+    ends_u5 = sum(parts, none) / (1 - never)
+    return voted.Told(
+        lost, [some for _, some in least[:20]], max(0, len(least) - 20), chance_text(never), chance_text(ends_u5)
+    )
 
 
-def every_loss(program, servers, words, dice):
-    """Compares all that is told of votes with runs in which every set of servers is down. Answers how many tries there were, and what differs."""
+def every_loss(program: str, servers: int, words: list[str], dice: random.Random) -> tuple[int, list[str]]:
+    """Compares all that is told of votes with runs in which every set of servers is down. Answers how many tries there
+    were, and what differs.
+    """
     play, wrong = Play(servers, words), []
     for size in range(servers + 1):
         for down in itertools.combinations(range(servers), size):
@@ -144,7 +152,8 @@ def every_loss(program, servers, words, dice):
                 for _ in range(servers):
                     play.tried(place, kind)
     up = dice.choice(CHANCES)
-    tells = [told(word, servers, up) for word in words]
+    tells = [voted.told(word, servers, up) for word in words]
+    ends: dict[tuple[int, str], dict[frozenset[int], list[str]]]
     ends = collections.defaultdict(lambda: collections.defaultdict(list))
     for end in play.answers(program):
         ends[end.place, end.kind][end.down].append(end.how)
@@ -157,12 +166,14 @@ def every_loss(program, servers, words, dice):
     return len(play.tries), wrong
 
 
-def told_losses(program, servers, word, dice):
+def told_losses(program: str, servers: int, word: str, dice: random.Random) -> tuple[int, list[str]]:
     """Compares the sets that are told, and how many servers may be lost, with runs in which these are down."""
-    play, tell, wanted = Play(servers, [word]), told(word, servers, "0.99"), []
+    play, tell, wanted = Play(servers, [word]), voted.told(word, servers, "0.99"), []
     for kind in ("read", "write"):
         sets = tell[kind].sets
-        losses = [(set(one), True) for one in sets] + [(set(one) - {back}, False) for one in sets for back in dice.sample(one, min(3, len(one)))]
+        losses = [(set(one), True) for one in sets] + [
+            (set(one) - {back}, False) for one in sets for back in dice.sample(one, min(3, len(one)))
+        ]
         losses += [(set(dice.sample(range(servers), tell[kind].lost)), False) for _ in range(10)]
         for down, is_blocked in losses:
             play.fall(down)
@@ -179,56 +190,66 @@ def told_losses(program, servers, word, dice):
     return len(play.tries), wrong
 
 
-def thresholds(total):
-    """The votes that a read and a write may collect."""
-    return [(r, w) for w in range(total // 2 + 1, total + 1) for r in range(total - w + 1, total + 1)]
-
-
-def all_words(servers):
-    """All valid votes where each server is not listed or has up to two votes; those behind the last that is listed are not said."""
+def all_words(servers: int) -> typing.Iterator[str]:
+    """All valid votes where each server is not listed or has up to two votes; those behind the last that is listed are
+    not said.
+    """
     for fields in itertools.product(["-", "0", "1", "2"], repeat=servers):
         total = sum(int(field) for field in fields if field != "-")
-        yield from (f"{','.join(fields).rstrip(',-')}/{r}/{w}" for r, w in thresholds(total))
+        yield from (f"{','.join(fields).rstrip(',-')}/{r}/{w}" for r, w in voted.thresholds(total))
 
 
-def random_word(servers, dice):
-    """Valid votes of so many servers, of which some may have none, and the last may not be said."""
-    most = dice.choice([1, 2, 3, 9, 255])
-    fields = [dice.choice(["-", "0", *[str(dice.randint(1, most))] * 5]) for _ in range(servers - dice.choice([0, 0, 0, servers // 3]))]
-    fields[dice.randrange(len(fields))] = str(dice.randint(1, most))
-    total = sum(int(field) for field in fields if field != "-")
-    w = dice.randint(total // 2 + 1, total)
-    return f"{','.join(fields)}/{dice.randint(total - w + 1, total)}/{w}"
-
-
-def run_tool(words):
-    """The tool, with these words, as a user runs it."""
-    return subprocess.run([os.path.join(played.TOP, "suites"), "votes", *words], stdout=subprocess.PIPE, stderr=subprocess.DEVNULL, text=True)
-
-
-def check_examples(_, __):
-    """The blocking probabilities of the paper's three examples, where each server is up with chance 0.99; and the words of the command line."""
+def check_examples(_: argparse.Namespace, __: random.Random) -> tuple[int, list[str]]:
+    """The blocking probabilities of the paper's three examples, where each server is up with chance 0.99; and the
+    words of the command line.
+    """
     gifford = {"1,0,0/1/1": ("1.0e-2", "1.0e-2"), "2,1,1/2/3": ("2.0e-4", "1.0e-2"), "1,1,1/1/3": ("1.0e-6", "3.0e-2")}
-    found = {word: tuple(told(word, 3, "0.99")[kind].blocked for kind in ("read", "write")) for word in gifford}
-    wrong = [f"{word}: blocks {found[word]}, and not {gifford[word]}" for word in gifford if found[word] != gifford[word]]
-    many = told(",".join("1" * 32) + "/16/17", 32, "0.99")
+    found = {word: tuple(voted.told(word, 3, "0.99")[kind].blocked for kind in ("read", "write")) for word in gifford}
+    wrong = [
+        f"{word}: blocks {found[word]}, and not {gifford[word]}" for word in gifford if found[word] != gifford[word]
+    ]
+    many = voted.told(",".join("1" * 32) + "/16/17", 32, "0.99")
     if (many["read"].more, many["write"].more) != (math.comb(32, 17) - 20, math.comb(32, 16) - 20):
-        wrong.append(f"of 32 servers with a vote each: told that there are {many['read'].more} and {many['write'].more} more sets")
+        wrong.append(
+            f"of 32 servers with a vote each: told that there are {many['read'].more} and {many['write'].more} more"
+            " sets"
+        )
     lines = {("2,1,1/2/3",): (None, "0.99"), ("--up", "0.9", "-,2,1,1/2/3", "--servers", "6"): (6, "0.9")}
     for words, (servers, up) in lines.items():
         word = next(word for word in words if "/" in word)
-        if run_tool(words).stdout.splitlines() != votes.told_of_word(word, servers, up):
+        if voted.run_tool(words).stdout != "".join(f"{line}\n" for line in votes.told_of_word(word, servers, up)):
             wrong.append(f"{' '.join(words)}: told other than {word} of {servers} servers, each up with chance {up}")
-    statuses = {("1/1/1", "--up", bad): 2 for bad in ("0", "1.01", "x", "")} | {(): 2, ("--script", "x", "1/1/1"): 2, ("--script", "x", "--servers", "1"): 2, ("--help",): 0}
-    wrong += [f"{' '.join(words)}: not status {status}" for words, status in statuses.items() if run_tool(words).returncode != status]
+    statuses = {("1/1/1", "--up", bad): 2 for bad in ("0", "1.01", "x", "")} | {
+        ("--help",): 0,
+        ("--of", "5"): 0,
+        ("--of", "3", "--lose-write", "2"): 1,
+    }
+    bad = [
+        (),
+        ("--script", "x", "1/1/1"),
+        ("--script", "x", "--servers", "1"),
+        ("--of", "0"),
+        ("--of", "33"),
+        ("--of", "3", "1/1/1"),
+        ("--lose-read", "1", "1/1/1"),
+    ]
+    statuses |= {words: 2 for words in bad}
+    wrong += [
+        f"{' '.join(words)}: not status {status}"
+        for words, status in statuses.items()
+        if voted.run_tool(words).returncode != status
+    ]
     return len(gifford) + 1 + len(lines) + len(statuses), wrong
 
 
-def check_losses(given, dice):
+def check_losses(given: argparse.Namespace, dice: random.Random) -> tuple[int, list[str]]:
     """Votes against `play`."""
-    tried, wrong = 0, []
+    tried, wrong = 0, list[str]()
     words = [(servers, list(all_words(servers))) for servers in range(1, 6 if given.all else 4)]
-    words += [(servers, [random_word(servers, dice) for _ in range(count)]) for servers, count in ((4, 80), (5, 80), (6, 16), (7, 8), (8, 4))]
+    words += [
+        (servers, [voted.random_word(servers, dice) for _ in range(count)])
+        for servers, count in ((4, 80), (5, 80), (6, 16), (7, 8), (8, 4))
+    ]
     words.append((7, ["1,1,1,1,1,1,1/4/4", "2,1,1,1,1,1,1/4/5"]))
     for servers, some in words:
         for place in range(0, len(some), FILES):
@@ -236,60 +257,103 @@ def check_losses(given, dice):
             tried, wrong = tried + count, wrong + found
     for _ in range(24):
         servers = dice.choice([9, 12, 16, 24, 32])
-        count, found = told_losses(given.program, servers, random_word(servers, dice), dice)
+        count, found = told_losses(given.program, servers, voted.random_word(servers, dice), dice)
         tried, wrong = tried + count, wrong + found
     return tried, wrong
 
 
 # Words and their codes by the rules of scripts; `N:` before one says how many servers there are.
 FAULTS = {
-    "": "S1", "1": "S1", "1/1": "S1", "1/1/1/1": "S1", "/1/1": "S1", "1,/1/1": "S1", "1,,1/1/2": "S1", "1/+1/1": "S1", "1/1/x": "S1", "-1/1/1": "S1",
-    "300,1/0/0": "S1", "256/200/200": "S1", "1/65536/1": "S1", "1/1/65536": "S1", "1/1/99999999999999999999": "S1", "1 /1/1": "S1", "\u0661/1/1": "S1",
-    ",".join("1" * 33) + "/17/17": "S1", "--,1/1/1": "S1",
-    "-/1/1": "V1", "-,-/0/0": "V1", "2:1,1,1/9/9": "V2", "3:-,-,-,0/1/1": "V2", "0,0/1/1": "V4", "0/0/0": "V4", "1,1,1/0/3": "V5", "1,1,1/2/4": "V5",
-    "1,1,1/65535/1": "V5", "1,1,1/1/2": "V6", "1,1,1,1/2/2": "V6", "1,1,1,1/3/2": "V7", "0:1/1/1": "G1", "33:1/1/1": "G1",
+    "": "S1",
+    "1": "S1",
+    "1/1": "S1",
+    "1/1/1/1": "S1",
+    "/1/1": "S1",
+    "1,/1/1": "S1",
+    "1,,1/1/2": "S1",
+    "1/+1/1": "S1",
+    "1/1/x": "S1",
+    "-1/1/1": "S1",
+    "300,1/0/0": "S1",
+    "256/200/200": "S1",
+    "1/65536/1": "S1",
+    "1/1/65536": "S1",
+    "1/1/99999999999999999999": "S1",
+    "1 /1/1": "S1",
+    "\u0661/1/1": "S1",
+    ",".join("1" * 33) + "/17/17": "S1",
+    "--,1/1/1": "S1",
+    "-/1/1": "V1",
+    "-,-/0/0": "V1",
+    "2:1,1,1/9/9": "V2",
+    "3:-,-,-,0/1/1": "V2",
+    "0,0/1/1": "V4",
+    "0/0/0": "V4",
+    "1,1,1/0/3": "V5",
+    "1,1,1/2/4": "V5",
+    "1,1,1/65535/1": "V5",
+    "1,1,1/1/2": "V6",
+    "1,1,1,1/2/2": "V6",
+    "1,1,1,1/3/2": "V7",
+    "0:1/1/1": "G1",
+    "33:1/1/1": "G1",
 }
-SOUND = ["1/1/1", "0255/00000000000000000000255/255", "2:1,-,-/1/1", "32:1/1/1", ",".join("1" * 32) + "/16/17", "-,2,1,1/2/3"]
+SOUND = [
+    "1/1/1",
+    "0255/00000000000000000000255/255",
+    "2:1,-,-/1/1",
+    "32:1/1/1",
+    ",".join("1" * 32) + "/16/17",
+    "-,2,1,1/2/3",
+]
 
 
-def code_told(word, servers):
+def code_told(word: str, servers: str) -> str:
     """The code that the tool tells, by its command line, where it explains it; nothing where it tells of votes."""
     words = [*(["--servers", servers] if servers else []), *(["--", word] if word.startswith("--") else [word])]
-    done = run_tool(words)
+    done = voted.run_tool(words)
     if done.returncode == 0:
         return ""
     code = done.stdout.split("\n")[0].removeprefix("fault ")
-    is_explained = done.returncode == 3 and done.stdout == f"fault {code}\n\n{explain.explained(code)}\n"
-    return code if is_explained else f"{code} with status {done.returncode}"
+    told = explain.explained(code) if code != "S1" else votes.FORM
+    is_explained = (
+        done.returncode == 3 and done.stdout.startswith(f"fault {code}\n\n") and done.stdout.endswith(f"{told}\n")
+    )
+    has_rule = code == "G1" or f"\n\n{votes.FORM}\n" in done.stdout and len(done.stdout.split("\n\n")[1]) > 10
+    return code if is_explained and has_rule else f"{code} with status {done.returncode}"
 
 
-def code_of_program(program, word, servers):
-    """The code that the program tells of votes in a script: in the header of `play` where it is said how many servers there are, else in `table`."""
+def code_of_program(program: str, word: str, servers: int | None) -> str:
+    """The code that the program tells of votes in a script: in the header of `play` where it is said how many servers
+    there are, else in `table`.
+    """
     script = f"servers {servers}\nagents 1\nvotes {word}\n" if servers else f"root 1 1 777\ndo 1 1 setvotes / {word}\n"
     done = subprocess.run([program, "play" if servers else "table"], input=script, stdout=subprocess.PIPE, text=True)
     found = re.match(r"fault line (\d): (\w+)", done.stdout)
     return found[2] if found and found[2] != "S2" else ""
 
 
-def spoiled(word, dice):
+def spoiled(word: str, dice: random.Random) -> str:
     """Votes with a character or two changed."""
     for _ in range(dice.choice([0, 1, 1, 2])):
         place = dice.randrange(len(word) + 1)
-        word = word[:place] + dice.choice(["", "0", "9", "-", "/", ",", "1,", "x"]) + word[place + dice.choice([0, 1]) :]
+        word = (
+            word[:place] + dice.choice(["", "0", "9", "-", "/", ",", "1,", "x"]) + word[place + dice.choice([0, 1]) :]
+        )
     return word or "/"
 
 
-def check_faults(given, dice):
+def check_faults(given: argparse.Namespace, dice: random.Random) -> tuple[int, list[str]]:
     """Faulty words: those whose code the rules say, and random ones against the program."""
     wrong = []
     for word, code in [*FAULTS.items(), *((word, "") for word in SOUND)]:
-        servers, _, bare = word.rpartition(":")
-        found = code_told(bare, servers)
+        count, _, bare = word.rpartition(":")
+        found = code_told(bare, count)
         if found != code:
             wrong.append(f"{word}: told {found or 'no fault'}, and not {code or 'none'}")
     for _ in range(800):
         servers = dice.choice([None, dice.randint(1, 4)])
-        word = spoiled(random_word(dice.randint(1, 5), dice), dice)
+        word = spoiled(voted.random_word(dice.randint(1, 5), dice), dice)
         try:
             votes.votes_of(word, servers)
             found = ""
@@ -297,51 +361,13 @@ def check_faults(given, dice):
             found = str(fault)
         wanted = code_of_program(given.program, word, servers)
         if found != wanted:
-            wrong.append(f"{word} with {servers} servers: told {found or 'no fault'}, and the program says {wanted or 'none'}")
+            wrong.append(
+                f"{word} with {servers} servers: told {found or 'no fault'}, and the program says {wanted or 'none'}"
+            )
     return len(FAULTS) + len(SOUND) + 800, wrong
 
 
-OPENING = "servers 4\nagents {}\nvotes 1,1,1/2/2\nroot 1000 100 777\ncache 0 0 0\nbegin 0 1000 100 0 file /a 644\nrun 0\n"
-MOVE = "begin 0 1000 100 0 setvotes /a -,1,1,1/1/3\n"
-# Scripts, and the votes of /a that are in effect at their end. The move takes two polls and a fetch of the folder, the same
-# of the file, two polls of new servers and four prepares: its twelfth step prepares the last, its thirteenth decides.
-LEFT = [
-    (OPENING.format(2), "1,1,1/2/2"),
-    (OPENING.format(2) + MOVE + "run 0\ncrash 1\ncrash 2\ncrash 3\n", "-,1,1,1/1/3"),
-    (OPENING.format(2) + "crash 0\n" + MOVE + "run 0\nreturn 0\n", "-,1,1,1/1/3"),
-    (OPENING.format(2) + MOVE + "step 0 12\ncrash 0\n", "1,1,1/2/2"),
-    (OPENING.format(2) + MOVE + "step 0 13\ncrash 0\ncrash 1\n", "-,1,1,1/1/3"),
-    (OPENING.format(64) + MOVE + "step 0 14", "-,1,1,1/1/3"),
-    ("# agents 1\n\n" + OPENING.format("01").replace("\n", "\r\n") + MOVE + "step 0 12\n", "1,1,1/2/2"),
-]
-
-
-def told_of_script(script):
-    """What the tool tells of a script, and its status."""
-    with tempfile.NamedTemporaryFile("w", suffix=".script", newline="") as file:
-        file.write(script)
-        file.flush()
-        return subprocess.run([sys.executable, os.path.join(trace.TOOLS, "votes.py"), "--script", file.name], stdout=subprocess.PIPE, stderr=subprocess.DEVNULL, text=True)
-
-
-def check_scripts(_, __):
-    """Scripts: which votes are told of which files, and for how many servers; and that a fault is told as `play` tells it."""
-    wrong = []
-    faulty = told_of_script(OPENING.format(2) + MOVE.replace("1/3", "1/2"))
-    if (faulty.returncode, faulty.stdout) != (3, "fault line 8: V6\n"):
-        wrong.append(f"a faulty script is told with status {faulty.returncode}: {faulty.stdout}")
-    for script, word in LEFT:
-        done = told_of_script(script)
-        own = "votes 1,1,1/2/2 of /=suite 0" + (", /a=suite 1\n" if word == "1,1,1/2/2" else "\n")
-        apart = "" if word == "1,1,1/2/2" else f"votes {word} of /a=suite 1\n"
-        for text in filter(None, (own, apart)):
-            lines = "\n".join(votes.told(votes.votes_of(text.split()[1], 4), "0.99"))
-            if done.returncode != 0 or text + lines not in done.stdout:
-                wrong.append(f"{script!r} leaves /a with {word}; told with status {done.returncode}:\n{done.stdout}")
-    return len(LEFT) + 1, wrong
-
-
-def main():
+def main() -> int:
     read = argparse.ArgumentParser(description=__doc__, formatter_class=argparse.RawDescriptionHelpFormatter)
     read.add_argument("--all", action="store_true")
     read.add_argument("--seed", type=int, default=1)
@@ -349,11 +375,11 @@ def main():
     given = read.parse_args()
     given.program = played.program([given.program] if given.program else [])
     dice, is_wrong = random.Random(given.seed), False
-    for what, check in (("examples", check_examples), ("tries of play", check_losses), ("words", check_faults), ("scripts", check_scripts)):
+    for what, check in (("examples", check_examples), ("tries of play", check_losses), ("words", check_faults)):
         count, wrong = check(given, dice)
         print(f"{count} {what}, {len(wrong)} differ")
         print("".join(f"  {line}\n" for line in wrong[:10]), end="", flush=True)
-        is_wrong = is_wrong or bool(wrong)
+        is_wrong = is_wrong or bool(wrong) or not count
     return 1 if is_wrong else 0
 
 

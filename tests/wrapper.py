@@ -1,9 +1,9 @@
 #!/usr/bin/env python3
 """tests/wrapper.py
 
-Plays `./suites` itself, in a copy of the repository without a build: that help, the version and words that ask for nothing
-are answered at once and as the rows have it, that all commands are told, and what a terminal is told. The program is
-a small script in place of a build there. Prints each answer that is another; status 1 where one is.
+Plays `./suites` itself, in a copy of the repository without a build: that help, the version and words that ask for
+nothing are answered at once and as the rows have it, that all commands are told, and what a terminal is told. The
+program is a small script in place of a build there. Prints each answer that is another; status 1 where one is.
 """
 import contextlib
 import os
@@ -15,33 +15,66 @@ import shutil
 import subprocess
 import sys
 import tempfile
+import typing
 
 import played
 
 COPIED = ("suites", "crates", "crates.txt", "docs", "help", "tools", "CHANGELOG.md")
 LEFT_OUT = ("out", "__pycache__", "specs", "proofs", "must-fail", "wrong")
 # What `./suites` itself uses besides python3, git and rt.
-USED = ("sh", "cat", "find", "sleep", "readlink", "env")
+USED = ("sh", "cat", "find", "sleep", "readlink", "env", "head", "mktemp", "rm")
 NO_PYTHON = "is not on the path\n"
 # The most seconds of processor time of an answer, which takes some tenths of one; a build takes a minute and more, and
 # beside much other work all takes several times as long.
 AT_ONCE = 5.0
 # The seconds after which nothing more is taken to come.
-QUIET = 5
+QUIET = 3
 # Reads its input, says how much that was, and ends with the status that its last word tells.
 PROGRAM = """#!/bin/sh
 for word; do :; done
 [ "$word" = quick ] && { echo 'fault word 1'; exit 2; }
-[ $# = 1 ] && { read -r line; echo "read $line"; exit 0; }
+[ $# = 1 ] && { read -r line; cat > /dev/null; echo "read $line"; exit 0; }
 exit "$word"
 """
+# Words that ask for help.
+HELP = (
+    "help votes",
+    "help trace",
+    "help --test",
+    "--help",
+    "-h",
+    "help",
+    "play --help",
+    "help play",
+    "serve -h",
+    "acl --help",
+    "explain --help",
+    "trace --help",
+)
+# Words that ask for nothing, and what is said of them.
+NEAR = {
+    "plai": "play is near",
+    "vote 1/1/1": "votes is near",
+    "--hlep": "--help is near",
+    "trace x": "./suites trace < x",
+}
+# Standard streams, and what is said with them where the program ends with status 6.
+SIX = {
+    "< /": "a read failed: standard input is a folder", "<&-": "a read failed: standard input is closed",
+    "< big": "the input is above 16 MiB: it has 16,777,217 bytes", "> /dev/full": "a write failed: the disk is full",
+    "< /dev/zero": "the input is above 16 MiB", ">&-": "a write failed: standard output is closed",
+}
+# A script, typed in pieces, and what a terminal is told of it; the program prints no job that ended.
+TYPED = (b"hi\nbegin 0 1 1 0 list /\nsweep 0 1\nstep 1 3\nrun 0\n", b"\x04")
+SILENT = ("line 3 did nothing: agent 0 has a job (line 2)", "line 4 did nothing: agent 1 has no job",
+          "agent 0 has a job that has not ended (line 2); run 0 ends it")
 KEEP = "import choose, sources; choose.keep_record('checked', sources.Sources(), sources.Kit())"
 
 
 class Copy:
     """A copy of the repository, and what differs in it."""
 
-    def __init__(self, room):
+    def __init__(self, room: str) -> None:
         self.top, self.bare = os.path.join(room, "copy"), os.path.join(room, "bare")
         self.played = self.wrong = 0
         os.makedirs(self.top)
@@ -55,49 +88,68 @@ class Copy:
         for name in USED:
             os.symlink(shutil.which(name), os.path.join(self.bare, name))
 
-    def answer(self, words, **how):
+    def answer(self, words: list[str], **how: typing.Any) -> tuple[int, str, str]:
         """The status of `./suites` with these words, and what it printed on both streams."""
         done = subprocess.run(["./suites", *words], cwd=self.top, stdin=subprocess.DEVNULL, capture_output=True, **how)
         return done.returncode, done.stdout.decode("latin1"), done.stderr.decode("latin1")
 
-    def holds(self, given, about):
+    def reason(self, words: str, streams: str) -> subprocess.CompletedProcess[str]:
+        """What standard error says of an answer with these standard streams, as a shell writes them."""
+        line = f"exec ./suites {words} {streams}"
+        return subprocess.run(
+            ["sh", "-c", line],
+            cwd=self.top,
+            stdin=subprocess.DEVNULL,
+            stdout=subprocess.PIPE,
+            stderr=subprocess.PIPE,
+            text=True,
+        )
+
+    def holds(self, given: object, about: str) -> None:
         self.played += 1
         if not given:
             self.wrong += 1
             print(about)
 
-    def at_once(self, words):
+    def at_once(self, words: list[str]) -> tuple[int, str, str]:
         """An answer, which has to take no build."""
         before = resource.getrusage(resource.RUSAGE_CHILDREN)
         given = self.answer(words)
         after = resource.getrusage(resource.RUSAGE_CHILDREN)
         spent = after.ru_utime + after.ru_stime - before.ru_utime - before.ru_stime
-        self.holds(spent < AT_ONCE and not os.path.exists(os.path.join(self.top, "out")), f"{words} takes {spent:.1f} s, or a build")
+        self.holds(
+            spent < AT_ONCE and not os.path.exists(os.path.join(self.top, "out")),
+            f"{words} takes {spent:.1f} s, or a build",
+        )
         return given
 
-    def on_terminal(self, words, typed=b""):
-        """What a terminal shows of an answer, where this is typed once nothing more comes."""
+    def on_terminal(self, words: list[str], *pieces: bytes) -> str:
+        """What a terminal shows of an answer, where these are typed, each once nothing more comes."""
         leader, end = pty.openpty()
         process = subprocess.Popen(["./suites", *words], cwd=self.top, stdin=end, stdout=end, stderr=end)
         os.close(end)
-        shown = b""
+        shown, left = b"", list(pieces)
         with contextlib.suppress(OSError):
             while True:
-                if typed and not select.select([leader], [], [], QUIET)[0]:
-                    os.write(leader, typed)
-                    typed = b""
+                if left and not select.select([leader], [], [], QUIET)[0]:
+                    os.write(leader, left.pop(0))
                 shown += os.read(leader, 4096)
         process.wait()
         os.close(leader)
         return shown.decode("latin1").replace("\r\n", "\n")
 
 
-def needs_program(words):
+def needs_program(words: list[str]) -> bool:
     """Whether it is the program that tells what these words ask for."""
-    return words[:1] == ["acl"] and words[1:] != ["--help"] or words[:1] == ["serve"] and "".join(words[1:2]).partition("=")[0] == "--agents"
+    return (
+        words[:1] == ["acl"]
+        and words[1:] != ["--help"]
+        or words[:1] == ["serve"]
+        and "".join(words[1:2]).partition("=")[0] == "--agents"
+    )
 
 
-def plays_rows(copy):
+def plays_rows(copy: Copy) -> None:
     """Rows of words that ask for nothing, and of help, where there is neither a build nor python3 to make one."""
     tools = open(os.path.join(copy.top, "help", "tools.txt"), encoding="utf-8").read()
     for row in played.rows():
@@ -107,30 +159,67 @@ def plays_rows(copy):
         status, printed, told = copy.answer(words, env={"PATH": copy.bare})
         wanted = row["output"].decode() + (tools if words == ["--help"] else "")
         if needs_program(words):
-            copy.holds((status, printed) == (1, "") and told.endswith(NO_PYTHON), f"{words} needs no program: {status} {printed} {told}")
+            copy.holds(
+                (status, printed) == (1, "") and told.endswith(NO_PYTHON),
+                f"{words} needs no program: {status} {printed} {told}",
+            )
         else:
-            copy.holds((status, printed) == (row["status"], wanted), f"line {row['line']}, {words}: {status} {printed}, and not {row['status']} {wanted}")
+            copy.holds(
+                (status, printed) == (row["status"], wanted),
+                f"line {row['line']}, {words}: {status} {printed}, and not {row['status']} {wanted}",
+            )
             copy.holds(bool(told) == (status == 2), f"{words}: on standard error stands {told}")
 
 
-def answers_at_once(copy):
+def answers_at_once(copy: Copy) -> None:
     """What needs no build, and what is told of it."""
-    for words in ([], ["no"], ["-x"], ["play", "foo"], ["table", "-x"], ["serve", "4"], ["help", "no"]):
-        copy.holds(copy.at_once(words)[:2] == (2, "fault command line\n"), f"{words} is no fault of the command line")
+    for words in ("", "no", "-x", "play foo", "table -x", "serve 4", "help no"):
+        copy.holds(
+            copy.at_once(words.split())[:2] == (2, "fault command line\n"), f"{words} is no fault of the command line"
+        )
     copy.holds("no option" in copy.at_once(["table", "-x"])[2], "table -x")
-    copy.holds(copy.at_once(["play", "foo"])[2] == "suites: a script is read from standard input: ./suites play < foo\n", "play foo")
-    for words in (["--help"], ["-h"], ["help"], ["play", "--help"], ["help", "play"], ["serve", "-h"], ["acl", "--help"], ["explain", "--help"], ["trace", "--help"]):
-        status, printed, told = copy.at_once(words)
+    copy.holds(
+        copy.at_once(["play", "foo"])[2] == "suites: a script is read from standard input: ./suites play < foo\n",
+        "play foo",
+    )
+    for words, told in NEAR.items():
+        copy.holds(told in copy.at_once(words.split())[2], f"of {words} is not said: {told}")
+    for words in ("trace x", "draw --agent 1 x", "trace <&-", "draw < /", "trace --agent 9 < two"):
+        with open(os.path.join(copy.top, "two"), "w", encoding="utf-8") as file:
+            file.write("servers 1\nagents 2\n")
+        done = copy.reason(words, "")
+        is_one = done.stdout == "" and len(done.stderr.splitlines()) == 1
+        copy.holds(done.returncode in (2, 6) and is_one, f"{words}: {done}")
+    for words in HELP:
+        status, printed, told = copy.at_once(words.split())
         copy.holds((status, told) == (0, "") and len(printed) > 200, f"{words}: {status} {printed} {told}")
-    for words in (["help"], ["-h"]):
-        copy.holds(copy.answer(words) == copy.answer(["--help"]), f"{words} is another text than --help")
+    for words in ("help", "-h"):
+        copy.holds(copy.answer([words]) == copy.answer(["--help"]), f"{words} is another text than --help")
     copy.holds(copy.at_once(["explain", "S1"])[0] == 0, "explain S1")
-    told = subprocess.run([sys.executable, "tools/compare.py"], cwd=copy.top, capture_output=True, text=True)
-    copy.holds((told.returncode, told.stdout) == (2, "") and told.stderr.startswith("tools/compare.py SCRIPT.."), f"compare.py without words: {told}")
+    done = subprocess.run([sys.executable, "tools/compare.py"], cwd=copy.top, capture_output=True, text=True)
+    is_told = done.stderr.startswith("tools/compare.py SCRIPT..")
+    copy.holds((done.returncode, done.stdout) == (2, "") and is_told, f"compare.py without words: {done}")
     copy.holds(copy.at_once(["--is-fresh"])[0] == 1, "a program is fresh that is not there")
 
 
-def tells_all_commands(copy):
+def says_once_a_day(copy: Copy) -> None:
+    """A sentence that is said once a day is not said a second time."""
+    code = (
+        "import console, os\nfor _ in 'ab': console.say_once_a_day('told', 'hello')\nos.utime('told', (0, 0));"
+        " console.say_once_a_day('told', 'again')"
+    )
+    with tempfile.TemporaryDirectory(prefix="suites-") as room:
+        done = subprocess.run(
+            [sys.executable, "-c", code],
+            cwd=room,
+            env={**os.environ, "PYTHONPATH": os.path.join(copy.top, "tools")},
+            capture_output=True,
+            text=True,
+        )
+    copy.holds(done.stderr == "suites: hello\nsuites: again\n", f"once a day is said: {done.stderr}")
+
+
+def tells_all_commands(copy: Copy) -> None:
     """Help tells each word that `./suites` knows."""
     with open(os.path.join(copy.top, "suites"), encoding="utf-8") as file:
         known = re.findall(r"^([a-z|-]+)\)", file.read().split("\ncase $1 in\n")[1], re.M)
@@ -141,69 +230,107 @@ def tells_all_commands(copy):
         copy.holds(f"  {line} " in text, f"--help does not show {line}")
 
 
-def git(copy, *words):
-    return subprocess.run(["git", "-C", copy.top, "-c", "user.name=a", "-c", "user.email=a", *words], capture_output=True, text=True).stdout.strip()
+def git(copy: Copy, *words: str) -> str:
+    return subprocess.run(
+        ["git", "-C", copy.top, "-c", "user.name=a", "-c", "user.email=a", *words], capture_output=True, text=True
+    ).stdout.strip()
 
 
-def tells_version(copy):
-    """The version is that of CHANGELOG.md, the commit that of git, the kit that of README.md, and the build what is there."""
+def tells_version(copy: Copy) -> None:
+    """The version is that of CHANGELOG.md, the commit that of git, the kit that of README.md, and the build what is
+    there.
+    """
     with open(os.path.join(copy.top, "CHANGELOG.md"), encoding="utf-8") as file:
         version = next(line[3:].strip() for line in file if line.startswith("## "))
     with open(os.path.join(played.TOP, "README.md"), encoding="utf-8") as file:
         logic = re.search(r"kit whose logic is `(\w+)`", file.read())[1]
     status, printed, _ = copy.at_once(["--version"])
     lines = printed.splitlines()
-    copy.holds(status == 0 and lines[0] == f"suites {version}" and lines[1].startswith(f"kit logic {logic}, "), f"--version: {printed}")
+    copy.holds(
+        status == 0 and lines[0] == f"suites {version}" and lines[1].startswith(f"kit logic {logic}, "),
+        f"--version: {printed}",
+    )
     copy.holds(lines[-1].startswith("build none yet"), f"--version without a build: {printed}")
     if shutil.which("git"):
         git(copy, "init", "-q")
         git(copy, "add", "suites")
         git(copy, "commit", "-q", "-m", "a")
-        copy.holds(f"\ncommit {git(copy, 'rev-parse', '--short=12', 'HEAD')}\n" in copy.at_once(["--version"])[1], "--version tells another commit")
+        copy.holds(
+            f"\ncommit {git(copy, 'rev-parse', '--short=12', 'HEAD')}\n" in copy.at_once(["--version"])[1],
+            "--version tells another commit",
+        )
         shutil.rmtree(os.path.join(copy.top, ".git"))
 
 
-def runs_a_build(copy):
+def runs_a_build(copy: Copy) -> None:
     """With a build: what --version tells of it, and what goes to the program."""
     os.makedirs(os.path.join(copy.top, "out"), exist_ok=True)
     path = os.path.join(copy.top, "out", "suites")
     with open(path, "w", encoding="utf-8") as file:
         file.write(PROGRAM)
     os.chmod(path, 0o755)
-    subprocess.run([sys.executable, "-c", KEEP], cwd=copy.top, env={**os.environ, "PYTHONPATH": os.path.join(copy.top, "tools")}, check=True)
-    copy.holds(copy.answer(["--version"])[1].endswith("\nbuild checked, out/suites\n"), "--version does not tell the checked build")
+    subprocess.run(
+        [sys.executable, "-c", KEEP],
+        cwd=copy.top,
+        env={**os.environ, "PYTHONPATH": os.path.join(copy.top, "tools")},
+        check=True,
+    )
+    copy.holds(
+        copy.answer(["--version"])[1].endswith("\nbuild checked, out/suites\n"),
+        "--version does not tell the checked build",
+    )
     status, printed, told = copy.answer(["serve", "--agents", "5"])
-    copy.holds((status, printed) == (5, "") and told.startswith("suites: checked build"), f"the program's answer is changed: {status} {printed} {told}")
-    copy.holds("status 6" not in copy.answer(["serve", "--agents", "6"])[2], "status 6 is explained where there is no terminal")
+    copy.holds(
+        (status, printed) == (5, "") and told.startswith("suites: checked build"),
+        f"the program's answer is changed: {status} {printed} {told}",
+    )
+    copy.holds("1 to 64 agents" in copy.answer(["serve", "--agents", "2"])[2], "the limits of agents are not told")
+    with open(os.path.join(copy.top, "big"), "wb") as file:
+        file.truncate((16 << 20) + 1)
+    for streams, told in SIX.items():
+        said = copy.reason("serve --agents 6", streams)
+        copy.holds(said.returncode == 6 and told in said.stderr, f"of status 6 with {streams} is said: {said}")
+    copy.holds(copy.reason("serve --agents 143", "").returncode == 143, "a status is changed")
     copy.holds(copy.answer(["play", "foo"])[:2] == (2, "fault command line\n"), "play foo with a build")
 
 
-def tells_a_terminal(copy):
+def tells_a_terminal(copy: Copy) -> None:
     """What a terminal is told besides, with a build."""
     reading = "suites: reading from the terminal"
-    shown = copy.on_terminal(["play"], b"hi\n")
+    shown = copy.on_terminal(["play"], *TYPED)
     copy.holds(reading in shown and "read hi" in shown, f"a terminal that is read is told: {shown}")
+    copy.holds(all(line in shown for line in SILENT), f"of what did nothing a terminal is told: {shown}")
+    copy.holds("No such process" not in shown, f"a terminal is told of a process: {shown}")
+    shown = copy.on_terminal(["acl"], b"hi\n", b"\x04")
+    copy.holds(shown.endswith("read hi\n"), f"a terminal is told behind the answer: {shown}")
     # a program that ends at once takes more than a second where the machine has much else to do
-    shown = next((shown for shown in (copy.on_terminal(["acl", "quick"]) for _ in range(5)) if reading not in shown), reading)
+    shown = next(
+        (shown for shown in (copy.on_terminal(["acl", "quick"]) for _ in range(5)) if reading not in shown), reading
+    )
     copy.holds("fault word 1" in shown and "./suites explain" in shown, f"a terminal that is not read is told: {shown}")
-    copy.holds("./suites explain" in copy.on_terminal(["serve", "--agents", "3"]), "a fault on a terminal is not explained")
-    copy.holds("status 6" in copy.on_terminal(["serve", "--agents", "6"]), "status 6 is not explained on a terminal")
+    copy.holds(
+        "./suites explain" in copy.on_terminal(["serve", "--agents", "3"]), "a fault on a terminal is not explained"
+    )
+    copy.holds(
+        "above 16 MiB" in copy.on_terminal(["serve", "--agents", "6"]), "status 6 is not explained on a terminal"
+    )
 
 
-def main():
+def main() -> int:
     with tempfile.TemporaryDirectory(prefix="suites-") as room:
         copy = Copy(room)
         plays_rows(copy)
         # what is not answered there would now be built
         if not copy.wrong:
             answers_at_once(copy)
+            says_once_a_day(copy)
             tells_all_commands(copy)
             tells_version(copy)
             runs_a_build(copy)
             if os.path.exists("/dev/ptmx"):
                 tells_a_terminal(copy)
     print(f"{copy.played} answers, {copy.wrong} differ")
-    return 1 if copy.wrong else 0
+    return 1 if copy.wrong or not copy.played else 0
 
 
 if __name__ == "__main__":

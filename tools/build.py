@@ -1,9 +1,10 @@
 #!/usr/bin/env python3
-"""Proves and builds the program `suites`, or the one that the environment names (tools/sources.py), and says on standard error how far it is. `./suites --prove` calls it.
+"""Proves and builds the program `suites`, or the one that the environment names (tools/sources.py), and says on
+standard error how far it is. `./suites --prove` calls it.
 
-The crates that the program stands on are proved, and the laws of all runs, side by side where they do not stand on each other.
-What is proved stays in each crate's out/, so a build that was interrupted goes on where it was. Two builds
-at once wait for each other. Status 0: the program is there; 1: it is not.
+The crates that the program stands on are proved, and the laws of all runs, side by side where they do not stand on
+each other. What is proved stays in each crate's out/, so a build that was interrupted goes on where it was. Two
+builds at once wait for each other. Status 0: the program is there; 1: it is not.
 """
 import os
 import select
@@ -24,7 +25,7 @@ BYTES_A_CHECK = 4 << 30
 STOPPED = "stopped; what is proved is kept, and ./suites --prove goes on from there"
 
 
-def seats():
+def seats() -> int:
     """How many checks may run side by side."""
     cores = len(os.sched_getaffinity(0))
     try:
@@ -34,20 +35,23 @@ def seats():
     return max(1, min(cores, memory // BYTES_A_CHECK))
 
 
-def step(teller, done, count, last, stays):
+def step(teller: console.Teller, done: int, count: int, last: str, stays: bool) -> None:
     """Says how many crates are proved."""
     name = f"; the last was {last}" if last else ""
     teller.say(f"{done} of {count} crates proved, {teller.seconds()} s{name}", stays and not teller.changes)
 
 
-def prove(top, needs, teller):
-    """Proves a crate and those below it, side by side where they do not stand on each other. Answers the crate that failed, and what it printed.
+def prove(top: str, needs: dict[str, list[str]], teller: console.Teller) -> tuple[str, str] | None:
+    """Proves a crate and those below it, side by side where they do not stand on each other. Answers the crate that
+    failed, and what it printed.
 
     `rt all` in a crate's folder takes that crate and those below it. (An `rt check` for each would not run side by
     side: each keeps all others out of the crates below its own.)
     """
     said, name, rest = {"": ""}, "", b""
-    process = console.start(["rt", "all", "check", "--jobs", str(seats())], os.path.join(sources.CRATES, top), subprocess.PIPE)
+    process = console.start(
+        ["rt", "all", "check", "--jobs", str(seats())], os.path.join(sources.CRATES, top), subprocess.PIPE
+    )
     try:
         while True:
             step(teller, len(needs.keys() & said), len(needs), name, False)
@@ -76,13 +80,17 @@ def prove(top, needs, teller):
     return (failed[0], console.tail(said[failed[0]])) if failed else (top, console.tail(summary))
 
 
-def prove_laws(teller):
-    """Proves what is promised to who plays: the laws of all runs, of which the program uses some and a caller may want the others."""
+def prove_laws(teller: console.Teller) -> tuple[str, str] | None:
+    """Proves what is promised to who plays: the laws of all runs, of which the program uses some and a caller may want
+    the others.
+    """
     return prove(LAWS, sources.crates_below(LAWS), teller) if PROGRAM == "suites" else None
 
 
-def build(needs, teller):
-    """Proves, compiles and links the program itself. Answers the program's name, and what it printed, where that failed."""
+def build(needs: dict[str, list[str]], teller: console.Teller) -> tuple[str, str] | None:
+    """Proves, compiles and links the program itself. Answers the program's name, and what it printed, where that
+    failed.
+    """
     with tempfile.TemporaryFile() as log:
         # rt run also runs what it built; here that prints the program's help into the log
         process = console.start(["rt", "run", "--", "--help"], FOLDER, log)
@@ -98,7 +106,7 @@ def build(needs, teller):
         return PROGRAM, console.tail(log.read().decode("utf-8", "replace"))
 
 
-def main():
+def main() -> int:
     if len(sys.argv) > 1:
         raise console.Stop("--prove takes no other word than trace or may")
     kit = sources.Kit()
@@ -115,7 +123,9 @@ def main():
             name, text = failed
             raise console.Stop(f"the crate {name} is not proved or not built:\n{text.rstrip()}")
         if sources.Sources().all != now.all:
-            raise console.Stop("a source was changed while it was proved: run ./suites --prove again, which goes on from here")
+            raise console.Stop(
+                "a source was changed while it was proved: run ./suites --prove again, which goes on from here"
+            )
         choose.keep_record("proved", now, kit)
         choose.choose()
         teller.say(f"proved and built in {teller.seconds()} s")

@@ -1,12 +1,12 @@
 #!/usr/bin/env python3
 """Chooses the program that `./suites` runs, and prints of what kind it is and where.
 
-`proved`: it was proved and built of this code with these claims (`tools/build.py`). `checked`: it was compiled of the same code without a
-proof, with its checks at run time, which is done here where it is wanting. `trial`: the kit gives no such build, so
-`rt try` is run each time. The choice is kept in out/choice.sh with all files that it was made from, so that
-`./suites` makes it again only where one of them has changed. With the word --is-fresh: status 0 where the proved
-program is that of these sources, and their proofs are those that proved it. With --version: tells the version, the
-commit, the kit, and the kind of build that would run; builds nothing.
+`proved`: it was proved and built of this code with these claims (`tools/build.py`). `checked`: it was compiled of the
+same code without a proof, with its checks at run time, which is done here where it is wanting. `trial`: the kit gives
+no such build, so `rt try` is run each time. The choice is kept in out/choice.sh with all files that it was made from,
+so that `./suites` makes it again only where one of them has changed. With the word --is-fresh: status 0 where the
+proved program is that of these sources, and their proofs are those that proved it. With --version: tells the version,
+the commit, the kit, and the kind of build that would run; builds nothing.
 """
 import json
 import os
@@ -14,6 +14,7 @@ import re
 import shlex
 import subprocess
 import sys
+import typing
 
 import console
 import sources
@@ -30,11 +31,11 @@ STOPPED = "stopped; there is no checked build yet"
 CHANGES = os.path.join(sources.TOP, "CHANGELOG.md")
 
 
-def path_of(kind):
+def path_of(kind: str) -> str:
     return os.path.join(sources.TOP, PROGRAMS[kind])
 
 
-def record_of(kind, now, kit):
+def record_of(kind: str, now: sources.Sources, kit: sources.Kit) -> dict[str, str | None]:
     """What is kept of a build: the sources and the kit that it was made with, and the program's own sum."""
     return {
         "sources": now.claims if kind == "proved" else now.code,
@@ -44,15 +45,15 @@ def record_of(kind, now, kit):
     }
 
 
-def record_path(kind):
+def record_path(kind: str) -> str:
     return os.path.join(KEPT, f"{sources.OF_PROGRAM}{kind}.json")
 
 
-def keep_record(kind, now, kit):
+def keep_record(kind: str, now: sources.Sources, kit: sources.Kit) -> None:
     sources.write_whole(record_path(kind), json.dumps(record_of(kind, now, kit)))
 
 
-def is_fresh(kind, now, kit, with_proofs=False):
+def is_fresh(kind: str, now: sources.Sources, kit: sources.Kit, with_proofs: bool = False) -> bool:
     """Whether a build of this kind is there, and is that of these sources. With no kit at hand it may be of any.
 
     What was proved stays so where a proof is written anew: that the proofs too are those of the build is wanted only
@@ -67,12 +68,13 @@ def is_fresh(kind, now, kit, with_proofs=False):
     return kept == wanted and os.path.exists(path_of(kind))
 
 
-def fresh_kind(now, kit):
+def fresh_kind(now: sources.Sources, kit: sources.Kit) -> str | None:
     return next((kind for kind in PROGRAMS if is_fresh(kind, now, kit)), None)
 
 
-def keep_choice(kind, now, kit, begun):
-    """Keeps the choice, as if written when the files began to be read. Where it cannot be kept it is made anew each time.
+def keep_choice(kind: str, now: sources.Sources, kit: sources.Kit, begun: int) -> None:
+    """Keeps the choice, as if written when the files began to be read. Where it cannot be kept it is made anew each
+    time.
 
     A checked build is made of the code alone. Its claims are looked at only where a proved program is there, which may
     become the one of these sources again.
@@ -81,11 +83,17 @@ def keep_choice(kind, now, kit, begun):
     looked = [sources.LIST, *now.looked_at(is_proved), PROGRAMS[kind]]
     if kit.command:
         looked.append(os.path.realpath(kit.command))
-    kept = {"kind": kind, "program": PROGRAMS[kind], "rt": kit.command, "searched": os.environ.get("PATH", ""), "files": "\n".join(looked)}
+    kept = {
+        "kind": kind,
+        "program": PROGRAMS[kind],
+        "rt": kit.command,
+        "searched": os.environ.get("PATH", ""),
+        "files": "\n".join(looked),
+    }
     sources.write_whole(CHOICE, "".join(f"{name}={shlex.quote(value)}\n" for name, value in kept.items()), begun)
 
 
-def choose():
+def choose() -> str | None:
     """The kind of build that these sources have; keeps the choice."""
     begun = sources.time_of_files()
     now, kit = sources.Sources(), sources.Kit()
@@ -95,7 +103,7 @@ def choose():
     return kind
 
 
-def build():
+def build() -> None:
     """Makes the checked build, or finds that this kit gives none."""
     teller = console.Teller()
     sources.Kit().wanted()
@@ -105,7 +113,9 @@ def build():
             return
         teller = console.Teller()
         now, kit = sources.Sources(), sources.Kit()
-        teller.say(f"nothing is built of these sources yet: making a checked build of {sources.PROGRAM}, some two minutes")
+        teller.say(
+            f"nothing is built of these sources yet: making a checked build of {sources.PROGRAM}, some two minutes"
+        )
         kind, part = "checked", f"{path_of('checked')}.part"
         try:
             trial.build(part, lambda: teller.say(f"checked build, {teller.seconds()} s", False))
@@ -116,7 +126,7 @@ def build():
         keep_record(kind, now, kit)
 
 
-def commit():
+def commit() -> str:
     """The commit of these sources, and whether they differ from it; nothing where that is not known."""
     if not os.path.exists(os.path.join(sources.TOP, ".git")):
         return ""
@@ -127,7 +137,7 @@ def commit():
         return ""
 
 
-def version():
+def version() -> typing.Iterator[str]:
     """What there is to tell of this version, a line each."""
     with open(CHANGES, encoding="utf-8") as file:
         yield f"suites {re.search('^## (.*)', file.read(), re.M)[1]}"
@@ -138,10 +148,14 @@ def version():
     is_there = "which is on the path" if sources.KIT_LOGIC in kit.name.split() else "which is not on the path"
     yield f"kit logic {sources.KIT_LOGIC}, {is_there}"
     kind = any(map(os.path.exists, map(record_path, PROGRAMS))) and fresh_kind(sources.Sources(), kit)
-    yield f"build {kind}, {PROGRAMS[kind]}" if kind else "build none yet; what plays a script makes a checked one first, in some two minutes"
+    yield (
+        f"build {kind}, {PROGRAMS[kind]}"
+        if kind
+        else "build none yet; what plays a script makes a checked one first, in some two minutes"
+    )
 
 
-def main():
+def main() -> int:
     if sys.argv[1:] == ["--version"]:
         print("\n".join(version()))
         return 0

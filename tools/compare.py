@@ -11,6 +11,7 @@ something differs, or a script cannot be played.
 """
 import argparse
 import collections
+import itertools
 import os
 import re
 import subprocess
@@ -30,19 +31,23 @@ HEADER = {"servers", "agents", "votes", "root", "cache", "user", "group"}
 class Job:
     """A transaction that was begun: its line, whose it is, and what became of it."""
 
-    def __init__(self, words):
+    def __init__(self, words: list[str]) -> None:
         self.uid, self.groups, self.ops = words[2], words[3], " ".join(words[5:])
-        self.ending = self.verdict = self.home = None
+        self.ending: str | None = None
+        self.verdict: str | None = None
+        self.home: int | None = None
 
 
-def output(command, script):
-    done = subprocess.run([SUITES, command], input=script.encode("latin1"), stdout=subprocess.PIPE, stderr=subprocess.DEVNULL)
+def output(command: str, script: str) -> list[str]:
+    done = subprocess.run(
+        [SUITES, command], input=script.encode("latin1"), stdout=subprocess.PIPE, stderr=subprocess.DEVNULL
+    )
     if done.returncode != 0:
         raise console.Stop(f"suites {command} ends with {done.returncode}: {done.stdout.decode('latin1').strip()}")
     return done.stdout.decode("latin1").splitlines()
 
 
-def number_of(agent, count):
+def number_of(agent: int, count: int) -> int:
     """The number of the transaction that is an agent's job of this number."""
     return 64 * count + agent
 
@@ -50,9 +55,12 @@ def number_of(agent, count):
 class Run:
     """A run as its trace shows it: its transactions, those that were decided in their order, and the audits."""
 
-    def __init__(self, lines):
-        self.jobs, self.decided, self.audits, self.played = {}, [], {}, []
-        counts = collections.Counter()
+    def __init__(self, lines: list[str]) -> None:
+        self.jobs: dict[int, Job] = {}
+        self.decided: list[int] = []
+        self.audits: dict[int, list[str]] = {}
+        self.played: list[str] = []
+        counts: collections.Counter[int] = collections.Counter()
         for head, block in trace.blocks(lines):
             if head[0] != ">":
                 break
@@ -68,8 +76,10 @@ class Run:
             if words[0] == "audit":
                 self.audits[int(words[1])] = block[1:]
 
-    def take(self, line):
-        """Keeps what a line tells. Of the audits those count that come after the last decision, and so tell all denials."""
+    def take(self, line: str) -> None:
+        """Keeps what a line tells. Of the audits those count that come after the last decision, and so tell all
+        denials.
+        """
         request, outcome = trace.REQUEST.match(line), trace.OUTCOME.match(line)
         decide = request and DECIDE.match(request[3])
         if decide and request[4] in ("verdict answered", "verdict refused"):
@@ -83,12 +93,15 @@ class Run:
                 job.ending = outcome[4]
 
 
-def with_votes(ops, votes):
+def with_votes(ops: str, votes: str) -> str:
     """Operations in which each that makes something says with which votes."""
-    return " ; ".join(f"{op} {votes}" if op.split()[0] in ("file", "folder") and len(op.split()) == 3 else op for op in ops.split(" ; "))
+    return " ; ".join(
+        f"{op} {votes}" if op.split()[0] in ("file", "folder") and len(op.split()) == 3 else op
+        for op in ops.split(" ; ")
+    )
 
 
-def table_script(script, run):
+def table_script(script: str, run: Run) -> str:
     """The decided transactions as a script of `table`, of which the first gives the root folder its votes."""
     said = [line.split() for line in script.splitlines() if line.strip() and not line.startswith("#")]
     votes = next(words[1] for words in said if words[0] == "votes")
@@ -99,9 +112,9 @@ def table_script(script, run):
     return "\n".join(lines) + "\n"
 
 
-def mapped(text, places):
+def mapped(text: str, places: dict[int, int]) -> str:
     """A text of `play` with the numbers that `table` gave to what was made."""
-    def number(found):
+    def number(found: re.Match[str]) -> str:
         suite = int(found[2])
         if not suite:
             return found[0]
@@ -110,14 +123,15 @@ def mapped(text, places):
     return NUMBERED.sub(number, text)
 
 
-def differences(script):
+def differences(script: str) -> tuple[list[str], collections.Counter[str]]:
     """What differs between a script's run and the plain table; and what there was to compare."""
     lines = trace.traced(script.encode("latin1"))
-    run, told = Run(lines), collections.Counter()
+    run = Run(lines)
+    told: collections.Counter[str] = collections.Counter()
     wrong = [] if output("play", script) == run.played else ["play and trace print different lines"]
     answers = [line.partition(" ")[2] for line in output("table", table_script(script, run))][1:]
     places = {t: place for place, t in enumerate(run.decided, 1)}
-    audits = {server: [] for server in run.audits}
+    audits: dict[int, list[str]] = {server: [] for server in run.audits}
     if len(answers) != len(run.decided):
         wrong.append(f"{len(run.decided)} transactions are decided, and table answers {len(answers)}")
     for t, answer in zip(run.decided, answers):
@@ -141,11 +155,15 @@ def differences(script):
             wrong.append(f"audit {server}: {run.audits[server]}, wanted {items}")
     told["audits"] = len(audits)
     told["requests"] = sum(bool(trace.REQUEST.match(line)) for line in lines)
-    told.update(f"events: {line.split()[1]}" for line in lines if line.startswith("> ") and line.split()[1] in ("crash", "return", "sweep", "forget"))
+    told.update(
+        f"events: {line.split()[1]}"
+        for line in lines
+        if line.startswith("> ") and line.split()[1] in ("crash", "return", "sweep", "forget")
+    )
     return wrong, told
 
 
-def main():
+def main() -> int:
     read = argparse.ArgumentParser(description=__doc__, formatter_class=argparse.RawDescriptionHelpFormatter)
     read.add_argument("scripts", nargs="*")
     read.add_argument("--seeds", type=int, default=0)
@@ -157,9 +175,10 @@ def main():
         return 2
     scripts = [(name, open(name, encoding="latin1").read()) for name in given.scripts]
     seeds = range(given.first, given.first + given.seeds)
-    total, wrong = collections.Counter(), 0
-    for name, script in [*scripts, *((f"seed {seed}", seed) for seed in seeds)]:
-        script = script if isinstance(script, str) else scenario.Scenario(script, given.lines).script()
+    total: collections.Counter[str] = collections.Counter()
+    wrong = 0
+    written = ((f"seed {seed}", scenario.Scenario(seed, given.lines).script()) for seed in seeds)
+    for name, script in itertools.chain(scripts, written):
         found, told = differences(script)
         total.update(told)
         for line in found:

@@ -1,4 +1,6 @@
-"""What the tools that build the program say on standard error, how two builds wait for each other, and how a build is stopped."""
+"""What the tools that build the program say on standard error, how two builds wait for each other, and how a build is
+stopped.
+"""
 import contextlib
 import fcntl
 import os
@@ -6,31 +8,37 @@ import signal
 import subprocess
 import sys
 import time
+import typing
 
 STOPPED = 130
+DAY = 24 * 60 * 60
 
 
 class Stop(Exception):
     """Ends a tool with a sentence."""
 
 
+class Bad(Exception):
+    """Ends a tool with a sentence: its words ask for nothing."""
+
+
 class Teller:
     """Says how far a build is: one line that changes in a terminal, else a line a step."""
 
-    def __init__(self):
+    def __init__(self) -> None:
         self.begun = time.monotonic()
         self.changes = sys.stderr.isatty()
 
-    def seconds(self):
+    def seconds(self) -> int:
         return int(time.monotonic() - self.begun)
 
-    def clear(self):
+    def clear(self) -> None:
         """Takes the line that changes off the terminal."""
         if self.changes:
             sys.stderr.write("\r\033[K")
             sys.stderr.flush()
 
-    def say(self, text, stays=True):
+    def say(self, text: str, stays: bool = True) -> None:
         text = f"suites: {text}"
         if self.changes:
             sys.stderr.write("\r\033[K" + text + ("\n" if stays else ""))
@@ -39,8 +47,20 @@ class Teller:
         sys.stderr.flush()
 
 
+def say_once_a_day(path: str, text: str) -> None:
+    """Says a sentence, but not where it was said within a day, as this file tells; always where that cannot be
+    written.
+    """
+    with contextlib.suppress(OSError):
+        if 0 <= time.time() - os.stat(path).st_mtime < DAY:
+            return
+    with contextlib.suppress(OSError), open(path, "w", encoding="utf-8"):
+        pass
+    Teller().say(text)
+
+
 @contextlib.contextmanager
-def alone(path, teller):
+def alone(path: str, teller: Teller) -> typing.Iterator[bool]:
     """Keeps other builds that lock this file out. Answers whether it waited for one."""
     with open(path, "a", encoding="utf-8") as lock:
         has_waited = False
@@ -53,13 +73,15 @@ def alone(path, teller):
         yield has_waited
 
 
-def start(words, folder, log, **how):
+def start(
+    words: list[str], folder: str | None, log: typing.IO[bytes] | int, **how: typing.Any
+) -> subprocess.Popen[bytes]:
     """Starts a command in a group of its own, so that it can be stopped whole."""
     how = {"stdin": subprocess.DEVNULL, "stdout": log, "stderr": subprocess.STDOUT, "start_new_session": True, **how}
     return subprocess.Popen(words, cwd=folder, **how)
 
 
-def stop(process):
+def stop(process: subprocess.Popen[bytes]) -> None:
     """Stops a command, if it has not ended, and what it started."""
     for number in (signal.SIGTERM, signal.SIGKILL):
         if process.poll() is not None:
@@ -70,20 +92,25 @@ def stop(process):
             process.wait(10)
 
 
-def tail(text, lines=20):
+def tail(text: str, lines: int = 20) -> str:
     return "".join(text.splitlines(True)[-lines:])
 
 
-def run(main, when_stopped):
-    """Runs a tool: status 0, or what `main` answers; 1 with a sentence where it cannot do its work; 130 where it is stopped."""
+def run(main: typing.Callable[[], int], when_stopped: str) -> None:
+    """Runs a tool: status 0, or what `main` answers; 1 with a sentence where it cannot do its work, 2 where its
+    words ask for nothing; 130 where it is stopped."""
     for number in (signal.SIGTERM, signal.SIGHUP):
         signal.signal(number, signal.default_int_handler)
     try:
         status = main()
-        sys.stdout.flush()
+        if sys.stdout:
+            sys.stdout.flush()
     except Stop as why:
         Teller().say(str(why))
         status = 1
+    except Bad as why:
+        Teller().say(str(why))
+        status = 2
     except BrokenPipeError:
         # nobody reads any more: what is left to be written goes nowhere
         os.dup2(os.open(os.devnull, os.O_WRONLY), sys.stdout.fileno())

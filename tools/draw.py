@@ -1,21 +1,24 @@
 #!/usr/bin/env python3
-"""./suites draw [--agent A] [--suite S] [--from N] [--to M] [--all] [--anyway] < SCRIPT > run.svg
+"""./suites draw [--agent A] [--suite S] [--from N] [--to M] [--fold] [--all] [--anyway] < SCRIPT > run.svg
 
 Plays a script of events as `suites play` does, and draws what happens, from above to below: a line for each agent and
 each server that does something, an arrow for each request and a dashed one for its reply, grey where a server is down, a
-mark where a transaction is decided, and how a job ended beside its last arrow. A label that has no room is cut, and is
-there whole for whoever points at it.
+mark where a transaction is decided, and how a job ended beside its last arrow. The number of a job and of its transaction
+(t) stand where it begins, and what all signs mean at the foot. A label that has no room is cut, and is there whole for
+whoever points at it.
 
     --agent A   only what agent A does, and what becomes of servers
     --suite S   only what is about a file or folder, by its path or its number
     --from N    only from the Nth request on, of those that would be drawn else
     --to M      only up to the Mth request
+    --fold      requests of one phase that follow on each other in one line, with a dot at each server (red where it said no)
     --all       agents and servers that do nothing, too
     --anyway    more than 2,000 requests, too
 
 Where it takes longer than two seconds it says on a terminal how far it is.
 """
 import html
+import itertools
 import re
 import sys
 
@@ -35,12 +38,28 @@ LETTER, FONT = 6.7, "11px ui-monospace, 'DejaVu Sans Mono', Menlo, Consolas, 'Li
 STYLE = f"""<style>
 text {{ font: {FONT}; fill: #222; paint-order: stroke; stroke: #fff; stroke-width: 3px; stroke-linejoin: round }}
 .name {{ font-weight: bold; stroke: #eee }} .event {{ font-weight: bold }} .reply {{ fill: #666 }} .good {{ fill: #176b2c }} .bad {{ fill: #a3161b }}
-.open {{ fill: #8a5a00 }} .life {{ stroke: #bbb }} .ask {{ stroke: #345; stroke-width: 1.2 }} .told {{ stroke: #888; stroke-dasharray: 4 3 }} .down {{ fill: #ddd }} .names {{ fill: #eee }}
+.open {{ fill: #8a5a00 }} .key {{ fill: #444 }} .fold {{ stroke: #345; stroke-width: 2 }} .life {{ stroke: #bbb }} .ask {{ stroke: #345; stroke-width: 1.2 }} .told {{ stroke: #888; stroke-dasharray: 4 3 }} .down {{ fill: #ddd }} .names {{ fill: #eee }}
 </style>"""
 TIPS = """<defs>
 <marker id="a" markerWidth="7" markerHeight="6" refX="7" refY="3" orient="auto"><path d="M0 0L7 3L0 6z" fill="#345"/></marker>
 <marker id="b" markerWidth="7" markerHeight="6" refX="7" refY="3" orient="auto"><path d="M0 0L7 3L0 6z" fill="#888"/></marker>
 </defs>"""
+# What signs mean, at the foot of a picture, for which so much room is kept; and how much a sign has.
+LEGEND, SIGN = 90, 26
+SIGNS = (
+    ("a request", '<path d="M0 0H14" stroke="#345"/><path d="M20 0l-7 -3v6z" fill="#345"/>'),
+    ("its reply", '<path d="M20 0H6" stroke="#888" stroke-dasharray="4 3"/><path d="M0 0l7 -3v6z" fill="#888"/>'),
+    ("decided", '<path d="M10 -6l6 6l-6 6l-6 -6z" fill="#176b2c"/>'),
+    ("a line of the script", '<circle cx="10" cy="0" r="3" fill="#222"/>'),
+    ("the server is down", '<path d="M3 -7h14v14h-14z" fill="#ddd"/>'),
+    ("p2 c1: versions of the list and of the content", ""),
+)
+# So many lines of a script stay on one screen with the arrow below them.
+NEAR = 6
+# What folds: a request for locks on a suite, or one of which each server gets its own; and replies that say yes.
+FOLDS = re.compile(r"(?:t (\d+) )?(?:(poll|upgrade) suite (\d+)|(prepare|finish|break)\b)")
+GOOD = ("held", "prepared", "done")
+BEGUN = re.compile(r"^> (?:begin|sweep) +(\d+)\b.*$(?!\n  nothing)", re.M)
 # What happens: a request that is served, a job that ends, a line of the script that is shown itself, and one before all of them.
 ASKED, ENDED, SAID, STANDS = "asked", "ended", "said", "stands"
 
@@ -67,6 +86,7 @@ class Picture:
             at = max(self.x.values(), default=at) + GAP
         self.width = max([x + RIGHT for x in self.x.values()] + [NARROW])
         self.y, self.named, self.parts, self.greys, self.down, self.last = HEAD + 14, [20], [], [], {}, {}
+        self.foot = None
 
     def label(self, x, y, words, room, style):
         """A text right of a place, or left of it where the room is negative. What has no room is cut."""
@@ -88,9 +108,10 @@ class Picture:
             self.named.append(self.y + 2)
             self.y += BAND
 
-    def said(self, name, words):
-        """A line of the script, at what it is about. What comes next is not about a job that was before."""
-        self.names_again(BAND)
+    def said(self, name, words, below=0):
+        """A line of the script, at what it is about, on one screen with so many lines and the arrow below it. What comes next
+        is not about a job that was before."""
+        self.names_again((1 + below) * BAND + ROW)
         self.last.pop(name, None)
         self.parts.append(f'<circle cx="{self.x[name]}" cy="{self.y}" r="3" fill="#222"/>')
         self.beside(self.x[name] + 7, self.y + 4, words, "event")
@@ -116,6 +137,33 @@ class Picture:
         self.last[f"agent {agent}"] = b, y + 4
         self.y += ROW
 
+    def folded(self, agent, servers, words, is_good):
+        """Requests of one phase in one line: the servers that were asked, each with whether it did as it was asked."""
+        self.names_again(ROW)
+        a, y = self.x[f"agent {agent}"], self.y
+        first, last = (choose(self.x[f"server {server}"] for server, _ in servers) for choose in (min, max))
+        self.parts.append(f'<path d="M{a} {y}H{last}" class="fold"/>')
+        for server, is_done in servers:
+            colour = "#345" if is_done else "#a3161b"
+            self.parts.append(f'<circle cx="{self.x[f"server {server}"]}" cy="{y}" r="4" fill="{colour}"/>')
+        self.label(a + 7, y - 4, words, first - a - 14, "" if is_good else "open")
+        self.last[f"agent {agent}"] = last, y + 4
+        self.y += ROW
+
+    def legend(self):
+        """What all signs mean."""
+        self.names_again(LEGEND)
+        self.foot = self.y - 6
+        x, y = LEFT // 2, self.y + 8
+        for words, sign in SIGNS:
+            begin = SIGN if sign else 0
+            if x + begin + len(words) * LETTER > self.width - EDGE:
+                x, y = LEFT // 2, y + 18
+            self.parts += [f'<g transform="translate({x} {y})">{sign}</g>'] if sign else []
+            self.label(x + begin, y + 4, words, self.width - x - begin - EDGE, "key")
+            x += begin + int(len(words) * LETTER) + SIGN
+        self.y = y + 18
+
     def ended(self, agent, words):
         """How a job ended: beside its last arrow, or below its line of the script where there is none."""
         if agent not in self.last:
@@ -129,23 +177,48 @@ class Picture:
     def told(self):
         """The whole picture."""
         width, height = self.width, self.y + 10
-        for server in list(self.down):
-            self.grey(server, False)
+        foot = self.foot or height
+        self.greys += [(server, top, foot) for server, top in self.down.items()]
         lines = [f'<svg xmlns="http://www.w3.org/2000/svg" viewBox="0 0 {width} {height}" width="{width}" height="{height}">', STYLE, TIPS, '<rect width="100%" height="100%" fill="#fff"/>']
-        lines += [f'<path d="M{x} {HEAD}V{height}" class="life"/>' for x in self.x.values()]
+        lines += [f'<path d="M{x} {HEAD}V{foot}" class="life"/>' for x in self.x.values()]
         lines += [f'<rect x="{self.x[server] - 7}" y="{top}" width="14" height="{bottom - top}" class="down"/>' for server, top, bottom in self.greys]
         lines += [f'<rect x="0" y="{top - 14}" width="{width}" height="20" class="names"/>' for top in self.named]
         names = [f'<text x="{x}" y="{top}" class="name" text-anchor="middle">{name}</text>' for top in self.named for name, x in self.x.items()]
         return "\n".join([*lines, *self.parts, *names, "</svg>", ""])
 
 
+class Numbered:
+    """Pieces of a trace, in which each line that begins a job has the job's number behind it."""
+
+    def __init__(self, pieces):
+        self.pieces = pieces
+
+    def __iter__(self):
+        jobs = {}
+
+        def told(found):
+            agent = int(found[1])
+            jobs[agent] = jobs.get(agent, -1) + 1
+            return f"{found[0].rstrip()} #{jobs[agent]}"
+
+        for piece in self.pieces:
+            yield BEGUN.sub(told, piece)
+
+
+def job_of(agent, mark):
+    """The number of an agent's job, and of its transaction, from the mark behind the line that begins it."""
+    return f"job {mark[1:]} (t {64 * int(mark[1:]) + agent})"
+
+
 def head_of(words):
     """At what a line of the script is shown, and how; nothing where its requests tell all."""
     kind = words[0]
+    job, words = (words[-1], words[:-1]) if words[-1].startswith("#") else ("", words)
+    front = f"{job_of(int(words[1]), job)}, " if job else ""
     if kind == "begin":
-        return f"agent {int(words[1])}", f"user {words[2]}: {' '.join(words[5:])}"
+        return f"agent {int(words[1])}", f"{front}user {words[2]}: {' '.join(words[5:])}"
     if kind == "sweep":
-        return f"agent {int(words[1])}", f"sweeps server {int(words[2])}"
+        return f"agent {int(words[1])}", f"{front}sweeps server {int(words[2])}"
     if kind == "forget":
         return f"agent {int(words[1])}", f"forgets its cache of site {int(words[2])}"
     if kind in trace.OF_SERVERS:
@@ -224,23 +297,61 @@ def columns(items):
     return agents, servers
 
 
-def drawn(items, known, agents, servers):
+def phase_of(item):
+    """The phase of a request, of which others may stand in one line with it; or nothing."""
+    found = trace.REQUEST.match(item[2]) if item[0] == ASKED else None
+    words = FOLDS.match(found[3]) if found else None
+    return (found[1], words[1], words[3], words[4]) if words else None
+
+
+def phases(items, folds):
+    """What happens, one by one, or where they are to be folded those requests together that are of one phase."""
+    for key, some in itertools.groupby(items, phase_of if folds else lambda item: None):
+        some = list(some)
+        yield from [some] if key and len(some) > 1 else ([one] for one in some)
+
+
+def fold(picture, requests, known):
+    """Draws requests of one phase in one line."""
+    found = [trace.REQUEST.match(what) for _, _, what in requests]
+    servers = [(int(one[2]), one[4].startswith(GOOD)) for one in found]
+    good = sum(is_good for _, is_good in servers)
+    words = FOLDS.match(found[0][3])
+    count = f"×{good}" if good == len(found) else f"{good} of {len(found)}"
+    path = known.get(int(words[3]), f"suite {words[3]}") if words[3] else ""
+    finish = found[0][3].split()[-1] + " " if words[4] == "finish" else ""
+    told = f"locks of {path}: {good} of {len(found)}" if path else f"{words[4]} {finish}{count}"
+    picture.folded(int(found[0][1]), servers, told, good == len(found))
+
+
+def ask(picture, what, known):
+    """Draws a request and its reply."""
+    found = trace.REQUEST.match(what)
+    words = [short(words, known, int(found[1])) for words in found.group(3, 4)]
+    decides = re.search(" decide | resolve", found[3]) and found[4].startswith("verdict")
+    picture.asked(int(found[1]), int(found[2]), words, decides)
+
+
+def drawn(items, known, agents, servers, folds=False):
     """The picture of what happens at these agents and servers."""
-    picture = Picture(sorted(agents), sorted(servers))
-    for kind, name, what in items:
-        if kind == ASKED:
-            found = trace.REQUEST.match(what)
-            words = [short(words, known, int(found[1])) for words in found.group(3, 4)]
-            decides = re.search(" decide | resolve", found[3]) and found[4].startswith("verdict")
-            picture.asked(int(found[1]), int(found[2]), words, decides)
+    picture, drawn_of = Picture(sorted(agents), sorted(servers)), [*phases(items, folds)]
+    for place, some in enumerate(drawn_of):
+        kind, name, what = some[0]
+        if len(some) > 1:
+            fold(picture, some, known)
+        elif kind == ASKED:
+            ask(picture, what, known)
         elif kind == ENDED:
             picture.ended(name, trace.OUTCOME.match(what)[4])
         elif name in picture.x:
             if what[0] in trace.OF_SERVERS:
                 picture.grey(name, what[0] == "crash")
-            picture.said(name, what[1])
+            next_ones = (some[0][0] for some in drawn_of[place + 1 : place + 1 + NEAR])
+            picture.said(name, what[1], sum(1 for _ in itertools.takewhile(lambda kind: kind != ASKED, next_ones)))
     if not items:
         picture.beside(LEFT, picture.y, "nothing happens", "event")
+    elif any(item[0] == ASKED for item in items):
+        picture.legend()
     return picture.told()
 
 
@@ -254,7 +365,7 @@ def picture(pieces, known, given, everybody):
     if given.first > given.last:
         raise console.Stop("--from is to be no more than --to")
     choice = Choice(given.first, given.last)
-    found = happenings(trace.narrowed(pieces, given.agent, trace.number_of(given.suite, known)))
+    found = happenings(trace.narrowed(Numbered(pieces), given.agent, trace.number_of(given.suite, known)))
     items, count = gathered(found, choice, sys.maxsize if given.anyway else MOST)
     if given.first > max(1, choice.count):
         raise console.Stop(f"there are {choice.count:,} requests, and no more to begin with at {given.first:,}")
@@ -262,7 +373,7 @@ def picture(pieces, known, given, everybody):
         raise console.Stop(f"{count:,} requests would be drawn, above {MOST:,}: choose by --agent A, --suite S (a path or a number) or --from N --to M"
                            f" (as --from 1 --to {MOST}); --anyway draws them all")
     agents, servers = columns(items)
-    return drawn(items, known, agents | {*range(everybody[0])}, servers | {*range(everybody[1])})
+    return drawn(items, known, agents | {*range(everybody[0])}, servers | {*range(everybody[1])}, given.fold)
 
 
 def positive(word):
@@ -274,13 +385,14 @@ def positive(word):
 def asked(words):
     """The words of the command line."""
     place, flag = {"type": positive}, {"action": "store_true"}
-    more = {"--from": {**place, "dest": "first", "default": 1}, "--to": {**place, "dest": "last", "default": sys.maxsize}, "--all": flag, "--anyway": flag}
+    more = {"--from": {**place, "dest": "first", "default": 1}, "--to": {**place, "dest": "last", "default": sys.maxsize}}
+    more |= {word: flag for word in ("--fold", "--all", "--anyway")}
     return trace.asked(words, __doc__, more)
 
 
 def main():
     given = asked(sys.argv[1:])
-    script = trace.script()
+    script = trace.script(given.agent)
     counts = [re.search(rb"^\s*%s\s+(\d+)" % word, script, re.M) for word in (b"agents", b"servers")]
     with trace.Run(script) as run:
         known = run.play()

@@ -1,26 +1,37 @@
 #!/usr/bin/env python3
 """./suites explain [--of COMMAND] LINE [FILE]
 
-Prints what docs/FAULTS.md says of a code, or of a line as the program printed it; and where the line tells a fault, and the
-script or the list is named in which it is, the very line or item and what is wrong with it:
+Prints what docs/FAULTS.md says of a code, or of a line as the program, `votes` or `may` printed it; what a word
+means; and what a line of a script says, word by word. Where the script or the list is named that a line was printed
+of: of a fault the very line or item, and what is wrong with it; of how a job ended what happened, for which the
+script is played once more.
 
     ./suites explain S1
     ./suites explain 'fault line 3: S2' SCRIPT
     ./suites explain 'fault A9 item 2' LIST
-    ./suites explain '1.2 9 denied op 1 suite 1 wants r-- by other::'
+    ./suites explain '1.2 9 denied op 1 suite 1 wants r-- by other::' SCRIPT
+    ./suites explain 'begin 0 1000 100 0 file /a 644 ; write /a 6869'
+    ./suites explain prefix
     ./suites explain 'status 6'
 
-Which command a script is of is told by its lines, or by --of play, --of serve or --of table. A script of - is standard input.
+Which command a script is of is told by its lines, or by --of play, --of serve or --of table. A script of - is
+standard input.
 """
 import argparse
+import io
 import os
 import re
 import sys
 import textwrap
+import typing
 
 import console
 import faulty
 import grammar
+import happened
+import in_script
+import worded
+
 
 PAGE = os.path.join(os.path.dirname(os.path.dirname(os.path.abspath(__file__))), "docs", "FAULTS.md")
 CODE = re.compile(r"\b([SAVNGFUsavngfu](?:1[0-3]|[1-9]))\b")
@@ -29,6 +40,14 @@ SPAN = r"`([^`]*)`"
 EXAMPLE = re.compile(rf"({SPAN}(?:, {SPAN})*) prints {SPAN}(?: \({SPAN}\))?")
 STATUS = re.compile(r"(?:status |exit )?(\d)$")
 FAULT = re.compile(r"fault (?:line (\d+): )?([SAVNG]\d+(?: A\d+)?(?: item \d+)?)(?: (.+))?$")
+# Lines of `votes`, with the words by which its help tells of them, and lines of `may`.
+VOTES = re.compile(
+    r"(may be lost|stopped by|blocked|not found|U5 at first)\b|(?:read|write|read and write): (?:\d+ of \d+"
+    r" votes$|votes that)"
+)
+MAY = re.compile(
+    r"(?:\S.* )?[r-][w-][x-] (?:granted|denied by [a-z]+:)|.*\(\d+; groups [\d, ]+\) may (?:not )?[rwx]+: "
+)
 # What begins the line of an outcome: an agent and its job, or a job, and how many requests it took; or a transaction.
 FRONT = re.compile(r"(?:(\d+)\.(\d+) (\d+)|(\d+) (\d+)|(\d+)) (?=answered|denied|refused|undecided|swept)")
 # The number of what was made, or of a transaction.
@@ -42,10 +61,10 @@ WHOLE = ("answered", "swept", "audit", "refused", "undecided", "certified", "mis
 FAULTS = ("fault command line", "fault memory", "fault word")
 
 
-def page():
+def page() -> typing.Iterator[tuple[str, str, str, list[str]]]:
     """The parts of the page: the title of its group, where to read on, its code, and its lines."""
     group = more = code = ""
-    lines = []
+    lines: list[str] = []
     with open(PAGE, encoding="utf-8") as file:
         for line in [*file.read().splitlines(), "## "]:
             if line.startswith("#"):
@@ -62,29 +81,39 @@ def page():
                 lines.append(line)
 
 
-def codes_in(text):
+def codes_in(text: str) -> list[str]:
     """The parts of the page about a text, the whole before its parts, and about numbers in it."""
     status, front = STATUS.match(text), FRONT.match(text)
     if status:
         return [f"status {status[1]}"]
+    if MAY.match(text):
+        return ["may"]
     if TRACED.match(text) or ENTRY.match(text):
         return ["trace" if TRACED.match(text) else "entry"]
     rest = text[front.end() :] if front else text
     first = rest.partition(" ")[0]
-    found = [PARTS.get(first, first)] if first in (*PARTS, *WHOLE) else [words for words in FAULTS if rest.startswith(words)]
+    found = (
+        [PARTS.get(first, first)]
+        if first in (*PARTS, *WHOLE)
+        else [words for words in FAULTS if rest.startswith(words)]
+    )
     if first in ("refused", "undecided") or not found:
         found += [code.upper() for code in CODE.findall(rest)]
     return found + (["transaction"] if NUMBERED.search(rest) else [])
 
 
-def worked_out(text):
+def counted(number: str) -> str:
+    return f"{number} request{'s' if int(number) != 1 else ''}"
+
+
+def worked_out(text: str) -> list[str]:
     """What the numbers of a line say, one by one."""
     front = FRONT.match(text)
     told = []
     if front and front[1]:
-        told.append(f"Job {front[2]} of agent {front[1]}, both counted from 0; it took {front[3]} requests.")
+        told.append(f"Job {front[2]} of agent {front[1]}, both counted from 0; it took {counted(front[3])}.")
     elif front and front[4]:
-        told.append(f"Job {front[4]} of the script, counted from 0; it took {front[5]} requests.")
+        told.append(f"Job {front[4]} of the script, counted from 0; it took {counted(front[5])}.")
     elif front:
         told.append(f"Transaction {front[6]} of the script, counted from 0.")
     for made, suite, t in NUMBERED.findall(text):
@@ -92,15 +121,20 @@ def worked_out(text):
             t, place = divmod(int(suite) - 1, 8)
             told.append(f"{suite} = 8 * {t} + {place + 1}: made by operation {place + 1} of transaction {t}.")
         if not (front and front[6]):
-            told.append(f"{t} = 64 * {int(t) // 64} + {int(t) % 64}: in play and serve transaction {t} is job {int(t) // 64} of agent {int(t) % 64}.")
+            told.append(
+                f"{t} = 64 * {int(t) // 64} + {int(t) % 64}: in play and serve transaction {t} is job {int(t) // 64} of"
+                f" agent {int(t) % 64}."
+            )
     return list(dict.fromkeys(told))
 
 
-def filled(text, first="", after=""):
-    return textwrap.fill(text, 100, initial_indent=first, subsequent_indent=after, break_long_words=False, break_on_hyphens=False)
+def filled(text: str, first: str = "", after: str = "") -> str:
+    return textwrap.fill(
+        text, 100, initial_indent=first, subsequent_indent=after, break_long_words=False, break_on_hyphens=False
+    )
 
 
-def shown(line):
+def shown(line: str) -> str:
     """A line of the page as a terminal is to show it: of an example each line and what it prints by itself."""
     if not line.startswith("- "):
         return filled(line)
@@ -114,50 +148,80 @@ def shown(line):
     return "\n".join([part for part in told if part.strip(" -")] + ([filled(rest, first, "    ")] if rest else []))
 
 
-def about(lines, text):
-    """The lines of a part, and of those that tell of a word each only those whose word is in the text, where there are some."""
+def about(lines: list[str], text: str) -> list[str]:
+    """The lines of a part, and of those that tell of a word each only those whose word is in the text, where there are
+    some.
+    """
     words = set(re.findall(r"[a-z=]+", text))
-    kept = [line for line in lines if not line.startswith("- `") or words & set(re.findall(r"[a-z=]+", re.search(SPAN, line)[1])[:1])]
+    kept = [
+        line
+        for line in lines
+        if not line.startswith("- `") or words & set(re.findall(r"[a-z=]+", re.search(SPAN, line)[1])[:1])
+    ]
     return kept if any(line.startswith("- ") for line in kept) else lines
 
 
-def explained(text):
-    """What the page says of a text, or nothing."""
+def of_votes(text: str) -> str:
+    """What the help of `votes` says of one of its lines."""
+    import votes
+    word = VOTES.match(text)[1]
+    if not word:
+        return (
+            "Of `./suites votes`: so many of all votes a read or a write collects; the lines below it tell what that"
+            " bears."
+        )
+    found = re.search(rf"^    {word} +(.*(?:\n {{18}}.*)*)", votes.__doc__, re.M)
+    return filled(f"{word} (`./suites votes`): {' '.join(found[1].split())}.")
+
+
+def explained(text: str) -> str:
+    """What there is to say of a text: the page's part, or what its words say; or nothing."""
     text = " ".join(text.split())
+    if VOTES.match(text):
+        return of_votes(text)
+    line = worded.own_line(text) if text else None
+    if line:
+        return line
     parts = {code: (group, more, lines) for group, more, code, lines in page()}
     told = []
     for code in codes_in(text):
         if code in parts:
             group, more, lines = parts[code]
             lines = about(lines, text) if code in ("answered", "trace") else lines
-            told += [f"{code} ({group[0].lower() + group[1:]})", "", *map(shown, "\n".join(lines).strip().split("\n")), ""]
+            told += [
+                f"{code} ({group[0].lower() + group[1:]})",
+                "",
+                *map(shown, "\n".join(lines).strip().split("\n")),
+                "",
+            ]
             told += [shown(more), ""] if more else []
     worked = worked_out(text) if told else []
-    return "\n".join([*worked, *([""] if worked else []), *told]).rstrip()
+    word = worded.one_word(text) if " " not in text else None
+    return "\n".join([*([word, ""] if word else []), *worked, *([""] if worked else []), *told]).rstrip()
 
 
-def meaning(code):
+def meaning(code: str) -> str:
     """What a code means, in a few sentences: the first lines of its part of the page."""
-    lines = next((lines for _, _, found, lines in page() if found == code), [])
+    lines: list[str] = next((lines for _, _, found, lines in page() if found == code), [])
     return filled(next((line for line in lines if line), ""), f"{code}: ") if lines else ""
 
 
-def of_file(fault, path, language):
+def of_file(fault: re.Match[str], path: str, language: str | None) -> str:
     """The line of a script or the item of a list that has a fault, what is wrong with it, and what the code means."""
-    if path == "-":
-        text = sys.stdin.buffer.read()
+    name, given = read_file(path)
+    text, code = given.decode("latin1"), fault[2]
+    if fault[1]:
+        told, is_found = faulty.of_script(name, text, int(fault[1]), code, language)
     else:
-        with open(path, "rb") as file:
-            text = file.read()
-    name, text, code = "standard input" if path == "-" else path, text.decode("latin1"), fault[2]
-    told, is_found = faulty.of_script(name, text, int(fault[1]), code, language) if fault[1] else faulty.of_list(name, text, code)
+        told, is_found = faulty.of_list(name, text, code)
     told = [line if line.startswith("    ") else filled(line) for line in told]
     meant = [meaning(part) for part in CODE.findall(code)]
-    last = [] if is_found else ["", "What is wrong with it is not found here: is it the file that was read?"]
-    return "\n".join([*told, "", *meant, *last, "", f"./suites explain {code.split()[0]} tells more."]).strip()
+    more = f"./suites explain {code.split()[0]} tells"
+    rest = [*meant, "", f"{more} more."] if is_found else [f"{more} of this code."]
+    return "\n".join([*told, "", *rest]).strip()
 
 
-def asked(words):
+def asked(words: list[str]) -> argparse.Namespace:
     """The words of the command line: a command, and the text with what follows it."""
     read = argparse.ArgumentParser(prog="./suites explain", add_help=False)
     read.add_argument("--of", choices=list(grammar.LANGUAGES))
@@ -166,7 +230,28 @@ def asked(words):
     return read.parse_args(words)
 
 
-def answer(words):
+def read_file(path: str) -> tuple[str, bytes]:
+    """The name of a script or list and its bytes; - is standard input."""
+    if path == "-":
+        return "standard input", sys.stdin.buffer.read()
+    with open(path, "rb") as file:
+        return path, file.read()
+
+
+def of_printed(text: str, path: str, language: str | None) -> str:
+    """What happened behind a line that was printed of a script: what stands in the script, and for `play` how it came
+    to it.
+    """
+    name, script = read_file(path)
+    kind = language or faulty.likest(faulty.lines_of(script.decode("latin1")))[0]
+    if kind == "play":
+        told = happened.of_line(text, script, name)
+    else:
+        told = in_script.of_line(text, script.decode("latin1"), name, kind)
+    return "\n".join(filled(line) for line in told)
+
+
+def answer(words: list[str]) -> str:
     """What is printed for the words of the command line."""
     given = asked(words)
     text = " ".join(given.text)
@@ -175,18 +260,24 @@ def answer(words):
     fault = FAULT.match(text)
     if fault and fault[3]:
         return of_file(fault, fault[3], given.of)
+    path = given.text[-1]
+    if len(given.text) > 1 and (path == "-" or os.path.isfile(path)):
+        text = " ".join(" ".join(given.text[:-1]).split())
+        return "\n\n".join(filter(None, [of_printed(text, path, given.of), explained(text)]))
     told = explained(text)
     if not told:
         raise console.Stop(f"nothing that the program prints is called so: {text} (docs/FAULTS.md has all codes)")
     if fault and fault[1]:
         line = f"Line {fault[1]} of the script, counted from 1 with empty lines and comments."
-        told = f"{filled(f'{line} With the name of the script behind it this command shows what is wrong there.')}\n\n{told}"
+        line += " With the name of the script behind it this command shows what is wrong there."
+        told = f"{filled(line)}\n\n{told}"
     return told
 
 
-def main():
+def main() -> int:
     # a script may have bytes that this terminal cannot show
-    sys.stdout.reconfigure(errors="backslashreplace")
+    if isinstance(sys.stdout, io.TextIOWrapper):
+        sys.stdout.reconfigure(errors="backslashreplace")
     print(answer(sys.argv[1:]))
     return 0 if sys.argv[1:] else 2
 

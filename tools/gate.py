@@ -6,7 +6,12 @@ What passes and what fails is rt's alone: its output and its status are handed o
 variable SUITES_GATE_TIMES names a file that is to keep the times (tools/gate_times.py makes a table of it), and
 RT_JOBS fixes how many checks rt runs side by side.
 """
-import os, re, resource, subprocess, sys, time
+import os
+import re
+import resource
+import subprocess
+import sys
+import time
 
 sys.dont_write_bytecode = True
 import gate_times
@@ -25,7 +30,7 @@ QUOTAS = (
 )
 
 
-def number_in(path, pattern=r"^(\d+)"):
+def number_in(path: str, pattern: str = r"^(\d+)") -> int | None:
     try:
         with open(path, encoding="utf-8") as file:
             found = re.search(pattern, file.read(), re.M)
@@ -34,19 +39,26 @@ def number_in(path, pattern=r"^(\d+)"):
     return int(found[1]) if found else None
 
 
-def processors():
+def processors() -> int:
     """How many processors there are to use, under the quota of a control group too."""
     quotas = [(number_in(quota), number_in(period, pattern)) for quota, period, pattern in QUOTAS]
-    return min([len(os.sched_getaffinity(0)), *(max(quota // period, 1) for quota, period in quotas if quota and period)])
+    return min(
+        [len(os.sched_getaffinity(0)), *(max(quota // period, 1) for quota, period in quotas if quota and period)]
+    )
 
 
-def free():
+def free() -> int:
     """The bytes of memory that are free, under the limit of a control group too."""
     limits = [(number_in(limit), number_in(held, pattern)) for limit, held, pattern in LIMITS]
-    return min([1024 * (number_in("/proc/meminfo", r"^MemAvailable:\s+(\d+)") or 0), *(limit - held for limit, held in limits if limit and held is not None)])
+    return min(
+        [
+            1024 * (number_in("/proc/meminfo", r"^MemAvailable:\s+(\d+)") or 0),
+            *(limit - held for limit, held in limits if limit and held is not None),
+        ]
+    )
 
 
-def lanes():
+def lanes() -> int | None:
     """How many checks are to run side by side, or none, where that is left to rt.
 
     By itself rt begins a check only where as much memory is free as it reckons from the lines of the crate and of those
@@ -62,7 +74,7 @@ def lanes():
     return found if found > 1 else None
 
 
-def keep(times):
+def keep(times: gate_times.Times) -> None:
     """Keeps the times where that was asked for."""
     path = os.environ.get("SUITES_GATE_TIMES")
     try:
@@ -72,19 +84,25 @@ def keep(times):
         print(f"warning: the times were not kept in {path}: {error.strerror}")
 
 
-def tell(times, begun, number):
+def tell(times: gate_times.Times, begun: float, number: int | None) -> None:
     """Tells what each step cost. Nothing fails where it costs too much."""
     keep(times)
     spent = resource.getrusage(resource.RUSAGE_CHILDREN)
     whole, provers = spent.ru_utime + spent.ru_stime, sum(sum(row.values()) for row in times.values())
     side = f" with {number} checks side by side" if number else ""
-    print(f"the gate took {(time.monotonic() - begun) / 60:.1f} minutes{side}, and of processor time {provers / 60:.0f} minutes for proofs", end="")
+    print(
+        (
+            f"the gate took {(time.monotonic() - begun) / 60:.1f} minutes{side}, and of processor time"
+            f" {provers / 60:.0f} minutes for proofs"
+        ),
+        end="",
+    )
     print(f" and {max(whole - provers, 0) / 60:.0f} for all else:")
     for line in gate_times.lines(times, gate_times.bounds()) if times else ["  nothing had to be proved"]:
         print(line)
 
 
-def main():
+def main() -> int:
     if subprocess.run([sys.executable, os.path.join(TOOLS, "test.py")], stdin=subprocess.DEVNULL).returncode != 0:
         return 1
     begun, number = time.monotonic(), lanes()

@@ -11,7 +11,13 @@ a program; `seed` its proof from nothing for its wrong bodies, with the look whe
 was run in pieces, the most counts that a step of a crate took in one of them: a piece that finds a crate proved looks
 at it again, and one that was broken off had a part.
 """
-import argparse, csv, glob, os, threading
+import argparse
+import csv
+import glob
+import os
+import sys
+import threading
+import typing
 
 KINDS = ("proof", "seed", "edits", "tests")
 HEADS = ("Own proof", "Seed", "Wrong bodies", "Tests", "All")
@@ -22,7 +28,14 @@ EVERY = 0.5
 TICKS = os.sysconf("SC_CLK_TCK")
 
 
-def step_of(words, folder):
+# Seconds by crate and kind of step.
+Times = dict[str, dict[str, float]]
+# Of a prover its words, folder, parent and begin, with its own seconds and those of its copies that have ended.
+Prover = tuple[list[str], str, int, str, tuple[float, float]]
+Row = tuple[typing.Any, ...]
+
+
+def step_of(words: list[str], folder: str) -> tuple[str, str]:
     """The crate that a prover works on, and the kind of step, from its words and the folder that it works in.
 
     rt tries an edit on a copy of the crate in a folder rt-edit-*. What it may begin with is given by --incremental: a
@@ -39,19 +52,21 @@ def step_of(words, folder):
 class Watch(threading.Thread):
     """Reads the processor time of the provers below a process, now and then: up to half a second of each is lost."""
 
-    def __init__(self, above):
+    def __init__(self, above: int) -> None:
         super().__init__(daemon=True)
-        self.above, self.ended, self.provers = above, threading.Event(), {}
+        self.above, self.ended = above, threading.Event()
+        # by the number and begin of a first prover its step, the seconds of each by number and begin, and the most
+        self.provers: dict[tuple[int, str], tuple[tuple[str, str], dict[tuple[int, str], float], float]] = {}
 
-    def run(self):
+    def run(self) -> None:
         while not self.ended.wait(EVERY):
             self.look()
 
-    def look(self):
-        found = {}
-        for number in filter(str.isdigit, os.listdir("/proc")):
+    def look(self) -> None:
+        found: dict[int, Prover] = {}
+        for name in filter(str.isdigit, os.listdir("/proc")):
             try:
-                found[int(number)] = prover(int(number))
+                found[int(name)] = prover(int(name))
             except (OSError, ValueError, IndexError):
                 pass
         for number, (words, folder, _, _, _) in found.items():
@@ -62,16 +77,16 @@ class Watch(threading.Thread):
             if is_below(copy, self.above):
                 self.note(found, first, number)
 
-    def note(self, found, first, number):
+    def note(self, found: dict[int, Prover], first: int, number: int) -> None:
         words, folder, _, began, (own, ended) = found[number]
         key = first, found[first][3]
         step, seconds, most = self.provers.get(key) or (step_of(words, folder), {}, 0.0)
         seconds[number, began] = own
         self.provers[key] = step, seconds, max(most, own + ended) if number == first else most
 
-    def times(self):
+    def times(self) -> Times:
         """Seconds by crate and kind."""
-        found = {}
+        found: Times = {}
         for (crate, kind), seconds, most in self.provers.values():
             row = found.setdefault(crate, dict.fromkeys(KINDS, 0.0))
             # (copies that ended unseen count with what the first one waited for)
@@ -79,7 +94,7 @@ class Watch(threading.Thread):
         return found
 
 
-def prover(number):
+def prover(number: int) -> Prover:
     """Of a prover its words, folder, parent and begin, with its own seconds and those of its copies that have ended."""
     with open(f"/proc/{number}/cmdline", "rb") as file:
         words = file.read().decode("utf-8", "replace").split("\0")
@@ -91,7 +106,7 @@ def prover(number):
     return words, os.readlink(f"/proc/{number}/cwd"), int(fields[1]), fields[19], (own, ended)
 
 
-def is_below(number, above):
+def is_below(number: int, above: int) -> bool:
     try:
         while number > 1:
             if number == above:
@@ -103,14 +118,14 @@ def is_below(number, above):
     return False
 
 
-def rows_of(times):
+def rows_of(times: Times) -> list[Row]:
     """A row for each crate, the dearest first, and one for all: its name, the seconds of each kind, and their sum."""
-    rows = [(crate, *(row[kind] for kind in KINDS), sum(row.values())) for crate, row in times.items()]
+    rows: list[Row] = [(crate, *(row[kind] for kind in KINDS), sum(row.values())) for crate, row in times.items()]
     rows.sort(key=lambda row: (-row[-1], row[0]))
     return [*rows, (ALL, *(sum(column) for column in list(zip(*rows))[1:]))] if rows else []
 
 
-def write(times, path):
+def write(times: Times, path: str) -> None:
     """Keeps the times in a file, for a table."""
     with open(path, "w", newline="", encoding="utf-8") as file:
         table = csv.writer(file, lineterminator="\n")
@@ -118,15 +133,19 @@ def write(times, path):
         table.writerows([row[0], *(f"{seconds:.0f}" for seconds in row[1:])] for row in rows_of(times))
 
 
-def read(path):
+def read(path: str) -> Times:
     """The times in a file."""
     with open(path, newline="", encoding="utf-8") as file:
-        return {row["crate"]: {kind: float(row[kind]) for kind in KINDS} for row in csv.DictReader(file) if row["crate"] != ALL}
+        return {
+            row["crate"]: {kind: float(row[kind]) for kind in KINDS}
+            for row in csv.DictReader(file)
+            if row["crate"] != ALL
+        }
 
 
-def merged(pieces):
+def merged(pieces: typing.Iterable[Times]) -> Times:
     """The times of a gate that was run in pieces."""
-    found = {}
+    found: Times = {}
     for times in pieces:
         for crate, row in times.items():
             before = found.get(crate, dict.fromkeys(KINDS, 0.0))
@@ -134,12 +153,12 @@ def merged(pieces):
     return found
 
 
-def edits_of(crate):
+def edits_of(crate: str) -> int:
     """How many wrong bodies of a crate the gate tries."""
     return len(glob.glob(os.path.join(TOP, "crates", crate, "must-fail", "*.edit")))
 
 
-def bounds():
+def bounds() -> dict[str, float]:
     """The most seconds that each crate is to cost, and all of them."""
     try:
         with open(BOUNDS, newline="", encoding="utf-8") as file:
@@ -148,7 +167,7 @@ def bounds():
         return {}
 
 
-def lines(times, most):
+def lines(times: Times, most: dict[str, float]) -> typing.Iterator[str]:
     """The table as lines, and a warning for each crate above its bound or without one."""
     rows = rows_of(times)
     wide = max([len(row[0]) for row in rows], default=0)
@@ -158,12 +177,15 @@ def lines(times, most):
         yield f"  {name:{wide}} " + "".join(f"{it:8.0f}" if it >= 0.5 else f"{'-':>8}" for it in seconds) + bound
     for name, *_, spent in rows:
         if spent > most.get(name, spent):
-            yield f"warning: {name} took {spent:.0f} s of processor time, and its bound in docs/gate-bounds.csv is {most[name]:.0f}"
+            yield (
+                f"warning: {name} took {spent:.0f} s of processor time, and its bound in docs/gate-bounds.csv is"
+                f" {most[name]:.0f}"
+            )
         elif name not in most:
             yield f"warning: {name} has no bound in docs/gate-bounds.csv; it took {spent:.0f} s of processor time"
 
 
-def bound_lines(rows):
+def bound_lines(rows: list[Row]) -> typing.Iterator[str]:
     """A bound for each crate, a quarter more than it took. That of all of them stays as it is."""
     yield "crate,seconds"
     for name, *_, spent in sorted(rows[:-1]):
@@ -171,7 +193,7 @@ def bound_lines(rows):
     yield f"{ALL},{bounds().get(ALL, 0):.0f}"
 
 
-def table_lines(rows):
+def table_lines(rows: list[Row]) -> typing.Iterator[str]:
     """The table of a document; behind the seconds of wrong bodies stands how many there are."""
     yield f"| Crate | {' | '.join(HEADS)} |"
     yield f"|---|{'---:|' * len(HEADS)}"
@@ -182,15 +204,18 @@ def table_lines(rows):
         yield f"| {name if name == ALL else f'`{name}`'} | {' | '.join(cell.strip() for cell in cells)} |"
 
 
-def main():
+def main() -> int:
     head, _, more = __doc__.partition("\n\n")
-    given = argparse.ArgumentParser(description=head, epilog=more, formatter_class=argparse.RawDescriptionHelpFormatter)
-    given.add_argument("times", nargs="+", help="what the gate kept, or its pieces")
-    given.add_argument("--bounds", action="store_true", help="bounds in place of a table")
-    given = given.parse_args()
+    parser = argparse.ArgumentParser(
+        description=head, epilog=more, formatter_class=argparse.RawDescriptionHelpFormatter
+    )
+    parser.add_argument("times", nargs="+", help="what the gate kept, or its pieces")
+    parser.add_argument("--bounds", action="store_true", help="bounds in place of a table")
+    given = parser.parse_args()
     rows = rows_of(merged(map(read, given.times)))
     print("\n".join(bound_lines(rows) if given.bounds else table_lines(rows)))
+    return 0
 
 
 if __name__ == "__main__":
-    main()
+    sys.exit(main())

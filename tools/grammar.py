@@ -1,61 +1,124 @@
-"""What may stand in the lines of scripts and in the items of lists, in tables, and what is wrong with a word in its place.
+"""What may stand in the lines of scripts and in the items of lists, in tables, and what is wrong with a word in its
+place.
 
-It is no second reader of scripts: whether a line has a fault, and which, is said by the program alone. What is found here is
-told only where it has the code that the program printed (tools/faulty.py).
+It is no second reader of scripts: whether a line has a fault, and which, is said by the program alone. What is found
+here is told only where it has the code that the program printed (tools/faulty.py).
 """
 import collections
 import difflib
 import re
 import typing
 
-# The lines of a header, of names, and of each command: their words behind the first. A place in brackets may be missing.
-HEADER = {"servers": "SERVERS", "agents": "AGENTS", "votes": "VOTES", "root": "UID GID INIT", "cache": "BUDGET QUOTA SLOTS", "old": "OLD"}
+# The lines of a header, of names, and of each command: their words behind the first. A place in brackets may be
+# missing.
+HEADER = {
+    "servers": "SERVERS",
+    "agents": "AGENTS",
+    "votes": "VOTES",
+    "root": "UID GID INIT",
+    "cache": "BUDGET QUOTA SLOTS",
+    "old": "OLD",
+}
 NAMES = {"user": "NAME UID", "group": "NAME GID"}
 
 
 class Language(typing.NamedTuple):
     """The lines of a command's scripts: those of its header in their order, the one that may follow, and its own."""
 
-    due: tuple
-    may: tuple
-    own: dict
+    due: tuple[str, ...]
+    may: tuple[str, ...]
+    own: dict[str, str]
 
 
 LANGUAGES = {
-    "play": Language(("servers", "agents", "votes", "root", "cache"), ("old",), {
-        "begin": "A UID GIDS SITE OPERATIONS", "sweep": "A S", "step": "A [N]", "run": "A",
-        "crash": "S", "return": "S", "forget": "A SITE", "audit": "S"}),
-    "serve": Language(("servers", "votes", "root", "cache"), ("old",), {"do": "UID GIDS SITE OPERATIONS", "sweep": "S", "together": ""}),
+    "play": Language(
+        ("servers", "agents", "votes", "root", "cache"),
+        ("old",),
+        {
+            "begin": "A UID GIDS SITE OPERATIONS",
+            "sweep": "A S",
+            "step": "A [N]",
+            "run": "A",
+            "crash": "S",
+            "return": "S",
+            "forget": "A SITE",
+            "audit": "S",
+        },
+    ),
+    "serve": Language(
+        ("servers", "votes", "root", "cache"),
+        ("old",),
+        {"do": "UID GIDS SITE OPERATIONS", "sweep": "S", "together": ""},
+    ),
     "table": Language(("root",), (), {"do": "UID GIDS OPERATIONS"}),
 }
 OPERATIONS = {
     "read": "PATH", "write": "PATH HEX", "list": "PATH", "file": "PATH INIT [VOTES]", "folder": "PATH INIT [VOTES]",
     "drop": "PATH", "getacl": "PATH", "setacl": "PATH LIST", "getvotes": "PATH", "setvotes": "PATH VOTES",
 }
-MAX_ID, MAX_SERVERS, MAX_AGENTS, MAX_CACHE, MAX_SLOTS, LAST_SITE, MAX_STEPS = 4294967295, 32, 64, 268435456, 4096, 15, 1000000
+MAX_ID, MAX_SERVERS, MAX_AGENTS, MAX_CACHE, MAX_SLOTS, LAST_SITE, MAX_STEPS = (
+    4294967295,
+    32,
+    64,
+    268435456,
+    4096,
+    15,
+    1000000,
+)
 MAX_NUMBERS, MAX_VOTES, MAX_COLLECTED, MAX_NAME, MAX_ENTRIES, OLD_ENTRIES, OLD_SERVERS = 33, 255, 65535, 64, 128, 64, 16
 # Places that have a number: the least, the most, what the most is, and the code of a number beyond.
 NUMBERS = {
-    "SERVERS": (1, MAX_SERVERS, "the most servers", "G1"), "AGENTS": (1, MAX_AGENTS, "the most agents", "G1"),
-    "BUDGET": (0, MAX_CACHE, "the most bytes of a cache", "G3"), "QUOTA": (0, MAX_CACHE, "the most bytes of a site", "G3"),
-    "SLOTS": (0, MAX_SLOTS, "the most entries of a cache", "G3"), "SITE": (0, LAST_SITE, "the last site", "S1"),
-    "N": (0, MAX_STEPS, "the most steps of a line", "S1"), "UID": (0, MAX_ID, "the last user", "S1"), "GID": (0, MAX_ID, "the last group", "S1"),
+    "SERVERS": (1, MAX_SERVERS, "the most servers", "G1"),
+    "AGENTS": (1, MAX_AGENTS, "the most agents", "G1"),
+    "BUDGET": (0, MAX_CACHE, "the most bytes of a cache", "G3"),
+    "QUOTA": (0, MAX_CACHE, "the most bytes of a site", "G3"),
+    "SLOTS": (0, MAX_SLOTS, "the most entries of a cache", "G3"),
+    "SITE": (0, LAST_SITE, "the last site", "S1"),
+    "N": (0, MAX_STEPS, "the most steps of a line", "S1"),
+    "UID": (0, MAX_ID, "the last user", "S1"),
+    "GID": (0, MAX_ID, "the last group", "S1"),
 }
 MEANT = {
-    "SERVERS": "how many servers there are", "AGENTS": "how many agents there are", "BUDGET": "the most bytes of a cache",
-    "QUOTA": "the most bytes of a site's part of it", "SLOTS": "the most entries of a cache", "SITE": "a number from 0 to 15",
-    "N": "how many steps", "UID": "the number of a user", "GID": "the number of a group", "A": "the number of an agent",
-    "S": "the number of a server", "GIDS": "the numbers of the user's groups with commas between them", "NAME": "a name",
-    "OLD": "numbers of servers with commas between them", "VOTES": "votes such as 1,1,1/2/2", "INIT": "three octal digits or a list",
-    "LIST": "a list", "HEX": "hexadecimal digits, two a byte, or - for none", "PATH": "a path",
+    "SERVERS": "how many servers there are",
+    "AGENTS": "how many agents there are",
+    "BUDGET": "the most bytes of a cache",
+    "QUOTA": "the most bytes of a site's part of it",
+    "SLOTS": "the most entries of a cache",
+    "SITE": "a number from 0 to 15",
+    "N": "how many steps",
+    "UID": "the number of a user",
+    "GID": "the number of a group",
+    "A": "the number of an agent",
+    "S": "the number of a server",
+    "GIDS": "the numbers of the user's groups with commas between them",
+    "NAME": "a name",
+    "OLD": "numbers of servers with commas between them",
+    "VOTES": "votes such as 1,1,1/2/2",
+    "INIT": "three octal digits or a list",
+    "LIST": "a list",
+    "HEX": "hexadecimal digits, two a byte, or - for none",
+    "PATH": "a path",
 }
-KINDS = {"user": "user", "u": "user", "group": "group", "g": "group", "mask": "mask", "m": "mask", "other": "other", "o": "other"}
+KINDS = {
+    "user": "user",
+    "u": "user",
+    "group": "group",
+    "g": "group",
+    "mask": "mask",
+    "m": "mask",
+    "other": "other",
+    "o": "other",
+}
 OF_KIND = {"user": "the owner", "group": "the file's group", "other": "all others", "mask": "the mask"}
 NO_NAME = re.compile(r"[^\x21-\x7e]|[:,#\\]")
 # So much of a word is told.
 LONG = 60
 # A word that fits in each place: one that may be missing.
 ANY = "\0ANY"
+
+
+# The names of users and of groups, each with its number and the line that says so.
+Names = dict[str, dict[str, tuple[str, int]]]
 
 
 class Wrong(typing.NamedTuple):
@@ -67,48 +130,54 @@ class Wrong(typing.NamedTuple):
 
 
 class Where(typing.NamedTuple):
-    """What is known where a word stands: how many servers and agents there are, and the names above, each with its number and line."""
+    """What is known where a word stands: how many servers and agents there are, and the names above, each with its
+    number and line.
+    """
 
     servers: int
     agents: int
-    names: dict
+    names: Names
     first: str
 
 
-def plain(text):
+def plain(text: str) -> str:
     """Bytes of a script as a terminal can show them."""
     shown = text.encode("latin1", "replace").decode("utf-8", "backslashreplace")
     return re.sub(r"[\x00-\x1f\x7f-\x9f\u200b\u2028\u2029\ufeff]", lambda found: f"\\x{ord(found[0]):02x}", shown)
 
 
-def short(text):
+def short(text: str) -> str:
     """The beginning of a long word."""
     return plain(text) if len(text) <= LONG else f"{plain(text[:LONG])}.."
 
 
-def quoted(text):
+def quoted(text: str) -> str:
     return f"'{short(text)}'"
 
 
-def value(digits):
+def value(digits: str) -> int:
     """The number that digits say, as far as it matters: one of more than 20 digits is above all limits."""
     return int(digits.lstrip("0")[:21] or "0")
 
 
-def either(words, link="or"):
+def either(words: typing.Iterable[str], link: str = "or") -> str:
     """Words as one speaks of them: 'a', 'b' or 'c'."""
     words = list(words)
     return f" {link} ".join(filter(None, [", ".join(words[:-1]), words[-1]]))
 
 
-def nearest(word, known):
+def nearest(word: str, known: typing.Iterable[str]) -> list[str]:
     """The known words like this one, the likest first."""
     return difflib.get_close_matches(word.lower(), list(known), 3, 0.5)
 
 
-def numbered(place, word, where):
+def numbered(place: str, word: str, where: Where) -> Wrong | None:
     """What is wrong with a number in its place."""
-    ranges = {"A": (0, where.agents - 1, "the last agent", "S1"), "S": (0, where.servers - 1, "the last server", "S1"), **NUMBERS}
+    ranges = {
+        "A": (0, where.agents - 1, "the last agent", "S1"),
+        "S": (0, where.servers - 1, "the last server", "S1"),
+        **NUMBERS,
+    }
     least, most, what, code = ranges[place]
     if not re.fullmatch("[0-9]+", word):
         known = where.names.get({"UID": "user", "GID": "group"}.get(place), {})
@@ -121,36 +190,47 @@ def numbered(place, word, where):
     return Wrong(code, f"{short(word)} is below {least}", True) if number < least else None
 
 
-def of_groups(word, where):
+def of_groups(word: str, where: Where) -> Wrong | None:
     parts = word.split(",")
     if not re.fullmatch("[0-9,]+", word):
         return numbered("GID", word, where)._replace(text=f"{quoted(word)} stands where GIDS are due, {MEANT['GIDS']}")
     if len(parts) > 1 and "" in parts:
-        return Wrong("S1", f"{quoted(word)} has a comma without a number beside it; there are no spaces among the groups")
+        return Wrong(
+            "S1", f"{quoted(word)} has a comma without a number beside it; there are no spaces among the groups"
+        )
     for part in parts[:MAX_NUMBERS]:
         wrong = numbered("GID", part, where)
         if wrong:
             return wrong
     if len(parts) > MAX_NUMBERS:
-        return Wrong("S1", f"{len(parts)} groups; there are at most {MAX_NUMBERS}, the user's own and {MAX_NUMBERS - 1} others")
+        return Wrong(
+            "S1", f"{len(parts)} groups; there are at most {MAX_NUMBERS}, the user's own and {MAX_NUMBERS - 1} others"
+        )
     return None
 
 
-def of_old(word, where):
+def of_old(word: str, where: Where) -> Wrong | None:
     if not re.fullmatch("[0-9,]+", word) or "" in word.split(","):
         return Wrong("S1", f"{quoted(word)} stands where servers are due, {MEANT['OLD']}", True)
     return next(filter(None, (numbered("S", part, where) for part in word.split(","))), None)
 
 
-def form_of_votes(word):
+def form_of_votes(word: str) -> str | None:
     """What keeps a word from being votes, whichever they are."""
     parts = word.split("/")
     if len(parts) != 3 or not parts[0]:
-        return f"{quoted(word)} stands where VOTES are due, {MEANT['VOTES']}: of each server, and behind slashes what a read and a write collect"
+        return (
+            f"{quoted(word)} stands where VOTES are due, {MEANT['VOTES']}: of each server, and behind slashes what a"
+            " read and a write collect"
+        )
     fields = parts[0].split(",")
     for field in fields[:MAX_SERVERS]:
         if field != "-" and not re.fullmatch("[0-9]+", field):
-            return f"{quoted(field)} is neither a server's votes nor -" if field else f"{quoted(word)} has nothing where a server's votes or - are due"
+            return (
+                f"{quoted(field)} is neither a server's votes nor -"
+                if field
+                else f"{quoted(word)} has nothing where a server's votes or - are due"
+            )
         if field != "-" and value(field) > MAX_VOTES:
             return f"{short(field)} is above {MAX_VOTES}, the most votes of a server"
     if len(fields) > MAX_SERVERS:
@@ -163,13 +243,13 @@ def form_of_votes(word):
     return None
 
 
-def of_votes(word, where):
+def of_votes(word: str, where: Where) -> Wrong | None:
     text = form_of_votes(word)
     if text:
         return Wrong("S1", text, not re.match("[-0-9]+[,/]", word))
-    fields, read, write = word.split("/")
+    fields, *collected = word.split("/")
     listed = {server: value(field) for server, field in enumerate(fields.split(",")) if field != "-"}
-    read, write, total = value(read), value(write), sum(listed.values())
+    (read, write), total = map(value, collected), sum(listed.values())
     of = where.servers if where.first == "votes" else MAX_SERVERS
     if not listed:
         return Wrong("V1", f"{quoted(word)} lists no server")
@@ -181,13 +261,25 @@ def of_votes(word, where):
         if not 0 < count <= total:
             return Wrong("V5", f"a {what} collects {count}, and all votes together are {total}")
     if read + write <= total:
-        return Wrong("V6", f"a read collects {read} and a write {write}, together {read + write}, which is not more than all votes, {total}")
+        return Wrong(
+            "V6",
+            (
+                f"r + w is {read + write}, and N, all votes together, is {total}: a read could miss a write; r + w is"
+                " above N"
+            ),
+        )
     if 2 * write <= total:
-        return Wrong("V7", f"a write collects {write}, which is not more than half of all votes, {total}")
+        return Wrong(
+            "V7",
+            (
+                f"2w is {2 * write}, and N, all votes together, is {total}: two writes could miss one another; 2w is"
+                " above N"
+            ),
+        )
     return None
 
 
-def of_bytes(word, _where):
+def of_bytes(word: str, _where: Where) -> Wrong | None:
     if word == "-" or re.fullmatch("([0-9a-fA-F]{2})+", word):
         return None
     if re.fullmatch("[0-9a-fA-F]+", word):
@@ -196,7 +288,7 @@ def of_bytes(word, _where):
     return Wrong("S1", f"{quoted(word)} is not made of hexadecimal digits{meant}", True)
 
 
-def of_name(word, where):
+def of_name(word: str, where: Where) -> Wrong | None:
     if not word or len(word) > MAX_NAME:
         return Wrong("N1", f"the name has {len(word)} bytes, and at most {MAX_NAME} are allowed")
     bad = NO_NAME.search(word)
@@ -205,17 +297,21 @@ def of_name(word, where):
     if re.fullmatch("[0-9]+", word):
         return Wrong("N1", f"{quoted(word)} is a number, and stands where a name is due", True)
     known = where.names[where.first]
-    return Wrong("N2", f"{where.first} {quoted(word)} has a number already, by line {known[word][1]}") if word in known else None
+    return (
+        Wrong("N2", f"{where.first} {quoted(word)} has a number already, by line {known[word][1]}")
+        if word in known
+        else None
+    )
 
 
-def items(text):
+def items(text: str) -> typing.Iterator[tuple[int, str]]:
     """The items of a list's text, each with the number of its line."""
     for line, whole in enumerate(text.split("\n"), 1):
         for item in whole.partition("#")[0].split(","):
             yield line, item
 
 
-def permissions(field):
+def permissions(field: str) -> str | None:
     """Why a field is no permissions."""
     if re.fullmatch("[0-7]", field):
         letters = "".join(letter if int(field) & bit else "-" for letter, bit in (("r", 4), ("w", 2), ("x", 1)))
@@ -229,14 +325,16 @@ def permissions(field):
     return "there are more than three hyphens" if field.count("-") > 3 else None
 
 
-def form_of_item(fields):
+def form_of_item(fields: list[str]) -> str | None:
     """What keeps the fields of an item from being an entry, as far as its form goes."""
     kind, count = KINDS.get(fields[0]), len(fields)
     if not fields[0]:
         return "a word is due before the first colon: user, group, mask or other"
     if not kind:
         near = [word for word in nearest(fields[0], KINDS) if len(word) > 1]
-        return f"{quoted(fields[0])} is no kind of entry; " + (f"{quoted(near[0])} is near" if near else "user, group, mask and other are")
+        return f"{quoted(fields[0])} is no kind of entry; " + (
+            f"{quoted(near[0])} is near" if near else "user, group, mask and other are"
+        )
     if count == 1:
         return f"a colon is missing behind {quoted(fields[0])}"
     if count == 2 and kind in ("user", "group"):
@@ -249,8 +347,10 @@ def form_of_item(fields):
     return permissions(fields[-1]) or (f"{quoted(bad[0])} stands in no name" if bad else None)
 
 
-def entry_of(item, names):
-    """The entry of an item: its list, its kind and whom it names; or the code and the text of what is wrong with it; or nothing."""
+def entry_of(item: str, names: Names | None) -> tuple[str, str] | tuple[str, str, int | str | None]:
+    """The entry of an item: its list, its kind and whom it names; or the code and the text of what is wrong with it;
+    or nothing.
+    """
     fields = [field.strip(" \t\r") for field in item.split(":")]
     side = "default" if fields[0] in ("default", "d") else "access"
     if side == "default":
@@ -271,14 +371,16 @@ def entry_of(item, names):
     return side, kind, value(whom) if whom else None
 
 
-def fault_of_entries(entries):
+def fault_of_entries(entries: list[tuple[int, str, int | str | None]]) -> tuple[str, str] | None:
     """What is wrong with the entries of one list, each the number of its item, its kind and whom it names."""
     count = collections.Counter(entry[1:] for entry in entries)
     for kind, code in (("user", "A1"), ("group", "A2"), ("other", "A3")):
         if not count[kind, None]:
             return code, f"no item is the entry of {OF_KIND[kind]}, {kind[0]}::"
     for code, kinds in (("A4", tuple(OF_KIND)), ("A5", ("user",)), ("A6", ("group",))):
-        twice = [found for found in count if count[found] > 1 and found[0] in kinds and (found[1] is None) == (code == "A4")]
+        twice = [
+            found for found in count if count[found] > 1 and found[0] in kinds and (found[1] is None) == (code == "A4")
+        ]
         if twice:
             numbers = [str(number) for number, *entry in entries if tuple(entry) == twice[0]]
             of = OF_KIND[twice[0][0]] if code == "A4" else f"{twice[0][0]} {plain(str(twice[0][1]))}"
@@ -289,24 +391,24 @@ def fault_of_entries(entries):
     return ("A8", f"there are {len(entries)} entries") if len(entries) > MAX_ENTRIES else None
 
 
-def fault_of_list(text, names):
+def fault_of_list(text: str, names: Names | None) -> Wrong | None:
     """What is wrong with a list's text."""
-    found = {"access": [], "default": []}
+    found: dict[str, list[tuple[int, str, int | str | None]]] = {"access": [], "default": []}
     for number, (_, item) in enumerate(items(text), 1):
         if not item.strip(" \t\r"):
             continue
-        entry = entry_of(item, names)
-        if len(entry) == 2:
-            return Wrong(f"{entry[0]} item {number}", f"item {number} is {quoted(item.strip())}: {entry[1]}", entry[0] == "A9")
-        found[entry[0]].append((number, *entry[1:]))
+        side, told, *whom = entry_of(item, names)
+        if not whom:
+            return Wrong(f"{side} item {number}", f"item {number} is {quoted(item.strip())}: {told}", side == "A9")
+        found[side].append((number, told, whom[0]))
     wrong = fault_of_entries(found["access"])
     if wrong:
         return Wrong(*wrong)
-    wrong = found["default"] and fault_of_entries(found["default"])
+    wrong = fault_of_entries(found["default"]) if found["default"] else None
     return Wrong(f"A13 {wrong[0]}", f"{wrong[1]}, in the default list (d:)") if wrong else None
 
 
-def of_list(word, where):
+def of_list(word: str, where: Where) -> Wrong | None:
     if "\r" in word:
         return Wrong("S1", f"{quoted(word)} has a carriage return")
     # the names of a script stand below its root folder
@@ -316,7 +418,7 @@ def of_list(word, where):
     return wrong
 
 
-def of_init(word, where):
+def of_init(word: str, where: Where) -> Wrong | None:
     if re.fullmatch("[0-7]{3}", word):
         return None
     wrong = of_list(word, where)
@@ -328,19 +430,25 @@ def of_init(word, where):
 
 
 WORDS = {
-    "GIDS": of_groups, "OLD": of_old, "VOTES": of_votes, "HEX": of_bytes, "NAME": of_name, "LIST": of_list, "INIT": of_init,
+    "GIDS": of_groups,
+    "OLD": of_old,
+    "VOTES": of_votes,
+    "HEX": of_bytes,
+    "NAME": of_name,
+    "LIST": of_list,
+    "INIT": of_init,
     "PATH": lambda word, where: None,
 }
 
 
-def wrong_with(place, word, where):
+def wrong_with(place: str, word: str, where: Where) -> Wrong | None:
     """What is wrong with a word in a place."""
     if word is ANY:
         return None
     return WORDS[place](word, where) if place in WORDS else numbered(place, word, where)
 
 
-def form_of(first, language):
+def form_of(first: str, language: str) -> str:
     """The words of a line that begins so, as they are written down."""
     form = {**HEADER, **NAMES, **LANGUAGES[language].own}[first]
     number = {"SERVERS": "N", "AGENTS": "N", "OLD": "S,S,..", "OPERATIONS": "OPERATION ; .."}

@@ -8,33 +8,41 @@ those of the trace which the program of crates/trace is to print of the same scr
 is told, and the status is 1. The rows themselves are played by the program of crates/rows, and commands of tools, with
 what README.md shows of them, by tests/typed.py.
 """
-import os, re, sys
+import os
+import re
+import sys
+import typing
 
-import draw, sources, trace, votes
+import draw
+import sources
+import trace
+import votes
 
 TOP = os.path.join(os.path.dirname(os.path.abspath(__file__)), "..")
 sys.path.append(os.path.join(TOP, "tests"))
 import played
+import typing
 
 PICTURE, STORY = "docs/revocation.svg", "examples/play/revocation.script"
 HELP, OF_TOOLS = "help", "tools.txt"
 # The commands of which no row can tell the output.
-TOOLS = re.compile(rb"\$ \./suites (?:explain|trace|draw|votes|--version)\b")
+TOOLS = re.compile(rb"\$ \./suites (?:explain|trace|draw|show|votes|may|--version)\b")
 
 
-def content(name):
+def content(name: str) -> bytes:
     with open(os.path.join(TOP, name), "rb") as file:
         return file.read()
 
 
-def rows():
+def rows() -> list[tuple[str, bytes, bytes]]:
     """The rows: words, input and output of each."""
     return [(b" ".join(row["words"]).decode(), row["input"], row["output"]) for row in played.rows()]
 
 
-def blocks(text):
+def blocks(text: bytes) -> typing.Iterator[tuple[int, list[bytes]]]:
     """The indented blocks of a text, each with the number of its first line; code between fences is none."""
-    block, begun, is_fenced = [], 0, False
+    block: list[bytes] = []
+    begun, is_fenced = 0, False
     for number, line in enumerate(text.split(b"\n") + [b""], 1):
         is_fenced ^= line.startswith(b"```")
         if line.startswith(b"    ") and not is_fenced:
@@ -45,7 +53,7 @@ def blocks(text):
             block = []
 
 
-def commands(block):
+def commands(block: list[bytes]) -> typing.Iterator[tuple[str, str]]:
     """The commands of the program in a block, as words and the name of their input."""
     for line in block:
         match = re.match(r"(?:\$ )?\./suites (.*?) < (\S+)", line.decode())
@@ -53,12 +61,12 @@ def commands(block):
             yield match[1], match[2]
 
 
-def lines_of_trace():
+def lines_of_trace() -> list[str]:
     """The trace of the story, as the program of crates/trace is to print it."""
     return content("crates/trace/stdout").decode("latin1").splitlines()
 
 
-def traced(block):
+def traced(block: list[bytes]) -> bytes | None:
     """The last lines of a trace of the story, where a block shows them, as they are to be."""
     match = re.fullmatch(rf"\$ \./suites trace (.*) < {re.escape(STORY)} \| tail -(\d+)", block[0].decode())
     if match:
@@ -68,7 +76,7 @@ def traced(block):
     return None
 
 
-def texts_of_help(known):
+def texts_of_help(known: list[tuple[str, bytes, bytes]]) -> typing.Iterator[str]:
     """What is wrong with the texts of help/: each is what a row prints."""
     printed = {words: text for words, given, text in known if not given}
     words_of = {"suites": "--help", "help": "help help"}
@@ -78,7 +86,7 @@ def texts_of_help(known):
             yield f"{HELP}/{name} is not what the row of '{words}' prints"
 
 
-def told_of_votes(block):
+def told_of_votes(block: list[bytes]) -> bytes | None:
     """What `./suites votes` tells, where a block shows that."""
     match = re.fullmatch(r"\$ \./suites votes (\S+)", block[0].decode())
     if match:
@@ -86,7 +94,7 @@ def told_of_votes(block):
     return None
 
 
-def main():
+def main() -> int:
     known = rows()
     wrong = list(texts_of_help(known))
     inputs = {given for _, given, _ in known}

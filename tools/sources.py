@@ -11,6 +11,7 @@ import shutil
 import subprocess
 import tempfile
 import time
+import typing
 
 import console
 
@@ -29,21 +30,23 @@ SUMS = os.path.join(KEPT, "sums.json")
 CODE, CLAIMS, PROOFS = "src", "specs", "proofs"
 # A comment stands at the start of a line or after a space; a string with such marks is none, nor is a character.
 # The rarer `/* */` and `{- -}` count as text.
-RUST = re.compile(r"""(?<!\w)[bc]?r(#*)".*?"\1|"(?:[^"\\]|\\.)*"|'(?:\\[^'\n]+|[^\\'\n]|\\')'|(?:^|(?<=\s))//[^\n]*""", re.S | re.M)
+RUST = re.compile(
+    r"""(?<!\w)[bc]?r(#*)".*?"\1|"(?:[^"\\]|\\.)*"|'(?:\\[^'\n]+|[^\\'\n]|\\')'|(?:^|(?<=\s))//[^\n]*""", re.S | re.M
+)
 LOGIC = re.compile(r'"(?:[^"\\\n]|\\.)*"|(?:^|(?<=[ \n]))--[^\n]*', re.M)
 KINDS = {".rt": (RUST, "//"), ".antt": (LOGIC, "--")}
 # Longer than the steps in which a file system counts time.
 TICK = 0.02
 
 
-def told(text, ending):
+def told(text: str, ending: str) -> str:
     """A text without comments, blank lines and spaces at the ends of lines; the lines of a string stay together."""
     pattern, mark = KINDS[ending]
     text = pattern.sub(lambda found: "" if found[0].startswith(mark) else found[0].replace("\n", "\0"), text)
     return "\n".join(line for line in map(str.rstrip, text.split("\n")) if line)
 
 
-def crates_below(program):
+def crates_below(program: str) -> dict[str, list[str]]:
     """The crates that a program stands on, each with those that it names, the program last."""
     needs = {}
     with open(os.path.join(TOP, LIST), encoding="utf-8") as lines:
@@ -53,7 +56,7 @@ def crates_below(program):
                 needs[name.split()[0]] = named.split()
     found = {}
 
-    def visit(name):
+    def visit(name: str) -> None:
         if name in needs and name not in found:
             for need in needs[name]:
                 visit(need)
@@ -63,7 +66,7 @@ def crates_below(program):
     return found
 
 
-def files_of(folder):
+def files_of(folder: str) -> typing.Iterator[str]:
     """The sources in this folder of the repository, by their paths from its top."""
     for place, _, names in os.walk(os.path.join(TOP, folder)):
         for name in names:
@@ -71,7 +74,7 @@ def files_of(folder):
                 yield os.path.relpath(os.path.join(place, name), TOP)
 
 
-def read_json(path):
+def read_json(path: str) -> dict[str, typing.Any]:
     """What was kept in this file; nothing where it is not there, or was broken off."""
     try:
         with open(path, encoding="utf-8") as file:
@@ -80,7 +83,7 @@ def read_json(path):
         return {}
 
 
-def write_whole(path, text, written=None):
+def write_whole(path: str, text: str, written: int | None = None) -> None:
     """Writes a file so that nobody reads a part of it, as if at this time (in nanoseconds)."""
     with open(f"{path}.{os.getpid()}", "w", encoding="utf-8") as file:
         file.write(text)
@@ -89,17 +92,22 @@ def write_whole(path, text, written=None):
     os.replace(file.name, path)
 
 
-def make_folder():
+def make_folder() -> None:
     """Makes the folder for what is built, or ends the tool where nothing can be written into it."""
     try:
         os.makedirs(KEPT, exist_ok=True)
         tempfile.TemporaryFile(dir=KEPT).close()
     except OSError:
-        raise console.Stop(f"nothing can be written in {KEPT}, and no program of these sources is there: copy the repository to where you may write") from None
+        raise console.Stop(
+            f"nothing can be written in {KEPT}, and no program of these sources is there: copy the repository to where"
+            " you may write"
+        ) from None
 
 
-def time_of_files():
-    """A time before which all that is read from now on was written, as files have it; none where nothing can be written."""
+def time_of_files() -> int | None:
+    """A time before which all that is read from now on was written, as files have it; none where nothing can be
+    written.
+    """
     try:
         with tempfile.TemporaryFile(dir=KEPT) as file:
             begun = os.fstat(file.fileno()).st_mtime_ns
@@ -109,7 +117,7 @@ def time_of_files():
     return begun
 
 
-def sum_of(path):
+def sum_of(path: str) -> str | None:
     """The sum of a file's bytes; nothing where it is not there."""
     try:
         with open(path, "rb") as file:
@@ -121,27 +129,36 @@ def sum_of(path):
 class Kit:
     """The kit whose `rt` is on the path, if there is one."""
 
-    def __init__(self):
+    def __init__(self) -> None:
         self.command = shutil.which("rt") or ""
         self.name = ""
         if self.command:
             said = subprocess.run(["rt", "version"], stdin=subprocess.DEVNULL, capture_output=True, text=True)
             self.name = said.stdout.strip()
 
-    def wanted(self):
+    def wanted(self) -> None:
         """Ends the tool where there is no kit, or one of another logic."""
         if not self.command:
-            raise console.Stop("the program is not built, and the command rt that builds it is not on the path (README.md names the kit)")
+            raise console.Stop(
+                "the program is not built, and the command rt that builds it is not on the path (README.md names the"
+                " kit)"
+            )
         if not self.name:
-            raise console.Stop(f"the program is not built, and the command {self.command} that builds it fails: `rt version` tells no kit")
+            raise console.Stop(
+                f"the program is not built, and the command {self.command} that builds it fails: `rt version` tells"
+                " no kit"
+            )
         if KIT_LOGIC not in self.name.split():
-            raise console.Stop(f"the program is not built by the kit on the path, which is {self.name}: these sources want one of logic {KIT_LOGIC}")
+            raise console.Stop(
+                f"the program is not built by the kit on the path, which is {self.name}: these sources want one of"
+                f" logic {KIT_LOGIC}"
+            )
 
 
 class Sources:
     """The sources as they are now: the sums of the code, of code and claims, and of all with the proofs."""
 
-    def __init__(self):
+    def __init__(self) -> None:
         self.crates = crates_below(PROGRAM)
         self.sums = self.summed([f"crates/{name}/{part}" for name in self.crates for part in (CODE, CLAIMS, PROOFS)])
         self.files = sorted(self.sums)
@@ -151,12 +168,13 @@ class Sources:
         self.claims = self.total(self.claim_files)
         self.all = self.total(self.files)
 
-    def summed(self, folders):
+    def summed(self, folders: list[str]) -> dict[str, str]:
         """The sum of each file's text, kept from before where its size and times are the same."""
-        before, now, kept = read_json(SUMS), {}, time.time_ns()
+        before, kept = read_json(SUMS), time.time_ns()
+        now: dict[str, list[typing.Any]] = {}
         for file in (file for folder in folders for file in files_of(folder)):
             about = os.stat(os.path.join(TOP, file))
-            mark = [about.st_size, about.st_mtime_ns, about.st_ctime_ns]
+            mark: list[typing.Any] = [about.st_size, about.st_mtime_ns, about.st_ctime_ns]
             if before.get(file, [None])[:3] != mark:
                 with open(os.path.join(TOP, file), encoding="utf-8", errors="surrogateescape", newline="\n") as text:
                     clean = told(text.read(), os.path.splitext(file)[1])
@@ -170,13 +188,15 @@ class Sources:
             write_whole(SUMS, json.dumps(settled))
         return {file: mark[3] for file, mark in now.items()}
 
-    def total(self, files):
+    def total(self, files: list[str]) -> str:
         """The sum of these files, and of what each crate names."""
         lines = [f"{name}: {' '.join(needs)}" for name, needs in self.crates.items()]
         lines += [f"{file} {self.sums[file]}" for file in files]
         return hashlib.sha256("\n".join(lines).encode()).hexdigest()
 
-    def looked_at(self, is_proved):
-        """What is looked at before each run of the program: the code, and where a proved program is at stake its claims too, with the folders in which a new file may matter."""
+    def looked_at(self, is_proved: bool) -> list[str]:
+        """What is looked at before each run of the program: the code, and where a proved program is at stake its
+        claims too, with the folders in which a new file may matter.
+        """
         files = self.claim_files if is_proved else self.code_files
         return [*sorted({os.path.dirname(file) for file in files}), *files]

@@ -1,19 +1,23 @@
 #!/usr/bin/env python3
-"""./suites --test
+"""./suites --test [--long]
 
-Runs all tests that need no proof, side by side: the rows of crates/rows/stdin through the program that `./suites` runs
-(which it first makes, where there is none), the tests of libraries, runs and commands without their proofs (`rt try`),
-the examples of docs/FAULTS.md, the command lines that README.md and docs/FAULTS.md show, what `./suites votes` tells,
-pictures, random scripts of `play` against the plain table, and the checks of documents. Prints a line for each part as
-it ends, of a part that fails also what it printed, and last how many passed and failed. Status 1 where one failed. The gate
-(.ci/run) begins with it.
+Runs all tests that need no proof, side by side: the rows of crates/rows/stdin through the program that `./suites`
+runs (which it first makes, where there is none), the tests of libraries, runs and commands without their proofs (`rt
+try`), the examples of docs/FAULTS.md, the command lines that README.md and docs/FAULTS.md show, what `./suites votes`
+tells, pictures, random scripts of `play` against the plain table, and the checks of documents; every program
+that only tests and measurements have is compiled. With --long those too that take minutes: allocations that are
+refused, reads and writes that fail, inputs that are cut off, lies about runs, and races between threads, some ten
+minutes more on four free processors. Prints a line for each part as it ends, of a part that fails also what it printed, and last how many passed and failed. Status 1 where one
+failed. The gate (.ci/run) begins with it.
 """
 import os
 import re
 import resource
+import subprocess
 import sys
 import tempfile
 import time
+import typing
 
 import console
 import gate
@@ -26,7 +30,7 @@ BYTES_A_PART, LIMIT = 2_500_000_000, 3600
 TRY = ["rt", "try", "--test", "--seconds", "3000"]
 # How parts tell what passed and failed: all and those that differ, or both as rt has it.
 COUNTS = (
-    (re.compile(r"^(\d+) .*, (\d+) differ", re.M), lambda all_of_them, wrong: (all_of_them - wrong, wrong)),
+    (re.compile(r"^(\d+) .*[,;] (\d+) differ", re.M), lambda all_of_them, wrong: (all_of_them - wrong, wrong)),
     (re.compile(r"^test result: .*?(\d+) passed; (\d+) failed", re.M), lambda passed, failed: (passed, failed)),
 )
 
@@ -34,17 +38,29 @@ COUNTS = (
 class Part:
     """A part of the tests: its title, its command, and the titles of the parts that have to pass before it."""
 
-    def __init__(self, title, words, after=(), folder=".", program="suites"):
-        self.title, self.words, self.after = title, words, after
+    def __init__(
+        self,
+        title: str,
+        words: list[str],
+        after: typing.Sequence[str] = (),
+        folder: str = ".",
+        program: str = "suites",
+        settings: typing.Mapping[str, str] | None = None,
+    ) -> None:
+        self.title, self.words, self.after, self.settings = title, words, after, dict(settings or {})
         self.folder, self.program = os.path.join(sources.TOP, folder), program
-        self.counts = self.process = self.log = self.begun = None
-        self.text = ""
+        self.counts: tuple[int, int] | None = None
+        self.process: subprocess.Popen[bytes] | None = None
+        self.log: typing.IO[bytes] | None = None
+        self.begun, self.text = 0.0, ""
 
-    def start(self):
+    def start(self) -> None:
         self.log, self.begun = tempfile.TemporaryFile(), time.monotonic()
-        self.process = console.start(self.words, self.folder, self.log, env={**os.environ, "SUITES_PROGRAM": self.program})
+        self.process = console.start(
+            self.words, self.folder, self.log, env={**os.environ, **self.settings, "SUITES_PROGRAM": self.program}
+        )
 
-    def has_ended(self):
+    def has_ended(self) -> bool:
         """Whether it has ended; counts what passed and failed."""
         late = time.monotonic() - self.begun > LIMIT
         if self.process.poll() is None and not late:
@@ -54,23 +70,30 @@ class Part:
         self.text = self.log.read().decode("utf-8", "replace")
         found = [told(*map(int, match.groups())) for pattern, told in COUNTS for match in pattern.finditer(self.text)]
         passed, failed = map(sum, zip(*found)) if found else (int(self.process.returncode == 0), 0)
-        self.counts = passed, max(failed, int(self.process.returncode != 0 or late))
+        # what compared nothing has not passed
+        is_vain = passed == 0 and not self.is_left_out()
+        self.counts = passed, max(failed, int(self.process.returncode != 0 or late or is_vain))
         return True
 
-    def lines(self):
+    def is_left_out(self) -> bool:
+        """Whether the part says that it cannot be played here."""
+        return re.search(r"^this needs |skipped", self.text, re.M) is not None
+
+    def lines(self) -> str:
         """What is told of it, once it has ended or cannot be run."""
         if not self.process:
             return f"{self.title}: not run, since a part that it stands on failed"
         passed, failed = self.counts
-        line = f"{self.title}: {passed} passed, {failed} failed, {time.monotonic() - self.begun:.0f} s"
+        skipped = "".join(f" ({line})" for line in self.text.splitlines() if line.startswith("skipped: "))
+        line = f"{self.title}: {passed} passed, {failed} failed, {time.monotonic() - self.begun:.0f} s{skipped}"
         return f"{line}\n{console.tail(self.text, 60)}status {self.process.returncode}" if failed else line
 
 
-def tool(path, *words):
+def tool(path: str, *words: str) -> list[str]:
     return [sys.executable, os.path.join(sources.TOP, path), *words]
 
 
-def tried(crate):
+def tried(crate: str) -> dict[str, typing.Any]:
     return {"words": TRY, "folder": os.path.join("crates", crate)}
 
 
@@ -83,6 +106,7 @@ PARTS = (
     Part("page of wrong bodies", tool("tools/wrong_bodies_page.py", "--check")),
     Part("table of public functions", tool("tools/proved_page.py", "--check")),
     Part("words that need no build", tool("tests/wrapper.py")),
+    Part("type hints", tool("tests/hints.py")),
     Part("tests of runs", **tried("run_tests")),
     Part("tests of libraries", **tried("library_tests")),
     Part(PROGRAM, tool("tools/choose.py")),
@@ -94,21 +118,46 @@ PARTS = (
     Part("what explain says of damaged scripts", tool("tests/damaged-scripts.py", "--cases", "1000"), [PROGRAM]),
     Part("command lines of documents", tool("tests/typed.py"), [PROGRAM, TRACE]),
     Part("answers of may", tool("tests/may.py"), [MAY]),
-    Part("may against the kernel", tool("tests/may-against-the-kernel.py", "--questions", "300", "--if-possible"), [MAY]),
+    Part(
+        "may against the kernel",
+        tool("tests/may-against-the-kernel.py", "--questions", "100", "--mounts", "--if-possible"),
+        [MAY],
+    ),
     Part("what votes tells", tool("tests/votes.py"), [PROGRAM, TRACE]),
+    Part("what votes tells of scripts", tool("tests/votes-left.py"), [PROGRAM, TRACE]),
     Part("pictures", tool("tests/drawn.py"), [TRACE]),
+    Part("events", tool("tests/events.py"), [TRACE]),
+    Part("pages in a browser", tool("tests/shown_page.py"), [TRACE]),
     Part("random scripts", tool("tools/compare.py", "--seeds", "200"), [PROGRAM, TRACE]),
+    Part("programs of tests and measurements", tool("tests/compiled.py")),
+)
+# What --long adds; of allocations each 61st is refused, and inputs are cut at each 29th byte.
+LONG = (
+    Part("races", tool("tests/races.py", "1")),
+    Part("lies about runs", tool("tests/lies.py", "1000"), [TRACE]),
+    Part(
+        "refused allocations",
+        ["sh", os.path.join(sources.TOP, "tests/refuse-each.sh")],
+        [PROGRAM, TRACE],
+        settings={"EVERY": "61"},
+    ),
+    Part(
+        "refused allocations in tests",
+        ["sh", os.path.join(sources.TOP, "tests/refuse-in-test.sh")],
+        settings={"IF_POSSIBLE": "1"},
+    ),
+    Part("inputs cut off, and streams that fail", tool("tests/damaged-runs.py"), [PROGRAM], settings={"EVERY": "29"}),
 )
 
 
-def lanes():
+def lanes() -> int:
     """How many parts run side by side."""
     return max(1, min(gate.processors(), gate.free() // BYTES_A_PART))
 
 
-def play_all(parts, number, teller):
+def play_all(parts: typing.Sequence[Part], number: int, teller: console.Teller) -> None:
     """Plays the parts, so many at once, and tells of each; one that stands on a part that failed has failed with it."""
-    left, running = list(parts), []
+    left, running = list(parts), list[Part]()
     try:
         while left or running:
             counts = {part.title: part.counts for part in parts if part.counts}
@@ -127,21 +176,24 @@ def play_all(parts, number, teller):
             for part in [*vain, *ended]:
                 teller.clear()
                 print(part.lines(), flush=True)
-            teller.say(f"{len(parts) - len(left) - len(running)} of {len(parts)} parts done, {teller.seconds()} s", False)
+            teller.say(
+                f"{len(parts) - len(left) - len(running)} of {len(parts)} parts done, {teller.seconds()} s", False
+            )
     finally:
         for part in running:
             console.stop(part.process)
 
 
-def main():
-    if len(sys.argv) > 1:
-        raise console.Stop("--test takes no other word")
+def main() -> int:
+    if sys.argv[1:] not in ([], ["--long"]):
+        raise console.Stop("--test takes no other word than --long")
+    parts = (*PARTS, *LONG) if sys.argv[1:] else PARTS
     sources.Kit().wanted()
     sources.make_folder()
     teller, number = console.Teller(), lanes()
-    print(f"{len(PARTS)} parts, {number} at once", flush=True)
-    play_all(PARTS, number, teller)
-    passed, failed = (sum(part.counts[place] for part in PARTS) for place in (0, 1))
+    print(f"{len(parts)} parts, {number} at once", flush=True)
+    play_all(parts, number, teller)
+    passed, failed = (sum(part.counts[place] for part in parts) for place in (0, 1))
     spent = resource.getrusage(resource.RUSAGE_CHILDREN)
     teller.say(f"took {teller.seconds()} s, and {spent.ru_utime + spent.ru_stime:.0f} s of processor time")
     print(f"{passed} passed, {failed} failed")

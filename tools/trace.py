@@ -1,5 +1,6 @@
 #!/usr/bin/env python3
 """./suites trace [--agent A] [--suite S] < SCRIPT
+./suites trace --json < SCRIPT
 
 Plays a script of events as `suites play` does, and prints all that happens: below each line of the script (`>`) each
 request with its server and its reply, the lines of `play` as `play` prints them, and at the end (`=`) what each server
@@ -7,6 +8,7 @@ has of each file and folder, with their versions, votes and locks, and where a c
 
     --agent A   only what agent A does, and what becomes of servers
     --suite S   only what is about a file or folder, by its path or its number
+    --json      alone: all events for other programs, an object of JSON a line (docs/EVENTS.md)
 
 Where it takes longer than two seconds it says on a terminal how far it is.
 """
@@ -23,6 +25,7 @@ import tempfile
 import time
 
 import console
+from known_paths import FEW, Paths, paths
 
 TOOLS = os.path.dirname(os.path.abspath(__file__))
 TOP = os.path.dirname(TOOLS)
@@ -31,21 +34,18 @@ REQUEST = re.compile(r"  (\d+) -> s(\d+)  (.*?) +: (.*)")
 OUTCOME = re.compile(r"(\d+)\.(\d+) (\d+) (.*)")
 SUITE = re.compile(r"\bsuite (\d+)\b")
 OF_TRANSACTION = re.compile(r"  t (\d+) ")
+AGENTS = re.compile(rb"^[ \t]*agents[ \t]+(\d+)", re.M)
 BETWEEN = re.compile(r"\n(?=[>=] )")
 COPY = re.compile(r"    suite (\d+) (\w+) prefix (\d+) content (\d+) votes (\S+)")
-NAMES = re.compile(r"suite (\d+)\b[^;:]*(?:: given, content \d+)? names((?: \S+=\d+)+)")
 OF_SERVERS, BEGIN, STEP = ("crash", "return"), ("begin", "sweep"), ("step", "run")
 # Where the reply stands in a line with paths.
 REPLY_AT = 56
 # So much of a trace is read at once, and so many seconds pass before it is looked whether there is more.
 PIECE, PAUSE = 4 << 20, 0.02
-# How many texts are kept, so that they need not be read again.
-FEW = 4096
 # After how many seconds it is said how far a tool is, and after how many more again.
 PATIENCE, AGAIN = 2, 0.5
 # What a terminal is told where the program ends so (as `./suites` tells it of the other commands).
 EXPLAINED = {
-    3: "./suites explain 'THE LINE ABOVE' tells what it means",
     6: "the input is above 16 MiB, or a read or a write failed (./suites explain 'status 6')",
 }
 ENV = {**os.environ, "SUITES_PROGRAM": "trace"}
@@ -75,7 +75,8 @@ def program():
         choice = chosen.stdout.split()
     kind, path = choice
     if kind == "checked":
-        console.Teller().say("checked build of trace, not proved yet; ./suites --prove trace proves and builds it")
+        text = "checked build of trace, not proved yet; ./suites --prove trace proves and builds it"
+        console.say_once_a_day(os.path.join(TOP, "out", "trace-told"), text)
     return os.path.join(TOP, path)
 
 
@@ -157,7 +158,9 @@ class Run:
         self.progress.end()
         sys.stdout.write(text)
         sys.stdout.flush()
-        if sys.stderr.isatty() and self.process.returncode in EXPLAINED:
+        if sys.stderr.isatty() and self.process.returncode == 3:
+            console.Teller().say(f"./suites explain {shlex.quote(text.strip())} {script_name()} shows it")
+        elif sys.stderr.isatty() and self.process.returncode in EXPLAINED:
             console.Teller().say(EXPLAINED[self.process.returncode])
         sys.exit(self.process.returncode)
 
@@ -179,52 +182,6 @@ def traced(script):
     """The lines of the trace of a script, by the program `trace`; ends the tool as that ends where the script has a fault."""
     with Run(script) as run:
         return [line for place in run.pieces() for line in run.text(place).split("\n")[:-1]]
-
-
-class Paths:
-    """The paths of files and folders, by their numbers, so far as a folder with their names was told."""
-
-    def __init__(self):
-        self.known, self.placed, self.waiting, self.read = {0: "/"}, {0}, {}, set()
-
-    def learn(self, text):
-        """Takes what is told in lines of a trace."""
-        at = text.find(" names ")
-        while at >= 0:
-            begin, end = text.rfind("\n", 0, at) + 1, text.find("\n", at)
-            end = len(text) if end < 0 else end
-            names = text[at:end]
-            if names not in self.read and text.startswith("  ", begin):
-                if len(self.read) == FEW:
-                    self.read.clear()
-                self.read.add(names)
-                for folder, found in NAMES.findall(text[begin:end]):
-                    for word in found.split():
-                        name, _, suite = word.rpartition("=")
-                        self.place(int(folder), name, int(suite))
-            at = text.find(" names ", end)
-
-    def place(self, folder, name, suite):
-        """A suite is in a folder under a name. It is there for good: what is made later has another number."""
-        if suite in self.placed:
-            return
-        self.placed.add(suite)
-        found = [(folder, name, suite)]
-        while found:
-            folder, name, suite = found.pop()
-            if folder in self.known:
-                self.known[suite] = f"{self.known[folder].rstrip('/')}/{name}"
-                found += [(suite, *below) for below in self.waiting.pop(suite, ())]
-            else:
-                self.waiting.setdefault(folder, []).append((name, suite))
-
-
-def paths(lines):
-    """The paths of files and folders, by their numbers, so far as a folder with their names was told."""
-    found = Paths()
-    for line in lines:
-        found.learn(line)
-    return found.known
 
 
 def blocks(lines):
@@ -387,10 +344,13 @@ def asked(words, text, more=None):
     for word, how in (more or {}).items():
         read.add_argument(word, **how)
     read.add_argument("-h", "--help", action="store_true")
+    read.add_argument("file", nargs="?")
     given = read.parse_args(words)
     if given.help:
         print(text.strip())
         sys.exit(0)
+    if given.file is not None:
+        raise console.Bad(f"a script is read from standard input: {read.prog} < {given.file}")
     return given
 
 
@@ -404,10 +364,24 @@ def number_of(suite, known):
     return found[-1]
 
 
-def script():
+def script_name():
+    """The name of the file that standard input is, as a shell takes it; what stands for it where it is none."""
+    name = os.readlink("/proc/self/fd/0")
+    return shlex.quote(os.path.relpath(name)) if os.path.isfile(name) else "SCRIPT"
+
+
+def script(agent=None):
+    """The script that is read from standard input; ends the tool where it has no such agent."""
+    if sys.stdin is None:
+        console.Teller().say("a read failed: standard input is closed")
+        sys.exit(6)
     if sys.stdin.isatty() and sys.stderr.isatty():
         console.Teller().say("reading from the terminal, up to its end (Ctrl-D at the start of a line)")
-    return sys.stdin.buffer.read()
+    text = sys.stdin.buffer.read()
+    count = AGENTS.search(text)
+    if agent is not None and count and not 0 <= agent < int(count[1]):
+        raise console.Bad(f"there is no agent {agent}: the script has {int(count[1])}, and the first one is 0")
+    return text
 
 
 def text_of(lines):
@@ -473,8 +447,10 @@ def write_about(run, out, agent, suite):
 
 
 def main():
+    if sys.argv[1:] == ["--json"]:
+        os.execve(program(), [program(), "--json"], ENV)
     given = asked(sys.argv[1:], __doc__)
-    with Run(script()) as run:
+    with Run(script(given.agent)) as run:
         if given.suite is None:
             write_all(run, sys.stdout.buffer, given.agent)
         else:

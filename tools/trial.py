@@ -1,8 +1,9 @@
 #!/usr/bin/env python3
 """tools/trial.py WORD...
 
-All that a checked build rests on inside the kit: `rt try` makes the program as a file of LLVM's, `module.bc`, in a folder
-below TMPDIR, with its checks at run time; the kit's clang compiles it, and the kit's linker links it with its C libraries.
+All that a checked build rests on inside the kit: `rt try` makes the program as a file of LLVM's, `module.bc`, in a
+folder below TMPDIR, with its checks at run time; the kit's clang compiles it, and the kit's linker links it with its
+C libraries.
 
 Where a kit does it otherwise, no module is found. Then this file as a command stands in for the program: it runs
 `rt try -- WORD...` on its standard input, which compiles the program each time.
@@ -12,6 +13,7 @@ import subprocess
 import sys
 import tempfile
 import time
+import typing
 
 import console
 import sources
@@ -21,7 +23,13 @@ MODULE = "module.bc"
 # What is in the module of the program, and not in the small one with which `rt try` tries its compiler.
 MARK = f"{sources.PROGRAM}::main".encode()
 # As the kit itself compiles: these keep passes of clang out that are known to err.
-CAREFUL = ["-no-trap-after-noreturn", "-trap-unreachable", "-no-x86-call-frame-opt", "-disable-machine-licm", "-disable-postra-machine-licm"]
+CAREFUL = [
+    "-no-trap-after-noreturn",
+    "-trap-unreachable",
+    "-no-x86-call-frame-opt",
+    "-disable-machine-licm",
+    "-disable-postra-machine-licm",
+]
 CAREFUL = [word for option in [*CAREFUL, "-sink-common-insts=false"] for word in ("-mllvm", option)]
 LEVEL = "-O1"
 
@@ -29,11 +37,11 @@ LEVEL = "-O1"
 class Hidden(console.Stop):
     """The kit shows no module, or one that its compiler does not take."""
 
-    def __init__(self):
+    def __init__(self) -> None:
         super().__init__("this kit hands out no module of the program")
 
 
-def is_whole(module):
+def is_whole(module: bytes) -> bool:
     """Whether bytes are a module to its end: blocks, each with its length behind four bytes, until they are used up."""
     place = 4
     while place + 8 <= len(module):
@@ -41,7 +49,7 @@ def is_whole(module):
     return place == len(module) and MARK in module
 
 
-def found(scratch):
+def found(scratch: str) -> bytes | None:
     """The program's module below this folder, once it is whole."""
     for place, _, names in os.walk(scratch):
         if MODULE in names:
@@ -55,7 +63,7 @@ def found(scratch):
     return None
 
 
-def module_into(folder, tick):
+def module_into(folder: str, tick: typing.Callable[[], None]) -> str:
     """Writes the program's module into this folder; `tick` is called while that lasts. Answers its path."""
     scratch = os.path.join(folder, "scratch")
     os.mkdir(scratch)
@@ -81,22 +89,22 @@ def module_into(folder, tick):
     return path
 
 
-def kit():
+def kit() -> str:
     """The folder of the kit, whose first page `rt doc` names."""
     said = subprocess.run(["rt", "doc"], stdin=subprocess.DEVNULL, capture_output=True, text=True)
     return os.path.dirname(said.stdout.strip())
 
 
-def clang():
+def clang() -> str:
     return os.path.join(kit(), "toolchain", "bin", "clang")
 
 
-def libraries():
+def libraries() -> list[str]:
     """The C libraries that a program is linked with."""
     return [os.path.join(kit(), "c", name) for name in ("libos_c.a", "liblibc_c.a")]
 
 
-def done(words, folder, tick):
+def done(words: list[str], folder: str, tick: typing.Callable[[], None]) -> None:
     """Runs a command in this folder, which has to end well; `tick` is called while it lasts."""
     try:
         with tempfile.TemporaryFile() as log:
@@ -113,7 +121,7 @@ def done(words, folder, tick):
         raise Hidden
 
 
-def build(target, tick):
+def build(target: str, tick: typing.Callable[[], None]) -> None:
     """Builds the program to this file, with its checks at run time, and looks whether it runs."""
     home = kit()
     with tempfile.TemporaryDirectory(prefix="suites-") as folder:
@@ -129,9 +137,12 @@ def build(target, tick):
     os.chmod(target, 0o755)
 
 
-def main():
+def main() -> int:
     """Runs the program by `rt try`."""
-    console.Teller().say("this kit hands out no module, so `rt try` compiles the program anew for this run, some four minutes; not proved")
+    console.Teller().say(
+        "this kit hands out no module, so `rt try` compiles the program anew for this run, some four minutes; not"
+        " proved"
+    )
     process = subprocess.Popen(["rt", "try", "--", *sys.argv[1:]], cwd=FOLDER)
     try:
         return process.wait()

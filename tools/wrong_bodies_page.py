@@ -4,11 +4,15 @@
     tools/wrong_bodies_page.py           writes the page
     tools/wrong_bodies_page.py --check   writes nothing; tells what differs, with status 1
 
-The first line of an edit says what it makes wrong (`why: ..`), the second which function refuses it and by which clause
-(`refused by: ..`). An edit of the gate that has neither has them in docs/wrong-bodies-in-gate.txt: the gate tries an edit
-anew when any of its lines changes, so the words move into it when it changes anyway. ./suites --test runs --check.
+The first line of an edit says what it makes wrong (`why: ..`), the second which function refuses it and by which
+clause (`refused by: ..`). An edit of the gate that has neither has them in docs/wrong-bodies-in-gate.txt: the gate
+tries an edit anew when any of its lines changes, so the words move into it when it changes anyway. ./suites --test
+runs --check.
 """
-import difflib, os, sys
+import difflib
+import os
+import sys
+import typing
 
 import wrong_bodies
 
@@ -35,13 +39,13 @@ where it needs a clause that was weakened. Nobody looked whether each of their c
 """
 
 
-def words_of(text):
+def words_of(text: str) -> dict[str, str]:
     """What the lines `why: ..` and `refused by: ..` of an edit say."""
     parted = (line.partition(": ") for line in text.split("\n"))
     return {word: rest for word, _, rest in parted if word in wrong_bodies.TOLD}
 
 
-def words_in_gate():
+def words_in_gate() -> dict[str, dict[str, str]]:
     """The words of those edits of the gate that do not have them themselves, by crate/name."""
     found = {}
     for piece in wrong_bodies.content(IN_GATE).split("\n\n")[1:] if os.path.exists(IN_GATE) else ():
@@ -50,42 +54,60 @@ def words_in_gate():
     return found
 
 
-def crates():
+def crates() -> list[str]:
     """The crates, in the order of crates.txt: bottom up."""
     lines = wrong_bodies.content(os.path.join(wrong_bodies.TOP, "crates.txt")).split("\n")
     return [line.split(":")[0].split()[0] for line in (line.partition("#")[0] for line in lines) if ":" in line]
 
 
-def rows(crate, in_gate, faults):
+def rows(crate: str, in_gate: dict[str, dict[str, str]], faults: list[str]) -> typing.Iterator[typing.Any]:
     """The lines of the table of a crate. What is wrong with its edits is added to the faults."""
     for folder, place in PLACES:
         for edit in wrong_bodies.edits(crate, folder):
             name = f"{crate}/{wrong_bodies.name_of(edit)}"
-            own, kept = words_of(wrong_bodies.content(edit)), in_gate.pop(name, {}) if folder == wrong_bodies.GATE else {}
+            own, kept = (
+                words_of(wrong_bodies.content(edit)),
+                in_gate.pop(name, {}) if folder == wrong_bodies.GATE else {},
+            )
             words = own or kept
             if own and kept:
-                faults.append(f"{name}: its words stand in the edit and in {os.path.relpath(IN_GATE, wrong_bodies.TOP)}")
+                faults.append(
+                    f"{name}: its words stand in the edit and in {os.path.relpath(IN_GATE, wrong_bodies.TOP)}"
+                )
             faults += [f"{name}: it has no line '{word}: ..'" for word in wrong_bodies.TOLD if not words.get(word)]
             if any("|" in text for text in words.values()):
                 faults.append(f"{name}: a word has a |, which a table cannot show")
-            yield f"| `{wrong_bodies.name_of(edit)}` | {place} | {words.get('why', '')} | {words.get('refused by', '')} |"
+            yield (
+                f"| `{wrong_bodies.name_of(edit)}` | {place} | {words.get('why', '')} | {words.get('refused by', '')} |"
+            )
 
 
-def page():
+def page() -> tuple[str, list[str]]:
     """The page, and what is wrong with the edits."""
-    in_gate, faults, parts, counts = words_in_gate(), [], [HEAD], {place: 0 for _, place in PLACES}
+    in_gate, parts, counts = words_in_gate(), [HEAD], {place: 0 for _, place in PLACES}
+    faults: list[str] = []
     for crate in crates():
         lines = list(rows(crate, in_gate, faults))
         for place in counts:
             counts[place] += sum(line.split(" | ")[1] == place for line in lines)
         if lines:
-            parts.append("\n".join([f"## `{crate}`\n", "| Wrong body | Tried | What it makes wrong | Refused by |", "|---|---|---|---|", *lines, ""]))
+            parts.append(
+                "\n".join(
+                    [
+                        f"## `{crate}`\n",
+                        "| Wrong body | Tried | What it makes wrong | Refused by |",
+                        "|---|---|---|---|",
+                        *lines,
+                        "",
+                    ]
+                )
+            )
     faults += [f"{name}: there is no such edit in the gate" for name in in_gate]
     parts.insert(1, f"There are {counts['gate']} in the gate and {counts['beside']} beside it.\n")
     return "\n".join(parts), faults
 
 
-def main():
+def main() -> int:
     text, faults = page()
     print(*faults, sep="\n", end="\n" if faults else "")
     if "--check" not in sys.argv[1:]:
@@ -93,7 +115,12 @@ def main():
             file.write(text)
         return 1 if faults else 0
     stands = wrong_bodies.content(PAGE) if os.path.exists(PAGE) else ""
-    changes = [line for line in difflib.unified_diff(stands.split("\n"), text.split("\n"), "docs/WRONG-BODIES.md", "from the edits", lineterm="", n=0)]
+    changes = [
+        line
+        for line in difflib.unified_diff(
+            stands.split("\n"), text.split("\n"), "docs/WRONG-BODIES.md", "from the edits", lineterm="", n=0
+        )
+    ]
     print(*changes, sep="\n", end="\n" if changes else "")
     return 1 if faults or changes else 0
 

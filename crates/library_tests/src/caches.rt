@@ -84,6 +84,13 @@ fn keeps(rt: &impl Abort, cache: &WeakCache) {
     holds(rt, cache.content(0, 2, 2).is_none(), "version 2");
 }
 
+/// Sites 0 and 1 keep something, and no other site does.
+fn two_sites_keep(rt: &impl Abort, cache: &WeakCache) {
+    for site in 0..=u8::MAX {
+        holds(rt, cache.keeps(site) == (site < 2), "what a site keeps");
+    }
+}
+
 /// The laws can be called.
 fn laws() {
     found_was_put();
@@ -98,6 +105,7 @@ fn the_least_recently_used_goes_first(rt: HostRuntime) {
     let mut cache = small_cache(&rt);
     puts(&rt, &mut cache, BEFORE_USE);
     keeps(&rt, &cache);
+    two_sites_keep(&rt, &cache);
     stand(&rt, &cache, "(1, 1)(0, 2)");
     holds(&rt, cache.content_at(0, 2, 1).is_some(), "a look");
     stand(&rt, &cache, "(0, 2)(1, 1)");
@@ -106,6 +114,7 @@ fn the_least_recently_used_goes_first(rt: HostRuntime) {
     stand(&rt, &cache, "(2, 5)");
     cache.forget(2);
     stand(&rt, &cache, "");
+    holds(&rt, !cache.keeps(2), "nothing is left of site 2");
     laws();
 }
 

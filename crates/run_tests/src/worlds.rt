@@ -67,6 +67,16 @@ fn told(rt: &(impl Abort + AllocGlobal), world: &World, word: &str, at: u8) -> S
     had(rt, text)
 }
 
+/// Whether the cache of an agent keeps anything for a site; a dash, if there is no such agent.
+fn keeps(rt: &impl Abort, world: &World, text: &str) -> &'static str {
+    let (agent, site) = text.split_once(' ').expect(rt, "a site");
+    match world.agent(small(rt, agent)) {
+        Some(agent) if agent.keeps(small(rt, site)) => "true",
+        Some(_) => "false",
+        None => "-",
+    }
+}
+
 /// The form of a server's copy of a suite; a dash, if it has none.
 fn form(world: &World, server: u8, suite: u64) -> &'static str {
     match world.form(server, suite) {
@@ -84,11 +94,16 @@ fn forms(rt: &(impl Abort + AllocGlobal), world: &World, suite: u64) -> String {
     had(rt, text)
 }
 
-/// What comes of a line: `idle A`, `audit S`, `forms SUITE`, or an event.
+fn written(rt: &(impl Abort + AllocGlobal), word: &str) -> String {
+    had(rt, format!(in rt.alloc(); "{word}"))
+}
+
+/// What comes of a line: `idle A`, `audit S`, `forms SUITE`, `keeps A SITE`, or an event.
 fn play(rt: &(impl Abort + AllocGlobal), worlds: &mut Pair, line: &str) -> String {
     match line.split_once(' ') {
         Some(("idle", at)) => told(rt, &worlds.stepped, "idle", small(rt, at)),
         Some(("audit", at)) => told(rt, &worlds.advanced, "audit", small(rt, at)),
+        Some(("keeps", text)) => written(rt, keeps(rt, &worlds.stepped, text)),
         Some(("forms", suite)) => forms(rt, &worlds.advanced, number(rt, suite)),
         _ => happens(rt, worlds, line),
     }
@@ -288,6 +303,25 @@ fn old_settings(rt: &(impl Abort + AllocGlobal)) -> Settings {
 #[test]
 fn old_and_new_copies(rt: HostRuntime) {
     plays(&rt, &mut both(&rt, &old_settings(&rt)), OLD_AND_NEW);
+}
+
+/// The folder that agent 0 reads is kept for its site, until the site is forgotten.
+static KEPT: &str = "
+keeps 0 0 -> false
+begin 0 file /a; write /a hi
+step 0: 10 -> 0.0 10 Answered(Answers { replies: [Made(1), Wrote] })
+keeps 0 0 -> true
+keeps 0 1 -> false
+keeps 1 0 -> false
+keeps 7 0 -> -
+forget 0 0
+keeps 0 0 -> false";
+
+#[test]
+fn a_site_is_forgotten(rt: HostRuntime) {
+    let caches = (4096, 4096);
+    let settings = settings_of(&rt, three_votes(&rt), 2, caches, ServerSet::empty());
+    plays(&rt, &mut both(&rt, &settings), KEPT);
 }
 
 /// The outcomes of events; or, where memory is refused, how many were played.

@@ -5,16 +5,34 @@ use std::alloc::AllocError;
 use suite_play::Places;
 use suite_script::Language;
 
-/// The next line that is an event, or several; nothing, where there is none.
-pub(crate) fn next_line<'a>(lines: &mut Lines<'a>) -> &'a [u8] {
-    while let Some(line) = lines.next() {
-        if let Some(first) = Words::new(line).next()
-            && Places::begins(first)
-        {
-            return line;
+/// The lines of a script that are left, and how many are not.
+#[derive(Drop)]
+pub(crate) struct Numbered<'a> {
+    lines: Lines<'a>,
+    number: u64,
+}
+
+impl<'a> Numbered<'a> {
+    /// The lines of a script.
+    pub(crate) fn new(text: &'a [u8]) -> Numbered<'a> {
+        Numbered {
+            lines: Lines::new(text),
+            number: 0,
         }
     }
-    b""
+
+    /// The next line that is an event, or several, with its number; nothing, where there is none.
+    pub(crate) fn next_event(&mut self) -> (u64, &'a [u8]) {
+        while let Some(line) = self.lines.next() {
+            self.number = self.number.saturating_add(1);
+            if let Some(first) = Words::new(line).next()
+                && Places::begins(first)
+            {
+                return (self.number, line);
+            }
+        }
+        (self.number, b"")
+    }
 }
 
 /// Tells a line of the script.

@@ -1,0 +1,55 @@
+-- Requests as JSON has them.
+use Rattle.std.specs.Prelude.{ℕ, List, ◌++◌, codes}
+use Rattle.rep_core.specs.declared.request.Part.{Part}
+use Rattle.rep_core.specs.declared.request.Request.{Request}
+use Rattle.rep_core.specs.declared.request.Request.TheVariants as request
+use Rattle.rep_core.specs.declared.request.Take.{Take}
+use Rattle.rep_core.specs.declared.request.Take.TheVariants as take
+use Rattle.event_json.specs.Copies.{prefix_text, replica_text}
+use Rattle.event_json.specs.Locks.{mode_text}
+use Rattle.event_json.specs.Replies.{decision_text, verdict_text}
+use Rattle.event_json.specs.Strings.{listed, member}
+
+-- what is left of a suite
+abbrev pub take_text : Take → List ℕ
+take_text take.Keep = codes ",\"takes\":\"nothing\""
+take_text (take.Prefix prefix) = codes ",\"takes\":\"prefix\"," ++ prefix_text prefix
+take_text (take.Whole copy) = codes ",\"takes\":\"whole\"," ++ replica_text copy
+
+abbrev pub part_text : Part → List ℕ
+part_text part = member (codes "{\"suite\":") part.suite ++ mode_text part.mode ++ take_text part.take ++ codes "}"
+
+-- what is asked, by which transaction, and of which suite
+abbrev pub about_text : List ℕ → ℕ → ℕ → List ℕ
+about_text what t suite = member what t ++ member (codes ",\"suite\":") suite
+
+-- a request but for its end
+abbrev pub asked_text : Request → List ℕ
+asked_text (request.Poll t suite mode) = about_text (codes "{\"asks\":\"poll\",\"t\":") t suite ++ mode_text mode
+asked_text (request.Upgrade t suite) = about_text (codes "{\"asks\":\"upgrade\",\"t\":") t suite
+asked_text (request.Fetch t suite) = about_text (codes "{\"asks\":\"fetch\",\"t\":") t suite
+asked_text (request.Prepare t parts) = member (codes "{\"asks\":\"prepare\",\"t\":") t ++ codes ",\"parts\":[" ++ listed part_text parts ++ codes "]"
+asked_text (request.Decide t decision) = member (codes "{\"asks\":\"decide\",\"t\":") t ++ codes ",\"decision\":" ++ decision_text decision
+asked_text (request.Resolve t) = member (codes "{\"asks\":\"resolve\",\"t\":") t
+asked_text (request.Finish t verdict) = member (codes "{\"asks\":\"finish\",\"t\":") t ++ codes ",\"verdict\":" ++ verdict_text verdict
+asked_text (request.Break t suite) = about_text (codes "{\"asks\":\"break\",\"t\":") t suite
+asked_text request.Locks = codes "{\"asks\":\"locks\""
+asked_text request.Crash = codes "{\"asks\":\"crash\""
+asked_text request.Return = codes "{\"asks\":\"return\""
+
+abbrev pub request_text : Request → List ℕ
+request_text request = asked_text request ++ codes "}"
+
+-- what is asked, in a word
+abbrev pub asked_word : Request → List ℕ
+asked_word (request.Poll t suite mode) = codes "poll"
+asked_word (request.Upgrade t suite) = codes "upgrade"
+asked_word (request.Fetch t suite) = codes "fetch"
+asked_word (request.Prepare t parts) = codes "prepare"
+asked_word (request.Decide t decision) = codes "decide"
+asked_word (request.Resolve t) = codes "resolve"
+asked_word (request.Finish t verdict) = codes "finish"
+asked_word (request.Break t suite) = codes "break"
+asked_word request.Locks = codes "locks"
+asked_word request.Crash = codes "crash"
+asked_word request.Return = codes "return"

@@ -1,0 +1,3 @@
+mod Opened
+mod Gone
+mod Taken

@@ -1,0 +1,89 @@
+#!/usr/bin/env python3
+"""tests/compiled.py
+
+Compiles, and proves nothing of, every program of tests/programs and of bench/ (`*.rattle`), so that none is left behind where
+the crates change. All of them become one program, each a module of it, in a copy of the crates that they name
+(tests/scratch.py), and `rt try` compiles that. Prints what does not compile; status 1 where something does not.
+"""
+import glob
+import os
+import re
+import subprocess
+import sys
+import tempfile
+
+import played
+import scratch
+
+# Programs of tests/programs: with each, the modules of which it is made, here and in crates/.
+MADE_OF = {"liar": ("lies", "story", "telling", "trace/src/asked", "trace/src/told", "trace/src/words"), "damaged_copies": ()}
+# The program of which the others become modules, and what a measurement takes in place of the runtime that only a `main` has.
+ROOT, RUNTIME = "liar", "&(impl AllocGlobal + Print + std::rt::Clock + std::sync::Wait)"
+
+
+def source(path):
+    with open(os.path.join(played.TOP, path), encoding="utf-8") as file:
+        return file.read()
+
+
+def as_module(text):
+    """A program's text as that of a module."""
+    text = re.sub(r"^#!\[.*\]\n", "", text, flags=re.M)
+    return text.replace("fn main(rt: HostRuntime)", f"fn main(rt: {RUNTIME})").replace("(&rt, ", "(rt, ")
+
+
+def as_root(text, names):
+    """A program's text with these modules more."""
+    return re.sub(r"^mod ", "".join(f"mod {name};\n" for name in names) + "mod ", text, count=1, flags=re.M)
+
+
+def modules():
+    """All modules with their texts, and how many programs there are."""
+    texts, count = {}, 0
+    for program, parts in MADE_OF.items():
+        text = source(f"tests/programs/{program}.rt.txt")
+        texts[program] = text if program == ROOT else re.sub(r"^#!\[.*\]\n", "", text, flags=re.M)
+        for part in parts:
+            texts[os.path.basename(part)] = source(f"crates/{part}.rt" if "/" in part else f"tests/programs/{part}.rt.txt")
+        count += 1
+    for path in sorted(glob.glob(os.path.join(played.TOP, "bench", "*.rattle"))):
+        texts[f"bench_{os.path.basename(path).split('.')[0]}"] = as_module(source(path))
+        count += 1
+    return texts, count
+
+
+def named(texts):
+    """The crates that the texts name, those of the kit too."""
+    needs = scratch.needs_of_crates()
+    known = {*needs, *(name for names in needs.values() for name in names)}
+    return sorted({name for text in texts.values() for name in re.findall(r"^use (\w+)::", text, re.M)} & known)
+
+
+def unused():
+    """The files of tests/programs that belong to no program."""
+    kept = {name for program, parts in MADE_OF.items() for name in (program, *parts)}
+    there = {os.path.basename(path).split(".")[0] for path in glob.glob(os.path.join(played.TOP, "tests", "programs", "*"))}
+    return sorted(there - kept)
+
+
+def main():
+    texts, count = modules()
+    wrong = [f"tests/programs/{name}.rt.txt belongs to no program of tests/compiled.py" for name in unused()]
+    with tempfile.TemporaryDirectory(prefix="suites-") as copy:
+        own = scratch.placed(copy, "all_programs", named(texts), {})
+        own_modules = {os.path.basename(part) for part in MADE_OF[ROOT]}
+        root = as_root(texts.pop(ROOT), sorted(set(texts) - own_modules))
+        for name, text in {**texts, "main": root}.items():
+            with open(os.path.join(own, "src", f"{name}.rt"), "w", encoding="utf-8") as file:
+                file.write(text)
+        done = subprocess.run(["rt", "try"], cwd=own, stdin=subprocess.DEVNULL, capture_output=True, text=True)
+    if done.returncode != 0:
+        wrong.append((done.stdout + done.stderr)[-4000:])
+    for line in wrong:
+        print(line)
+    print(f"{count} programs, {len(wrong)} differ")
+    return 1 if wrong or count < 7 else 0
+
+
+if __name__ == "__main__":
+    sys.exit(main())

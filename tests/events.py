@@ -1,0 +1,142 @@
+#!/usr/bin/env python3
+"""tests/events.py
+
+Holds docs/events.schema.json against what `./suites trace --json` prints of all stories, of the scripts of tests/drawn.py, and
+of random ones. What servers had by the changes that each event tells has to be what the program tells at the end, and all
+that `trace` tells in lines has to be told in the objects too. Status 1 where something differs.
+"""
+import json
+import os
+import re
+import sys
+
+import drawn
+import played
+import shown_page
+
+sys.path.insert(0, os.path.join(played.TOP, "tools"))
+import scenario
+import show
+import trace
+
+SCHEMA = os.path.join(played.TOP, "docs", "events.schema.json")
+TYPES = {"object": dict, "array": list, "string": str, "integer": int, "boolean": bool}
+
+
+class Schema:
+    """A JSON Schema, of whose words it knows those that docs/events.schema.json has."""
+
+    def __init__(self, whole: dict):
+        self.whole = whole
+
+    def refused(self, value: object, rule: dict, where: str = "$") -> str | None:
+        """Where a value breaks a rule, and how; nothing, where it keeps it."""
+        if "$ref" in rule:
+            return self.refused(value, self.whole["$defs"][rule["$ref"].rsplit("/", 1)[1]], where)
+        if "type" in rule and (not isinstance(value, TYPES[rule["type"]]) or rule["type"] == "integer" and isinstance(value, bool)):
+            return f"{where} is no {rule['type']}"
+        if "const" in rule and value != rule["const"] or "enum" in rule and value not in rule["enum"]:
+            return f"{where} is {value!r}"
+        if "pattern" in rule and not re.search(rule["pattern"], value):
+            return f"{where} is {value!r}"
+        if not rule.get("minimum", 0) <= (value if isinstance(value, int) else 0) <= rule.get("maximum", 1 << 64):
+            return f"{where} is {value}"
+        parts = self.of_object(value, rule, where) if isinstance(value, dict) else self.of_list(value, rule, where)
+        return next(filter(None, parts), None) or self.of_one(value, rule, where)
+
+    def of_object(self, value: dict, rule: dict, where: str):
+        yield from (f"{where} lacks {name}" for name in rule.get("required", ()) if name not in value)
+        for name, others in rule.get("dependentRequired", {}).items():
+            yield from (f"{where} has {name} and lacks {other}" for other in others if name in value and other not in value)
+        rest = rule.get("additionalProperties", True)
+        for name, part in value.items():
+            known = rule.get("properties", {}).get(name)
+            if known is None and rest is False:
+                yield f"{where} has {name}"
+            elif known is not None or isinstance(rest, dict):
+                yield self.refused(part, known if known is not None else rest, f"{where}.{name}")
+
+    def of_list(self, value: object, rule: dict, where: str):
+        if isinstance(value, list) and "items" in rule:
+            yield from (self.refused(part, rule["items"], f"{where}[{place}]") for place, part in enumerate(value))
+
+    def of_one(self, value: object, rule: dict, where: str) -> str | None:
+        refusals = [self.refused(value, one, where) for one in rule.get("oneOf", ())]
+        if refusals and refusals.count(None) != 1:
+            return f"{where} is of {refusals.count(None)} forms: {'; '.join(filter(None, refusals))}"
+        return None
+
+
+def scripts():
+    yield from shown_page.stories().items()
+    yield from drawn.SCRIPTS.items()
+    for seed in range(30):
+        yield f"seed {seed}", scenario.Scenario(seed, 200).script()
+
+
+def replayed(events: list[dict]) -> list[dict]:
+    """What servers have at the end, by what is told of them in each event."""
+    servers = [{**one, "copies": {copy["suite"]: copy for copy in one["copies"]}} for one in events[0]["servers"]]
+    for event in events[1:-1]:
+        at = event.get("at")
+        if at:
+            server = servers[at["server"]]
+            server["up"], server["locks"] = at["up"], at.get("locks", server["locks"])
+            server["copies"] = {**server["copies"], **{copy["suite"]: copy for copy in at.get("copies", ())}}
+            server["denials"] = server["denials"] + at.get("denials", [])
+    return [{**one, "copies": sorted(one["copies"].values(), key=lambda copy: copy["suite"])} for one in servers]
+
+
+def lines_of(events: list[dict]):
+    """What a trace tells in lines, as far as it is the same words: lines of the script, requests, and what `play` prints."""
+    for event in events[1:-1]:
+        if event["kind"] == "line":
+            yield f"> {event['text']}"
+            if "nothing" in event:
+                yield "nothing"
+        else:
+            yield f"{event['agent']} -> s{event['server']} {event.get('request', {}).get('asks', 'full')} {event['reply']['says']}"
+        if "end" in event:
+            yield "{agent}.{job} {requests} {text}".format(**event["end"])
+        if "audit" in event:
+            audit = event["audit"]
+            yield f"audit {audit['server']} {len(audit['denials'])}"
+            yield from ("t {t} uid {uid} {denied}".format(**item) for item in audit["denials"])
+
+
+def lines_in(lines: list[str]):
+    """The same of a trace."""
+    for line in lines:
+        found = trace.REQUEST.match(line)
+        if line.startswith("="):
+            return
+        if found:
+            asks = re.match(r"(?:t \d+ )?(\w+)", found[3])[1].replace("asks", "full")
+            says = re.match(r"\w+", found[4])[0].replace("locks", "locked").replace("no", "locked")
+            yield f"{found[1]} -> s{found[2]} {asks} {says}"
+        else:
+            yield "nothing" if line.startswith("  nothing") else line
+
+
+def main() -> int:
+    judge = shown_page.Judge()
+    with open(SCHEMA, encoding="utf-8") as file:
+        schema = Schema(json.load(file))
+    for name, script in scripts():
+        events = [json.loads(line) for line in show.events_of(script.encode())]
+        for event in events:
+            said = schema.refused(event, schema.whole)
+            judge.holds(said is None, name, "event", event.get("event"), said)
+        judge.holds([event["event"] for event in events] == [*range(len(events))], name, "numbers of events")
+        judge.holds(replayed(events) == events[-1]["servers"], name, "what changed is not what there is at the end")
+        lines = trace.traced(script.encode())
+        for own, told in zip([*lines_of(events), None], [*lines_in(lines), None]):
+            judge.holds(own == told, name, "told otherwise", own, told)
+    for one in judge.wrong[:20]:
+        print(one[:600])
+    print(f"{judge.count} looked at, {len(judge.wrong)} differ")
+    return 1 if judge.wrong else 0
+
+
+if __name__ == "__main__":
+    sys.exit(main())

@@ -1,0 +1,286 @@
+#!/usr/bin/env python3
+"""tests/shown_page.py [--shots FOLDER]
+
+Opens the pages of tools/show.py in a headless Chromium, steps through them by keys, and looks whether what they say is what
+`trace` tells in lines. Without Chromium it prints "skipped: no chromium" and ends with 0. With --shots it leaves pictures
+of some pages in a folder. Status 1 where something differs.
+
+model    the world behind the last event, as the page's model comes to it (by `node`, where that is there), is the one
+         that the program tells at the end: also of random scripts
+stories  each story of examples/play, at its end and at its beginning: servers, copies, locks, and what `play` prints
+hostile  what bytes hold, and names of users in a script, stays text
+hands    keys, clicks, what is explained to whoever points at it, a file through time, dark and light, and on paper
+many     five servers and 300 requests, and 2,000 events: each step takes no longer than a picture of a film (processor time)
+"""
+import argparse
+import json
+import os
+import re
+import shutil
+import subprocess
+import sys
+import tempfile
+
+import browser
+import played
+
+sys.path.insert(0, os.path.join(played.TOP, "tools"))
+import scenario
+import show
+import trace
+
+STORIES = os.path.join(played.TOP, "examples", "play")
+HEADER = ["servers 3", "agents 2", "votes 1,1,1/2/2", "root 1000 100 777", "cache 4096 4096 16"]
+COPY = re.compile(r"    suite (\d+) \w+ prefix (\d+) content (\d+) votes")
+LOCK = re.compile(r"    t (\d+) suite (\d+) (shared|exclusive)( prepared)?$")
+# Stories that are gone through moment by moment, of the others three moments and the end: a key takes two frames.
+STEPPED = ("revocation.script", "swept-clean.script", "votes-moved.script")
+# The most bytes of the page of a story, and the most milliseconds of a step.
+MOST_BYTES, MOST_STEP = 250_000, 40
+# So many steps are measured.
+STEPS = 60
+# What the page shows: of each server whether it is up, its copies and its locks; and the lines of `play` up to here.
+SEEN = """(() => ({
+  servers: [...document.querySelectorAll('[data-server]')].map((card) => ({
+    up: card.dataset.up === 'true',
+    copies: [...card.querySelectorAll('[data-copy]')].map((one) => [one.dataset.copy, one.dataset.prefix, one.dataset.content].map(Number)),
+    locks: [...card.querySelectorAll('[data-lock]')].map((one) => one.dataset.lock) })),
+  told: [...document.querySelectorAll('.told:not(.later)')].map((one) => one.dataset.told),
+  text: [...document.querySelectorAll('.told:not(.later)')].map((one) => one.textContent),
+  here: Page.at(), last: Page.run.last }))()"""
+EVIL = "</script><script>alert(1)</script><img src=x onerror=alert(2)>"
+NAMED = 'a"<img/src=x/onerror=alert(3)>'
+NODE = """
+const Model = require(process.argv[1]);
+const told = JSON.parse(require('fs').readFileSync(0, 'utf8'));
+const run = Model.read(told.events, told.script);
+const last = run.events[run.last], world = run.worlds[run.last];
+const wrong = [];
+last.servers.forEach((server, number) => {
+  const own = world.servers[number];
+  const copies = Object.values(own.copies).sort((a, b) => a.suite - b.suite);
+  if (own.up !== server.up) wrong.push(`server ${number} up`);
+  if (JSON.stringify(own.locks) !== JSON.stringify(server.locks)) wrong.push(`locks of ${number}`);
+  if (JSON.stringify(copies) !== JSON.stringify(server.copies)) wrong.push(`copies of ${number}`);
+  if (JSON.stringify(own.denials) !== JSON.stringify(server.denials)) wrong.push(`denials of ${number}`);
+});
+last.agents.forEach((agent, number) => {
+  const own = world.agents[number];
+  const sites = [...new Set(own.cache.map((entry) => entry.site))].sort((a, b) => a - b);
+  if (own.jobs !== agent.jobs) wrong.push(`jobs of ${number}`);
+  if (JSON.stringify(sites) !== JSON.stringify(agent.keeps)) wrong.push(`cache of ${number}: ${sites} for ${agent.keeps}`);
+  if ((own.job !== null) !== (agent.next !== undefined)) wrong.push(`job of ${number}`);
+});
+console.log(JSON.stringify(wrong));
+"""
+
+
+class Judge:
+    """Keeps what differs."""
+
+    def __init__(self) -> None:
+        self.wrong: list[str] = []
+        self.count = 0
+
+    def holds(self, is_so: object, *about: object) -> None:
+        self.count += 1
+        if not is_so:
+            self.wrong.append(": ".join(map(str, about)))
+
+
+class Pages:
+    """Pages of scripts, in a folder, which a browser opens."""
+
+    def __init__(self, driver: browser.Browser, folder: str):
+        self.driver, self.folder, self.count = driver, folder, 0
+
+    def open(self, script: str) -> int:
+        """Opens the page of a script; answers how many bytes it has."""
+        events = show.events_of(script.encode())
+        self.count += 1
+        path = os.path.join(self.folder, f"{self.count}.html")
+        with open(path, "w", encoding="utf-8") as file:
+            size = file.write(show.page_of(script.encode(), events))
+        self.driver.open(path)
+        return size
+
+    def seen(self) -> dict:
+        return self.driver.value(SEEN)
+
+
+def stories() -> dict[str, str]:
+    found = {}
+    for name in sorted(os.listdir(STORIES)):
+        with open(os.path.join(STORIES, name), encoding="utf-8") as file:
+            found[name] = file.read()
+    return found
+
+
+def script_of(*lines: str) -> str:
+    return "\n".join([*HEADER, *lines, ""])
+
+
+def ended(lines: list[str]) -> list[dict]:
+    """What servers have at the end of a trace, as the page shows it."""
+    servers: list[dict] = []
+    for line in lines:
+        copy, lock = COPY.match(line), LOCK.match(line)
+        if line.startswith("= server"):
+            servers.append({"up": line.endswith(" up"), "copies": [], "locks": []})
+        elif servers and copy:
+            servers[-1]["copies"].append([int(number) for number in copy.groups()])
+        elif servers and lock:
+            servers[-1]["locks"].append(f"{lock[1]} {lock[2]} {lock[3]} {'true' if lock[4] else 'false'}")
+    return servers
+
+
+def printed(lines: list[str]) -> list[str]:
+    """The lines of a trace that are those of `play`."""
+    return [line for line in lines if line[:1].isdigit() or line.startswith(("audit ", "t "))]
+
+
+def models(judge: Judge) -> None:
+    node = shutil.which("node")
+    if not node:
+        return
+    scripts = {**stories(), **{f"seed {seed}": scenario.Scenario(seed, 200).script() for seed in range(16)}}
+    for name, script in scripts.items():
+        given = json.dumps({"events": show.events_of(script.encode()), "script": script.split("\n")})
+        words = [node, "-e", NODE, os.path.join(show.PARTS, "model.js")]
+        done = subprocess.run(words, input=given, capture_output=True, text=True, check=False)
+        judge.holds(done.stdout.strip() == "[]", "model", name, done.stdout.strip() or done.stderr[-300:])
+
+
+def whole(judge: Judge, pages: Pages) -> None:
+    for name, script in stories().items():
+        size = pages.open(script)
+        judge.holds(size < MOST_BYTES, name, "bytes of the page", size)
+        lines = trace.traced(script.encode())
+        begun = pages.seen()
+        judge.holds(begun["here"] == 0 and begun["told"] == [], name, "it begins", begun)
+        if name in STEPPED:
+            pages.driver.press("ArrowRight", begun["last"])
+        else:
+            pages.driver.press("ArrowRight", 3)
+            judge.holds(pages.seen()["here"] == 3, name, "a key leads a moment on")
+            pages.driver.press("End")
+        seen = pages.seen()
+        judge.holds(seen["here"] == seen["last"], name, "keys lead to the end")
+        judge.holds(seen["servers"] == ended(lines), name, "servers", seen["servers"], ended(lines))
+        judge.holds(seen["told"] == seen["text"] == printed(lines), name, "what play prints", seen["told"])
+        pages.driver.press("ArrowLeft", 2)
+        judge.holds(pages.seen()["here"] == max(0, seen["last"] - 2), name, "keys lead back")
+        pages.driver.press("Home")
+        judge.holds(pages.seen()["servers"] == begun["servers"], name, "Home leads to the beginning")
+
+
+def hostile(judge: Judge, pages: Pages) -> None:
+    digits = EVIL.encode().hex()
+    pages.open(script_of(f"user {NAMED} 1001", f"begin 0 1000 100 0 file /a u::rw,u:{NAMED}:rw,g::r,m::rw,o::- ; write /a {digits}",
+                         "run 0", "begin 0 1000 100 0 read /a", "run 0"))
+    pages.driver.press("End")
+    driver = pages.driver
+    judge.holds(driver.value("document.images.length") == 0, "an image came of a name or of bytes")
+    judge.holds(driver.value("document.scripts.length") == 4, "a script came of bytes")
+    shown = driver.value("document.getElementById('script').textContent")
+    judge.holds(NAMED in shown, "the script is shown as it is", shown)
+    world = driver.value("document.getElementById('world').textContent")
+    judge.holds("</script><s…" in world or "</script>" in world, "bytes are shown as a text", world)
+    with open(os.path.join(pages.folder, f"{pages.count}.html"), encoding="utf-8") as file:
+        judge.holds(file.read().count("</script>") == 4, "what bytes hold stands in the page")
+
+
+def hands(judge: Judge, pages: Pages) -> None:
+    driver = pages.driver
+    with open(os.path.join(STORIES, "revocation.script"), encoding="utf-8") as file:
+        pages.open(file.read())
+    rows = driver.value("document.querySelectorAll('.row').length")
+    driver.click("[data-row='1']")
+    judge.holds(driver.value("document.querySelectorAll('.row').length") >= rows, "a folded phase opens")
+    judge.holds(driver.value("Page.at()") == 3, "a click goes there", driver.value("Page.at()"))
+    driver.click("#fold")
+    judge.holds(driver.value("document.querySelector('[data-row=\"2\"]').dataset.event") == "4", "phases are unfolded")
+    driver.press("End")
+    driver.value("document.querySelector('#world [data-hint=stale]').scrollIntoView()")
+    driver.point("#world [data-hint=stale]")
+    hint = driver.value("document.getElementById('hint').hidden ? '' : document.getElementById('hint').textContent")
+    judge.holds("newer version" in hint, "what is stale is explained", hint)
+    driver.value("document.querySelector('#script [data-hint=denied]').focus()")
+    judge.holds("Denied" in driver.value("document.getElementById('hint').textContent"), "the keyboard has hints too")
+    driver.click("#world [data-suite='1']")
+    life = driver.value("[...document.querySelectorAll('dialog[open] tbody tr')].map((row) => row.innerText)")
+    judge.holds(life and len(life) == 4 and "u::rw,g::r,o::-" in life[-1], "a file through time", life)
+    driver.press("Escape")
+    judge.holds(driver.value("document.querySelector('dialog[open]') === null"), "Escape closes it")
+    driver.press("Home")
+    driver.value("document.activeElement.blur()")
+    driver.press(" ")
+    judge.holds("pause" in driver.value("document.getElementById('play').textContent"), "space plays")
+    driver.press(" ")
+    judge.holds("play" in driver.value("document.getElementById('play').textContent"), "space pauses")
+    driver.click("[data-line='17']")
+    judge.holds(driver.value("Page.run.events[Page.at()].line") == 17, "a click on a line goes there")
+    grounds = []
+    for scheme in ("dark", "light"):
+        driver.scheme(scheme)
+        grounds.append(driver.value("getComputedStyle(document.body).backgroundColor"))
+    judge.holds(grounds[0] != grounds[1], "dark and light", grounds)
+    judge.holds(driver.value("document.documentElement.scrollWidth <= innerWidth"), "the page is wider than the window")
+    judge.holds(len(driver.pages_printed()) > 20_000, "it is printed")
+
+
+def large(requests: int) -> str:
+    """A script with five servers and so many requests, about."""
+    lines = ["servers 5", "agents 3", "votes 1,1,1,1,1/3/3", *HEADER[3:], "begin 0 1000 100 0 folder /d 777 ; file /d/f 666 ; file /g 644", "run 0"]
+    for number in range(requests // 16):
+        agent = number % 3
+        asked = ("read /d/f", f"write /d/f {number:04x}", "list /d", "setacl /g u::rw,g::r,o::-", "read /g")[number % 5]
+        lines += [f"crash {number % 5}"] if number % 7 == 3 else []
+        lines += [f"begin {agent} 1000 100 {number % 2} {asked}", f"run {agent}"]
+        lines += [f"return {(number - 1) % 5}"] if number % 7 == 4 else []
+    return "\n".join([*lines, ""])
+
+
+def many(judge: Judge, pages: Pages, shots: str | None) -> None:
+    for count in (300, 2000):
+        size = pages.open(large(count))
+        last = pages.driver.value("Page.run.last")
+        judge.holds(last >= count, "a large run", count, last)
+        begun = pages.driver.busy()
+        pages.driver.value(f"for (let at = 0; at < {STEPS}; at += 1) Page.go(at * 7 % Page.run.last)")
+        took = (pages.driver.busy() - begun) / STEPS
+        judge.holds(took < MOST_STEP, "milliseconds of a step", took)
+        judge.holds(pages.driver.value("document.querySelectorAll('.row').length") < 100, "rows that nobody looks at are drawn")
+        print(f"{last} events: {size:,} bytes, {took:.1f} ms a step", flush=True)
+        for at in (last // 4, last // 2, last) if shots else ():
+            pages.driver.value(f"Page.go({at})")
+            pages.driver.shot(os.path.join(shots, f"many-{count}-{at}.png"))
+
+
+def main() -> int:
+    read = argparse.ArgumentParser()
+    read.add_argument("--shots")
+    given = read.parse_args()
+    judge, path = Judge(), browser.program()
+    models(judge)
+    if path:
+        driver = browser.Browser(path)
+        try:
+            with tempfile.TemporaryDirectory() as folder:
+                pages = Pages(driver, folder)
+                for part in (whole, hostile, hands):
+                    part(judge, pages)
+                many(judge, pages, given.shots)
+            judge.holds(not driver.faults, "the console has faults", driver.faults[:3])
+        finally:
+            driver.close()
+    for one in judge.wrong[:20]:
+        print(one[:600])
+    if not path:
+        print("skipped: no chromium")
+    print(f"{judge.count} looked at, {len(judge.wrong)} differ")
+    return 1 if judge.wrong else 0
+
+
+if __name__ == "__main__":
+    sys.exit(main())

@@ -1,0 +1,180 @@
+#!/usr/bin/env python3
+"""tests/votes-left.py [--seed SEED] [PROGRAM]
+
+Compares what `./suites votes --script` and `--of` tell with what `play` answers. The program is the one that `./suites`
+runs, or the one that is named.
+
+- Of scripts those votes are told that are in effect at their end (this wants the program of `./suites trace`).
+- Of scripts that move votes every set of servers crashes: a fresh agent finds the votes, or does not, as is told.
+- Of each way to share votes of up to five servers that `--of` tells, what a read and a write cost and bear is found
+  anew. The rules that faulty votes break are told with their numbers.
+
+Status 1 where something differs. `./suites --test` runs it.
+"""
+import argparse
+import fractions
+import itertools
+import os
+import random
+import subprocess
+import sys
+import tempfile
+
+import played
+import voted
+
+import shapes
+import trace
+import votes
+
+OPENING = (
+    "servers 4\nagents {}\nvotes 1,1,1/2/2\nroot 1000 100 777\ncache 0 0 0\nbegin 0 1000 100 0 file /a 644\nrun 0\n"
+)
+MOVE = "begin 0 1000 100 0 setvotes /a -,1,1,1/1/3\n"
+# Scripts, and the votes of /a that are in effect at their end. The move takes two polls and a fetch of the folder, the
+# same
+# of the file, two polls of new servers and four prepares: its twelfth step prepares the last, its thirteenth decides.
+LEFT = [
+    (OPENING.format(2), "1,1,1/2/2"),
+    (OPENING.format(2) + MOVE + "run 0\ncrash 1\ncrash 2\ncrash 3\n", "-,1,1,1/1/3"),
+    (OPENING.format(2) + "crash 0\n" + MOVE + "run 0\nreturn 0\n", "-,1,1,1/1/3"),
+    (OPENING.format(2) + MOVE + "step 0 12\ncrash 0\n", "1,1,1/2/2"),
+    (OPENING.format(2) + MOVE + "step 0 13\ncrash 0\ncrash 1\n", "-,1,1,1/1/3"),
+    (OPENING.format(64) + MOVE + "step 0 14", "-,1,1,1/1/3"),
+    ("# agents 1\n\n" + OPENING.format("01").replace("\n", "\r\n") + MOVE + "step 0 12\n", "1,1,1/2/2"),
+]
+
+
+def told_of_script(script: str) -> subprocess.CompletedProcess[str]:
+    """What the tool tells of a script, and its status."""
+    with tempfile.NamedTemporaryFile("w", suffix=".script", newline="") as file:
+        file.write(script)
+        file.flush()
+        return subprocess.run(
+            [sys.executable, os.path.join(trace.TOOLS, "votes.py"), "--script", file.name],
+            stdout=subprocess.PIPE,
+            stderr=subprocess.DEVNULL,
+            text=True,
+        )
+
+
+def check_scripts(_: argparse.Namespace, __: random.Random) -> tuple[int, list[str]]:
+    """Scripts: which votes are told of which files, and for how many servers; and that a fault is told as `play` tells
+    it.
+    """
+    wrong = []
+    faulty = told_of_script(OPENING.format(2) + MOVE.replace("1/3", "1/2"))
+    if (faulty.returncode, faulty.stdout) != (3, "fault line 8: V6\n"):
+        wrong.append(f"a faulty script is told with status {faulty.returncode}: {faulty.stdout}")
+    for script, word in LEFT:
+        done = told_of_script(script)
+        own = "votes 1,1,1/2/2 of /=suite 0" + (", /a=suite 1\n" if word == "1,1,1/2/2" else "\n")
+        apart = "" if word == "1,1,1/2/2" else f"votes {word} of /a=suite 1\n"
+        for text in filter(None, (own, apart)):
+            lines = "\n".join(votes.told(votes.votes_of(text.split()[1], 4), "0.99"))
+            if done.returncode != 0 or text + lines not in done.stdout:
+                wrong.append(f"{script!r} leaves /a with {word}; told with status {done.returncode}:\n{done.stdout}")
+    return len(LEFT) + 1, wrong
+
+
+# Scripts of seven servers that move votes, with servers down meanwhile. The root folder's list and votes may move too.
+MOVED = "servers 7\nagents 2\nvotes {}\nroot 1000 100 777\ncache 0 0 0\nbegin 0 1000 100 0 file /a 666 {}\nrun 0\n"
+RULES = {"1,1,1,1,1/2/3": "R + w is 5, and N, all votes together, is 5: a read could miss a write",
+         "1,1,1,1/3/2": "2w is 4, and N, all votes together, is 4: two writes could miss one another",
+         "1,1,1/2/4": "A write collects 4, and all votes together are 3", "1,1,1": "'1,1,1' stands where VOTES are due"}
+
+
+def moving(dice: random.Random) -> str:
+    """A script that moves the votes of a file, and perhaps of the root folder, some times."""
+    lines = [MOVED.format(*(voted.random_word(dice.choice([3, 4, 7]), dice) for _ in range(2)))]
+    for _ in range(dice.randint(1, 3)):
+        path, word = dice.choice(["/a", "/a", "/"]), voted.random_word(dice.choice([3, 5, 7]), dice)
+        word = (
+            ",".join(dice.sample(word.split("/")[0].split(","), len(word.split("/")[0].split(","))))
+            + word[word.index("/") :]
+        )
+        down = dice.sample(range(7), dice.choice([0, 1, 1, 2]))
+        lines += [f"crash {server}\n" for server in down]
+        lines += [f"begin 0 1000 100 0 setvotes {path} {word}\nrun 0\n"] + [f"return {server}\n" for server in down]
+    return "".join(lines)
+
+
+def searched(left: "votes.Left", down: frozenset[int]) -> str:
+    """How a fresh agent's read of the file is to end with these servers down, but for its home: by what is told."""
+    for number in (0, 1):
+        found = left.suites[number].search(down)
+        if not found.is_found:
+            return f"undecided U1 suite {number} got {found.got} of {found.needed}"
+    return "answered read -"
+
+
+def check_moved(given: argparse.Namespace, dice: random.Random) -> tuple[int, list[str]]:
+    """Votes that were moved: with each set of servers down a fresh agent's read ends as is told."""
+    wrong, count = [], 0
+    for _ in range(12):
+        script = moving(dice)
+        left = votes.left_by(script.encode())
+        sets = [frozenset(one) for size in range(7) for one in itertools.combinations(range(7), size)]
+        lines = [script]
+        for down in sets:
+            lines += [f"crash {server}\n" for server in down] + ["begin 1 1000 100 0 read /a\nrun 1\n" * 7]
+            lines += [f"return {server}\n" for server in down]
+        done = subprocess.run(
+            [given.program, "play"], input="".join(lines), stdout=subprocess.PIPE, stderr=subprocess.DEVNULL, text=True
+        )
+        ends = [line.split(" ", 2)[2] for line in done.stdout.splitlines() if line.startswith("1.")]
+        for place, down in enumerate(sets):
+            # each server is the home once
+            told, count = searched(left, down), count + 1
+            found = set(ends[7 * place : 7 * place + 7]) - {"undecided U5"}
+            if found != {told}:
+                wrong.append(f"{script!r} with {set(down)} down: told {told}, and {found} came")
+    return count, wrong
+
+
+def check_shapes(given: argparse.Namespace, __: random.Random) -> tuple[int, list[str]]:
+    """Ways to share votes: how many requests a read and a write take, and that all else is what is told of these
+    votes.
+    """
+    wrong, words = [], []
+    for servers in range(1, 6):
+        for shape in shapes.best(servers, (0, 0), fractions.Fraction("0.99")):
+            words.append(shape.word)
+            tell = voted.told(shape.word, servers, "0.99")
+            own = [(lost, votes.chance_text(blocked)) for lost, blocked in zip(shape.lost, shape.blocked)]
+            if own != [(tell[kind].lost, tell[kind].blocked) for kind in ("read", "write")]:
+                wrong.append(f"{shape} is told as {tell}")
+            head = f"servers {servers}\nagents 1\nvotes {shape.word}\nroot 1000 100 777\ncache 0 0 0\n"
+            jobs = "".join(f"begin 0 1000 100 0 {job}\nrun 0\n" for job in ("file /a 644", "write /a 6869", "read /a"))
+            done = subprocess.run(
+                [given.program, "play"], input=head + jobs, stdout=subprocess.PIPE, stderr=subprocess.DEVNULL, text=True
+            )
+            _, write, read = (int(line.split()[1]) for line in done.stdout.splitlines())
+            if (read, write) != shape.requests:
+                wrong.append(f"{shape.word}: told {shape.requests}, and {read} and {write} requests came")
+    lines = voted.run_tool(["--of", "5", "--lose-read", "2", "--lose-write", "2"]).stdout.splitlines()
+    if [line.split()[:5] for line in lines[4:5]] != [["1,1,1,1,1/3/3", "15", "14", "2", "2"]]:
+        wrong.append(f"of five servers that may lose two: {lines}")
+    for word, text in RULES.items():
+        if not voted.run_tool([word]).stdout.split("\n")[2].startswith(text):
+            wrong.append(f"of {word} the rule is not told: {voted.run_tool([word]).stdout}")
+    return len(words) + 1 + len(RULES), wrong
+
+
+def main() -> int:
+    read = argparse.ArgumentParser(description=__doc__, formatter_class=argparse.RawDescriptionHelpFormatter)
+    read.add_argument("--seed", type=int, default=1)
+    read.add_argument("program", nargs="?")
+    given = read.parse_args()
+    given.program = played.program([given.program] if given.program else [])
+    dice, is_wrong = random.Random(given.seed), False
+    for what, check in (("scripts", check_scripts), ("searches", check_moved), ("shapes", check_shapes)):
+        count, wrong = check(given, dice)
+        print(f"{count} {what}, {len(wrong)} differ")
+        print("".join(f"  {line}\n" for line in wrong[:10]), end="", flush=True)
+        is_wrong = is_wrong or bool(wrong)
+    return 1 if is_wrong else 0
+
+
+if __name__ == "__main__":
+    sys.exit(main())

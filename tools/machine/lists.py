@@ -1,0 +1,166 @@
+"""Access lists of files, as the kernel keeps them, and their texts."""
+from __future__ import annotations
+
+import errno
+import grp
+import os
+import pwd
+import struct
+from typing import Callable, Iterable, NamedTuple, Optional
+
+ACCESS, DEFAULT = "system.posix_acl_access", "system.posix_acl_default"
+VERSION, HEAD, ENTRY = 2, struct.Struct("<I"), struct.Struct("<HHI")
+# The tags of acl(5) as the kernel numbers them.
+USER_OBJ, USER, GROUP_OBJ, GROUP, MASK, OTHER = 0x01, 0x02, 0x04, 0x08, 0x10, 0x20
+WORDS = {USER_OBJ: "user::", USER: "user:", GROUP_OBJ: "group::", GROUP: "group:", MASK: "mask::", OTHER: "other::"}
+# What a mask limits.
+LIMITED = (USER, GROUP_OBJ, GROUP)
+# The program takes lists of at most so many entries.
+MAX_ENTRIES = 128
+BITS = (("r", 4), ("w", 2), ("x", 1))
+
+
+class Entry(NamedTuple):
+    """An entry: its tag, the number of its user or group (0 where it has none), and its permissions."""
+
+    tag: int
+    id: int
+    perms: int
+
+
+List = tuple[Entry, ...]
+
+
+class Unread(Exception):
+    """A path or a list that cannot be read."""
+
+
+class Bad(Exception):
+    """Words that ask for nothing."""
+
+
+def quoted(name: str) -> str:
+    """A name as one line shows it: as it is, or as `ls -Q` quotes it where it has what is not printed, a quote or a
+    backslash."""
+    if name and name.isprintable() and not set(name) & set("\"\\"):
+        return name
+    shown = []
+    for byte in os.fsencode(name):
+        letter = chr(byte)
+        short = {
+            "\n": "\\n",
+            "\t": "\\t",
+            "\r": "\\r",
+            "\a": "\\a",
+            "\b": "\\b",
+            "\f": "\\f",
+            "\v": "\\v",
+            '"': '\\"',
+            "\\": "\\\\",
+        }
+        shown.append(short.get(letter, letter if 32 <= byte < 127 else f"\\{byte:03o}"))
+    return f'"{"".join(shown)}"'
+
+
+def of_mode(mode: int) -> List:
+    """The list of a mode."""
+    return (Entry(USER_OBJ, 0, mode >> 6 & 7), Entry(GROUP_OBJ, 0, mode >> 3 & 7), Entry(OTHER, 0, mode & 7))
+
+
+def kept(path: str, which: str) -> Optional[List]:
+    """The list of this name that a file has, if it has one."""
+    try:
+        value = os.getxattr(path, which, follow_symlinks=False)
+    except OSError as error:
+        if error.errno in (errno.ENODATA, errno.EOPNOTSUPP):
+            return None
+        raise
+    if len(value) < HEAD.size or HEAD.unpack_from(value)[0] != VERSION or (len(value) - HEAD.size) % ENTRY.size:
+        raise Unread(f"{quoted(path)}: its list is of no known form")
+    parts = ENTRY.iter_unpack(value[HEAD.size :])
+    return tuple(Entry(tag, number if tag in (USER, GROUP) else 0, perms & 7) for tag, perms, number in parts)
+
+
+def of_file(path: str, mode: int) -> List:
+    """The list of a file: the one that it has, or the one of its mode."""
+    found = kept(path, ACCESS)
+    return of_mode(mode) if found is None else found
+
+
+def fault(entries: List) -> Optional[str]:
+    """Why the program takes no such list, although the kernel does, if it does not."""
+    if len(entries) > MAX_ENTRIES:
+        return f"its list has {len(entries)} entries, and lists of up to {MAX_ENTRIES} are judged here"
+    for tag, what in ((USER, "user"), (GROUP, "group")):
+        ids = [entry.id for entry in entries if entry.tag == tag]
+        twice = next((one for one in ids if ids.count(one) > 1), None) if len(ids) != len(set(ids)) else None
+        if twice is not None:
+            return f"its list names {what} {twice} twice"
+    return None
+
+
+# ---- texts
+
+
+def letters(perms: int) -> str:
+    return "".join(letter if perms & bit else "-" for letter, bit in BITS)
+
+
+def perms_of(text: str) -> int:
+    return sum(bit for letter, bit in BITS if letter in text)
+
+
+def number_of(entry: Entry) -> str:
+    return str(entry.id)
+
+
+def name_of(entry: Entry) -> str:
+    """The name of an entry's user or group, or its number."""
+    try:
+        found = pwd.getpwuid(entry.id).pw_name if entry.tag == USER else grp.getgrgid(entry.id).gr_name
+        return quoted(found)
+    except (KeyError, OverflowError):
+        return str(entry.id)
+
+
+def who(entry: Entry, name: Callable[[Entry], str] = name_of) -> str:
+    """Whom an entry is about, as `user:lisa` or `other::`."""
+    return WORDS[entry.tag] + (name(entry) if entry.tag in (USER, GROUP) else "")
+
+
+def entry_text(entry: Entry, name: Callable[[Entry], str] = number_of) -> str:
+    """An entry as text; `name` tells a number's user or group."""
+    named = f"{name(entry)}:" if entry.tag in (USER, GROUP) else ""
+    return f"{WORDS[entry.tag]}{named}{letters(entry.perms)}"
+
+
+def list_text(entries: Iterable[Entry], name: Callable[[Entry], str] = number_of) -> str:
+    return ",".join(entry_text(entry, name) for entry in entries)
+
+
+# ---- parts of a list
+
+
+def find(entries: Iterable[Entry], tag: int, number: int = 0) -> Optional[Entry]:
+    return next((entry for entry in entries if entry.tag == tag and entry.id == number), None)
+
+
+def mask_of(entries: Iterable[Entry]) -> Optional[int]:
+    found = find(entries, MASK)
+    return None if found is None else found.perms
+
+
+def in_order(entries: Iterable[Entry]) -> List:
+    return tuple(sorted(entries, key=lambda entry: (entry.tag, entry.id)))
+
+
+def has_names(entries: Iterable[Entry]) -> bool:
+    return any(entry.tag in (USER, GROUP) for entry in entries)
+
+
+def union(entries: Iterable[Entry]) -> int:
+    """What the mask limits, together: the mask that setfacl computes."""
+    perms = 0
+    for entry in entries:
+        perms |= entry.perms if entry.tag in LIMITED else 0
+    return perms

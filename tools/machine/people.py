@@ -1,0 +1,92 @@
+"""Who asks: users of this machine, with their groups."""
+from __future__ import annotations
+
+import grp
+import os
+import pwd
+from typing import Iterable, NamedTuple, Optional
+
+from machine.lists import GROUP, USER, Bad, List, quoted
+
+MAX_ID = 0xFFFFFFFF
+
+
+class Caller(NamedTuple):
+    """A user: how it was named, its number, its own group and all its other groups."""
+
+    name: str
+    uid: int
+    gid: int
+    groups: tuple[int, ...]
+
+    def has(self, group: int) -> bool:
+        return group == self.gid or group in self.groups
+
+    @property
+    def shown(self) -> str:
+        return f"{quoted(self.name)} ({self.uid}; groups {', '.join(map(str, [self.gid, *self.groups]))})"
+
+
+def number(text: str) -> int:
+    if not (text.isascii() and text.isdigit() and int(text) <= MAX_ID):
+        raise Bad(f"{quoted(text)} is no number of a user or a group")
+    return int(text)
+
+
+def account_of(user: str) -> Optional[pwd.struct_passwd]:
+    """The account of a name, also of one in digits, or else of a number."""
+    try:
+        return pwd.getpwnam(user)
+    except (KeyError, ValueError, UnicodeError):
+        pass
+    try:
+        return pwd.getpwuid(int(user)) if user.isascii() and user.isdigit() else None
+    except (KeyError, OverflowError):
+        return None
+
+
+def caller_of(user: str, groups: Optional[str]) -> Caller:
+    """The user of a name or a number, with these groups, or with those that the system gives."""
+    account = account_of(user)
+    if account is None and not (user.isascii() and user.isdigit()):
+        raise Bad(f"there is no user {quoted(user)}")
+    name, uid = (account.pw_name, account.pw_uid) if account else (user, number(user))
+    if groups is not None:
+        ids = [number(one) for one in groups.split(",")]
+    elif account:
+        ids = os.getgrouplist(account.pw_name, account.pw_gid)
+        ids = [account.pw_gid, *(one for one in ids if one != account.pw_gid)]
+    else:
+        raise Bad(f"user {user} has no account here, so tell its groups: --groups {user}")
+    return Caller(name, uid, ids[0], tuple(ids[1:]))
+
+
+def accounts() -> list[Caller]:
+    """Everybody with an account here, in the order of the system."""
+    beside: dict[str, list[int]] = {}
+    for group in grp.getgrall():
+        for name in group.gr_mem:
+            beside.setdefault(name, []).append(group.gr_gid)
+    found = []
+    for one in pwd.getpwall():
+        groups = tuple(dict.fromkeys(group for group in beside.get(one.pw_name, ()) if group != one.pw_gid))
+        found.append(Caller(one.pw_name, one.pw_uid, one.pw_gid, groups))
+    return found
+
+
+def likenesses(callers: Iterable[Caller], named: Iterable[tuple[int, int, List]]) -> list[list[Caller]]:
+    """Callers by what lists can tell of them: those of a part have the same answers at each of some files, of which
+    the owner, the
+    group and the list are given. The first of each part stands for it."""
+    users, groups = {0}, set()
+    for owner, group, entries in named:
+        users |= {owner, *(entry.id for entry in entries if entry.tag == USER)}
+        groups |= {group, *(entry.id for entry in entries if entry.tag == GROUP)}
+    parts: dict[tuple[int, frozenset[int]], list[Caller]] = {}
+    for caller in callers:
+        key = (
+            caller.uid if caller.uid in users else -1,
+            frozenset(one for one in (caller.gid, *caller.groups) if one in groups),
+        )
+        parts.setdefault(key, []).append(caller)
+    return list(parts.values())

@@ -1,0 +1,116 @@
+#!/usr/bin/env python3
+"""./suites show [--open] < SCRIPT > run.html
+
+Plays a script of events as `suites play` does, and writes a page on which the run can be watched: the requests and
+replies as a picture, what each server and agent has at the moment that is looked at, and the script. The page stands
+alone: it needs a browser, and neither a network nor these tools.
+
+    --open   writes the page into a new file, and opens that in a browser
+
+On the page: the arrow keys, Home and End go through the run, and space plays it. A click on an arrow goes there, one on a
+folded phase opens it, and one on a path shows the file through time. What has dots below it is explained to whoever
+points at it.
+"""
+import argparse
+import json
+import os
+import re
+import subprocess
+import sys
+import tempfile
+import webbrowser
+
+import console
+import explain
+import trace
+
+PARTS = os.path.join(trace.TOOLS, "show")
+# What stands for what in the page.
+FILES = {"STYLE": "style.css", "MODEL": "model.js", "DRAWING": "drawing.js", "PAGE": "page.js"}
+# Words of the page that are explained elsewhere than their like.
+OWN = {
+    "stale": "A copy is stale where one of a newer version is in effect elsewhere: stored, or left by a decided transaction.",
+    "exclusive": "A lock to write: it keeps all others out.",
+    "shared": "A lock to read: others may have one too, but none to write.",
+}
+CODES = [*(f"F{number}" for number in range(1, 13)), *(f"U{number}" for number in range(1, 8))]
+
+
+def meanings() -> dict[str, str]:
+    """What `explain` knows of the words and codes that the page shows."""
+    known = {code: explain.meaning(code) for code in CODES}
+    for _, _, code, lines in explain.page():
+        for line in lines:
+            found = re.match(r"- `([a-z=]+)[^`]*`[^:]*: (.*)", line)
+            if found and code in ("answered", "trace"):
+                known[found[1]] = f"{found[1]}: {found[2]}".replace("`", "")
+        if code in ("answered", "refused", "undecided", "swept", "audit"):
+            known[code] = explain.meaning(code).replace("`", "")
+    known["denied"] = explain.meaning("F3").replace("F3: ", "denied: ").replace("`", "")
+    return {word: " ".join(text.split()) for word, text in {**known, **OWN}.items() if text}
+
+
+def events_of(script: bytes) -> list[str]:
+    """The events of a script, as the program `trace` tells them; ends the tool where the script has a fault."""
+    with tempfile.TemporaryFile() as given:
+        given.write(script)
+        given.seek(0)
+        done = subprocess.run([trace.program(), "--json"], stdin=given, stdout=subprocess.PIPE, env=trace.ENV, check=False)
+    text = done.stdout.decode("latin1")
+    if done.returncode != 0:
+        sys.stdout.write(text)
+        if sys.stderr.isatty() and done.returncode in trace.EXPLAINED:
+            console.Teller().say(trace.EXPLAINED[done.returncode])
+        sys.exit(done.returncode)
+    return text.split("\n")[:-1]
+
+
+def embedded(data: object) -> str:
+    """Data as JSON, in which nothing can end the element of the page that it stands in."""
+    text = json.dumps(data, ensure_ascii=True, separators=(",", ":"))
+    return text.replace("<", "\\u003c").replace(">", "\\u003e").replace("&", "\\u0026")
+
+
+def part(name: str) -> str:
+    with open(os.path.join(PARTS, name), encoding="utf-8") as file:
+        return file.read()
+
+
+def page_of(script: bytes, events: list[str]) -> str:
+    """The page of a run."""
+    lines = script.decode("utf-8", "replace").split("\n")
+    if lines[-1] == "":
+        lines.pop()
+    data = {"script": [line.removesuffix("\r") for line in lines], "events": events, "meanings": meanings()}
+    parts = {**{name: part(file) for name, file in FILES.items()}, "DATA": embedded(data)}
+    return re.sub(r"@([A-Z]+)@", lambda found: parts[found[1]], part("page.html"))
+
+
+def opened(page: str) -> None:
+    """Opens a page in a browser, in a file that stays."""
+    with tempfile.NamedTemporaryFile("w", encoding="utf-8", prefix="run-", suffix=".html", delete=False) as file:
+        file.write(page)
+    console.Teller().say(f"the page is {file.name}")
+    if not webbrowser.open(f"file://{file.name}"):
+        raise console.Stop("no browser is found here: open the file with one")
+
+
+def main() -> int:
+    read = argparse.ArgumentParser(prog="./suites show", add_help=False)
+    read.add_argument("--open", action="store_true")
+    read.add_argument("-h", "--help", action="store_true")
+    given = read.parse_args()
+    if given.help:
+        print(__doc__.strip())
+        return 0
+    script = trace.script()
+    page = page_of(script, events_of(script))
+    if given.open:
+        opened(page)
+    else:
+        sys.stdout.buffer.write(page.encode())
+    return 0
+
+
+if __name__ == "__main__":
+    console.run(main, "stopped")

@@ -1,0 +1,420 @@
+"use strict";
+// What the events of a run come to: the world behind each event, the rows of the picture, and the life of a file.
+// It needs no browser: `node` takes it as a module.
+
+const Model = (() => {
+  const AGENTS = 64;
+
+  // ---- words
+
+  function readVotes(text) {
+    const [fields, r, w] = text.split("/");
+    const of = fields.split(",").map((field) => (field === "-" ? 0 : Number(field)));
+    return { of, r: Number(r), w: Number(w) };
+  }
+
+  // A list in few letters: `user::rw-` as `u::rw`.
+  function shortList(text) {
+    return text.split(",").map((entry) => {
+      const fields = entry.split(":");
+      const rights = fields.pop().replace(/-/g, "") || "-";
+      const head = fields.map((field) => (/^(user|group|mask|other|default)$/.test(field) ? field[0] : field));
+      return [...head, rights].join(":");
+    }).join(",");
+  }
+
+  // Bytes as they are told, and as a text where they are one.
+  function shownBytes(digits, most = 24) {
+    if (digits === "") return "no bytes";
+    const short = digits.length > most ? `${digits.slice(0, most)}… (${digits.length / 2} bytes)` : digits;
+    const codes = digits.slice(0, most).match(/../g).map((pair) => parseInt(pair, 16));
+    const isText = codes.every((code) => code >= 32 && code < 127);
+    return isText ? `${short} “${String.fromCharCode(...codes)}${digits.length > most ? "…" : ""}”` : short;
+  }
+
+  const verdictWord = (text) => text.split(" ")[0];
+
+  // ---- paths
+
+  // The paths of files and folders by their numbers, wherever a folder with their names is told.
+  function pathsOf(events) {
+    const known = new Map([[0, "/"]]);
+    const waiting = new Map();
+    const place = (folder, name, suite) => {
+      if (known.has(suite)) return;
+      if (!known.has(folder)) {
+        if (!waiting.has(folder)) waiting.set(folder, []);
+        waiting.get(folder).push([name, suite]);
+        return;
+      }
+      known.set(suite, `${known.get(folder).replace(/\/$/, "")}/${name}`);
+      const below = waiting.get(suite) || [];
+      waiting.delete(suite);
+      for (const [own, number] of below) place(suite, own, number);
+    };
+    const learn = (folder, names) => {
+      for (const [name, suite] of Object.entries(names || {})) place(folder, name, suite);
+    };
+    for (const event of events) {
+      for (const server of event.servers || []) for (const copy of server.copies) learn(copy.suite, copy.names);
+      for (const copy of (event.at && event.at.copies) || []) learn(copy.suite, copy.names);
+      if (event.kind !== "request" || !event.request) continue;
+      if (event.reply.names) learn(event.request.suite, event.reply.names);
+      for (const part of event.request.parts || []) learn(part.suite, part.names);
+    }
+    return known;
+  }
+
+  // ---- caches
+
+  // The limits of each agent's cache, which a line of the script's header tells.
+  function limitsOf(script) {
+    const line = script.map((text) => text.trim().split(/\s+/)).find((words) => words[0] === "cache") || [];
+    const [budget, quota, slots] = line.slice(1).map(Number);
+    return { budget, quota, slots };
+  }
+
+  function sizeOf(told) {
+    if (told.names === undefined) return told.bytes.length / 2;
+    return Object.keys(told.names).reduce((sum, name) => sum + name.length + 9, 2);
+  }
+
+  const isOf = (entry, site, suite) => entry.site === site && entry.suite === suite;
+
+  // The entries, the newest first, once one is put: its site's oldest go while it is above the quota, and the oldest of
+  // all while they are above the budget or the slots.
+  function put(cache, entry, limits) {
+    if (entry.size > Math.min(limits.budget, limits.quota) || limits.slots === 0) {
+      return cache.filter((own) => !isOf(own, entry.site, entry.suite));
+    }
+    let quota = limits.quota;
+    let isOver = false;
+    const left = [entry, ...cache.filter((own) => !isOf(own, entry.site, entry.suite))].filter((own) => {
+      if (own.site !== entry.site) return true;
+      isOver = isOver || own.size > quota;
+      quota -= own.size;
+      return !isOver;
+    });
+    let budget = limits.budget;
+    const end = left.findIndex((own, place) => {
+      budget -= own.size;
+      return budget < 0 || place >= limits.slots;
+    });
+    return end < 0 ? left : left.slice(0, end);
+  }
+
+  // What was looked for at this version, and found, is the newest.
+  function searched(cache, site, suite, content) {
+    const found = cache.find((own) => isOf(own, site, suite) && own.content === content);
+    return found ? [found, ...cache.filter((own) => own !== found)] : cache;
+  }
+
+  // What the first quorum of a suite gave: the newest prefix and content that it saw.
+  function firstOf(suite) {
+    const votes = votesOf(suite);
+    if (!votes || votes.got < votes.of) return null;
+    const held = Object.values(suite.held);
+    const most = (part) => Math.max(...held.map((one) => one[part]));
+    return { prefix: most("prefix"), content: most("content") };
+  }
+
+  // A cache once a job heard a reply: a first quorum looks into it, and a content that was fetched is put there.
+  function cacheAfter(cache, before, job, event, limits) {
+    const { request, reply } = event;
+    if (!job || !request || job.site === null) return cache;
+    const own = job.suites[request.suite];
+    const was = before && before.suites[request.suite];
+    if (reply.says === "held" && own.first && !(was && was.first) && own.first.content > 0) {
+      return searched(cache, job.site, request.suite, own.first.content);
+    }
+    if (request.asks !== "fetch" || reply.says !== "given") return cache;
+    const entry = { site: job.site, suite: request.suite, content: reply.content, size: sizeOf(reply) };
+    return put(cache, { ...entry, prefix: own.first ? own.first.prefix : 0 }, limits);
+  }
+
+  // ---- worlds
+
+  const bySuite = (copies) => Object.fromEntries(copies.map((copy) => [copy.suite, copy]));
+
+  function raised(newest, suite, prefix, content) {
+    const now = newest[suite] || { prefix: 0, content: 0 };
+    if (prefix <= now.prefix && content <= now.content) return newest;
+    return { ...newest, [suite]: { prefix: Math.max(prefix, now.prefix), content: Math.max(content, now.content) } };
+  }
+
+  function opening(event) {
+    const servers = event.servers.map((server) => ({ ...server, copies: bySuite(server.copies) }));
+    const agents = event.agents.map((agent) => ({ jobs: agent.jobs, cache: [], job: null, end: null }));
+    let newest = {};
+    for (const server of event.servers) {
+      for (const copy of server.copies) newest = raised(newest, copy.suite, copy.prefix, copy.content);
+    }
+    return { servers, agents, newest };
+  }
+
+  const replaced = (list, place, value) => list.map((own, at) => (at === place ? value : own));
+
+  // What a server has once it is told what changed there.
+  function changed(server, at) {
+    const next = { ...server, up: at.up };
+    if (at.locks) next.locks = at.locks;
+    if (at.copies && at.copies.length) next.copies = { ...server.copies, ...bySuite(at.copies) };
+    if (at.denials) next.denials = [...server.denials, ...at.denials];
+    return next;
+  }
+
+  // The job that a line begins, as it is told.
+  function begunBy(event, agent) {
+    const words = event.text.trim().split(/\s+/);
+    const isSweep = words[0] === "sweep";
+    return {
+      number: event.by.jobs - 1,
+      t: AGENTS * (event.by.jobs - 1) + agent,
+      text: isSweep ? `sweeps server ${words[2]}` : words.slice(5).join(" "),
+      user: isSweep ? null : words[2],
+      site: isSweep ? null : Number(words[4]),
+      line: event.line, suites: {}, parts: null, prepared: [], decided: null, told: [],
+    };
+  }
+
+  // What a job has once it is told a reply.
+  function heard(job, server, request, reply) {
+    if (!job || !request) return job;
+    if (["poll", "upgrade"].includes(request.asks)) {
+      const mode = request.mode || "exclusive";
+      const before = job.suites[request.suite] || { mode, held: {}, refused: {}, fetched: null };
+      const now = { ...before, mode, held: { ...before.held }, refused: { ...before.refused } };
+      if (reply.says === "held") {
+        now.held[server] = { prefix: reply.prefix, content: reply.content, votes: reply.votes };
+        delete now.refused[server];
+      } else {
+        now.refused[server] = reply.says;
+      }
+      if (!now.first) now.first = firstOf(now);
+      return { ...job, suites: { ...job.suites, [request.suite]: now } };
+    }
+    if (request.asks === "fetch" && reply.says === "given") {
+      const before = job.suites[request.suite];
+      const now = { ...(before || { mode: "shared", held: {}, refused: {} }), fetched: reply.content };
+      return { ...job, suites: { ...job.suites, [request.suite]: now } };
+    }
+    if (request.asks === "prepare") {
+      const prepared = reply.says === "prepared" ? [...job.prepared, server] : job.prepared;
+      return { ...job, parts: request.parts, prepared };
+    }
+    if (request.asks === "decide") {
+      return { ...job, decided: reply.says === "verdict" ? verdictWord(reply.verdict) : reply.says };
+    }
+    if (request.asks === "finish") return { ...job, told: [...job.told, server] };
+    return job;
+  }
+
+  // From a decision on, what was prepared is in effect.
+  function inEffect(newest, job, event) {
+    const isDecided = event.request && event.request.asks === "decide" && event.reply.says === "verdict";
+    if (isDecided && job && job.parts && verdictWord(event.reply.verdict) === "answered") {
+      for (const part of job.parts) {
+        if (part.takes !== "nothing") newest = raised(newest, part.suite, part.prefix, part.content || 0);
+      }
+    }
+    return newest;
+  }
+
+  // The cache behind an event.
+  function cacheOf(cache, before, job, event, limits) {
+    if (event.kind === "request") return cacheAfter(cache, before, job, event, limits);
+    const words = event.text.trim().split(/\s+/);
+    return words[0] === "forget" ? cache.filter((own) => own.site !== Number(words[2])) : cache;
+  }
+
+  function after(world, event, limits) {
+    if (event.kind === "standing") return world;
+    let { servers, agents, newest } = world;
+    if (event.at) {
+      servers = replaced(servers, event.at.server, changed(servers[event.at.server], event.at));
+      for (const copy of event.at.copies || []) newest = raised(newest, copy.suite, copy.prefix, copy.content);
+    }
+    if (event.by) {
+      const number = event.by.agent;
+      const before = agents[number];
+      let job = before.job;
+      if (event.by.jobs > before.jobs) job = begunBy(event, number);
+      if (event.kind === "request") job = heard(job, event.server, event.request, event.reply);
+      newest = inEffect(newest, job, event);
+      const end = event.end ? event.end : before.end;
+      const cache = cacheOf(before.cache, before.job, job, event, limits);
+      agents = replaced(agents, number, {
+        jobs: event.by.jobs, next: event.by.next, of: event.by.of, cache,
+        job: event.end ? null : job, end, last: event.end ? job : before.last,
+      });
+    }
+    return { servers, agents, newest };
+  }
+
+  // In what a copy is behind what is in effect elsewhere.
+  function behind(world, copy) {
+    const newest = world.newest[copy.suite];
+    return ["prefix", "content"].filter((part) => newest && copy[part] < newest[part]);
+  }
+
+  // How many votes a job has of a suite, and how many it wants: as the newest list of votes says that it met.
+  function votesOf(suite) {
+    const held = Object.entries(suite.held);
+    if (!held.length) return null;
+    const newest = held.reduce((best, one) => (one[1].prefix > best[1].prefix ? one : best))[1];
+    const votes = readVotes(newest.votes);
+    const got = held.reduce((sum, [server]) => sum + (votes.of[server] || 0), 0);
+    return { got, of: suite.mode === "exclusive" ? votes.w : votes.r };
+  }
+
+  // ---- rows of the picture
+
+  function pathOf(paths, suite) {
+    return paths.get(suite) || `suite ${suite}`;
+  }
+
+  function partWords(paths, part) {
+    const path = pathOf(paths, part.suite);
+    if (part.takes === "nothing") return path;
+    return part.takes === "prefix" ? `${path} p${part.prefix}` : `${path} p${part.prefix} c${part.content}`;
+  }
+
+  function askedWords(paths, event) {
+    const { request } = event;
+    if (!request) return "asks for more than there is room for";
+    const own = request.t === undefined || request.t % AGENTS === event.agent ? "" : `t ${request.t} `;
+    switch (request.asks) {
+      case "poll": return `poll ${pathOf(paths, request.suite)} ${request.mode}`;
+      case "upgrade": case "fetch": return `${request.asks} ${pathOf(paths, request.suite)}`;
+      case "break": return `t ${request.t} break ${pathOf(paths, request.suite)}`;
+      case "prepare": return `prepare ${request.parts.map((part) => partWords(paths, part)).join("; ")}`;
+      case "decide": return `decide ${verdictWord(request.decision)}`;
+      case "finish": return `${own}finish ${verdictWord(request.verdict)}`;
+      case "resolve": return `t ${request.t} resolve`;
+      default: return request.asks;
+    }
+  }
+
+  function repliedWords(reply) {
+    switch (reply.says) {
+      case "held": return `held p${reply.prefix} c${reply.content}`;
+      case "busy": return `busy t ${reply.holder}${reply.prepared ? " prepared" : ""}`;
+      case "given": return `given c${reply.content}`;
+      case "verdict": return verdictWord(reply.verdict);
+      case "locked": return reply.locks.length ? `${reply.locks.length} locks` : "no locks";
+      default: return reply.says;
+    }
+  }
+
+  // What a line of the script says of a server or an agent; nothing, where its requests tell all.
+  function saidBy(event, before) {
+    const words = event.text.trim().split(/\s+/);
+    const nothing = event.nothing ? ` (nothing happens: ${event.nothing})` : "";
+    const place = Number(words[1]);
+    switch (words[0]) {
+      case "crash": return { server: place, text: "crashes" };
+      case "return": return { server: place, text: "restarts" };
+      case "forget": return { agent: place, text: `forgets its cache of site ${Number(words[2])}` };
+      case "begin": case "sweep": {
+        if (nothing) return { agent: place, text: `${words[0]}${nothing}` };
+        const job = begunBy(event, place);
+        const front = `job ${job.number} (t ${job.t})`;
+        const user = job.user === null ? " " : `, user ${job.user}: `;
+        return { agent: place, text: `${front}${user}${job.text}` };
+      }
+      default: return nothing ? { agent: place, text: `${words[0]}${nothing}` } : null;
+    }
+  }
+
+  // Requests of one phase that follow on each other have one key.
+  function phaseOf(event) {
+    const { request } = event;
+    if (!request) return null;
+    const about = ["poll", "upgrade", "break"].includes(request.asks) ? ` ${request.suite}` : "";
+    const word = request.asks === "upgrade" ? "poll" : request.asks;
+    const whose = ["finish", "break"].includes(word) ? ` ${request.t}` : "";
+    const folds = ["poll", "prepare", "finish", "break"].includes(word);
+    return folds ? `${event.line} ${event.agent} ${word}${about}${whose}` : null;
+  }
+
+  const GOOD = ["held", "prepared", "done"];
+
+  function groupWords(paths, events) {
+    const { request } = events[0];
+    const good = events.filter((event) => GOOD.includes(event.reply.says)).length;
+    const count = good === events.length ? `×${good}` : `${good} of ${events.length}`;
+    switch (request.asks) {
+      case "poll": case "upgrade":
+        return { text: `locks of ${pathOf(paths, request.suite)}: ${good} of ${events.length}`, good };
+      case "prepare": return { text: `prepare ${count}`, good };
+      case "finish": return { text: `finish ${verdictWord(request.verdict)} ${count}`, good };
+      default: return { text: `${request.asks} ${count}`, good };
+    }
+  }
+
+  // The rows: what is said, requests, groups of requests with those that they fold, and how jobs ended.
+  function rowsOf(events, paths) {
+    const rows = [];
+    let key = null;
+    events.forEach((event, place) => {
+      if (event.kind === "line") {
+        key = null;
+        const said = saidBy(event);
+        if (said) rows.push({ kind: "said", event: place, ...said });
+      } else if (event.kind === "request") {
+        const own = phaseOf(event);
+        const row = { kind: "request", event: place, agent: event.agent };
+        const last = rows[rows.length - 1];
+        if (own !== null && own === key) {
+          if (last.kind === "group") last.rows.push(row);
+          else rows[rows.length - 1] = { kind: "group", event: last.event, agent: event.agent, rows: [last, row] };
+        } else {
+          rows.push(row);
+        }
+        key = own;
+      }
+      if (event.end) {
+        key = null;
+        const { agent, job, requests, text } = event.end;
+        rows.push({ kind: "end", event: place, agent, text: `${agent}.${job} ${requests} ${text}` });
+      }
+    });
+    for (const row of rows) {
+      if (row.kind === "group") Object.assign(row, groupWords(paths, row.rows.map((own) => events[own.event])));
+    }
+    return rows;
+  }
+
+  // ---- the life of a file
+
+  // What was stored of a suite, and where: each change of a copy, with its list, votes and content.
+  function lifeOf(run, suite) {
+    const life = [];
+    run.events.forEach((event, place) => {
+      const at = event.kind === "opening" ? event.servers : event.at && event.at.copies ? [event.at] : [];
+      const told = at.flatMap((server) => server.copies.map((copy) => [server.server, copy]));
+      for (const [server, copy] of told) {
+        const before = place === 0 ? null : run.worlds[place - 1].servers[server].copies[suite];
+        const isSame = before && before.prefix === copy.prefix && before.content === copy.content;
+        if (copy.suite === suite && copy.kind !== "absent" && !isSame) life.push({ event: place, server, copy });
+      }
+    });
+    return life;
+  }
+
+  // ---- a run
+
+  // The run that events tell, of a script in lines.
+  function read(lines, script) {
+    const events = lines.map((line) => JSON.parse(line));
+    const limits = limitsOf(script);
+    const worlds = [opening(events[0])];
+    for (const event of events.slice(1)) worlds.push(after(worlds[worlds.length - 1], event, limits));
+    const paths = pathsOf(events);
+    return { events, worlds, paths, rows: rowsOf(events, paths), last: events.length - 1 };
+  }
+
+  return { read, behind, votesOf, lifeOf, pathOf, askedWords, repliedWords, shortList, shownBytes };
+})();
+
+if (typeof module !== "undefined") module.exports = Model;

@@ -1,0 +1,310 @@
+"use strict";
+// The page: the picture, what servers and agents have at the moment that is looked at, and the script.
+
+const Page = (() => {
+  const given = JSON.parse(document.getElementById("given").textContent);
+  const run = Model.read(given.events, given.script);
+  const find = (name) => document.getElementById(name);
+  const [slider, moment, world, script, hint, life] = ["slider", "moment", "world", "script", "hint", "life"].map(find);
+  let here = 0;
+  let timer = null;
+
+  // An element with these children, of which texts stand as they are.
+  function make(name, attributes = {}, ...children) {
+    const made = document.createElement(name);
+    for (const [key, value] of Object.entries(attributes)) {
+      if (key === "onclick") made.addEventListener("click", value);
+      else if (value !== null && value !== false) made.setAttribute(key, value);
+    }
+    made.append(...children.filter((child) => child !== null));
+    return made;
+  }
+
+  // A word with what it means, where that is known.
+  function word(text, key = text) {
+    if (!given.meanings[key]) return document.createTextNode(text);
+    return make("span", { "data-hint": key, tabindex: "0" }, text);
+  }
+
+  // A line as `play` prints it, with its words and codes explained.
+  function explained(text) {
+    return text.split(/(\s+)/).map((part) => word(part, part.replace(/[;:]$/, "")));
+  }
+
+  const kindOf = (text) => (/^(answered|swept)/.test(text) ? "good" : /^undecided/.test(text) ? "open" : "bad");
+  const pathOf = (suite) => Model.pathOf(run.paths, suite);
+
+  // ---- servers
+
+  function fileButton(suite) {
+    const how = { title: `${pathOf(suite)} through time`, "data-suite": suite, onclick: () => showLife(suite) };
+    return make("button", how, pathOf(suite));
+  }
+
+  function contentOf(copy) {
+    if (copy.names === undefined) return Model.shownBytes(copy.bytes);
+    const names = Object.keys(copy.names);
+    const more = names.length > 12 ? ` … (${names.length})` : "";
+    return names.length ? `names ${names.slice(0, 12).join(" ")}${more}` : "no names";
+  }
+
+  function copyPart(state, copy) {
+    const late = Model.behind(state, copy).map((part) => ({ prefix: "list", content: "content" })[part]);
+    const about = { "data-copy": copy.suite, "data-prefix": copy.prefix, "data-content": copy.content };
+    const mark = late.length ? make("span", { class: "stale" }, word("stale"), `: ${late.join(", ")}`) : null;
+    return make("div", { class: "copy", ...about },
+      fileButton(copy.suite), make("span", { class: "version" }, ` p${copy.prefix} c${copy.content} `),
+      make("span", { class: "small" }, `${contentOf(copy)} `), mark,
+      make("div", { class: "small" }, `${Model.shortList(copy.list)} ${copy.votes}`));
+  }
+
+  function lockPart(lock) {
+    const kinds = `lock ${lock.mode}${lock.prepared ? " prepared" : ""}`;
+    const about = { class: kinds, "data-lock": `${lock.t} ${lock.suite} ${lock.mode} ${lock.prepared}` };
+    const prepared = lock.prepared ? [" ", word("prepared")] : [];
+    return make("span", about, `t ${lock.t} ${pathOf(lock.suite)} `, word(lock.mode), ...prepared);
+  }
+
+  function serverCard(state, server, number, isNow) {
+    const copies = Object.values(server.copies).filter((copy) => copy.kind !== "absent");
+    const kinds = `card${server.up ? "" : " isdown"}${isNow ? " now" : ""}`;
+    const card = make("div", { class: kinds, "data-server": number, "data-up": server.up },
+      make("span", { class: "state" }, server.up ? "up" : word("down")), make("b", {}, `server ${number}`));
+    card.append(...copies.map((copy) => copyPart(state, copy)));
+    if (server.locks.length) card.append(make("div", {}, ...server.locks.map(lockPart)));
+    if (server.denials.length) {
+      const last = server.denials[server.denials.length - 1];
+      const told = `${server.denials.length} denied; last t ${last.t}: ${last.denied}`;
+      card.append(make("div", { class: "small bad" }, told));
+    }
+    return card;
+  }
+
+  // ---- agents
+
+  function gatheredPart(job) {
+    const parts = Object.entries(job.suites).map(([suite, own]) => {
+      const votes = Model.votesOf(own);
+      const where = Object.keys(own.held).map((server) => `s${server}`).join(" ");
+      const refused = Object.entries(own.refused).map(([server, says]) => ` s${server} ${says}`).join("");
+      const count = votes ? `${votes.got} of ${votes.of} votes` : "no votes";
+      const read = own.fetched === null || own.fetched === undefined ? "" : `, content c${own.fetched}`;
+      const told = `${pathOf(Number(suite))} ${own.mode}: ${count} (${where}${refused})${read}`;
+      return make("div", { class: "small" }, told);
+    });
+    const named = (servers) => servers.map((one) => `s${one}`).join(" ");
+    const add = (kind, ...told) => parts.push(make("div", { class: kind }, ...told));
+    if (job.prepared.length) add("small", word("prepared"), `: ${named(job.prepared)}`);
+    if (job.decided) add(`small ${kindOf(job.decided)}`, `decided: ${job.decided}`);
+    if (job.told.length) add("small", `told the end: ${named(job.told)}`);
+    return parts;
+  }
+
+  function cachePart(cache) {
+    const bySite = new Map();
+    for (const entry of cache) bySite.set(entry.site, [...(bySite.get(entry.site) || []), entry]);
+    return [...bySite].map(([site, entries]) => make("div", { class: "small" }, `cache of site ${site}: `,
+      entries.map((one) => `${pathOf(one.suite)} p${one.prefix} c${one.content}`).join(", ")));
+  }
+
+  function agentCard(agent, number, isNow) {
+    const { job, end } = agent;
+    const about = { class: `card${isNow ? " now" : ""}`, "data-agent": number, "data-busy": job !== null };
+    const card = make("div", about, make("b", {}, `agent ${number}`));
+    if (job) {
+      const told = job.user === null ? job.text : `user ${job.user}: ${job.text}`;
+      card.append(` job ${job.number} (t ${job.t})`, make("div", {}, told));
+      const next = ["asks next: ", word(agent.next || ""), ` of server ${agent.of}`];
+      if (agent.next) card.append(make("div", { class: "small" }, ...next));
+      card.append(...gatheredPart(job));
+    } else if (end) {
+      const ended = { class: kindOf(end.text), "data-ended": `${end.agent}.${end.job}` };
+      card.append(make("div", ended, `job ${end.job} `, ...explained(end.text)));
+    } else {
+      card.append(" has had no job");
+    }
+    card.append(...cachePart(agent.cache));
+    return card;
+  }
+
+  function showWorld() {
+    const state = run.worlds[here];
+    const event = run.events[here];
+    const server = event.server !== undefined ? event.server : event.at && event.at.server;
+    const by = event.by && event.by.agent;
+    const servers = state.servers.map((own, number) => serverCard(state, own, number, number === server));
+    const agents = state.agents.map((own, number) => agentCard(own, number, number === by));
+    world.replaceChildren(make("h2", {}, "servers"), make("div", { class: "cards" }, ...servers),
+      make("h2", {}, "agents"), make("div", { class: "cards" }, ...agents));
+  }
+
+  // ---- the script
+
+  const firstOf = new Map();
+  const lineParts = [];
+  const toldParts = [];
+
+  function toldPart(place, text, kind) {
+    const part = make("div", { class: `told ${kind}`, "data-told": text }, ...explained(text));
+    toldParts.push([place, part]);
+    return part;
+  }
+
+  // What `play` prints in an event.
+  function printed(event) {
+    const lines = [];
+    if (event.end) {
+      const { agent, job, requests, text } = event.end;
+      lines.push([`${agent}.${job} ${requests} ${text}`, kindOf(text)]);
+    }
+    if (event.audit) {
+      const { server, denials } = event.audit;
+      lines.push([`audit ${server} ${denials.length}`, ""]);
+      for (const item of denials) lines.push([`t ${item.t} uid ${item.uid} ${item.denied}`, ""]);
+    }
+    return lines;
+  }
+
+  function buildScript() {
+    const told = new Map();
+    run.events.forEach((event, place) => {
+      if (!firstOf.has(event.line)) firstOf.set(event.line, place);
+      const parts = printed(event).map(([text, kind]) => toldPart(place, text, kind));
+      if (parts.length) told.set(event.line, [...(told.get(event.line) || []), ...parts]);
+    });
+    given.script.forEach((text, at) => {
+      const place = firstOf.get(at + 1);
+      const kinds = `line${place === undefined ? " dead" : ""}`;
+      const how = { class: kinds, "data-line": at + 1, onclick: () => place !== undefined && go(place) };
+      const part = make("div", how, make("span", { class: "number" }, `${at + 1}`), make("span", {}, text));
+      lineParts[at + 1] = part;
+      script.append(part, ...(told.get(at + 1) || []));
+    });
+  }
+
+  function showScript() {
+    for (const part of script.querySelectorAll(".line.here")) part.classList.remove("here");
+    const part = lineParts[run.events[here].line];
+    if (part) {
+      part.classList.add("here");
+      const top = part.offsetTop - script.offsetTop;
+      const isSeen = top >= script.scrollTop && top + 40 <= script.scrollTop + script.clientHeight;
+      if (!isSeen) script.scrollTop = top - script.clientHeight / 2;
+    }
+    for (const [place, one] of toldParts) one.classList.toggle("later", place > here);
+  }
+
+  // ---- a file through time
+
+  function showLife(suite) {
+    const leave = (event) => () => {
+      life.close();
+      go(event);
+    };
+    const rows = Model.lifeOf(run, suite).map(({ event, server, copy }) => {
+      const cells = [make("button", { onclick: leave(event) }, `moment ${event}`), `server ${server}`,
+        `p${copy.prefix} c${copy.content}`, Model.shortList(copy.list), copy.votes, contentOf(copy)];
+      return make("tr", { class: event <= here ? "here" : null }, ...cells.map((cell) => make("td", {}, cell)));
+    });
+    const head = ["", "stored at", "versions", "list", "votes", "content"].map((text) => make("th", {}, text));
+    life.replaceChildren(make("form", { method: "dialog" }, make("button", {}, "close")),
+      make("h2", {}, `${pathOf(suite)} (suite ${suite}) through time; what is past stands on a ground of colour`),
+      make("table", {}, make("thead", {}, make("tr", {}, ...head)), make("tbody", {}, ...rows)));
+    life.showModal();
+  }
+
+  // ---- going
+
+  function momentText() {
+    const event = run.events[here];
+    const where = event.kind === "request" ? `line ${event.line}, agent ${event.agent}` : `line ${event.line}`;
+    return `${here} of ${run.last}: ${["line", "request"].includes(event.kind) ? where : event.kind}`;
+  }
+
+  function go(place, follows = true) {
+    here = Math.max(0, Math.min(run.last, place));
+    slider.value = here;
+    slider.setAttribute("aria-valuetext", momentText());
+    moment.textContent = momentText();
+    showWorld();
+    showScript();
+    picture.show(here, follows);
+    if (here === run.last) stop();
+  }
+
+  function stop() {
+    clearInterval(timer);
+    timer = null;
+    find("play").textContent = "▶ play";
+  }
+
+  function play() {
+    if (timer !== null) {
+      stop();
+      return;
+    }
+    if (here === run.last) go(0);
+    find("play").textContent = "⏸ pause";
+    timer = setInterval(() => go(here + 1), Number(find("pace").value));
+  }
+
+  function pick(row) {
+    if (row.kind === "group") picture.turn(row);
+    else if (row.within && row.event === here) picture.turn(row.within);
+    go(row.event, false);
+  }
+
+  const WAYS = { first: () => go(0), back: () => go(here - 1), on: () => go(here + 1), end: () => go(run.last), play };
+  const KEYS = { Home: WAYS.first, ArrowLeft: WAYS.back, ArrowRight: WAYS.on, End: WAYS.end, " ": play };
+
+  function onKey(event) {
+    const isOwn = event.target.closest(event.key === " " ? "select, dialog, button, input" : "select, dialog");
+    if (KEYS[event.key] && !isOwn && !event.ctrlKey && !event.metaKey && !event.altKey) {
+      event.preventDefault();
+      KEYS[event.key]();
+    }
+  }
+
+  function showHint(event) {
+    const part = event.target.closest && event.target.closest("[data-hint]");
+    hint.hidden = !part;
+    if (!part) return;
+    hint.textContent = given.meanings[part.dataset.hint];
+    const box = part.getBoundingClientRect();
+    hint.style.left = `${Math.max(4, Math.min(box.left, innerWidth - hint.offsetWidth - 8))}px`;
+    const isLow = box.bottom + hint.offsetHeight + 8 > innerHeight;
+    hint.style.top = `${isLow ? box.top - hint.offsetHeight - 6 : box.bottom + 6}px`;
+  }
+
+  const picture = new Drawing.Picture(run, find("names"), find("rows"), pick);
+
+  function begin() {
+    slider.max = run.last;
+    buildScript();
+    slider.addEventListener("input", () => go(Number(slider.value)));
+    for (const [name, act] of Object.entries(WAYS)) find(name).addEventListener("click", act);
+    find("pace").addEventListener("change", () => {
+      if (timer === null) return;
+      stop();
+      play();
+    });
+    find("fold").addEventListener("change", (event) => {
+      picture.foldAll(event.target.checked);
+      go(here);
+    });
+    find("picture").addEventListener("scroll", () => requestAnimationFrame(() => picture.draw()));
+    document.addEventListener("keydown", onKey);
+    for (const kind of ["mouseover", "focusin"]) document.addEventListener(kind, showHint);
+    window.addEventListener("resize", () => {
+      picture.measure();
+      picture.draw();
+    });
+    window.addEventListener("beforeprint", () => picture.draw(true));
+    window.addEventListener("afterprint", () => picture.draw());
+    const asked = Number(location.hash.slice(1));
+    go(Number.isInteger(asked) ? asked : 0);
+  }
+
+  begin();
+  return { run, go, at: () => here };
+})();

@@ -1,0 +1,174 @@
+"""What a line of a script says, word by word, as its reader wrote it; and what the words of this service mean.
+
+The sentences are those of help/ and of the tables of README.md, so that each stands once.
+"""
+import os
+import re
+import textwrap
+
+import faulty
+import grammar
+
+TOP = os.path.dirname(os.path.dirname(os.path.abspath(__file__)))
+# A line of help that tells the form of a line: words, two spaces, and what it does.
+TOLD = re.compile(r"  ([a-z]+)((?: [^ ]+)*?)  +(\S.*)")
+ROW = re.compile(r"\| (.*) \| (.*) \|$")
+WIDE, INDENT = 100, 4
+
+
+def text_of(*path: str) -> str:
+    with open(os.path.join(TOP, *path), encoding="utf-8") as file:
+        return file.read()
+
+
+def does() -> dict[tuple[str, str], str]:
+    """What each line does, by its command and first word, as its help says; an indented rest goes on with it."""
+    found: dict[tuple[str, str], str] = {}
+    for language in grammar.LANGUAGES:
+        last = None
+        for line in text_of("help", f"{language}.txt").split("\n"):
+            told = TOLD.match(line)
+            if told and told[1] in faulty.known_of(language):
+                last = language, told[1]
+                found[last] = told[3]
+            elif last and line.startswith(" " * 20):
+                found[last] += f" {line.strip()}"
+            else:
+                last = None
+    return found
+
+
+def operations() -> dict[str, str]:
+    """What each operation does, as README.md says."""
+    found: dict[str, str] = {}
+    for line in text_of("README.md").split("\n"):
+        row = ROW.match(line)
+        for form in re.findall(r"`([a-z]+)[^`]*`", row[1]) if row else ():
+            if form in grammar.OPERATIONS and row:
+                found.setdefault(form, row[2])
+    return found
+
+
+def words() -> dict[str, str]:
+    """The words of README.md's table, each with what it means; a word that is explained with another one has its
+    row."""
+    found: dict[str, str] = {}
+    table = text_of("README.md").partition("\n## Words\n")[2].partition("\n## ")[0]
+    rows = [row for row in map(ROW.match, table.split("\n")) if row and row[1].startswith("*")]
+    for row in rows:
+        for word in re.findall(r"\*([^*]+)\*", row[1]):
+            found[word] = f"{row[1].replace('*', '')}: {row[2].replace('*', '')}"
+    for row in rows:
+        for word in re.findall(r"\*([^*]+)\*", row[2]):
+            found.setdefault(word, f"{row[1].replace('*', '')}: {row[2].replace('*', '')}")
+    return found
+
+
+def meant(place: str, word: str) -> str:
+    """What a word in its place means."""
+    place = place.strip("[]")
+    text = f"{place}, {grammar.MEANT[place]}" if grammar.MEANT.get(place) else place
+    if place == "INIT" and re.fullmatch("[0-7]{3}", word):
+        entries = (f"{kind}::{letters(int(digit))}" for kind, digit in zip("ugo", word))
+        return f"{text}: the mode of the list {','.join(entries)}"
+    if place == "HEX" and word != "-":
+        plain = bytes.fromhex(word).decode("latin1")
+        return (
+            f"{text}: the text {plain}"
+            if plain.isprintable() and plain.isascii()
+            else f"{text}: {len(word) // 2} bytes"
+        )
+    if place == "VOTES":
+        fields, r, w = word.split("/")
+        shares = ", ".join(
+            f"{field} of server {server}" for server, field in enumerate(fields.split(",")) if field != "-"
+        )
+        return f"VOTES: {shares}; a read collects {r}, and a write {w}"
+    return text
+
+
+def letters(digit: int) -> str:
+    return "".join(letter if digit & bit else "-" for letter, bit in (("r", 4), ("w", 2), ("x", 1)))
+
+
+def rows_of(places: list[str], given: list[str]) -> list[tuple[str, str]]:
+    """Words with what each means, up to the end of a line or of an operation."""
+    return [(word, meant(place, word)) for place, word in zip(places, given)]
+
+
+def told_words(first: str, form: list[str], given: list[str]) -> list[tuple[str, str]]:
+    """The words of a line behind its first one, with what each means."""
+    plain = [place for place in form if place != "OPERATIONS"]
+    rows = rows_of(plain, given[: len(plain)])
+    rest, told, count = given[len(plain) :], operations(), 1
+    while rest and len(plain) < len(form):
+        end = rest.index(";") if ";" in rest else len(rest)
+        verb = rest[0]
+        rows.append((verb, f"operation {count}: {told.get(verb, 'an operation')}"))
+        rows += rows_of(grammar.OPERATIONS[verb].split(), rest[1:end])
+        rows += [(";", "and in the same transaction")] if end < len(rest) else []
+        rest, count = rest[end + 1 :], count + 1
+    return rows
+
+
+def fault_in(language: str, given: list[str]) -> faulty.Fault | None:
+    """What is wrong with the words of a line by itself; names and sizes are not known."""
+    script = faulty.Script(language, [], 1)
+    found = faulty.walked(script, given)
+    return None if found and found.code.startswith("A10") else found
+
+
+def own_line(text: str) -> str | None:
+    """A line of a script, or an operation of one, told word by word; nothing where the text is none."""
+    given = text.split()
+    for language, lines in grammar.LANGUAGES.items():
+        form = {**grammar.HEADER, **grammar.NAMES, **lines.own}.get(given[0])
+        if (
+            given[0] in faulty.known_of(language)
+            and form is not None
+            and (len(given) > 1 or not form)
+            and not fault_in(language, given)
+        ):
+            head = f"A line of a script of `{language}`: {does().get((language, given[0]), '')}."
+            return shown(head, told_words(given[0], form.split(), given[1:]))
+    if given[0] in grammar.OPERATIONS and len(given) > 1 and given[1].startswith("/"):
+        line = ["do", "1", "1", *given]
+        if not fault_in("table", line):
+            return shown("An operation of a transaction.", told_words("do", ["OPERATIONS"], given))
+    return None
+
+
+def one_word(word: str) -> str | None:
+    """What one word means: of the service, of a line, or of an operation."""
+    told = []
+    meaning = words().get(word)
+    if meaning:
+        told.append(filled(f"{meaning[0].upper()}{meaning[1:]}."))
+    forms: dict[tuple[str, str], list[str]] = {}
+    for language in grammar.LANGUAGES:
+        if word in faulty.known_of(language):
+            said = does().get((language, word), "")
+            forms.setdefault((grammar.form_of(word, language), said), []).append(f"`{language}`")
+    told += [
+        filled(f"{form}: a line of a script of {grammar.either(of, 'and')}: {said}.")
+        for (form, said), of in forms.items()
+    ]
+    if word in grammar.OPERATIONS:
+        told.append(filled(f"{word} {grammar.OPERATIONS[word]}: an operation: {operations().get(word, '')}."))
+    return "\n\n".join(told) or None
+
+
+def filled(text: str, first: str = "", after: str = "") -> str:
+    return textwrap.fill(
+        text, WIDE, initial_indent=first, subsequent_indent=after, break_long_words=False, break_on_hyphens=False
+    )
+
+
+def shown(head: str, rows: list[tuple[str, str]]) -> str:
+    """A sentence, and a table of words."""
+    cut = [(grammar.short(word) if len(word) <= 24 else f"{grammar.plain(word[:22])}..", told) for word, told in rows]
+    wide = max((len(word) for word, _ in cut), default=0)
+    lines = [
+        filled(told.replace("`", ""), f"{' ' * INDENT}{word:{wide}}  ", " " * (INDENT + wide + 2)) for word, told in cut
+    ]
+    return "\n".join([filled(head.replace("..", ".")), "", *lines]).rstrip()
