@@ -45,8 +45,8 @@ SEEN = """(() => ({
     up: card.dataset.up === 'true',
     copies: [...card.querySelectorAll('[data-copy]')].map((one) => [one.dataset.copy, one.dataset.prefix, one.dataset.content].map(Number)),
     locks: [...card.querySelectorAll('[data-lock]')].map((one) => one.dataset.lock) })),
-  told: [...document.querySelectorAll('.told:not(.later)')].map((one) => one.dataset.told),
-  text: [...document.querySelectorAll('.told:not(.later)')].map((one) => one.textContent),
+  told: [...document.querySelectorAll('#script .told:not(.later)')].map((one) => one.dataset.told),
+  text: [...document.querySelectorAll('#script .told:not(.later)')].map((one) => one.textContent),
   here: Page.at(), last: Page.run.last }))()"""
 EVIL = "</script><script>alert(1)</script><img src=x onerror=alert(2)>"
 NAMED = 'a"<img/src=x/onerror=alert(3)>'
