@@ -9,7 +9,8 @@ TOP = os.path.realpath(os.path.join(os.path.dirname(os.path.abspath(__file__)), 
 ROWS = os.path.join(TOP, "crates", "rows", "stdin")
 # What tests import of the tools, before what of tests has the same name: the one edit of where modules are looked for.
 sys.path.insert(0, os.path.join(TOP, "tools"))
-# How many rows there are, as the program `rows` is to print it; and so many at least, so that no test passes over a few.
+# How many rows there are, as the program `rows` is to print it; and so many at least, so that no test passes over a
+# few.
 COUNT, FEWEST = os.path.join(TOP, "crates", "rows", "stdout"), 480
 MARKS = {b"r": b"\r", b"t": b"\t", b"\\": b"\\"}
 

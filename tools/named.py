@@ -36,7 +36,8 @@ MOST_LINES, WIDEST = 60, 120
 PAGE = re.compile(r"^//!.*$", re.M)
 MODULE = re.compile(r"^(?:pub )?mod (\w+);", re.M)
 UNNAMED = {"Lib.antt", "code.antt"}
-# Faults of the pages of low crates, kept until the crate changes for another reason: a byte of it has all crates above proved anew.
+# Faults of the pages of low crates, kept until the crate changes for another reason: a byte of it has all crates
+# above proved anew.
 KEPT = {
     "crates/sorted_map/src/lib.rt": ("the page has a line that is too long",),
     "crates/rep_core/src/lib.rt": ("the page has a line that is too long", "the page does not name `Again`"),
