@@ -54,8 +54,7 @@ BYTES = [
 NOT_FOUND = "Was it changed since?"
 NAMED_AT_LEAST = {"word dropped": 0.98, "word added": 0.98}
 # Of these kinds so many damages have a fault in that line at least; of the others nearly all. So a program that
-# takes faulty scripts
-# as good ones is told.
+# takes faulty scripts as good ones is told.
 FAULTY_AT_LEAST = {"bytes changed": 0.8, "list changed": 0.9, "word dropped": 0.85}
 # The most of each number behind the first word of a line; -1 and -2 stand for the last server and the last agent.
 MOST = {
