@@ -26,15 +26,17 @@ contract is too weak. `tools/wrong_bodies_page.py` writes this page from the edi
 
 An edit marked `gate` stands in `crates/NAME/must-fail`, and the gate tries it whenever its crate changes. The gate has the
 edits that break a rule of the service, those that were once let through, and those that a reader would try first. An edit
-marked `beside` stands in `crates/NAME/wrong`. It was refused when it was last tried, and `tools/wrong_bodies.py NAME` tries
-it again. Try those of a crate before a change of its public contracts or its definitions lands.
+marked `beside` stands in `crates/NAME/wrong`. It was refused when it was last tried, or its last column says that it was
+not tried yet; `tools/wrong_bodies.py NAME` tries it again. Try those of a crate before a change of its public contracts or
+its definitions lands.
 
 The last column names the function, and in brackets the clause or the definition that the edit breaks. A function with one
 clause is named alone.
 
-The gate has none of six crates of laws, of the programs but `may`, of `suite_cli`, `suite_args`, `suite_script` and `suite_play`
-(the rows of `crates/rows` show what those print), and but for `gives_up` none of the crates that the others only build on
-(`sorted_map`, `suite_content`, `byte_streams`, `script_text`, `acl_text`, `file_exec`): the proof of a crate above fails
+The gate has none of seven crates of laws, of the programs but `may`, of `event_json`, `suite_cli`, `suite_args`,
+`suite_script` and `suite_play` (the rows of `crates/rows` show what the last four print), and but for `gives_up` none of
+the crates that the others only build on (`suite_content`, `byte_streams`, `script_text`, `acl_text`, `file_exec`): the
+proof of a crate above fails
 where it needs a clause that was weakened. Nobody looked whether each of their clauses is needed above.
 """
 
