@@ -40,7 +40,7 @@ mod pass;
 mod servers;
 
 pub use answer::Answer;
-pub use close_fault::CloseFault;
+pub use close_fault::{CloseFault, CloseReason};
 pub use closing::close_locked;
 pub use gate::{Gate, OpenGate};
 pub use history::{Histories, History};
