@@ -2,7 +2,7 @@
 use Rattle.std.proofs.Common.{◌≡◌, ◌⊎◌, inl, inr, ℕ, ◌+◌, true, false, cond, List, [], ◌∷◌, ◌++◌, Option, Some, None, refl, sym, ap, subst, ◌∙◌}
 use Rattle.std.specs.Prelude.{◌*◌, ◌&&◌, nat_lt, slice_get, slice_set}
 use Rattle.std.proofs.lemmas.Bool.{false≢true}
-use Rattle.std.proofs.lemmas.Option.{same_Some, none-some}
+use Rattle.std.proofs.lemmas.Option.{same_Some}
 use Rattle.rep_core.specs.declared.request.Request.{Request}
 use Rattle.rep_core.specs.declared.request.Request.TheVariants as request
 use Rattle.rep_core.specs.declared.stamped.Lack.TheVariants as lack
@@ -11,18 +11,20 @@ use Rattle.txn_core.specs.declared.response.Response.{Response}
 use Rattle.txn_core.specs.declared.response.Response.TheVariants.{Replied, Lacked}
 use Rattle.txn_core.specs.declared.job.Job.{Job}
 use Rattle.txn_core.specs.declared.job.Job.TheVariants.{Transaction, Sweep}
-use Rattle.txn_core.specs.Doing.{Fixed, Task, Proposal, Phase, Preparing, Deciding, TransactionRun, SweepRun, Doing, Running, RunningSweep, After, GoesOn, Ends}
+use Rattle.txn_core.specs.Doing.{Fixed, Task, Proposal, Phase, Preparing, Deciding, TransactionRun, Doing, Running}
 use Rattle.txn_core.specs.Sweeps as sweep
 use Rattle.txn_core.specs.Agents as agents
-use Rattle.txn_core.specs.Agents.{Agent, Take, Forget, next_in, next_of, left, take, take_in, begin, started, forget, is_idle, has_sense, max_jobs, after_event, after_all}
+use Rattle.txn_core.specs.Agents.{Agent, Take, Forget, next_of, take, begin, started, forget, is_idle, has_sense, max_jobs, after_event, after_all}
 use Rattle.txn_core.proofs.Upheld.{DoingStands, stands_after}
 use Rattle.run_core.specs.declared.event.Event.{Event}
 use Rattle.run_core.specs.declared.event.Event.TheVariants.{Begin, Step, Crash, Return, Forget as Forgets, Lack}
 use Rattle.run_core.specs.declared.done.Served.{Served}
 use Rattle.run_core.specs.Worlds.{World, Actor, server_at, actor_at, serve, moved, answered, asks_at, asks, steps_once, lacks_for, lacks, operated, operates, becomes, step}
 use Rattle.law_runs.proofs.Knowing.{none_fit}
-use Rattle.law_runs.proofs.Executed.{Came, Keeps, Left, left_execute, left_response}
+use Rattle.law_runs.proofs.Executed.{Came, Keeps, left_execute}
+use Rattle.law_runs.proofs.Answering.{Knows, knows_left, take_knows}
 use Rattle.law_run_machine.proofs.Turned.{set_here, set_apart, same_or}
+use Rattle.law_run_machine.proofs.Jobs.{one_more, idle_asks}
 use Rattle.law_headline.specs.Premises.{AllGiveValidVotes, JobGivesValidVotes, EventGivesValidVotes}
 
 -- ---- what is so of an agent of a valid job
@@ -39,10 +41,6 @@ pub record IsOfValidJob (fixed : Fixed) (agent : Agent) : Type 0 where
 abbrev pub ValidOr : Fixed → Agent → Type 0
 ValidOr fixed agent = (is_idle agent.doing ≡ true) ⊎ IsOfValidJob fixed agent
 
-one_more : (fixed : Fixed) (agent : Agent) (told : List agents.Event) (event : agents.Event) → after_all fixed agent (told ++ event ∷ []) ≡ after_event fixed (after_all fixed agent told) event
-one_more fixed agent [] event = refl
-one_more fixed agent (first ∷ told) event = one_more fixed (after_event fixed agent first) told event
-
 told_more : (fixed : Fixed) (agent : Agent) (event : agents.Event) → IsOfValidJob fixed agent → IsOfValidJob fixed (after_event fixed agent event)
 told_more fixed agent event is = record {
   before = is.before;
@@ -52,10 +50,6 @@ told_more fixed agent event is = record {
   is = ap (λ agent. after_event fixed agent event) is.is ∙ sym (one_more fixed (begin fixed is.before is.job) is.told event);
   valid = is.valid;
 }
-
-idle_asks : {A : Type 0} (fixed : Fixed) (doing : Option Doing) (asked : ℕ × Request) → is_idle doing ≡ true → next_in fixed doing ≡ Some asked → A
-idle_asks fixed None asked idle next = absurd (none-some asked next)
-idle_asks fixed (Some doing) asked idle next = absurd (false≢true idle)
 
 takes : (fixed : Fixed) (agent : Agent) (response : Response) (asked : ℕ × Request) → next_of fixed agent ≡ Some asked → ValidOr fixed agent → ValidOr fixed (take fixed agent response).agent
 takes fixed agent response asked next (inl idle) = idle_asks fixed agent.doing asked idle next
@@ -132,26 +126,6 @@ module _ (fixed : Fixed) (world : World) (all : AllValid fixed world) where
   event_valid (Lack number why) valid = lack_all number (Lacked why) (actor_at world number) refl
 
 -- ---- what it came to
-
-abbrev Knows : Fixed → Option Doing → Type 0
-Knows fixed (Some (Running txn_run)) = Keeps fixed txn_run.task txn_run.suites txn_run.phase
-Knows fixed (Some (RunningSweep sweep_run)) = Unit {0}
-Knows fixed None = Unit {0}
-
-knows_left : (fixed : Fixed) (after : After TransactionRun) → Left fixed after → Knows fixed (left Running after)
-knows_left fixed (GoesOn txn_run) keeps = keeps
-knows_left fixed (Ends ending) keeps = tt
-
-knows_round : (fixed : Fixed) (after : After SweepRun) → Knows fixed (left RunningSweep after)
-knows_round fixed (GoesOn sweep_run) = tt
-knows_round fixed (Ends ending) = tt
-
-take_knows : (fixed : Fixed) (agent : Agent) (response : Response) (doing : Option Doing) (asked : Option (ℕ × Request)) → agent.doing ≡ doing → Knows fixed doing → Knows fixed (take_in fixed agent response doing asked).agent.doing
-take_knows fixed agent response (Some (Running running)) (Some asked) was knows = knows_left fixed _ (left_response fixed running.task agent.cache running.suites running.phase asked.0 asked.1 response knows)
-take_knows fixed agent response (Some (Running running)) None was knows = subst (Knows fixed) (sym was) knows
-take_knows fixed agent response (Some (RunningSweep sweep_run)) (Some asked) was knows = knows_round fixed (sweep.after_response fixed.service sweep_run asked.0 response)
-take_knows fixed agent response (Some (RunningSweep sweep_run)) None was knows = subst (Knows fixed) (sym was) tt
-take_knows fixed agent response None asked was knows = subst (Knows fixed) (sym was) tt
 
 all_know : (fixed : Fixed) (agent : Agent) (told : List agents.Event) → Knows fixed agent.doing → Knows fixed (after_all fixed agent told).doing
 all_know fixed agent [] knows = knows

@@ -25,7 +25,7 @@ use Rattle.run_core.specs.Runs.{after}
 use Rattle.law_run_machine.specs.Laws.{IsOfAJob, AgentsAreOfJobs}
 use Rattle.law_run_machine.proofs.Turned.{set_here, set_apart, same_or}
 
-one_more : (fixed : Fixed) (agent : Agent) (told : List agents.Event) (event : agents.Event) → after_all fixed agent (told ++ event ∷ []) ≡ after_event fixed (after_all fixed agent told) event
+pub one_more : (fixed : Fixed) (agent : Agent) (told : List agents.Event) (event : agents.Event) → after_all fixed agent (told ++ event ∷ []) ≡ after_event fixed (after_all fixed agent told) event
 one_more fixed agent [] event = refl
 one_more fixed agent (first ∷ told) event = one_more fixed (after_event fixed agent first) told event
 
@@ -42,7 +42,7 @@ told_more fixed agent event is = record {
   is = ap (λ agent. after_event fixed agent event) is.is ∙ sym (one_more fixed (begin fixed is.before is.job) is.told event);
 }
 
-idle_asks : {A : Type 0} (fixed : Fixed) (doing : Option Doing) (asked : ℕ × Request) → is_idle doing ≡ true → next_in fixed doing ≡ Some asked → A
+pub idle_asks : {A : Type 0} (fixed : Fixed) (doing : Option Doing) (asked : ℕ × Request) → is_idle doing ≡ true → next_in fixed doing ≡ Some asked → A
 idle_asks fixed None asked idle next = absurd (none-some asked next)
 idle_asks fixed (Some doing) asked idle next = absurd (false≢true idle)
 
