@@ -105,6 +105,7 @@ impl Servers {
         ensures rises { IfOk result.1.reply (λ reply. sent_stamp pass < reply.stamp) }
         ensures pass { result.0 ≡ after_answer pass server result.1 }
     {
+        let _locks = self.locks.len();
         let stamp = pass.sent_stamp();
         let front = pass.front(server);
         let request = Stamped {

@@ -1,5 +1,5 @@
 use Rattle.std.proofs.Common.{rules, ◌≡◌, ◌∙◌, ◌<◌, List, [], ◌∷◌, ◌++◌, length, cond, None, Some, sym, ap, subst, arith}
-use Rattle.rep_core.specs.Serving.{answer_of, is_full, served}
+use Rattle.rep_core.specs.Serving.{answer_of, served}
 use Rattle.rep_core.specs.State.{State}
 use Rattle.server_lock.specs.declared.item.Item.{Item}
 use Rattle.server_lock.specs.Histories.{given_to, item_of, max_items}
@@ -16,8 +16,8 @@ invariant_of-self-2 c =
     let full = never_full _ _ _ c.in_ok-step.ensures.full in
     let room : length history < max_items = omega (arith, c.self.inside.items.ok.0, c.len.ensures, c.if-len-ge-MAX_ITEMS.false) in
     let copied : c.in_ok-copy.copy ≡ reply.value = search rules in
-    let asked : c.in_ok-asked.copy ≡ request = search rules in
-    let item : Item = record { stamp = reply.stamp; agent = c.args.agent; request = c.in_ok-asked.copy; reply = c.in_ok-copy.copy } in
+    let asked : c.in_ok-asked.asked ≡ request = search rules in
+    let item : Item = record { stamp = reply.stamp; agent = c.args.agent; request = c.in_ok-asked.asked; reply = c.in_ok-copy.copy } in
     let same : item ≡ item_of c.args.agent request reply = λ i. record { stamp = reply.stamp; agent = c.args.agent; request = asked i; reply = copied i } in
     let items : c.push_reserved.new.self.items ≡ history ++ item_of c.args.agent request reply ∷ [] =
     c.push_reserved.ensures.items
