@@ -166,7 +166,7 @@ def main() -> int:
     read.add_argument("--seed", type=int, default=1)
     read.add_argument("program", nargs="?")
     given = read.parse_args()
-    given.program = played.program([given.program] if given.program else [])
+    given.program = played.program(given.program)
     dice, is_wrong = random.Random(given.seed), False
     for what, check in (("scripts", check_scripts), ("searches", check_moved), ("shapes", check_shapes)):
         count, wrong = check(given, dice)

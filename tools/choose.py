@@ -13,7 +13,6 @@ import os
 import re
 import shlex
 import subprocess
-import sys
 import typing
 
 import console
@@ -156,10 +155,15 @@ def version() -> typing.Iterator[str]:
 
 
 def main() -> int:
-    if sys.argv[1:] == ["--version"]:
+    read = console.words(__doc__)
+    form = read.add_mutually_exclusive_group()
+    form.add_argument("--version", action="store_true")
+    form.add_argument("--is-fresh", action="store_true")
+    given = read.parse_args()
+    if given.version:
         print("\n".join(version()))
         return 0
-    if sys.argv[1:] == ["--is-fresh"]:
+    if given.is_fresh:
         return 0 if is_fresh("proved", sources.Sources(), sources.Kit(), True) else 1
     kind = choose()
     while not kind:
