@@ -113,7 +113,8 @@ def build() -> None:
         teller = console.Teller()
         now, kit = sources.Sources(), sources.Kit()
         teller.say(
-            f"nothing is built of these sources yet: making a checked build of {sources.PROGRAM}, some two minutes"
+            f"the program {sources.PROGRAM} of these sources is not built yet: making a checked build of it, some two"
+            " minutes"
         )
         kind, part = "checked", f"{path_of('checked')}.part"
         try:
