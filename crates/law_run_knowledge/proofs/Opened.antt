@@ -16,7 +16,6 @@ use Rattle.suite_content.specs.declared.content.Content.{Content}
 use Rattle.suite_content.specs.Contents.{empty_content}
 use Rattle.suite_prefix.specs.Copies.{held_by}
 use Rattle.weak_cache.specs.Cache.{content_at}
-
 use Rattle.file_exec.specs.declared.executor.Outcome.{Outcome as Executed}
 use Rattle.file_exec.specs.declared.executor.Outcome.TheVariants as exec
 use Rattle.file_exec.specs.declared.need.Need.{Need}

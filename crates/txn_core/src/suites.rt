@@ -220,14 +220,14 @@ impl Suite {
     }
 
     /// Whether a server answered that it holds a lock.
-    pub(crate) fn holds_lock(&self, server: u8) -> bool
+    pub fn holds_lock(&self, server: u8) -> bool
         ensures { result ≡ gathering.holds_lock self.now server }
     {
         self.gathered.collect.holds(LockMode::Shared, server)
     }
 
     /// The servers that answered that they hold a lock.
-    pub fn lock_holders(&self) -> ServerSet
+    pub(crate) fn lock_holders(&self) -> ServerSet
         ensures { (server : ℕ) → contains result server ≡ gathering.holds_lock self.now server }
     {
         self.gathered.collect.holders(LockMode::Shared)
