@@ -25,6 +25,8 @@ from machine.ways import way
 
 LIST = "u::rw,u:1001:rw,g::r,m::r,o::-"
 MANY = ",".join(str(one) for one in range(1, 34))
+# The most bytes of an input.
+MOST = 16 * 1024 * 1024
 # What is asked, the status, and what is printed.
 ROWS = [
     ("", 0, ""),
@@ -82,6 +84,8 @@ def plays_rows(tests: Tests) -> None:
     tests.holds(done.returncode == 6, f"a write that fails: {done.returncode}")
     done = subprocess.run([program.program()], stdin=os.open("/", os.O_RDONLY), stdout=subprocess.PIPE)
     tests.holds((done.returncode, done.stdout) == (6, b""), f"a read that fails: {done}")
+    done = subprocess.run([program.program()], input=b"\n" * (MOST + 1), stdout=subprocess.PIPE)
+    tests.holds((done.returncode, done.stdout) == (6, b""), f"an input that is too long: {done}")
 
 
 def asks(tests: Tests, words: list[str], status: int, last: str, strict: bool = False) -> None:
