@@ -17,8 +17,8 @@
 //! next item, the least of at most 32 heads. It compares what the world serves with that item, and the ends of jobs
 //! with the entries. Nothing is sorted, and no event is gathered.
 //!
-//! **Files**: `entry` (transcripts), `decided`, `fault`, `fulls`, `heads`, `unused`, `operator`, `sense`, `votes`, `same`,
-//! `begun`, `verdicts`, `walk`, `judging`.
+//! **Files**: `entry` (transcripts), `decided`, `fault`, `fulls`, `heads`, `unused`, `operator`, `sense`, `votes`,
+//! `same`, `begun`, `verdicts`, `walk`, `judging`.
 //!
 //! **Definitions** (`specs/`): `Merges`, `Weaves`, `Shown`, `Fulls`, `Certified`, `Deciding`, `Promised`.
 //! `docs/HEADLINE.md`, "The certified run", has what a reader must believe.
