@@ -16,8 +16,9 @@ import subprocess
 import sys
 import tempfile
 
-TOP = os.path.realpath(os.path.join(os.path.dirname(os.path.abspath(__file__)), ".."))
-sys.path.insert(0, os.path.join(TOP, "tools"))
+import played
+
+import console
 from machine import changes, everybody, lint, lists, mounts, people, program
 from machine.people import Caller
 from machine.ways import way
@@ -90,7 +91,7 @@ def plays_rows(tests: Tests) -> None:
 def asks(tests: Tests, words: list[str], status: int, last: str, strict: bool = False) -> None:
     """The command, its status, and what its last line has."""
     env = {**os.environ, **({"PYTHONIOENCODING": "utf-8:strict", "LC_ALL": "C"} if strict else {})}
-    command = [sys.executable, os.path.join(TOP, "tools", "may.py"), *words]
+    command = [sys.executable, os.path.join(played.TOP, "tools", "may.py"), *words]
     done = subprocess.run(
         command, env=env, stdin=subprocess.DEVNULL, stdout=subprocess.PIPE, stderr=subprocess.PIPE, text=True
     )
@@ -277,11 +278,11 @@ def plain(code: str) -> str:
 
 
 def shown_code_stands(tests: Tests) -> None:
-    with open(os.path.join(TOP, "README.md"), encoding="utf-8") as file:
+    with open(os.path.join(played.TOP, "README.md"), encoding="utf-8") as file:
         code = re.findall(r"^```rust\n(.*?)^```", file.read(), re.M | re.S)
     sources = ""
-    for name in sorted(os.listdir(os.path.join(TOP, "crates", "may", "src"))):
-        with open(os.path.join(TOP, "crates", "may", "src", name), encoding="utf-8") as file:
+    for name in sorted(os.listdir(os.path.join(played.TOP, "crates", "may", "src"))):
+        with open(os.path.join(played.TOP, "crates", "may", "src", name), encoding="utf-8") as file:
             sources += plain(file.read())
     tests.holds(code, "README shows no code")
     for block in code:
@@ -289,8 +290,11 @@ def shown_code_stands(tests: Tests) -> None:
 
 
 def main() -> int:
-    if len(sys.argv) > 1:
-        os.environ["MAY"] = os.path.abspath(sys.argv[1])
+    read = console.words(__doc__)
+    read.add_argument("program", nargs="?")
+    named = read.parse_args().program
+    if named:
+        os.environ["MAY"] = os.path.abspath(named)
     tests = Tests()
     plays_rows(tests)
     asks_of_files(tests)
