@@ -15,6 +15,8 @@ import typing
 
 import played
 
+import console
+
 # A script with so many jobs to be counted.
 Script = typing.Callable[[int], str]
 # Eight folders in one another, eight times.
@@ -123,10 +125,13 @@ def is_compiled(program: str) -> bool:
 
 
 def main() -> int:
+    read = console.words(__doc__)
+    read.add_argument("program", nargs="?")
+    given = read.parse_args()
     if not shutil.which("valgrind"):
         print("skipped: no valgrind")
         return 0
-    program = played.program(sys.argv[1:])
+    program = played.program(given.program)
     if not is_compiled(program):
         print("skipped: the kit runs the program itself")
         return 0
