@@ -21,7 +21,8 @@
 //! Jobs go through one channel (`crossbeam_channel`), under a rule that every step of every thread keeps
 //! (`IsEachOnce`). What was put is the jobs, each once, and then end marks, and each thread takes jobs in their order.
 //! A thread writes down what its agent is told before the agent takes it. What a thread hands back is known by its
-//! promise (`IsWorked`), which std gives at the join. An agent that is out of memory goes on taking and runs nothing, so nobody waits for it in vain.
+//! promise (`IsWorked`), which std gives at the join. An agent that is out of memory goes on taking and runs nothing,
+//! so nobody waits for it in vain.
 //!
 //! **Files**: `line` (the channel and its rule), `player`, `outcome`, `fault`, `passes`, `ready`, `pool_context`,
 //! `asking`, `work`, `start`, `slots`, `gather`, `pool`.
