@@ -167,6 +167,11 @@ takes seat v none (Job place) items hands h at =
       ((omega arith), refl),
     )
 
+-- who takes does not put afterwards either
+pub taken_puts : (v : Hand) (x : Item) (w : Hand) → v.puts ≡ false → TakesItem v x w → w.puts ≡ false
+taken_puts v End w none took = ap (λ (h : Hand). h.puts) took.1 ∙ none
+taken_puts v (Job place) w none took = ap (λ (h : Hand). h.puts) took.1 ∙ none
+
 pub forks : (seat : ℕ) (v : Hand) → v.puts ≡ true → Forks IsEachOnce seat v (with_taker v) taker
 forks seat v puts items hands h at =
     let known = (h.know seat v at puts).1 in

@@ -118,5 +118,8 @@ pub(crate) fn take<R: Wait>(
     ensures seat { IsSeatAt (receives_on receiver.now) ticket.new × ((view ticket.new).puts ≡ false) }
     ensures taken { IfOk result (λ item. TakesItem (view ticket.old) item (view ticket.new)) }
 {
-    receiver.recv_as::<Takes, R>(rt, ticket)
+    match receiver.recv_as::<Takes, R>(rt, ticket) {
+        Ok(item) => Ok(item),
+        Err(error) => Err(error),
+    }
 }

@@ -1,6 +1,6 @@
 -- What can be told of servers, by what is known of each; and how many suites a history asks for.
-use Rattle.std.proofs.Common.{◌≡◌, ◌∙◌, ℕ, zero, suc, ◌+◌, ◌<◌, ◌≤◌, nat_le, Bool, true, false, List, [], ◌∷◌, length, map, take, refl, sym, ap, arith, slice_index_or}
-use Rattle.std.specs.List.{list_all, sum_by}
+use Rattle.std.proofs.Common.{◌≡◌, ◌∙◌, ℕ, zero, suc, ◌+◌, ◌<◌, ◌≤◌, nat_le, Bool, true, false, List, [], ◌∷◌, length, map, take, refl, ap, arith, slice_index_or}
+use Rattle.std.specs.List.{list_all}
 use Rattle.std.specs.Prelude.{◌||◌}
 use Rattle.std.proofs.lemmas.Bool.Decides.{nat_tests}
 use Rattle.std.proofs.lemmas.List.Sums.{sum_by_more_le}
@@ -37,12 +37,12 @@ all_told full histories transcripts same =
 -- ---- how many suites are asked for
 
 either : (a b : Bool) → b ≡ true → (a || b) ≡ true
-either true b yes = refl
-either false b yes = yes
+either true b is = refl
+either false b is = is
 
 neither : (a b : Bool) → a ≡ false → b ≡ false → (a || b) ≡ false
-neither true b no none = absurd (cc)
-neither false b no none = none
+neither true b left right = absurd (cc)
+neither false b left right = right
 
 pub long_enough : (items : List Item) → max_items ≤ length items → can_be_full items ≡ true
 long_enough items long = let yes : nat_le max_items (length items) ≡ true = grind (arith, nat_tests) in rw yes refl

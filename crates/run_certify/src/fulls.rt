@@ -23,11 +23,16 @@ pub(crate) fn can_all_be_told(
     ensures { IfOk result (λ can. can ≡ can_all_be_told histories.now transcripts.now) }
 {
     let full = full_ones(alloc, histories)?;
-    Ok(
-        transcripts
-            .iter()
-            .all(|transcript| can_be_told(&full, transcript.as_slice())),
-    )
+    Ok(are_all_told(full.as_slice(), transcripts))
+}
+
+/// Whether all that agents were told can be, where these servers can be full.
+fn are_all_told(full: &[bool], transcripts: &[Transcript]) -> bool
+    ensures { result ≡ list_all (λ entries. list_all (λ entry. can_be_told_by full.now entry) entries) transcripts.now }
+{
+    transcripts
+        .iter()
+        .all(|transcript| can_be_told(full, transcript.as_slice()))
 }
 
 /// Of each server whether it can be full.
