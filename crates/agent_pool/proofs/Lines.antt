@@ -1,5 +1,5 @@
 -- Each move keeps the rule of the channel.
-use Rattle.std.proofs.Common.{◌≡◌, ◌≢◌, ◌⊎◌, inl, inr, ℕ, zero, suc, ◌+◌, ◌<◌, ◌≤◌, true, false, true≢false, length, List, [], ◌∷◌, ◌++◌, set, sym, refl, ap, ◌∙◌, subst, ⊎_elim, append_assoc, arith}
+use Rattle.std.proofs.Common.{◌≡◌, ◌≢◌, ◌⊎◌, inl, inr, ℕ, zero, suc, ◌<◌, ◌≤◌, true, false, true≢false, length, List, [], ◌∷◌, ◌++◌, set, sym, refl, ap, ◌∙◌, subst, ⊎_elim, append_assoc, arith}
 use Rattle.std.specs.Prelude.{Some, slice_get}
 use Rattle.std.proofs.lemmas.List.{append-nil, length-append, length-set}
 use Rattle.std.proofs.lemmas.Option.{same_Some}
@@ -171,6 +171,11 @@ takes seat v none (Job place) items hands h at =
 pub taken_puts : (v : Hand) (x : Item) (w : Hand) → v.puts ≡ false → TakesItem v x w → w.puts ≡ false
 taken_puts v End w none took = ap (λ (h : Hand). h.puts) took.1 ∙ none
 taken_puts v (Job place) w none took = ap (λ (h : Hand). h.puts) took.1 ∙ none
+
+-- a job that is taken stands behind those that were
+pub behind_job : (v : Hand) (x : Item) (w : Hand) (place : ℕ) → TakesItem v x w → x ≡ Job place → v.low ≤ place
+behind_job v End w place took is = absurd (cc)
+behind_job v (Job other) w place took is = let same : other ≡ place = cc in let low = took.0 in omega arith
 
 pub forks : (seat : ℕ) (v : Hand) → v.puts ≡ true → Forks IsEachOnce seat v (with_taker v) taker
 forks seat v puts items hands h at =

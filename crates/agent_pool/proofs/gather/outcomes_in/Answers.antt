@@ -1,10 +1,7 @@
-use Rattle.std.proofs.Common.{rules, ◌≡◌, ◌∙◌, inr, false, length, List, ap, sym, subst}
-use Rattle.std.specs.Prelude.{None, Option}
-use Rattle.std.specs.List.{AllZip}
-use Rattle.agent_pool.specs.declared.outcome.JobOutcome.{JobOutcome}
+use Rattle.std.proofs.Common.{rules, ◌≡◌, ◌∙◌, inr, false, sym}
+use Rattle.std.specs.Prelude.{None}
 use Rattle.agent_pool.specs.Gathers.{first_strange, first_stuck, lacks_memory, places}
-use Rattle.agent_pool.specs.code.Filled.{IsFilled, filled_in, players_of, sitting}
-use Rattle.agent_pool.specs.code.Gathering.{AreSeen}
+use Rattle.agent_pool.specs.code.Filled.{players_of, sitting}
 use Rattle.agent_pool.proofs.Seen.{missing_is, one_each, tells_double, tells_missing}
 use Rattle.agent_pool.proofs.gather.outcomes_in.Goals as goal
 
