@@ -9,6 +9,7 @@ pub mod Found
 pub mod Leading
 pub mod Picks
 pub mod Polled
+pub mod Plain
 pub mod Led
 pub mod Rows
 pub mod Free
@@ -69,6 +70,7 @@ pub mod UnmetAt
 pub mod UnmetKnows
 pub mod UnmetCourse
 pub mod UnmetEnds
+pub mod AmongLaws
 pub mod UnmetLaws
 pub mod UnmetDecided
 pub mod Names

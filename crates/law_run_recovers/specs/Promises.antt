@@ -12,6 +12,7 @@ use Rattle.law_run_alone.specs.Undisturbed.{NothingIsInTheWayAt, UndisturbedAreD
 use Rattle.law_run_recovers.specs.Laws.{EndsAreByVotesAt, EndsInTimeAt, MetDemandsAreRowsAt, DecidedWhereVotesAreAt, HomesGoRoundOf, OneOfThemIsDecidedAt, DecidedHadVotesUpAt}
 use Rattle.law_run_recovers.specs.InTime.{RunsEndByTheBoundsAt}
 use Rattle.law_run_recovers.specs.Local.{UnmetEndByVotesAt, UnmetEndInTimeAt, UnmetHadVotesUpAt, UnmetAreDecidedWhereVotesAreAt}
+use Rattle.law_run_recovers.specs.Among.{AmongLocksEndByVotesAt, AmongLocksEndInTimeAt, AmongLocksHadVotesOpenAt, AmongLocksAreDecidedWhereVotesAreAt}
 use Rattle.law_run_recovers.specs.Blocking.{BlockedByDoubtsAt, SomeServerBlocksAt, OneCrashBlocksAt}
 use Rattle.law_run_recovers.specs.Sweeping.{SweepsLeaveDoubtsAt, SweepsKeepEffectsAt, OnlyDoubtsAreLeftAt, NoLockIsLeftAt, AllIsStoredAt, TakenAwayAreNeverDecidedAt}
 
@@ -33,6 +34,11 @@ pub record IsAvailable (given : Opening) (events : List Event) : Type 0 where
   pub unmet_in_time : UnmetEndInTimeAt given events
   pub unmet_had_votes : UnmetHadVotesUpAt given events
   pub unmet_where_votes : UnmetAreDecidedWhereVotesAreAt given events
+  -- and one in whose way nothing comes or goes, by the votes that are open to it, whatever locks others left
+  pub among_ends : AmongLocksEndByVotesAt given events
+  pub among_in_time : AmongLocksEndInTimeAt given events
+  pub among_had_votes : AmongLocksHadVotesOpenAt given events
+  pub among_where_votes : AmongLocksAreDecidedWhereVotesAreAt given events
   -- of as many jobs in a row of one agent as there are servers, each server is the home of one
   pub homes : HomesGoRoundOf given
   -- so one of as many tries of a transaction is decided, where some server is up and enough votes are, from wherever suites may be looked for
