@@ -1,10 +1,9 @@
 -- What is promised to a transaction that goes among locks that stay, by the servers that are open to it.
 use Rattle.std.proofs.Common.{◌≡◌, ◌⊎◌, inl, inr, ℕ, Bool, true, false, cond, List, [], ◌∷◌, ◌++◌, append-nil, length, Option, Some, None, refl, sym, ap, subst, ◌∙◌}
-use Rattle.std.specs.Prelude.{◌==◌, ◌&&◌, not, nat_lt, map, find, option_map, Contains}
+use Rattle.std.specs.Prelude.{◌==◌, ◌&&◌, not, nat_lt, map, find, Contains}
 use Rattle.std.proofs.lemmas.Bool.{false≢true, and_parts, eq-eqb, eqb-true}
-use Rattle.std.proofs.lemmas.Option.{none-some}
 use Rattle.acl_core.specs.Identity.{Identity}
-use Rattle.vote_core.specs.Quorums.{Representative, Configuration, votes_in}
+use Rattle.vote_core.specs.Quorums.{Representative, votes_in}
 use Rattle.suite_prefix.specs.SettingsRules.{Opening}
 use Rattle.suite_prefix.specs.declared.copies.Prefix.{Prefix}
 use Rattle.suite_prefix.specs.declared.lock_mode.LockMode.{LockMode}
@@ -12,7 +11,7 @@ use Rattle.file_ops.specs.declared.operation.Op.{Op}
 use Rattle.file_ops.specs.Rows.{PlainTable, Row, row_of}
 use Rattle.rep_core.specs.State.{State}
 use Rattle.rep_core.proofs.Finding.{find_some}
-use Rattle.rep_core.proofs.Members.{Has, any_has, has_any, has_append, has_from, has_map, contains_from}
+use Rattle.rep_core.proofs.Members.{Has, any_has, has_any, has_from, has_map, contains_from}
 use Rattle.suite_collect.specs.Collecting.{needed_of}
 use Rattle.txn_core.specs.declared.ending.Ending.{Ending}
 use Rattle.txn_core.specs.declared.ending.Ending.TheVariants.{Undecided}
@@ -25,25 +24,26 @@ use Rattle.run_core.specs.declared.done.EndedJob.{EndedJob}
 use Rattle.run_core.specs.Worlds.{Actor, World, server_at}
 use Rattle.run_core.specs.Runs.{run}
 use Rattle.run_core.specs.TableOfRun.{table_of}
+use Rattle.law_runs.proofs.Standing.{has_append}
 use Rattle.law_run_machine.specs.Machines.{machine_of}
 use Rattle.law_one_table.proofs.Effects as effects
 use Rattle.law_headline.proofs.Keeping.{all_keep}
 use Rattle.law_run_alone.specs.Undisturbed.{is_decided}
 use Rattle.law_run_recovers.specs.Standing.{up_in, is_up}
 use Rattle.law_run_recovers.specs.Demands.{Demand, is_met, all_met, led_to_by, votes_set, votes_of_row, MayStart, MayStartAll}
-use Rattle.law_run_recovers.specs.Laws.{HasFirstVotes, ending_by, answer_on}
+use Rattle.law_run_recovers.specs.Laws.{HasFirstVotes, answer_on}
 use Rattle.law_run_recovers.specs.Near.{asks_for, is_open_way, is_way_met, way_in, way_at, is_open_at, in_its_way}
 use Rattle.law_run_recovers.specs.Among.{GoesAmongLocks, EndsOpenly, EndsByOpenVotes, first_wanting, has_votes_open, AmongLocksEndByVotes, AmongLocksAreDecidedWhereVotesAre}
 use Rattle.law_run_recovers.specs.OpenDemands.{Want, open_demand, open_demands, first_mode, wants, wants_of_rows}
 use Rattle.law_run_recovers.specs.Local.{EndsThen, VotesNeverMovedOf}
 use Rattle.law_run_recovers.proofs.Leading.{led}
-use Rattle.law_run_recovers.proofs.NearGround.{opens, first_asked, is_holder, sight, answering, can_first, number}
+use Rattle.law_run_recovers.proofs.NearGround.{opens, is_holder, sight, answering, can_first, number}
 use Rattle.law_run_recovers.proofs.NearRows.{start_near, same_so_far}
 use Rattle.law_run_recovers.proofs.OpenRows.{open_votes_are_rows, up_of}
 use Rattle.law_run_recovers.proofs.Picks.{votes_alike}
 use Rattle.law_run_recovers.proofs.Rows.{start_was}
 use Rattle.law_run_recovers.proofs.Stands.{of_lock, of_votes, demand_of, unmet, wants_of, EndsAs}
-use Rattle.law_run_recovers.proofs.UnmetEnds.{unmet_ends}
+use Rattle.law_run_recovers.proofs.AmongEnds.{among_ends}
 use Rattle.law_run_recovers.proofs.Unmoved.{decided_by, first_votes_at}
 
 -- ---- lists
@@ -209,7 +209,7 @@ module _ (given : Opening) (events later : List Event) (agent t : ℕ) (caller :
 
   pub among_by_votes : (job : EndedJob) → EndsThen given events later agent t caller site ops job → EndsByOpenVotes given events t caller site ops actor.agent.cache goes.near job
   among_by_votes job ends =
-      let right = unmet_ends given events later agent t caller site ops actor goes job ends.there ends.of_it in
+      let right = among_ends given events later agent t caller site ops actor goes job ends.there ends.of_it in
       let its_sight' = sight given events later agent t caller site ops actor goes in
       record {
         start = right.start;

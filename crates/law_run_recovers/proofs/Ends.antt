@@ -22,7 +22,7 @@ use Rattle.file_ops.specs.declared.operation.Op.{Op}
 use Rattle.file_ops.specs.Rows as rows
 use Rattle.file_ops.specs.Rows.{PlainTable, row_of}
 use Rattle.file_exec.specs.Known.{AgreesWith}
-use Rattle.suite_collect.specs.Collecting.{Collector, request_for, mode_asked}
+use Rattle.suite_collect.specs.Collecting.{request_for, mode_asked}
 use Rattle.weak_cache.specs.Entries.{Cache}
 use Rattle.txn_core.specs.declared.ending.Ending.{Ending}
 use Rattle.txn_core.specs.declared.job.Job.{Job}
@@ -31,7 +31,7 @@ use Rattle.txn_core.specs.declared.response.Response.TheVariants.{Replied}
 use Rattle.txn_core.specs.Suites.{ReadPoint, Suite, Suites, suite_of, known_of}
 use Rattle.txn_core.specs.Writing.{parts_at}
 use Rattle.txn_core.specs.Doing.{Fixed, Task, Phase, Gathering, Fetching, Widening, Preparing, Deciding, Finishing, TransactionRun, Doing, Running, RunningSweep, After, GoesOn, Ends, home_of}
-use Rattle.txn_core.specs.Transactions.{Step as CourseStep, execute, asked_for, fetched_at, fetched_for, given_in, changes_of, decision_of, request_in, after_reply}
+use Rattle.txn_core.specs.Transactions.{Step as CourseStep, execute, fetched_at, fetched_for, given_in, changes_of, decision_of, request_in, after_reply}
 use Rattle.txn_core.specs.Agents.{Agent, Taken, fixed_of, is_idle, has_sense, max_jobs, begins, next_in, next_of, left, end_of, with_step, take_in, take, begin, started}
 use Rattle.txn_core.specs.Laws.{exchanges, is_decide}
 use Rattle.txn_core.proofs.Asks.{asks_same, asked_as, fetched_as}

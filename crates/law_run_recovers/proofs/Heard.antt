@@ -1,5 +1,5 @@
 -- What a transaction makes of a reply that is right: it stands as before, or ends as it should.
-use Rattle.std.proofs.Common.{◌≡◌, ◌⊎◌, ⊎_elim, ℕ, Bool, true, false, cond, List, [], ◌∷◌, Option, Some, None, is_some, Ok, Err, refl, sym, ap, subst, ◌∙◌}
+use Rattle.std.proofs.Common.{◌≡◌, ◌⊎◌, ⊎_elim, ℕ, true, false, cond, List, [], ◌∷◌, Option, Some, None, is_some, Ok, Err, refl, sym, ap, subst, ◌∙◌}
 use Rattle.std.specs.Prelude.{option_map}
 use Rattle.std.proofs.lemmas.Bool.{false≢true}
 use Rattle.std.proofs.lemmas.Cmp.{nat_cmp_total}
@@ -18,7 +18,7 @@ use Rattle.file_ops.specs.Rows.{PlainTable, row_of}
 use Rattle.file_exec.specs.Known as known
 use Rattle.file_exec.specs.Known.{IsSoAt}
 use Rattle.suite_collect.specs.declared.told.Told.{Told}
-use Rattle.suite_collect.specs.Collecting.{Collector, Widening, Asked, request_for, mode_of, mode_asked, all_told, tell, tell_at, told_by, Next, Current, Ask, Short, next}
+use Rattle.suite_collect.specs.Collecting.{Collector, Widening, Asked, request_for, mode_of, mode_asked, tell, tell_at, told_by, Next, Current, Ask, Short, next}
 use Rattle.weak_cache.specs.Entries.{Cache}
 use Rattle.weak_cache.specs.Cache.{put}
 use Rattle.txn_core.specs.declared.ending.Ending.TheVariants.{Undecided}

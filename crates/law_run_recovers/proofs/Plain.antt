@@ -1,6 +1,6 @@
 -- A transaction to which servers stand plainly: some answer, whatever the mode, and nothing is in the way there. Its ends are those that the votes of the
 -- servers that answer say.
-use Rattle.std.proofs.Common.{◌≡◌, inl, inr, ℕ, Bool, true, false, cond, List, [], ◌∷◌, ◌++◌, Option, Some, None, refl, sym, ap, subst, ◌∙◌}
+use Rattle.std.proofs.Common.{◌≡◌, inl, inr, ℕ, Bool, true, false, cond, List, [], ◌∷◌, ◌++◌, Option, Some, None, refl, sym, ap, ◌∙◌}
 use Rattle.std.specs.Prelude.{not, find, map, option_map}
 use Rattle.std.proofs.lemmas.Bool.{false≢true}
 use Rattle.std.proofs.lemmas.Option.{none-some, same_Some}
@@ -122,7 +122,3 @@ module _ (fixed : Fixed) (world : World) (answers : ℕ → Bool) (asked : List 
         of None is = is
         of (Some want) (inl is) = is.0
         of (Some want) (inr is) = absurd (false≢true is.2)
-
-    pub none_plain : (start : ℕ → Prefix) → find (unmet (seen answers asked)) (wants_of fixed world (seen answers asked) table task.t task.caller task.ops start) ≡ None
-        → first_short (demands_by fixed world answers table task.t task.caller task.ops start) ≡ None
-    none_plain start none = short_plain table task.t task.caller task.ops start ∙ ap (option_map (demand_of (seen answers asked))) none

@@ -12,9 +12,8 @@ use Rattle.suite_prefix.specs.LockModes.{serves}
 use Rattle.rep_core.specs.declared.lock.Lock.{Lock}
 use Rattle.rep_core.specs.declared.reply.Reply.{Reply}
 use Rattle.rep_core.specs.declared.reply.Reply.TheVariants as reply
-use Rattle.rep_core.specs.declared.request.Request.{Request}
 use Rattle.rep_core.specs.Locks.{in_the_way, has_lock}
-use Rattle.rep_core.specs.Service.{locking_reply, poll_reply, reply_up, reply_down, reply_of}
+use Rattle.rep_core.specs.Service.{locking_reply, poll_reply, reply_up, reply_of}
 use Rattle.rep_core.specs.Store.{copy_of}
 use Rattle.suite_collect.specs.declared.told.Said.{Said}
 use Rattle.suite_collect.specs.declared.told.Said.TheVariants.{Held, Busy, Down}
@@ -189,8 +188,7 @@ module _ (fixed : Fixed) (world : World) (sight : Sight) (suite : ℕ) where
 
       down : (q : Asked) → asked ≡ q → st.up ≡ false → Answers asked server (reply_of st (request_for t suite q))
       down (Poll mode) same is =
-          subst (Answers asked server) (sym (ap (λ b. cond b (poll_reply st t suite mode) reply.Down) is))
-          (
+          subst (Answers asked server) (sym (ap (λ b. cond b (poll_reply st t suite mode) reply.Down) is)) (
             sym opens ∙ ap (λ b. is_open_way (cond b (Some (option_map (λ (lock : Lock). lock.t) (in_the_way t suite (mode_asked asked) st.locks))) None)) is,
             sym up ∙ is,
             ap (λ asked. said_to asked reply.Down) same,

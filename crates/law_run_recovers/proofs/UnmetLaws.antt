@@ -1,6 +1,6 @@
 -- What is promised to a transaction that nobody meets, by servers that are up: it goes among locks none of which is in its way, so who is up is open to it.
-use Rattle.std.proofs.Common.{◌≡◌, ◌⊎◌, inl, inr, ⊎_elim, ℕ, Bool, true, false, cond, List, [], ◌∷◌, ◌++◌, length, Option, Some, None, refl, sym, ap, subst, ◌∙◌}
-use Rattle.std.specs.Prelude.{◌&&◌, not, nat_lt, nat_le, map, option_map, Contains}
+use Rattle.std.proofs.Common.{◌≡◌, inl, inr, ℕ, Bool, true, false, cond, List, [], ◌∷◌, ◌++◌, length, Option, Some, None, refl, sym, ap, subst, ◌∙◌}
+use Rattle.std.specs.Prelude.{◌&&◌, not, nat_lt, map, option_map, Contains}
 use Rattle.std.proofs.lemmas.Bool.{false≢true, and_parts}
 use Rattle.std.proofs.lemmas.Option.{none-some, same_Some}
 use Rattle.acl_core.specs.Identity.{Identity}
@@ -11,7 +11,7 @@ use Rattle.suite_prefix.specs.declared.copies.Prefix.{Prefix}
 use Rattle.suite_prefix.specs.declared.lock_mode.LockMode.{LockMode}
 use Rattle.file_ops.specs.declared.operation.Op.{Op}
 use Rattle.file_ops.specs.Rows.{row_of}
-use Rattle.rep_core.proofs.Members.{Has, has_from, contains_from}
+use Rattle.rep_core.proofs.Members.{Has, contains_from}
 use Rattle.suite_collect.specs.Collecting.{needed_of}
 use Rattle.txn_core.specs.Doing.{home_of}
 use Rattle.txn_core.specs.Agents.{fixed_of}
@@ -21,15 +21,15 @@ use Rattle.run_core.specs.Worlds.{Actor, World, server_at}
 use Rattle.run_core.specs.Runs.{run}
 use Rattle.run_core.specs.TableOfRun.{table_of}
 use Rattle.law_run_alone.specs.Undisturbed.{is_decided}
-use Rattle.law_run_recovers.specs.Standing.{up_in, is_up}
+use Rattle.law_run_recovers.specs.Standing.{is_up}
 use Rattle.law_run_recovers.specs.Demands.{Demand, demand, is_met, all_met, demands, demands_of_rows, first_short, led_to, votes_set, votes_of_row, MayStart, MayStartAll}
 use Rattle.law_run_recovers.specs.Laws.{EndsByVotes, ending_by, answer_on}
 use Rattle.law_run_recovers.specs.Near.{asks_for, is_open_way, is_way_met, way_at, is_open_at, in_its_way}
 use Rattle.law_run_recovers.specs.Unmet.{GoesUnmet}
-use Rattle.law_run_recovers.specs.Among.{GoesAmongLocks, EndsOpenly, EndsByOpenVotes, first_wanting, has_votes_open, UnmetAreAmongLocks}
+use Rattle.law_run_recovers.specs.Among.{GoesAmongLocks, EndsOpenly, first_wanting, has_votes_open, UnmetAreAmongLocks}
 use Rattle.law_run_recovers.specs.OpenDemands.{Want, open_demand, open_demands, first_mode, wants, wants_of_rows}
 use Rattle.law_run_recovers.specs.Local.{EndsThen, VotesNeverMovedOf, UnmetEndByVotes, UnmetAreDecidedWhereVotesAre}
-use Rattle.law_run_recovers.proofs.AmongLaws.{map_members, none_in, all_is, among_by_votes, found_by, led_first, row_first}
+use Rattle.law_run_recovers.proofs.AmongLaws.{map_members, among_by_votes, found_by, led_first, row_first}
 use Rattle.law_run_recovers.proofs.NearRows.{first_in, start_near, same_so_far, open_is_up}
 use Rattle.law_run_recovers.proofs.Open.{open_first, unmet_is_among_locks, near_back, plain_way}
 use Rattle.law_run_recovers.proofs.OpenRows.{up_of, up_to}
@@ -107,7 +107,7 @@ module _ (given : Opening) (events later : List Event) (agent t : ℕ) (caller :
   abbrev asked : List (ℕ × LockMode)
   asked = asks_for given events t caller ops
 
-  among : GoesAmongLocks given events later agent t caller site ops actor
+  abbrev among : GoesAmongLocks given events later agent t caller site ops actor
   among = unmet_is_among_locks given events later agent t caller site ops actor goes
 
   clear : (one : ℕ × LockMode) (server : ℕ) → Contains (asks_for given events t caller ops) one → goes.near server ≡ true → in_its_way (run given events) t one.0 one.1 server ≡ false
@@ -117,7 +117,7 @@ module _ (given : Opening) (events later : List Event) (agent t : ℕ) (caller :
   led_same : (one : ℕ × LockMode) → Has asked one → (start : Prefix) → MayStart (fixed_of given) actor.agent.cache site one.0 start
       → found_by given events later agent t caller site ops actor among one start ≡ led_to (fixed_of given) (run given events) one.0 start
   led_same one has start may =
-      let first = (one.0, first_mode asked one.0) in
+      let first : ℕ × LockMode = (one.0, first_mode asked one.0) in
       let there = contains_from asked first (first_in asked one has) in
       sym (same_so_far given events t caller site ops actor goes.near goes.are_near first there (is_up (run given events)) (is_open_at (run given events) t one.0 (first_mode asked one.0)) (λ server up. up)
       (λ server near. open_is_up given events t caller site ops actor goes.near goes.are_near clear first there server near)

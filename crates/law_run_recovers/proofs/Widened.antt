@@ -1,12 +1,11 @@
 -- A collector of whatever votes to which servers stand as a sight says: what it hears, and where one that is widened ends.
-use Rattle.std.proofs.Common.{◌≡◌, ℕ, ◌≤◌, Bool, true, false, cond, List, ◌++◌, Option, Some, None, refl, sym, ap, subst, ◌∙◌, arith}
+use Rattle.std.proofs.Common.{◌≡◌, ℕ, ◌≤◌, true, false, List, ◌++◌, Option, Some, None, refl, sym, ap, subst, ◌∙◌, arith}
 use Rattle.std.specs.Prelude.{nat_le}
 use Rattle.std.proofs.lemmas.Bool.Decides.{nat_tests}
 use Rattle.vote_core.specs.Quorums.{Configuration, votes_in}
 use Rattle.vote_core.proofs.QuorumLemmas.{votes_in-wider}
 use Rattle.suite_prefix.specs.Absent.{absent_prefix}
 use Rattle.suite_prefix.specs.declared.copies.Prefix.{Prefix}
-use Rattle.suite_prefix.specs.declared.lock_mode.LockMode.{LockMode}
 use Rattle.suite_prefix.specs.declared.lock_mode.LockMode.TheVariants.{Exclusive}
 use Rattle.rep_core.specs.declared.reply.Reply.{Reply}
 use Rattle.rep_core.specs.declared.reply.Reply.TheVariants as reply

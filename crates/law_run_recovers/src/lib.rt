@@ -31,8 +31,8 @@
 //! **Files**: `lib`, `promises`. **Definitions** (`specs/`): `Standing`, `Alone`, `Demands`, `InTime`, `Laws`,
 //! `Sweeping`, `Promises`, `Worked`, `Near`, `Unmet`, `OpenDemands`, `Local`, `Among`, `Blocking`, `Contending`. The
 //! proofs follow a transaction over its agent's steps (`proofs/Ends.antt`, `Stands.antt`, `Asking.antt`; where
-//! others go on `UnmetCourse.antt`, `UnmetEnds.antt`) and a sweep by its list (`Sweeps.antt`, `Swept.antt`,
-//! `Rounds.antt`).
+//! others go on `AmongCourse.antt`, `AmongStep.antt`, `AmongEnds.antt`) and a sweep by its list (`Sweeps.antt`,
+//! `Swept.antt`, `Rounds.antt`).
 #![tactic(auto)]
 
 mod promises;

@@ -1,4 +1,4 @@
--- What a transaction that nobody meets knows after a step of it is so on the table of its begin, whatever others have decided since.
+-- What a transaction that goes among locks that stay knows after a step of it is so on the table of its begin, whatever others have decided since.
 use Rattle.std.proofs.Common.{◌≡◌, ◌≢◌, ℕ, Bool, true, false, List, [], ◌∷◌, ◌++◌, append_assoc, Option, Some, None, refl, sym, ap, subst, ◌∙◌}
 use Rattle.std.specs.Prelude.{◌==◌, unwrap_or, Contains}
 use Rattle.std.specs.Ordering.{nat_cmp}
@@ -47,7 +47,7 @@ use Rattle.law_run_alone.proofs.Named.{no_record}
 use Rattle.law_run_alone.proofs.Standing.{Stands}
 use Rattle.law_run_alone.proofs.Unhindered.{all_consistent}
 use Rattle.law_run_alone.proofs.Unswept.{is_resolve}
-use Rattle.law_run_recovers.specs.Standing.{up_in, is_up, locks_in, locks_at}
+use Rattle.law_run_recovers.specs.Standing.{locks_in, locks_at}
 use Rattle.law_run_recovers.specs.Near.{asks_for, is_open_way, is_open_at, way_in}
 use Rattle.law_run_recovers.specs.Unmet.{runs, running_in, is_running, begun_world, world_after}
 use Rattle.law_run_recovers.specs.Among.{GoesAmongLocks}
@@ -61,7 +61,7 @@ use Rattle.law_run_recovers.proofs.Serves.{On}
 use Rattle.law_run_recovers.proofs.Stand.{free_where}
 use Rattle.law_run_recovers.proofs.Stands.{asks_of, locks_on}
 use Rattle.law_run_recovers.proofs.Took.{OwnTook}
-use Rattle.law_run_recovers.proofs.UnmetAt.{IsSpared, HasWhereOpen, can_so_far}
+use Rattle.law_run_recovers.proofs.AmongAt.{IsSpared, HasWhereOpen, can_so_far}
 use Rattle.law_run_recovers.proofs.Unrobbed.{unrecorded_at}
 
 module _ (given : Opening) (events later : List Event) (agent t : ℕ) (caller : Identity) (site : ℕ) (ops : List Op) (actor : Actor) (goes : GoesAmongLocks given events later agent t caller site ops actor) (so_far rest : List Event)

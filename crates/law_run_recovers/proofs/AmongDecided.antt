@@ -1,5 +1,5 @@
 -- What was decided of a transaction that goes among locks that stay had its home up and its votes open, whether or not its agent went on to the end.
-use Rattle.std.proofs.Common.{◌≡◌, ◌⊎◌, inl, inr, ⊎_elim, ℕ, ◌<◌, true, false, cond, List, [], ◌∷◌, ◌++◌, append_assoc, Option, Some, None, is_some, refl, sym, ap, subst, ◌∙◌, arith}
+use Rattle.std.proofs.Common.{◌≡◌, ◌⊎◌, inl, inr, ⊎_elim, ℕ, ◌<◌, true, List, [], ◌∷◌, ◌++◌, append_assoc, Option, Some, None, is_some, refl, sym, ap, subst, ◌∙◌, arith}
 use Rattle.std.specs.Prelude.{◌==◌, ◌&&◌, find}
 use Rattle.std.specs.List.{list_any, cons_option}
 use Rattle.std.proofs.lemmas.Bool.{false≢true, eqb-true, or_cases}
@@ -38,8 +38,9 @@ use Rattle.law_run_recovers.proofs.NearGround.{sight, number}
 use Rattle.law_run_recovers.proofs.Open.{its_begin, unmet_is_among_locks}
 use Rattle.law_run_recovers.proofs.Stands.{unmet, wants_of}
 use Rattle.law_run_recovers.proofs.Took.{own_took}
-use Rattle.law_run_recovers.proofs.UnmetCourse.{Course, StandsIn, PhaseIn, runs_it, next_is, unhindered, running_now, apart_on}
-use Rattle.law_run_recovers.proofs.UnmetEnds.{Over, first_course, small_at, own_on, over_on, over_now}
+use Rattle.law_run_recovers.proofs.AmongCourse.{Course, StandsIn, PhaseIn, runs_it, next_is, unhindered, running_now, apart_on}
+use Rattle.law_run_recovers.proofs.AmongEnds.{Over, small_at, over_on, over_now}
+use Rattle.law_run_recovers.proofs.AmongStep.{first_course, own_on}
 use Rattle.law_run_recovers.proofs.UnmetLaws.{open_is_more}
 
 module _ (given : Opening) (events later : List Event) (agent t : ℕ) (caller : Identity) (site : ℕ) (ops : List Op) (actor : Actor) (goes : GoesAmongLocks given events later agent t caller site ops actor) where

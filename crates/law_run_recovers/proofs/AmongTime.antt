@@ -1,4 +1,4 @@
--- A transaction that nobody meets ends within a number of its own steps that its table tells.
+-- A transaction that goes among locks that stay ends within a number of its own steps that its table tells.
 use Rattle.std.proofs.Common.{◌≡◌, ◌⊎◌, inl, inr, ⊎_elim, ℕ, ◌+◌, ◌<◌, ◌≤◌, Bool, true, false, cond, List, [], ◌∷◌, ◌++◌, append_assoc, length, Some, is_some, refl, sym, ap, subst, ◌∙◌, arith}
 use Rattle.std.specs.Prelude.{◌==◌}
 use Rattle.std.specs.List.{cons_option}
@@ -34,11 +34,11 @@ use Rattle.law_run_recovers.proofs.Counts.{one_longer, and_one, has_after, step_
 use Rattle.law_run_recovers.proofs.Keeps.{run_at}
 use Rattle.law_run_recovers.proofs.Knows.{among_numbers}
 use Rattle.law_run_recovers.proofs.Names.{itself, suites_named, names_for, CountedOf, few_enough}
-use Rattle.law_run_recovers.proofs.NearGround.{its, answers, Known, ground, number, sight}
+use Rattle.law_run_recovers.proofs.NearGround.{its, Known, ground, number, sight}
 use Rattle.law_run_recovers.proofs.Took.{OwnTook, own_took}
 use Rattle.law_run_recovers.proofs.Open.{unmet_is_among_locks}
-use Rattle.law_run_recovers.proofs.UnmetCourse.{Course, RunsIt, runs_it, next_is, unhindered, apart_on}
-use Rattle.law_run_recovers.proofs.UnmetEnds.{idle_before, first_course, first_told, own_on}
+use Rattle.law_run_recovers.proofs.AmongCourse.{Course, RunsIt, runs_it, next_is, unhindered, apart_on}
+use Rattle.law_run_recovers.proofs.AmongStep.{idle_before, first_course, first_told, own_on}
 
 module _ (given : Opening) (events later : List Event) (agent t : ℕ) (caller : Identity) (site : ℕ) (ops : List Op) (actor : Actor) (goes : GoesAmongLocks given events later agent t caller site ops actor) where
   abbrev begun : Agent

@@ -53,7 +53,7 @@ use Rattle.law_run_recovers.proofs.Open.{its_begin}
 use Rattle.law_run_recovers.proofs.Polled.{Sight}
 use Rattle.law_run_recovers.proofs.Serves.{On, Told, told_on}
 use Rattle.law_run_recovers.proofs.Stands.{EndsRight, PhaseStands}
-use Rattle.law_run_recovers.proofs.UnmetAt.{IsCalm, IsSpared, HasWhereOpen}
+use Rattle.law_run_recovers.proofs.AmongAt.{IsCalm, IsSpared, HasWhereOpen}
 
 -- ---- lists
 

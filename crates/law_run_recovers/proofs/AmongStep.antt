@@ -1,7 +1,6 @@
--- A transaction that goes among locks that stay ends as the votes say that are open: its own steps, and all along.
-use Rattle.std.proofs.Common.{◌≡◌, ◌⊎◌, inl, inr, ⊎_elim, ℕ, ◌<◌, Bool, true, false, cond, List, [], ◌∷◌, ◌++◌, append_assoc, Option, Some, None, is_some, refl, sym, ap, subst, ◌∙◌, arith}
+-- A transaction that goes among locks that stay ends as the votes say that are open: its own steps.
+use Rattle.std.proofs.Common.{◌≡◌, ◌⊎◌, inl, inr, ⊎_elim, ℕ, Bool, true, false, cond, List, [], ◌∷◌, ◌++◌, Option, Some, None, is_some, refl, sym, ap, subst, ◌∙◌, arith}
 use Rattle.std.specs.Prelude.{◌*◌, ◌+◌, ◌-◌, ◌&&◌, nat_lt, Contains}
-use Rattle.std.specs.List.{cons_option}
 use Rattle.std.specs.Ordering.{nat_cmp}
 use Rattle.std.proofs.lemmas.Bool.{false≢true, and_parts, eq-eqb}
 use Rattle.std.proofs.lemmas.Option.{none-some, same_Some}
@@ -22,7 +21,7 @@ use Rattle.rep_core.specs.declared.reply.Verdict.{Verdict}
 use Rattle.rep_core.specs.Service.{reply_of, held, verdict_of}
 use Rattle.rep_core.specs.Serving.{answer_of}
 use Rattle.rep_core.specs.State.{State}
-use Rattle.rep_core.proofs.Members.{Has, has_from, contains_from}
+use Rattle.rep_core.proofs.Members.{Has, contains_from}
 use Rattle.suite_collect.specs.Telling.{newest}
 use Rattle.suite_collect.specs.Collecting.{Collector, Asked, Poll, Upgrade, counted, wanted, votes_or, mode_or, request_for, mode_asked, mode_of}
 use Rattle.weak_cache.specs.Entries.{Cache}
@@ -49,24 +48,21 @@ use Rattle.run_core.specs.declared.event.Event.{Event}
 use Rattle.run_core.specs.declared.event.Event.TheVariants.{Begin, Step}
 use Rattle.run_core.specs.declared.done.EndedJob.{EndedJob}
 use Rattle.run_core.specs.declared.done.Served.{Served}
-use Rattle.run_core.specs.Worlds.{Actor, World, server_at, actor_at, one_more, outcome_of, opening, step}
-use Rattle.run_core.specs.Runs.{dones, done_in, outcomes, run}
+use Rattle.run_core.specs.Worlds.{Actor, World, server_at, actor_at, one_more, outcome_of, step}
+use Rattle.run_core.specs.Runs.{run}
 use Rattle.run_core.specs.Decisions.{decisions}
-use Rattle.run_core.proofs.Appending.{dones-append, outcomes-append}
 use Rattle.law_runs.specs.Claims.{ended}
 use Rattle.law_runs.specs.Numbers.{number_of}
-use Rattle.law_runs.proofs.Agents.{same_place, take_keeps}
+use Rattle.law_runs.proofs.Agents.{take_keeps}
 use Rattle.law_runs.proofs.Conclusions.{holds_of}
-use Rattle.law_runs.proofs.Standing.{append_has_left, append_has_right}
-use Rattle.law_runs.proofs.Worlds.{agent_of, agent_at}
+use Rattle.law_runs.proofs.Worlds.{agent_of}
 use Rattle.law_run_alone.proofs.Named.{no_lock}
 use Rattle.law_run_alone.proofs.Unswept.{is_resolve, never_resolves}
 use Rattle.law_run_recovers.specs.Standing.{is_up, locks_in}
 use Rattle.law_run_recovers.specs.Demands.{locks_asked, votes_set}
 use Rattle.law_run_recovers.specs.Near.{asks_for}
-use Rattle.law_run_recovers.specs.Unmet.{runs, running_in, begun_world, world_after}
+use Rattle.law_run_recovers.specs.Unmet.{runs, running_in, world_after}
 use Rattle.law_run_recovers.specs.Among.{GoesAmongLocks}
-use Rattle.law_run_recovers.proofs.Apart.{event_apart, who_ends}
 use Rattle.law_run_recovers.proofs.Asked.{onto_left, onto_so_far, asked_exclusive, next_vote, next_mode}
 use Rattle.law_run_recovers.proofs.Asking.{onto}
 use Rattle.law_run_recovers.proofs.Ends.{early_open, early_asks, fetch_is, ending_in}
@@ -79,11 +75,11 @@ use Rattle.law_run_recovers.proofs.Polled.{Answers}
 use Rattle.law_run_recovers.proofs.Serves.{On}
 use Rattle.law_run_recovers.proofs.Stands.{AfterStands, StepStands, asks_of, locks_on, sets_on}
 use Rattle.law_run_recovers.proofs.Still.{IsOpen, IsOpenPhase}
-use Rattle.law_run_recovers.proofs.Took.{OwnTook, own_took}
-use Rattle.law_run_recovers.proofs.UnmetAt.{HasWhereOpen, lock_right, fetch_right, prepare_right, decide_right}
-use Rattle.law_run_recovers.proofs.UnmetCourse.{Course, RunsIt, PhaseIn, StandsIn, Right, same_service, runs_it, next_is, NewOpen, unhindered, spared_on, locks_on as answered_on, apart_on}
+use Rattle.law_run_recovers.proofs.Took.{OwnTook}
+use Rattle.law_run_recovers.proofs.AmongAt.{HasWhereOpen, lock_right, fetch_right, prepare_right, decide_right}
+use Rattle.law_run_recovers.proofs.AmongCourse.{Course, RunsIt, PhaseIn, StandsIn, Right, same_service, next_is, NewOpen, spared_on, locks_on as answered_on}
 use Rattle.law_run_recovers.proofs.Widened.{same_mode}
-use Rattle.law_run_recovers.proofs.UnmetKnows.{knows_begun}
+use Rattle.law_run_recovers.proofs.AmongKnows.{knows_begun}
 
 -- a request for a lock on a suite is of that suite
 abbrev suite_in : Request → ℕ
@@ -120,7 +116,7 @@ module _ (given : Opening) (events later : List Event) (agent t : ℕ) (caller :
 
   -- ---- its begin
 
-  begun : (64 * actor.agent.count + agent ≡ t) × (begins (fixed_of given) actor.agent (Transaction caller site ops) ≡ true)
+  pub begun : (64 * actor.agent.count + agent ≡ t) × (begins (fixed_of given) actor.agent (Transaction caller site ops) ≡ true)
   begun = its_begin given events later agent t caller site ops actor goes.can goes.there goes.begins
 
   first_stands : StandsIn given events later agent t caller site ops actor goes (begin (fixed_of given) actor.agent (Transaction caller site ops)).cache (begin (fixed_of given) actor.agent (Transaction caller site ops)).doing
@@ -432,102 +428,3 @@ module _ (given : Opening) (events later : List Event) (agent t : ℕ) (caller :
           where
             the_one : EndedJob
             the_one = record { agent = agent; count = c.here.agent.count - 1; steps = one_more c.here.steps; ending = ended }
-
-  -- ---- all along
-
-  -- its job has ended
-  abbrev pub Over : List Event → Type 0
-  Over so_far = (one : EndedJob) × Has (ended given (events ++ Begin agent (Transaction caller site ops) ∷ so_far)) one × (number_of one ≡ t)
-
-  ended_more : (so_far : List Event) (event : Event) → ended given (events ++ Begin agent (Transaction caller site ops) ∷ (so_far ++ event ∷ []))
-      ≡ ended given (events ++ Begin agent (Transaction caller site ops) ∷ so_far) ++ cons_option (step (fixed_of given) (world_after given events agent caller site ops so_far) event).done.outcome []
-  ended_more so_far event =
-      ap (ended given) (sym (append_assoc events (Begin agent (Transaction caller site ops) ∷ so_far) (event ∷ [])))
-      ∙ ap outcomes (dones-append (fixed_of given) (opening given) (events ++ Begin agent (Transaction caller site ops) ∷ so_far) (event ∷ []))
-      ∙ outcomes-append (done_in given (events ++ Begin agent (Transaction caller site ops) ∷ so_far)) (dones (fixed_of given) (run given (events ++ Begin agent (Transaction caller site ops) ∷ so_far)) (event ∷ []))
-      ∙ ap (λ w. ended given (events ++ Begin agent (Transaction caller site ops) ∷ so_far) ++ outcomes (dones (fixed_of given) w (event ∷ [])))
-      (sym (run_at given events later agent t caller site ops actor goes.can goes.there goes.begins so_far))
-
-  pub over_on : (so_far : List Event) (event : Event) → Over so_far → Over (so_far ++ event ∷ [])
-  over_on so_far event over =
-      (over.0, subst (λ all. Has all over.0) (sym (ended_more so_far event)) (append_has_left (ended given (events ++ Begin agent (Transaction caller site ops) ∷ so_far)) (cons_option (step (fixed_of given) (world_at so_far) event).done.outcome []) over.0 over.1), over.2)
-
-  pub over_now : (so_far : List Event) (event : Event) (one : EndedJob) → (step (fixed_of given) (world_after given events agent caller site ops so_far) event).done.outcome ≡ Some one → number_of one ≡ t → Over (so_far ++ event ∷ [])
-  over_now so_far event one is number = (
-    one,
-    subst (λ all. Has all one) (sym (ended_more so_far event)) (append_has_right (ended given (events ++ Begin agent (Transaction caller site ops) ∷ so_far)) (cons_option (step (fixed_of given) (world_at so_far) event).done.outcome []) one (subst (λ found. Has (cons_option found []) one) (sym is) (inl refl))),
-    number,
-  )
-
-  pub small_at : (so_far : List Event) (i : ℕ) (a : Agent) → agent_at (world_after given events agent caller site ops so_far) i ≡ Some a → i < 64
-  small_at so_far i a at =
-      (holds_of given goes.can.accepted (events ++ Begin agent (Transaction caller site ops) ∷ so_far)).agents.small i a
-      (ap (λ w. agent_at w i) (sym (run_at given events later agent t caller site ops actor goes.can goes.there goes.begins so_far)) ∙ at)
-
-  -- none of its number ends again
-  never_again : (so_far : List Event) (event : Event) → Over so_far → (one : EndedJob) → (step (fixed_of given) (world_after given events agent caller site ops so_far) event).done.outcome ≡ Some one → number_of one ≡ t → ⊥
-  never_again so_far event over one is number =
-      let run_so = run_at given events later agent t caller site ops actor goes.can goes.there goes.begins so_far in
-      let was = (holds_of given goes.can.accepted (events ++ Begin agent (Transaction caller site ops) ∷ so_far)).over over.0 over.1 in
-      let now = who_ends (fixed_of given) (world_at so_far) one event is in
-      let small_was = (holds_of given goes.can.accepted (events ++ Begin agent (Transaction caller site ops) ∷ so_far)).agents.small over.0.agent was.agent was.at in
-      let small_now = small_at so_far one.agent now.actor.agent (ap agent_of now.there) in
-      let places = same_place over.0.count one.count over.0.agent one.agent (over.2 ∙ sym number) small_was small_now in
-      let same : was.agent ≡ now.actor.agent = same_Some was.agent now.actor.agent (sym was.at ∙ ap (agent_at (run given (events ++ Begin agent (Transaction caller site ops) ∷ so_far))) places.1 ∙ ap (λ w. agent_at w one.agent) (sym run_so) ∙ ap agent_of now.there) in
-      let counts : was.agent.count ≡ now.actor.agent.count = ap (λ (a : Agent). a.count) same in
-      let before = was.before in
-      let count = now.count in
-      let place = places.0 in
-      let idle = was.idle (omega (arith, counts, before, count, place)) in
-      none-some now.asked (sym (ap (next_in (fixed_of given)) (sym (ap (λ (a : Agent). a.doing) same) ∙ idle)) ∙ now.next)
-
-  -- while it runs another's event ends no job of its number
-  not_ended : (so_far rest : List Event) (event : Event) → later ≡ so_far ++ event ∷ rest → (c : Course given events later agent t caller site ops actor goes so_far) → ((one : EndedJob) → (step (fixed_of given) (world_after given events agent caller site ops so_far) event).done.outcome ≡ Some one → one.agent ≡ agent → ⊥)
-      → (one : EndedJob) → (step (fixed_of given) (world_after given events agent caller site ops so_far) event).done.outcome ≡ Some one → number_of one ≡ t → ⊥
-  not_ended so_far rest event split c other one is number =
-      let now = who_ends (fixed_of given) (world_at so_far) one event is in
-      let small_now = small_at so_far one.agent now.actor.agent (ap agent_of now.there) in
-      let small_own = small_at so_far agent c.here.agent (ap agent_of c.there) in
-      other one is (same_place one.count actor.agent.count one.agent agent (number ∙ sym begun.0) small_now small_own).1
-
-  ends_in : (rest so_far : List Event) → later ≡ so_far ++ rest → Course given events later agent t caller site ops actor goes so_far ⊎ Over so_far → (one : EndedJob) → Has (outcomes (dones (fixed_of given) (world_after given events agent caller site ops so_far) rest)) one → number_of one ≡ t → Right given events later agent t caller site ops actor goes one.ending
-  ends_in [] so_far split state one has numbered = absurd has
-  ends_in (event ∷ rest) so_far split state one has numbered =
-      ⊎_elim
-      (λ c. by c (λ state has. ends_in rest (so_far ++ event ∷ []) (split ∙ sym (append_assoc so_far (event ∷ []) rest)) state one has numbered))
-      (λ over.
-      goes_later (λ is. absurd (never_again so_far event over one is numbered))
-      (λ has. ends_in rest (so_far ++ event ∷ []) (split ∙ sym (append_assoc so_far (event ∷ []) rest)) (inr (over_on so_far event over)) one has numbered) (step (fixed_of given) (world_at so_far) event).done.outcome refl has)
-      state
-    where
-      goes_later : ((step (fixed_of given) (world_after given events agent caller site ops so_far) event).done.outcome ≡ Some one → Right given events later agent t caller site ops actor goes one.ending)
-          → (Has (outcomes (dones (fixed_of given) (world_after given events agent caller site ops (so_far ++ event ∷ [])) rest)) one → Right given events later agent t caller site ops actor goes one.ending)
-          → (found : Option EndedJob) → (step (fixed_of given) (world_after given events agent caller site ops so_far) event).done.outcome ≡ found
-          → Has (cons_option found (outcomes (dones (fixed_of given) (step (fixed_of given) (world_after given events agent caller site ops so_far) event).world rest))) one → Right given events later agent t caller site ops actor goes one.ending
-      goes_later here go None is has = go (subst (λ w. Has (outcomes (dones (fixed_of given) w rest)) one) (sym (next_is given events later agent t caller site ops actor goes so_far event)) has)
-      goes_later here go (Some other) is has =
-          ⊎_elim (λ same. here (is ∙ ap (λ o. Some o) same)) (λ has. go (subst (λ w. Has (outcomes (dones (fixed_of given) w rest)) one) (sym (next_is given events later agent t caller site ops actor goes so_far event)) has)) has
-
-      by : Course given events later agent t caller site ops actor goes so_far → (Course given events later agent t caller site ops actor goes (so_far ++ event ∷ []) ⊎ Over (so_far ++ event ∷ []) → Has (outcomes (dones (fixed_of given) (world_after given events agent caller site ops (so_far ++ event ∷ [])) rest)) one → Right given events later agent t caller site ops actor goes one.ending) → Right given events later agent t caller site ops actor goes one.ending
-      by c go = ⊎_elim
-          (λ apart.
-          goes_later (λ is. absurd (not_ended so_far rest event split c apart.0.other one is numbered)) (go (inl (apart_on given events later agent t caller site ops actor goes so_far rest event split c apart.0 apart.1).0)) (step (fixed_of given) (world_at so_far) event).done.outcome refl has)
-          (λ own. own_step own.0 own.1)
-          (event_apart given agent (world_at so_far) c.here c.there c.busy event (unhindered given events later agent t caller site ops actor goes so_far rest event split c))
-        where
-          own_step : event ≡ Step agent → is_some (step (fixed_of given) (world_after given events agent caller site ops so_far) event).done.served ≡ true → Right given events later agent t caller site ops actor goes one.ending
-          own_step is served =
-              let split' : later ≡ so_far ++ Step agent ∷ rest = split ∙ ap (λ event. so_far ++ event ∷ rest) is in
-              let took = own_took (fixed_of given) (world_at so_far) agent c.here c.there (subst (λ event. is_some (step (fixed_of given) (world_after given events agent caller site ops so_far) event).done.served ≡ true) is served) in
-              let r = runs_it given events later agent t caller site ops actor goes so_far c in
-              let on = own_on so_far rest split' c r took in
-              let here : (step (fixed_of given) (world_after given events agent caller site ops so_far) event).done.outcome ≡ Some one → Right given events later agent t caller site ops actor goes one.ending =
-              λ ends. ends_right so_far rest split' c r took one (ap (λ event. (step (fixed_of given) (world_after given events agent caller site ops so_far) event).done.outcome) (sym is) ∙ ends) in
-              let state : Course given events later agent t caller site ops actor goes (so_far ++ event ∷ []) ⊎ Over (so_far ++ event ∷ []) =
-              subst (λ event. Course given events later agent t caller site ops actor goes (so_far ++ event ∷ []) ⊎ Over (so_far ++ event ∷ [])) (sym is) (⊎_elim (λ on. inl on.0) (λ ended. inr (over_now so_far (Step agent) ended.0 ended.1 ended.2)) on) in
-              goes_later here (go state) (step (fixed_of given) (world_at so_far) event).done.outcome refl has
-
-  -- it ends so
-  pub unmet_ends : (one : EndedJob) → Contains (outcomes (dones (fixed_of given) (begun_world given events agent caller site ops) later)) one → number_of one ≡ t → Right given events later agent t caller site ops actor goes one.ending
-  unmet_ends one there number =
-      ends_in later [] refl (inl first_course) one (has_from (outcomes (dones (fixed_of given) (begun_world given events agent caller site ops) later)) one there) number
