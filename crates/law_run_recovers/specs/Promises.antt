@@ -5,6 +5,7 @@ use Rattle.run_core.specs.declared.event.Event.{Event}
 use Rattle.run_core.specs.Opened.{Opened}
 use Rattle.law_agents.specs.Sites.{RunsKeepToSites}
 use Rattle.law_agents.specs.Steps.{JobsEnd}
+use Rattle.law_headline.specs.Premises.{CanBe}
 use Rattle.law_headline.specs.Promises.{IsRunOf}
 use Rattle.law_run_alone.specs.Alone.{one_at_a_time}
 use Rattle.law_run_alone.specs.Endings.{EndAsTheTable, EndingsAreOne, UndisturbedEndingsAreOne}
@@ -77,6 +78,10 @@ pub record IsAvailable (given : Opening) (events : List Event) : Type 0 where
   pub bounds : RunsEndByTheBoundsAt given events
   -- nothing is kept for sites that are not there, and events without sense change nothing
   pub sites : RunsKeepToSites
+
+-- After any events that there can be it is so.
+abbrev pub WhatCanBeIsAvailable : Type 0
+WhatCanBeIsAvailable = (given : Opening) (events : List Event) → CanBe given events → IsAvailable given events
 
 -- A world lends this of every list of events that made it, at each moment: after those of them that came before some later ones.
 abbrev pub Lends : Opened → Type 0

@@ -23,7 +23,7 @@
 //!   (`blocked_by_doubts`, `some_server_blocks`, `one_crash_blocks`).
 //! - Each job that ended in a run took steps within its bound, with no premise (`runs_end_by_the_bounds`).
 //! - A transaction whose lock was taken away is never decided (`taken_away_are_never_decided`).
-//! - `promise` lends all this of a world. In `some_runs_recover` it says something.
+//! - `promise` lends all this of a world, and `what_can_be_is_available` of any events that there can be. In `some_runs_recover` it says something.
 //! - Not promised: that of transactions that meet one is decided (`some_runs_starve`).
 //!
 //! **The caller owes** to `promise` a world that some events made of accepted settings (`IsOfRun`).
@@ -46,7 +46,7 @@ ghost use Rattle.law_run_recovers.specs.Worked.{SomeRunsRecover};
 ghost use Rattle.law_run_recovers.specs.Blocking.{BlockedByDoubts, SomeServerBlocks, OneCrashBlocks};
 ghost use Rattle.law_run_recovers.specs.Contending.{SomeRunsStarve};
 
-pub use promises::promise;
+pub use promises::{promise, what_can_be_is_available};
 
 /// A law: a transaction that begins where no server that is up has a lock, and that nobody hinders, ends as the votes say
 /// that are up: where a suite has too few of them, with the first such and its numbers; else, where its home is down, with
