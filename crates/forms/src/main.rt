@@ -1,17 +1,18 @@
-//! Prints how the lines of scripts and their operations are written, and what keeps a line of a script from its form.
+//! Prints how the lines of scripts and their operations are written, and what keeps a line from its form.
 //! `./suites explain`, the tables of documents and the tests stand on it.
 //!
-//! Without a word it prints the table of forms, one a line, its fields between tabs:
+//! Without a word it prints the table of forms, one a line, with tabs between its fields:
 //!
-//! - `place NAME LEAST MOST CODE MEANING`: a word in its place, with the limits of a number and the code of one beyond;
-//! - `line COMMAND PART WORD PLACES DOES`: a line of a command's scripts; its part is `header`, `option` (a line that may be
-//!   missing), `name` or `own`, and the lines of a command come in the order in which they stand;
+//! - `place NAME LEAST MOST CODE MEANING`: a word in its place, with the limits of a number and the code of one
+//!   beyond them;
+//! - `line COMMAND PART WORD PLACES DOES`: a line of a command's scripts. Its part is `header`, `option` (a line that
+//!   may be missing), `name` or `own`; the lines of a command come in the order in which they stand;
 //! - `operation WORD PLACES DOES`.
 //!
-//! With the words COMMAND and NUMBER it reads a script, whose lines above that number have no fault, and prints of that
-//! line `WORD CODE EXPECTED FORM`: the number of the first word that does not fit, the code of the fault, the place
-//! that it stands in (or `END`, `OPERATION`, `LINE`) and the form that has this place. A hyphen stands for what there
-//! is not.
+//! With the words COMMAND and NUMBER it reads a script, whose lines above that number have no fault. Of that line it
+//! prints `WORD CODE EXPECTED FORM`: the number of the first word that does not fit, the code of the fault, the place
+//! where the word stands (or `END`, `OPERATION`, `LINE`), and the form that has this place. A hyphen stands for what
+//! there is not.
 //!
 //! **Files**: `places` (their names), `table`, `reading` (the lines of a script), `finding` (what is printed of one).
 #![tactic(auto)]

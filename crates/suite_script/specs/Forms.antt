@@ -1,5 +1,5 @@
 -- The forms of operations, and whether a word fits the place where it stands.
-use Rattle.std.specs.Prelude.{ℕ, ◌+◌, ◌-◌, ◌^◌, ◌==◌, nat_le, Bool, ◌&&◌, if◌then◌else◌, is_some, List, [], ◌∷◌, Option, Some, None, Result, Ok, Err}
+use Rattle.std.specs.Prelude.{◌≡◌, ℕ, ◌+◌, ◌-◌, ◌^◌, ◌==◌, nat_le, ◌&&◌, if◌then◌else◌, is_some, List, [], ◌∷◌, Option, Some, None, Result, Ok, Err}
 use Rattle.std.specs.List.{list_all, slice_split}
 use Rattle.acl_text.specs.Tables.{name_fault}
 use Rattle.script_text.specs.Numbers.{number_up_to}
@@ -10,6 +10,8 @@ use Rattle.vote_core.specs.Validity.{max_servers}
 use Rattle.vote_core.specs.declared.TheConstants.{MAX_SERVERS}
 use Rattle.suite_script.specs.declared.fault.LineFault.{LineFault}
 use Rattle.suite_script.specs.declared.fault.LineFault.TheVariants.{Form, Settings}
+use Rattle.suite_script.specs.declared.fault.LineError.{LineError}
+use Rattle.suite_script.specs.declared.fault.LineError.TheVariants.{Faulty, Memory}
 use Rattle.suite_script.specs.declared.form.Ending.{Ending}
 use Rattle.suite_script.specs.declared.form.Ending.TheVariants.{Whole, Perhaps}
 use Rattle.suite_script.specs.declared.form.Place.{Place}
@@ -49,6 +51,11 @@ ending_of _ = Whole
 abbrev pub fault_in : {A : Type 0} → Result A LineFault → Option LineFault
 fault_in (Ok given) = None
 fault_in (Err fault) = Some fault
+
+-- the fault of an error, where it is one
+abbrev pub IsFaultOf : LineError → Option LineFault → Type 0
+IsFaultOf (Faulty given) fault = fault ≡ Some given
+IsFaultOf Memory fault = ⊥
 
 -- the fault of a word that says nothing
 abbrev pub wanting : {A : Type 0} → Option A → Option LineFault

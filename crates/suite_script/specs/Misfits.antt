@@ -1,5 +1,5 @@
 -- The first word of a line that its form does not allow, with its number from 1, what was expected there, and the fault.
-use Rattle.std.specs.Prelude.{ℕ, ◌+◌, ◌-◌, ◌^◌, min, List, [], ◌∷◌, Option, Some, None}
+use Rattle.std.specs.Prelude.{◌≡◌, ℕ, ◌+◌, min, List, [], ◌∷◌, Option, Some, None, option_map}
 use Rattle.std.specs.List.{slice_split}
 use Rattle.script_text.specs.Phrases.{is_semicolon}
 use Rattle.suite_script.specs.declared.fault.LineFault.{LineFault}
@@ -12,8 +12,8 @@ use Rattle.suite_script.specs.declared.misfit.Expected.TheVariants as expected
 use Rattle.suite_script.specs.declared.misfit.Misfit.{Misfit}
 use Rattle.suite_script.specs.declared.scope.Scope.{Scope}
 use Rattle.suite_script.specs.declared.verb.Verb.{Verb}
-use Rattle.suite_script.specs.Forms.{ending_of, max_number, place_fault, places_of}
-use Rattle.suite_script.specs.Operations.{verb_in}
+use Rattle.suite_script.specs.Forms.{ending_of, fault_in, max_number, place_fault, places_of}
+use Rattle.suite_script.specs.Operations.{operations, verb_in}
 use Rattle.suite_script.specs.Words.{Word}
 
 -- what words come to: the first that does not fit, or the number of the next word and the words that are left
@@ -79,11 +79,15 @@ operations_misfit scope number [] = None
 operations_misfit scope number (phrase ∷ phrases) =
     misfit_or (operation_judged scope number phrase) (λ next. operations_misfit scope (after next) phrases)
 
+-- phrases where nothing may be left: their semicolon does not fit
+abbrev pub phrases_ended : ℕ → List (List Word) → Option Misfit
+phrases_ended number [] = None
+phrases_ended number (phrase ∷ phrases) = Some (misfit_at number expected.End line.Form)
+
 -- what is left of a line after the places of its form
 abbrev pub rest_misfit : Scope → Ending → ℕ → List Word → List (List Word) → Option Misfit
 rest_misfit scope Operations number words phrases = operations_misfit scope number (words ∷ phrases)
-rest_misfit scope _ number words [] = None
-rest_misfit scope _ number words (phrase ∷ phrases) = Some (misfit_at number expected.End line.Form)
+rest_misfit scope _ number words phrases = phrases_ended number phrases
 
 abbrev pub judged_rest : Scope → Ending → List (List Word) → Judged → Option Misfit
 judged_rest scope ending phrases (Wrong misfit) = Some misfit
@@ -101,3 +105,19 @@ line_misfit scope places ending words = phrases_misfit scope places ending (slic
 abbrev pub found : Option Misfit → ℕ → List Word → Judged
 found (Some misfit) number words = Wrong misfit
 found None number words = Left number words
+
+-- nothing is left, unless operations are
+abbrev pub IsClosed : Ending → List Word → Type 0
+IsClosed Operations words = Unit {0}
+IsClosed _ words = words ≡ []
+
+-- the fault of words that were judged
+abbrev pub judged_fault : Judged → Option LineFault
+judged_fault (Wrong misfit) = Some misfit.fault
+judged_fault (Left number words) = None
+
+-- the first word of operations that does not fit has the fault that they have as they are read, and there is none where they have none
+abbrev pub OperationsAgree : Type 0
+OperationsAgree =
+    (scope : Scope) (number : ℕ) (words : List Word)
+    → option_map (λ misfit. misfit.fault) (operations_misfit scope number (slice_split is_semicolon words)) ≡ fault_in (operations scope.names words)

@@ -1,7 +1,7 @@
 //! The first word of a line that its form does not allow.
 
-ghost use Rattle.std.specs.Prelude.{◌≡◌, ◌∷◌, IfOk};
-ghost use Rattle.suite_script.specs.Misfits.{after, closed, ended, found, judge, line_misfit, misfit_at, operation_judged, operations_misfit, shaped};
+ghost use Rattle.std.specs.Prelude.{◌≡◌, ◌∷◌, [], None, IfOk};
+ghost use Rattle.suite_script.specs.Misfits.{IsClosed, after, closed, ended, found, judge, line_misfit, misfit_at, operation_judged, operations_misfit, phrases_ended, shaped};
 
 use crate::fault::LineFault;
 use crate::form::{Ending, Form, Place};
@@ -85,6 +85,7 @@ impl Scope {
         phrases: &mut Phrases<'_>,
     ) -> Result<Option<Misfit>, AllocError>
         ensures judged { IfOk result (λ misfit. found misfit number.new phrases.new.here ≡ closed self.now ending number.old phrases.old.here) }
+        ensures whole { IfOk result (λ misfit. misfit ≡ None → IsClosed ending phrases.new.here) }
         ensures later { phrases.new.later ≡ phrases.old.later }
     {
         match ending {
@@ -104,6 +105,7 @@ impl Scope {
     ) -> Result<Option<Misfit>, AllocError>
         ensures judged { IfOk result (λ misfit. found misfit number.new phrases.new.here
             ≡ closed self.now (Ending.Perhaps place) number.old phrases.old.here) }
+        ensures whole { IfOk result (λ misfit. misfit ≡ None → phrases.new.here ≡ []) }
         ensures later { phrases.new.later ≡ phrases.old.later }
     {
         let Some(word) = phrases.next_word() else {
@@ -130,6 +132,7 @@ impl Scope {
     ) -> Result<Option<Misfit>, AllocError>
         ensures judged { IfOk result (λ misfit. found misfit number.new phrases.new.here
             ≡ shaped self.now form.places.now form.ending number.old phrases.old.here) }
+        ensures whole { IfOk result (λ misfit. misfit ≡ None → IsClosed form.ending phrases.new.here) }
         ensures later { phrases.new.later ≡ phrases.old.later }
     {
         match self.judge(alloc, form.places, number, phrases)? {
@@ -146,6 +149,7 @@ impl Scope {
         phrases: &mut Phrases<'_>,
     ) -> Result<Option<Misfit>, AllocError>
         ensures judged { IfOk result (λ misfit. found misfit number.new phrases.new.here ≡ operation_judged self.now number.old phrases.old.here) }
+        ensures whole { IfOk result (λ misfit. misfit ≡ None → phrases.new.here ≡ []) }
         ensures later { phrases.new.later ≡ phrases.old.later }
     {
         match phrases.next_word().and_then(Verb::of) {
@@ -164,7 +168,7 @@ impl Scope {
         mut number: u64,
         mut phrases: Phrases<'_>,
     ) -> Result<Option<Misfit>, AllocError>
-        ensures { IfOk result (λ misfit. misfit ≡ operations_misfit self.now number.entry (phrases.entry.here ∷ phrases.entry.later)) }
+        ensures { IfOk result (λ misfit. misfit ≡ operations_misfit self.now number (phrases.entry.here ∷ phrases.entry.later)) }
     {
         loop {
             if let Some(misfit) = self.judge_operation(alloc, &mut number, &mut phrases)? {
@@ -193,15 +197,27 @@ impl Scope {
         }
         match form.ending {
             Ending::Operations => self.operations_misfit(alloc, number, phrases),
-            _ if phrases.next_phrase() => Ok(Some(no_form(number, Expected::End))),
-            _ => Ok(None),
+            Ending::Whole | Ending::Perhaps(_) => Ok(later_misfit(number, &mut phrases)),
         }
+    }
+}
+
+/// A semicolon that stands where nothing more may.
+fn later_misfit(number: u64, phrases: &mut Phrases<'_>) -> Option<Misfit>
+    requires { phrases.old.here ≡ [] }
+    ensures { result ≡ phrases_ended number phrases.old.later }
+{
+    if phrases.next_phrase() {
+        Some(no_form(number, Expected::End))
+    } else {
+        None
     }
 }
 
 /// A word that stands where nothing more may.
 fn end_misfit(number: u64, phrases: &mut Phrases<'_>) -> Option<Misfit>
     ensures judged { found result number phrases.new.here ≡ ended number phrases.old.here }
+    ensures whole { result ≡ None → phrases.new.here ≡ [] }
     ensures later { phrases.new.later ≡ phrases.old.later }
 {
     match phrases.next_word() {

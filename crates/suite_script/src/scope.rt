@@ -1,10 +1,10 @@
 //! Whether a word fits the place where it stands.
 
-ghost use Rattle.std.specs.Prelude.{◌≡◌, ◌==◌, IfOk, is_some};
+ghost use Rattle.std.specs.Prelude.{◌≡◌, ◌==◌, IfOk, None, Some, is_some, if◌then◌else◌};
 ghost use Rattle.std.specs.List.{list_all, slice_split};
 ghost use Rattle.acl_text.specs.Tables.{name_fault};
 ghost use Rattle.script_text.specs.Numbers.{number_up_to};
-ghost use Rattle.suite_script.specs.Forms.{beyond, fault_in, max_number, place_fault, wanting};
+ghost use Rattle.suite_script.specs.Forms.{IsFaultOf, beyond, fault_in, max_number, place_fault, wanting};
 ghost use Rattle.suite_script.specs.Lists.{init_in, lists_in};
 ghost use Rattle.suite_script.specs.Operations.{bytes_in};
 ghost use Rattle.suite_script.specs.Scripts.{refused};
@@ -37,7 +37,9 @@ pub struct Scope {
 
 impl LineError {
     /// The fault; or out of memory.
-    fn fault(self) -> Result<Option<LineFault>, AllocError> {
+    fn fault(self) -> Result<Option<LineFault>, AllocError>
+        ensures { IfOk result (λ fault. IsFaultOf self fault) }
+    {
         match self {
             LineError::Faulty(fault) => Ok(Some(fault)),
             LineError::Memory => Err(AllocError),
