@@ -110,8 +110,8 @@ impl Reading {
             return Ok(());
         };
         match place {
-            Place::Servers => self.scope.last_server = last_of(word, MAX_SERVERS),
-            Place::Agents => self.scope.last_agent = last_of(word, MAX_AGENTS),
+            Place::Servers => self.scope.last_server = last_of(word, MAX_SERVERS as u8),
+            Place::Agents => self.scope.last_agent = last_of(word, MAX_AGENTS as u8),
             Place::UserName => return noted(self.scope.names.add_user(word, 0)),
             Place::GroupName => return noted(self.scope.names.add_group(word, 0)),
             _ => {}
@@ -121,10 +121,10 @@ impl Reading {
 }
 
 /// The last of so many that are numbered from 0.
-fn last_of(word: &[u8], most: usize) -> u8 {
-    match read_number(word, most as u64) {
+fn last_of(word: &[u8], most: u8) -> u8 {
+    match read_number(word, u64::from(most)) {
         Some(count) => (count as u8).saturating_sub(1),
-        None => most as u8 - 1,
+        None => most.saturating_sub(1),
     }
 }
 
