@@ -264,16 +264,16 @@ def of_votes(word: str, where: Where) -> Wrong | None:
         return Wrong(
             "V6",
             (
-                f"r + w is {read + write}, and N, all votes together, is {total}: a read could miss a write; r + w is"
-                " above N"
+                f"here r + w is {read + write}, and N, all votes together, is {total}: a read could miss a write;"
+                " r + w has to be above N"
             ),
         )
     if 2 * write <= total:
         return Wrong(
             "V7",
             (
-                f"2w is {2 * write}, and N, all votes together, is {total}: two writes could miss one another; 2w is"
-                " above N"
+                f"here 2w is {2 * write}, and N, all votes together, is {total}: two writes could miss one another;"
+                " 2w has to be above N"
             ),
         )
     return None

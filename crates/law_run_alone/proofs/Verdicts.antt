@@ -92,7 +92,7 @@ pub record Newly (task : Task) (v new : Verdict) (d : Option Decided) : Type 0 w
 abbrev pub Turns : Task → Verdict → Verdict → Option Decided → Type 0
 Turns task v new d = Same v new d ⊎ Newly task v new d
 
-append_none : {X : Type 0} (xs : List X) → xs ++ [] ≡ xs
+pub append_none : {X : Type 0} (xs : List X) → xs ++ [] ≡ xs
 append_none [] = refl
 append_none (x ∷ xs) = ap (λ xs. x ∷ xs) (append_none xs)
 
