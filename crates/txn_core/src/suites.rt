@@ -158,7 +158,7 @@ impl Suite {
         ensures err { OnErr result (self.new ≡ self.old) }
         ensures memory { IfErr result (λ _. IsTrue (is_held reply.now)) }
     {
-        self.gathered.collect.take(reply)
+        self.gathered.collect.hear(reply)
     }
 
     /// The quorum that it is to have with a lock that completes one.
