@@ -140,7 +140,7 @@ fn push_known(text: &mut Vec<u8>, suite: &Suite) -> Result<(), AllocError>
 
 /// What a first quorum gave, where there was one.
 fn push_first(text: &mut Vec<u8>, first: Option<&ReadPoint>) -> Result<(), AllocError>
-    ensures { OnOk result (text.new.items ≡ text.old.items ++ first_text (option_copied first)) }
+    ensures { OnOk result (text.new.items ≡ text.old.items ++ first_text (option_copied first.entry)) }
 {
     match first {
         Some(point) => push_point(text, point),
@@ -203,7 +203,7 @@ fn push_entry(text: &mut Vec<u8>, cache: &WeakCache, site: u8, suite: u64) -> Re
 
 /// The version of a prefix, where there is one.
 fn push_hint(text: &mut Vec<u8>, prefix: Option<&SharedPrefix>) -> Result<(), AllocError>
-    ensures { OnOk result (text.new.items ≡ text.old.items ++ hint_text (option_copied prefix)) }
+    ensures { OnOk result (text.new.items ≡ text.old.items ++ hint_text (option_copied prefix.entry)) }
 {
     match prefix {
         Some(prefix) => push_member(text, b",\"prefix\":", prefix.pver),
