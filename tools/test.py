@@ -185,9 +185,10 @@ def play_all(parts: typing.Sequence[Part], number: int, teller: console.Teller) 
 
 
 def main() -> int:
-    if sys.argv[1:] not in ([], ["--long"]):
-        raise console.Stop("--test takes no other word than --long")
-    parts = (*PARTS, *LONG) if sys.argv[1:] else PARTS
+    read = console.words(__doc__)
+    read.usage = "./suites --test [--long]"
+    read.add_argument("--long", action="store_true")
+    parts = (*PARTS, *LONG) if read.parse_args().long else PARTS
     sources.Kit().wanted()
     sources.make_folder()
     teller, number = console.Teller(), lanes()
