@@ -200,8 +200,8 @@ def main() -> int:
         for own, told in zip([*lines_of(events), None], [*lines_in(lines), None]):
             judge.holds(own == told, name, "told otherwise", own, told)
     for words in (["--json", "x"], ["--json", ""], ["x", "--json"]):
-        done = subprocess.run([trace.program(), *words], input="servers 1\n", env=trace.ENV, capture_output=True, text=True, check=False)
-        judge.holds((done.returncode, done.stdout) == (2, "fault command line\n"), "words", words, done)
+        done = subprocess.run([trace.program(), *words], stdin=subprocess.DEVNULL, capture_output=True, check=False)
+        judge.holds((done.returncode, done.stdout) == (2, b"fault command line\n"), "words", words, done)
     for one in judge.wrong[:20]:
         print(one[:600])
     print(f"{judge.count} looked at, {len(judge.wrong)} differ")

@@ -200,7 +200,8 @@ def whole(judge: Judge, pages: Pages, shots: str | None) -> None:
             judge.holds(seen["here"] == place, name, "keys lead to", place, seen["here"])
             if shots and name in SHOT:
                 pages.driver.shot(os.path.join(shots, f"{name}-{place}.png"))
-            judge.holds(seen["agents"] == agents_at(events, place), name, "agents", place, seen["agents"], agents_at(events, place))
+            told = agents_at(events, place)
+            judge.holds(seen["agents"] == told, name, "agents", place, seen["agents"], told)
         judge.holds(seen["servers"] == ended(lines), name, "servers", seen["servers"], ended(lines))
         judge.holds(seen["told"] == seen["text"] == printed(lines), name, "what play prints", seen["told"])
         pages.driver.press("ArrowLeft", 2)

@@ -1,5 +1,5 @@
 -- What is asked, as JSON has it.
-use Rattle.std.specs.Prelude.{ℕ, List, ◌++◌, codes}
+use Rattle.std.specs.Prelude.{ℕ, List, [], ◌++◌, codes}
 use Rattle.rep_core.specs.declared.reply.Verdict.{Verdict}
 use Rattle.rep_core.specs.declared.request.Decision.{Decision}
 use Rattle.rep_core.specs.declared.request.Part.{Part}
@@ -15,10 +15,6 @@ use Rattle.event_json.specs.Copies.{prefix_text, replica_text}
 use Rattle.event_json.specs.Locks.{mode_text}
 use Rattle.event_json.specs.Replies.{decision_text, verdict_text}
 use Rattle.event_json.specs.Strings.{listed, member}
-
--- what is asked, by which transaction, and of which suite
-abbrev pub about_text : List ℕ → ℕ → ℕ → List ℕ
-about_text what t suite = member what t ++ member (codes ",\"suite\":") suite
 
 -- what is asked, in a word
 abbrev pub asked_word : Request → List ℕ
@@ -51,33 +47,44 @@ take_text (Whole replica) = taken_whole_text replica
 abbrev pub part_text : Part → List ℕ
 part_text part = member (codes "{\"suite\":") part.suite ++ mode_text part.mode ++ take_text part.take ++ codes "}"
 
+abbrev pub parts_text : List Part → List ℕ
+parts_text parts = codes ",\"parts\":[" ++ listed part_text parts ++ codes "]"
+
 -- ---- requests
 
+-- by which transaction
+abbrev pub t_text : ℕ → List ℕ
+t_text t = member (codes ",\"t\":") t
+
+-- and of which suite
+abbrev pub of_text : ℕ → ℕ → List ℕ
+of_text t suite = t_text t ++ member (codes ",\"suite\":") suite
+
 abbrev pub poll_text : ℕ → ℕ → LockMode → List ℕ
-poll_text t suite mode = about_text (codes "{\"asks\":\"poll\",\"t\":") t suite ++ mode_text mode
+poll_text t suite mode = of_text t suite ++ mode_text mode
 
 abbrev pub prepare_text : ℕ → List Part → List ℕ
-prepare_text t parts = member (codes "{\"asks\":\"prepare\",\"t\":") t ++ codes ",\"parts\":[" ++ listed part_text parts ++ codes "]"
+prepare_text t parts = t_text t ++ parts_text parts
 
 abbrev pub decide_text : ℕ → Decision → List ℕ
-decide_text t decision = member (codes "{\"asks\":\"decide\",\"t\":") t ++ codes ",\"decision\":" ++ decision_text decision
+decide_text t decision = t_text t ++ codes ",\"decision\":" ++ decision_text decision
 
 abbrev pub finish_text : ℕ → Verdict → List ℕ
-finish_text t verdict = member (codes "{\"asks\":\"finish\",\"t\":") t ++ codes ",\"verdict\":" ++ verdict_text verdict
+finish_text t verdict = t_text t ++ codes ",\"verdict\":" ++ verdict_text verdict
 
--- a request but for its end
-abbrev pub asked_text : Request → List ℕ
-asked_text (request.Poll t suite mode) = poll_text t suite mode
-asked_text (request.Upgrade t suite) = about_text (codes "{\"asks\":\"upgrade\",\"t\":") t suite
-asked_text (request.Fetch t suite) = about_text (codes "{\"asks\":\"fetch\",\"t\":") t suite
-asked_text (request.Prepare t parts) = prepare_text t parts
-asked_text (request.Decide t decision) = decide_text t decision
-asked_text (request.Resolve t) = member (codes "{\"asks\":\"resolve\",\"t\":") t
-asked_text (request.Finish t verdict) = finish_text t verdict
-asked_text (request.Break t suite) = about_text (codes "{\"asks\":\"break\",\"t\":") t suite
-asked_text request.Locks = codes "{\"asks\":\"locks\""
-asked_text request.Crash = codes "{\"asks\":\"crash\""
-asked_text request.Return = codes "{\"asks\":\"return\""
+-- what stands behind the word
+abbrev pub about_text : Request → List ℕ
+about_text (request.Poll t suite mode) = poll_text t suite mode
+about_text (request.Upgrade t suite) = of_text t suite
+about_text (request.Fetch t suite) = of_text t suite
+about_text (request.Prepare t parts) = prepare_text t parts
+about_text (request.Decide t decision) = decide_text t decision
+about_text (request.Resolve t) = t_text t
+about_text (request.Finish t verdict) = finish_text t verdict
+about_text (request.Break t suite) = of_text t suite
+about_text request.Locks = []
+about_text request.Crash = []
+about_text request.Return = []
 
 abbrev pub request_text : Request → List ℕ
-request_text request = asked_text request ++ codes "}"
+request_text request = codes "{\"asks\":\"" ++ asked_word request ++ codes "\"" ++ about_text request ++ codes "}"

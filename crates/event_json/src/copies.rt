@@ -53,7 +53,7 @@ pub(crate) fn push_replica(
 }
 
 /// The members of a content with its version.
-fn push_version(
+pub(crate) fn push_version(
     alloc: Global,
     text: &mut Vec<u8>,
     dver: u64,
@@ -119,11 +119,7 @@ fn kind_word(kind: PrefixKind) -> &'static [u8]
 }
 
 /// The member of a content: the bytes of a file, or the names of a folder, each with the number of its suite.
-pub(crate) fn push_content(
-    alloc: Global,
-    text: &mut Vec<u8>,
-    content: &Content,
-) -> Result<(), AllocError>
+fn push_content(alloc: Global, text: &mut Vec<u8>, content: &Content) -> Result<(), AllocError>
     ensures { OnOk result (text.new.items ≡ text.old.items ++ content_text content.now) }
 {
     match content {

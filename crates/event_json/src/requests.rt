@@ -2,7 +2,7 @@
 
 ghost use Rattle.std.specs.Prelude.{◌≡◌, ◌++◌, OnOk, codes};
 ghost use Rattle.std.specs.List.{flat_map};
-ghost use Rattle.event_json.specs.Requests.{about_text, asked_text, asked_word, decide_text, finish_text, part_text, poll_text, prepare_text, request_text, take_text, taken_prefix_text, taken_whole_text};
+ghost use Rattle.event_json.specs.Requests.{about_text, asked_word, decide_text, finish_text, of_text, part_text, parts_text, poll_text, prepare_text, request_text, t_text, take_text, taken_prefix_text, taken_whole_text};
 ghost use Rattle.event_json.specs.Strings.{listed};
 
 use crate::copies::{push_prefix, push_replica};
@@ -36,49 +36,59 @@ pub fn asked_word(request: &Request) -> &'static [u8]
 pub fn push_request(alloc: Global, text: &mut Vec<u8>, request: &Request) -> Result<(), AllocError>
     ensures { OnOk result (text.new.items ≡ text.old.items ++ request_text request.now) }
 {
-    push_asked(alloc, text, request)?;
+    text.extend_from_slice(b"{\"asks\":\"")?;
+    text.extend_from_slice(asked_word(request))?;
+    text.extend_from_slice(b"\"")?;
+    push_about(alloc, text, request)?;
     text.extend_from_slice(b"}")
 }
 
-/// A request but for its end.
-fn push_asked(alloc: Global, text: &mut Vec<u8>, request: &Request) -> Result<(), AllocError>
-    ensures { OnOk result (text.new.items ≡ text.old.items ++ asked_text request.now) }
+/// What stands behind the word.
+fn push_about(alloc: Global, text: &mut Vec<u8>, request: &Request) -> Result<(), AllocError>
+    ensures { OnOk result (text.new.items ≡ text.old.items ++ about_text request.now) }
 {
     match request {
         Request::Poll { t, suite, mode } => push_poll(text, *t, *suite, *mode),
-        Request::Upgrade { t, suite } => {
-            push_about(text, b"{\"asks\":\"upgrade\",\"t\":", *t, *suite)
-        }
-        Request::Fetch { t, suite } => {
-            push_about(text, b"{\"asks\":\"fetch\",\"t\":", *t, *suite)
-        }
-        Request::Break { t, suite } => {
-            push_about(text, b"{\"asks\":\"break\",\"t\":", *t, *suite)
-        }
+        Request::Upgrade { t, suite } => push_of(text, *t, *suite),
+        Request::Fetch { t, suite } => push_of(text, *t, *suite),
+        Request::Break { t, suite } => push_of(text, *t, *suite),
         Request::Prepare { t, parts } => push_prepare(alloc, text, *t, parts.as_slice()),
         Request::Decide { t, decision } => push_decide(alloc, text, *t, decision),
-        Request::Resolve { t } => push_member(text, b"{\"asks\":\"resolve\",\"t\":", *t),
+        Request::Resolve { t } => push_t(text, *t),
         Request::Finish { t, verdict } => push_finish(alloc, text, *t, verdict),
-        Request::Locks => text.extend_from_slice(b"{\"asks\":\"locks\""),
-        Request::Crash => text.extend_from_slice(b"{\"asks\":\"crash\""),
-        Request::Return => text.extend_from_slice(b"{\"asks\":\"return\""),
+        Request::Locks => Ok(()),
+        Request::Crash => Ok(()),
+        Request::Return => Ok(()),
     }
+}
+
+/// By which transaction.
+fn push_t(text: &mut Vec<u8>, t: u64) -> Result<(), AllocError>
+    ensures { OnOk result (text.new.items ≡ text.old.items ++ t_text t) }
+{
+    push_member(text, b",\"t\":", t)
+}
+
+/// By which transaction, and of which suite.
+fn push_of(text: &mut Vec<u8>, t: u64, suite: u64) -> Result<(), AllocError>
+    ensures { OnOk result (text.new.items ≡ text.old.items ++ of_text t suite) }
+{
+    push_t(text, t)?;
+    push_member(text, b",\"suite\":", suite)
 }
 
 fn push_poll(text: &mut Vec<u8>, t: u64, suite: u64, mode: LockMode) -> Result<(), AllocError>
     ensures { OnOk result (text.new.items ≡ text.old.items ++ poll_text t suite mode) }
 {
-    push_about(text, b"{\"asks\":\"poll\",\"t\":", t, suite)?;
+    push_of(text, t, suite)?;
     text.extend_from_slice(mode_word(mode))
 }
 
 fn push_prepare(alloc: Global, text: &mut Vec<u8>, t: u64, parts: &[Part]) -> Result<(), AllocError>
     ensures { OnOk result (text.new.items ≡ text.old.items ++ prepare_text t parts.now) }
 {
-    push_member(text, b"{\"asks\":\"prepare\",\"t\":", t)?;
-    text.extend_from_slice(b",\"parts\":[")?;
-    push_parts(alloc, text, parts)?;
-    text.extend_from_slice(b"]")
+    push_t(text, t)?;
+    push_part_list(alloc, text, parts)
 }
 
 fn push_decide(
@@ -89,7 +99,7 @@ fn push_decide(
 ) -> Result<(), AllocError>
     ensures { OnOk result (text.new.items ≡ text.old.items ++ decide_text t decision.now) }
 {
-    push_member(text, b"{\"asks\":\"decide\",\"t\":", t)?;
+    push_t(text, t)?;
     text.extend_from_slice(b",\"decision\":")?;
     push_decision(alloc, text, decision)
 }
@@ -102,17 +112,17 @@ fn push_finish(
 ) -> Result<(), AllocError>
     ensures { OnOk result (text.new.items ≡ text.old.items ++ finish_text t verdict.now) }
 {
-    push_member(text, b"{\"asks\":\"finish\",\"t\":", t)?;
+    push_t(text, t)?;
     text.extend_from_slice(b",\"verdict\":")?;
     push_verdict(alloc, text, verdict)
 }
 
-/// What is asked, by which transaction, and of which suite.
-fn push_about(text: &mut Vec<u8>, what: &[u8], t: u64, suite: u64) -> Result<(), AllocError>
-    ensures { OnOk result (text.new.items ≡ text.old.items ++ about_text what.now t suite) }
+fn push_part_list(alloc: Global, text: &mut Vec<u8>, parts: &[Part]) -> Result<(), AllocError>
+    ensures { OnOk result (text.new.items ≡ text.old.items ++ parts_text parts.now) }
 {
-    push_member(text, what, t)?;
-    push_member(text, b",\"suite\":", suite)
+    text.extend_from_slice(b",\"parts\":[")?;
+    push_parts(alloc, text, parts)?;
+    text.extend_from_slice(b"]")
 }
 
 fn push_parts(alloc: Global, text: &mut Vec<u8>, parts: &[Part]) -> Result<(), AllocError>
