@@ -128,6 +128,7 @@ PARTS = (
     Part("pictures", tool("tests/drawn.py"), [TRACE]),
     Part("events", tool("tests/events.py"), [TRACE]),
     Part("pages in a browser", tool("tests/shown_page.py"), [TRACE]),
+    Part("work done anew", tool("tests/work.py"), [PROGRAM]),
     Part("random scripts", tool("tools/compare.py", "--seeds", "200"), [PROGRAM, TRACE]),
 )
 # What --long adds; of allocations each 61st is refused, and inputs are cut at each 29th byte.
