@@ -73,18 +73,10 @@ last.servers.forEach((server, number) => {
 });
 last.agents.forEach((agent, number) => {
   const own = world.agents[number];
-<<<<<<< HEAD
   for (const part of ['jobs', 'stage', 'next', 'of', 'gathered', 'cache']) {
     if (JSON.stringify(own[part]) !== JSON.stringify(agent[part])) wrong.push(`${part} of ${number}`);
   }
   if ((own.job !== null) !== (agent.stage !== 'idle')) wrong.push(`job of ${number}`);
-=======
-  const sites = [...new Set(own.cache.map((entry) => entry.site))].sort((a, b) => a - b);
-  if (own.jobs !== agent.jobs) wrong.push(`jobs of ${number}`);
-  if (JSON.stringify(sites) !== JSON.stringify(agent.keeps))
-    wrong.push(`cache of ${number}: ${sites} for ${agent.keeps}`);
-  if ((own.job !== null) !== (agent.next !== undefined)) wrong.push(`job of ${number}`);
->>>>>>> origin/next
 });
 console.log(JSON.stringify(wrong));
 """
