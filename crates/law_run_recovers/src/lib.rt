@@ -23,7 +23,8 @@
 //!   (`blocked_by_doubts`, `some_server_blocks`, `one_crash_blocks`).
 //! - Each job that ended in a run took steps within its bound, with no premise (`runs_end_by_the_bounds`).
 //! - A transaction whose lock was taken away is never decided (`taken_away_are_never_decided`).
-//! - `promise` lends all this of a world, and `what_can_be_is_available` of any events that there can be. In `some_runs_recover` it says something.
+//! - `promise` lends all this of a world, and `what_can_be_is_available` of any events that there can be. In
+//!   `some_runs_recover` it says something.
 //! - Not promised: that of transactions that meet one is decided (`some_runs_starve`).
 //!
 //! **The caller owes** to `promise` a world that some events made of accepted settings (`IsOfRun`).
