@@ -12,7 +12,7 @@
 //! - One that nobody meets so ends too, whatever others do elsewhere (`unmet_end_by_votes`,
 //!   `unmet_end_in_time`, `unmet_had_votes_up`, `unmet_are_decided_where_votes_are`); what goes alone is one
 //!   (`alone_are_unmet`). Its votes are those of the rows (`near_votes_are_rows`, `open_votes_are_rows`).
-//! - So does one among locks that others left, as long as what is in its way stays: by the votes that are open to it
+//! - So does one among locks that others left, where what is in its way stays: by the votes that are open to it
 //!   (`among_locks_end_by_votes`, `among_locks_end_in_time`, `among_locks_had_votes_open`,
 //!   `among_locks_are_decided_where_votes_are`); what nobody meets is one (`unmet_are_among_locks`).
 //! - Homes go round. So where the votes are up, of as many tries as there are servers one is decided
@@ -23,14 +23,15 @@
 //!   (`blocked_by_doubts`, `some_server_blocks`, `one_crash_blocks`).
 //! - Each job that ended in a run took steps within its bound, with no premise (`runs_end_by_the_bounds`).
 //! - A transaction whose lock was taken away is never decided (`taken_away_are_never_decided`).
-//! - `promise` lends all this of a world, and `what_can_be_is_available` of any events that there can be. In `some_runs_recover` it says something.
+//! - `promise` lends all this of a world, and `what_can_be_is_available` of any events that there can be. In
+//!   `some_runs_recover` it says something.
 //! - Not promised: that of transactions that meet one is decided (`some_runs_starve`).
 //!
 //! **The caller owes** to `promise` a world that some events made of accepted settings (`IsOfRun`).
 //!
 //! **Files**: `lib`, `promises`. **Definitions** (`specs/`): `Standing`, `Alone`, `Demands`, `InTime`, `Laws`,
-//! `Sweeping`, `Promises`, `Worked`, `Near`, `Unmet`, `OpenDemands`, `Local`, `Among`, `Blocking`, `Contending`. The
-//! proofs follow a transaction over its agent's steps (`proofs/Ends.antt`, `Stands.antt`, `Asking.antt`; where
+//! `Sweeping`, `Promises`, `Worked`, `Near`, `Unmet`, `OpenDemands`, `Local`, `Among`, `Blocking`, `Contending`.
+//! The proofs follow a transaction over its agent's steps (`proofs/Ends.antt`, `Stands.antt`, `Asking.antt`; where
 //! others go on `AmongCourse.antt`, `AmongStep.antt`, `AmongEnds.antt`) and a sweep by its list (`Sweeps.antt`,
 //! `Swept.antt`, `Rounds.antt`).
 #![tactic(auto)]
