@@ -115,6 +115,7 @@ PARTS = (
     Part(MAY, tool("tools/choose.py"), program="may"),
     Part("tests of commands", **tried("command_tests")),
     Part("rows", tool("tests/checked-build.py"), [PROGRAM]),
+    Part("the table of forms", tool("tests/form-table.py"), [PROGRAM]),
     Part("examples of FAULTS", tool("tests/explained.py"), [PROGRAM, TRACE]),
     Part("what explain says of damaged scripts", tool("tests/damaged-scripts.py", "--cases", "1000"), [PROGRAM]),
     Part("command lines of documents", tool("tests/typed.py"), [PROGRAM, TRACE]),
