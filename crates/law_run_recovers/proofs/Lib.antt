@@ -77,3 +77,4 @@ pub mod AmongDecided
 pub mod Names
 pub mod AmongTime
 pub mod AmongLocks
+pub mod Histories

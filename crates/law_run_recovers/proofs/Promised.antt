@@ -21,6 +21,7 @@ use Rattle.law_run_recovers.proofs.Calm.{sweeps_keep_effects}
 use Rattle.law_run_recovers.proofs.Ends.{ends_are_by_votes}
 use Rattle.law_run_recovers.proofs.Free.{no_lock_is_left}
 use Rattle.law_run_recovers.proofs.HadVotes.{decided_had_votes_up}
+use Rattle.law_run_recovers.proofs.Histories.{finished_before_at_server, changes_are_met_at_server}
 use Rattle.law_run_recovers.proofs.Homes.{homes_go_round}
 use Rattle.law_run_recovers.proofs.InTime.{runs_end_by_the_bounds}
 use Rattle.law_run_recovers.proofs.Rounds.{only_doubts_are_left}
@@ -48,6 +49,8 @@ available sites given events can = record {
   among_in_time = among_locks_end_in_time given events;
   among_had_votes = among_locks_had_votes_open given events;
   among_where_votes = among_locks_are_decided_where_votes_are given events;
+  finished = finished_before_at_server given events can;
+  changes_met = changes_are_met_at_server given events can;
   homes = homes_go_round given;
   again = one_of_them_is_decided given events;
   sweep = sweeps_leave_doubts given events;

@@ -14,6 +14,7 @@ use Rattle.law_run_recovers.specs.Laws.{EndsAreByVotesAt, EndsInTimeAt, MetDeman
 use Rattle.law_run_recovers.specs.InTime.{RunsEndByTheBoundsAt}
 use Rattle.law_run_recovers.specs.Local.{UnmetEndByVotesAt, UnmetEndInTimeAt, UnmetHadVotesUpAt, UnmetAreDecidedWhereVotesAreAt}
 use Rattle.law_run_recovers.specs.Among.{AmongLocksEndByVotesAt, AmongLocksEndInTimeAt, AmongLocksHadVotesOpenAt, AmongLocksAreDecidedWhereVotesAreAt}
+use Rattle.law_run_recovers.specs.Histories.{FinishedBeforeAtServerAt, ChangesAreMetAtServerAt}
 use Rattle.law_run_recovers.specs.Blocking.{BlockedByDoubtsAt, SomeServerBlocksAt, OneCrashBlocksAt}
 use Rattle.law_run_recovers.specs.Sweeping.{SweepsLeaveDoubtsAt, SweepsKeepEffectsAt, OnlyDoubtsAreLeftAt, NoLockIsLeftAt, AllIsStoredAt, TakenAwayAreNeverDecidedAt}
 
@@ -40,6 +41,10 @@ pub record IsAvailable (given : Opening) (events : List Event) : Type 0 where
   pub among_in_time : AmongLocksEndInTimeAt given events
   pub among_had_votes : AmongLocksHadVotesOpenAt given events
   pub among_where_votes : AmongLocksAreDecidedWhereVotesAreAt given events
+  -- where a server served the Finish of one transaction before a request of another that is none, the first was decided before the second; so a change whose
+  -- Finish says that it was answered is met
+  pub finished : FinishedBeforeAtServerAt given events
+  pub changes_met : ChangesAreMetAtServerAt given events
   -- of as many jobs in a row of one agent as there are servers, each server is the home of one
   pub homes : HomesGoRoundOf given
   -- so one of as many tries of a transaction is decided, where some server is up and enough votes are, from wherever suites may be looked for
