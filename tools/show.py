@@ -7,8 +7,8 @@ alone: it needs a browser, and neither a network nor these tools.
 
     --open   writes the page into a new file, and opens that in a browser
 
-On the page: the arrow keys, Home and End go through the run, and space plays it. A click on an arrow goes there, one on a
-folded phase opens it, and one on a path shows the file through time. What has dots below it is explained to whoever
+On the page: the arrow keys, Home and End go through the run, and space plays it. A click on an arrow goes there, one on
+a folded phase opens it, and one on a path shows the file through time. What has dots below it is explained to whoever
 points at it.
 """
 import argparse
@@ -29,9 +29,20 @@ PARTS = os.path.join(trace.TOOLS, "show")
 FILES = {"STYLE": "style.css", "MODEL": "model.js", "DRAWING": "drawing.js", "PAGE": "page.js"}
 # Words of the page that are explained elsewhere than their like.
 OWN = {
-    "stale": "A copy is stale where one of a newer version is in effect elsewhere: stored, or left by a decided transaction.",
+    "stale": "A copy is stale where one of a newer version is in effect elsewhere:"
+    " stored, or left by a decided transaction.",
     "exclusive": "A lock to write: it keeps all others out.",
     "shared": "A lock to read: others may have one too, but none to write.",
+    "gathering": "The agent asks for locks of a file or folder, until they have the votes of a quorum.",
+    "fetching": "The agent asks a server for a content, which its site's cache does not have.",
+    "widening": "A file or folder gets other votes: the agent asks for locks at the servers that get them.",
+    "preparing": "The agent asks each server that it locked to prepare: to take what is to be left there.",
+    "deciding": "The agent asks the home of the transaction to decide how it ends.",
+    "finishing": "The agent tells each server that it locked how the transaction ended.",
+    "listing": "A sweep asks a server which locks it has.",
+    "resolving": "A sweep asks the home of a transaction how it ended.",
+    "telling": "A sweep tells the server how a transaction ended.",
+    "breaking": "A sweep breaks a lock of which nothing was prepared.",
 }
 CODES = [*(f"F{number}" for number in range(1, 13)), *(f"U{number}" for number in range(1, 8))]
 
@@ -55,7 +66,8 @@ def events_of(script: bytes) -> list[str]:
     with tempfile.TemporaryFile() as given:
         given.write(script)
         given.seek(0)
-        done = subprocess.run([trace.program(), "--json"], stdin=given, stdout=subprocess.PIPE, env=trace.ENV, check=False)
+        words = [trace.program(), "--json"]
+        done = subprocess.run(words, stdin=given, stdout=subprocess.PIPE, env=trace.ENV, check=False)
     text = done.stdout.decode("latin1")
     if done.returncode != 0:
         sys.stdout.write(text)

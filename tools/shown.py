@@ -13,16 +13,14 @@ import re
 import sys
 import typing
 
+import console
 import draw
+import read_rows
 import sources
 import trace
 import votes
 
 TOP = os.path.join(os.path.dirname(os.path.abspath(__file__)), "..")
-sys.path.append(os.path.join(TOP, "tests"))
-import played
-import typing
-
 PICTURE, STORY = "docs/revocation.svg", "examples/play/revocation.script"
 HELP, OF_TOOLS = "help", "tools.txt"
 # The commands of which no row can tell the output.
@@ -36,7 +34,7 @@ def content(name: str) -> bytes:
 
 def rows() -> list[tuple[str, bytes, bytes]]:
     """The rows: words, input and output of each."""
-    return [(b" ".join(row["words"]).decode(), row["input"], row["output"]) for row in played.rows()]
+    return [(b" ".join(row["words"]).decode(), row["input"], row["output"]) for row in read_rows.rows()]
 
 
 def blocks(text: bytes) -> typing.Iterator[tuple[int, list[bytes]]]:
@@ -95,6 +93,7 @@ def told_of_votes(block: list[bytes]) -> bytes | None:
 
 
 def main() -> int:
+    console.words(__doc__).parse_args()
     known = rows()
     wrong = list(texts_of_help(known))
     inputs = {given for _, given, _ in known}
@@ -118,7 +117,7 @@ def main() -> int:
         elif text in outputs:
             outputs = set()
         else:
-            outputs = {printed for _, given, printed in known if played.said(given) == played.said(text)}
+            outputs = {printed for _, given, printed in known if read_rows.said(given) == read_rows.said(text)}
             if not outputs:
                 wrong.append(f"README.md:{number}: this block is a script or an output of no row")
     if content("crates/trace/stdin") != content(STORY):

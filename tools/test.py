@@ -97,7 +97,7 @@ def tried(crate: str) -> dict[str, typing.Any]:
     return {"words": TRY, "folder": os.path.join("crates", crate)}
 
 
-PROGRAM, TRACE, MAY = "the program", "the program of trace", "the program of may"
+PROGRAM, TRACE, MAY, FORMS = "the program", "the program of trace", "the program of may", "the program of forms"
 # What takes longest stands first, but for what tells at once that something is wrong.
 PARTS = (
     Part("what README shows", tool("tools/shown.py")),
@@ -105,6 +105,7 @@ PARTS = (
     Part("texts of wrong bodies", tool("tools/wrong_bodies.py", "--check")),
     Part("page of wrong bodies", tool("tools/wrong_bodies_page.py", "--check")),
     Part("table of public functions", tool("tools/proved_page.py", "--check")),
+    Part("forms in README and help", tool("tools/forms_page.py", "--check")),
     Part("words that need no build", tool("tests/wrapper.py")),
     Part("type hints", tool("tests/hints.py")),
     Part("tests of runs", **tried("run_tests")),
@@ -112,9 +113,12 @@ PARTS = (
     Part(PROGRAM, tool("tools/choose.py")),
     Part(TRACE, tool("tools/choose.py"), program="trace"),
     Part(MAY, tool("tools/choose.py"), program="may"),
+    Part(FORMS, tool("tools/choose.py"), program="forms"),
     Part("tests of commands", **tried("command_tests")),
     Part("rows", tool("tests/checked-build.py"), [PROGRAM]),
+    Part("the table of forms", tool("tests/form-table.py"), [PROGRAM]),
     Part("examples of FAULTS", tool("tests/explained.py"), [PROGRAM, TRACE]),
+    Part("the words that do not fit", tool("tests/misfits.py", "--cases", "1000"), [PROGRAM, FORMS]),
     Part("what explain says of damaged scripts", tool("tests/damaged-scripts.py", "--cases", "1000"), [PROGRAM]),
     Part("command lines of documents", tool("tests/typed.py"), [PROGRAM, TRACE]),
     Part("answers of may", tool("tests/may.py"), [MAY]),
@@ -128,6 +132,7 @@ PARTS = (
     Part("pictures", tool("tests/drawn.py"), [TRACE]),
     Part("events", tool("tests/events.py"), [TRACE]),
     Part("pages in a browser", tool("tests/shown_page.py"), [TRACE]),
+    Part("work done anew", tool("tests/work.py"), [PROGRAM]),
     Part("random scripts", tool("tools/compare.py", "--seeds", "200"), [PROGRAM, TRACE]),
 )
 # What --long adds; of allocations each 61st is refused, and inputs are cut at each 29th byte.
@@ -185,9 +190,10 @@ def play_all(parts: typing.Sequence[Part], number: int, teller: console.Teller) 
 
 
 def main() -> int:
-    if sys.argv[1:] not in ([], ["--long"]):
-        raise console.Stop("--test takes no other word than --long")
-    parts = (*PARTS, *LONG) if sys.argv[1:] else PARTS
+    read = console.words(__doc__)
+    read.usage = "./suites --test [--long]"
+    read.add_argument("--long", action="store_true")
+    parts = (*PARTS, *LONG) if read.parse_args().long else PARTS
     sources.Kit().wanted()
     sources.make_folder()
     teller, number = console.Teller(), lanes()

@@ -14,6 +14,7 @@ import os
 import sys
 import typing
 
+import console
 import wrong_bodies
 
 PAGE = os.path.join(wrong_bodies.TOP, "docs", "WRONG-BODIES.md")
@@ -21,23 +22,47 @@ IN_GATE = os.path.join(wrong_bodies.TOP, "docs", "wrong-bodies-in-gate.txt")
 PLACES = ((wrong_bodies.GATE, "gate"), (wrong_bodies.BESIDE, "beside"))
 HEAD = """# Wrong bodies
 
-Each line is an edit that makes a function, a definition or a condition wrong. The prover must refuse it: if it does not, a
-contract is too weak. `tools/wrong_bodies_page.py` writes this page from the edits, so change the edits and not the page.
+Each line is an edit that makes a function, a definition or a condition wrong. The prover must refuse it: if it does
+not, a contract is too weak. `tools/wrong_bodies_page.py` writes this page from the edits, so change the edits and not
+the page.
 
-An edit marked `gate` stands in `crates/NAME/must-fail`, and the gate tries it whenever its crate changes. The gate has the
-edits that break a rule of the service, those that were once let through, and those that a reader would try first. An edit
-marked `beside` stands in `crates/NAME/wrong`. It was refused when it was last tried, or its last column says that it was
-not tried yet; `tools/wrong_bodies.py NAME` tries it again. Try those of a crate before a change of its public contracts or
-its definitions lands.
+An edit marked `gate` stands in `crates/NAME/must-fail`, and the gate tries it whenever its crate changes. The gate
+has the edits that break a rule of the service, those that were once let through, and those that a reader would try
+first. An edit marked `beside` stands in `crates/NAME/wrong`. It was refused when it was last tried, or its last
+column says that it was not tried yet; `tools/wrong_bodies.py NAME` tries it again. Try those of a crate before a
+change of its public contracts or its definitions lands.
 
-The last column names the function, and in brackets the clause or the definition that the edit breaks. A function with one
-clause is named alone.
+The last column names the function, and in brackets the clause or the definition that the edit breaks. A function with
+one clause is named alone.
 
 The gate has none of seven crates of laws, of the programs but `may`, of `event_json`, `suite_cli`, `suite_args`,
-`suite_script` and `suite_play` (the rows of `crates/rows` show what the last four print), and but for `gives_up` none of
-the crates that the others only build on (`suite_content`, `byte_streams`, `script_text`, `acl_text`, `file_exec`): the
-proof of a crate above fails
-where it needs a clause that was weakened. Nobody looked whether each of their clauses is needed above.
+`suite_script` and `suite_play` (the rows of `crates/rows` show what the last four print), and but for `gives_up` none
+of the crates that the others only build on (`suite_content`, `byte_streams`, `script_text`, `acl_text`, `file_exec`):
+the proof of a crate above fails where it needs a clause that was weakened. Nobody looked whether each of their
+clauses is needed above.
+"""
+
+# The bodies that a reader of the service's rules asks for first, by their plain names, and of those that no clause can
+# refuse the test that does.
+ASKED = """
+    joined_groups mask_on_owner mask_on_other groups_after_user always_other decided_by_cache stale_content
+    evicts_newest chain_keeps_evicted own_prefix_cached votes_to_new_quorum_only write_quorums_apart
+    version_before_quorum polled_again invented_cause never_decides always_unavailable denial_without_decision
+    copies_changed_at_prepare prepared_lost_in_crash prepare_under_shared_lock second_decide_overwrites
+    job_run_whole_at_begin decode_accepts_disorder decode_accepts_rest fresh_server_each_time
+    answer_from_fresh_server another_request_served dropped_write opening_kept always_certified never_certified
+    decisions_by_finish lost_job doubled_job invented_ending
+""".split()
+BY_TESTS = {
+    "one_lock_for_all": "`a_list_overlaps_a_sweep` of `run_tests`: two servers are asked at one time",
+    "always_memory": "the rows of `crates/rows`, each of which has its status and its lines",
+}
+BY_NAME = """## By name
+
+The bodies that a reader of the service's rules asks for first. No clause can refuse the last two, so a test does.
+
+| Wrong body | Its edit |
+|---|---|
 """
 
 
@@ -84,6 +109,21 @@ def rows(crate: str, in_gate: dict[str, dict[str, str]], faults: list[str]) -> t
             )
 
 
+def by_name(faults: list[str]) -> str:
+    """The table of the bodies that are asked for first. One without an edit is added to the faults."""
+    places: dict[str, list[str]] = {name: [] for name in ASKED}
+    for crate in crates():
+        for folder, place in PLACES:
+            for edit in wrong_bodies.edits(crate, folder):
+                name = wrong_bodies.name_of(edit)
+                if name in places:
+                    places[name].append(f"`{crate}` ({place})")
+    faults += [f"{name}: there is no such edit" for name, found in places.items() if not found]
+    lines = [f"| `{name}` | {', '.join(found)} |" for name, found in places.items()]
+    lines += [f"| `{name}` | {test} |" for name, test in BY_TESTS.items()]
+    return BY_NAME + "\n".join(lines) + "\n"
+
+
 def page() -> tuple[str, list[str]]:
     """The page, and what is wrong with the edits."""
     in_gate, parts, counts = words_in_gate(), [HEAD], {place: 0 for _, place in PLACES}
@@ -104,15 +144,19 @@ def page() -> tuple[str, list[str]]:
                     ]
                 )
             )
+    parts.append(by_name(faults))
     faults += [f"{name}: there is no such edit in the gate" for name in in_gate]
     parts.insert(1, f"There are {counts['gate']} in the gate and {counts['beside']} beside it.\n")
     return "\n".join(parts), faults
 
 
 def main() -> int:
+    read = console.words(__doc__)
+    read.add_argument("--check", action="store_true")
+    given = read.parse_args()
     text, faults = page()
     print(*faults, sep="\n", end="\n" if faults else "")
-    if "--check" not in sys.argv[1:]:
+    if not given.check:
         with open(PAGE, "w", encoding="utf-8") as file:
             file.write(text)
         return 1 if faults else 0

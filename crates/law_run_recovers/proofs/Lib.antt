@@ -9,6 +9,7 @@ pub mod Found
 pub mod Leading
 pub mod Picks
 pub mod Polled
+pub mod Plain
 pub mod Led
 pub mod Rows
 pub mod Free
@@ -23,6 +24,7 @@ pub mod Downs
 pub mod Since
 pub mod Decider
 pub mod AtDecision
+pub mod Deciding
 pub mod HadVotes
 pub mod Took
 pub mod Still
@@ -65,12 +67,15 @@ pub mod Apart
 pub mod AsBegun
 pub mod NearGround
 pub mod Asked
-pub mod UnmetAt
-pub mod UnmetKnows
-pub mod UnmetCourse
-pub mod UnmetEnds
+pub mod AmongAt
+pub mod AmongKnows
+pub mod AmongCourse
+pub mod AmongStep
+pub mod AmongEnds
+pub mod AmongLaws
 pub mod UnmetLaws
-pub mod UnmetDecided
+pub mod AmongDecided
 pub mod Names
-pub mod UnmetTime
+pub mod AmongTime
 pub mod AmongLocks
+pub mod Histories

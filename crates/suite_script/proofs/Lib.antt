@@ -1,4 +1,3 @@
-pub mod Ids
 pub mod Steps
 pub mod Fields
 pub mod Gathering
@@ -8,3 +7,4 @@ pub mod Playing
 pub mod Seen
 pub mod ValidVotes
 pub mod ValidOperations
+pub mod Agreeing

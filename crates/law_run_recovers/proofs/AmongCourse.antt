@@ -1,0 +1,386 @@
+-- How a transaction stands that goes among locks that stay, at each moment at which it runs; and what an event that is not its own leaves of that.
+use Rattle.std.proofs.Common.{◌≡◌, ◌⊎◌, inl, inr, ⊎_elim, ℕ, ◌<◌, Bool, true, false, cond, List, [], ◌∷◌, ◌++◌, append_assoc, Option, Some, None, refl, sym, ap, subst, ◌∙◌, arith}
+use Rattle.std.specs.Prelude.{◌+◌, ◌==◌, ◌&&◌, ◌||◌, not}
+use Rattle.std.proofs.lemmas.Bool.{false≢true, and_parts, eqb-true, eq-eqb}
+use Rattle.std.proofs.lemmas.Bool.Decides.{nat_tests}
+use Rattle.std.proofs.lemmas.Option.{none-some, same_Some}
+use Rattle.acl_core.specs.Identity.{Identity}
+use Rattle.suite_prefix.specs.SettingsRules.{Opening}
+use Rattle.suite_prefix.specs.declared.copies.Prefix.{Prefix}
+use Rattle.suite_prefix.specs.declared.lock_mode.LockMode.{LockMode}
+use Rattle.file_ops.specs.declared.operation.Op.{Op}
+use Rattle.file_ops.specs.Rows as rows
+use Rattle.file_ops.specs.Rows.{PlainTable}
+use Rattle.rep_core.specs.declared.lock.Lock.{Lock}
+use Rattle.rep_core.specs.declared.request.Request.{Request}
+use Rattle.rep_core.specs.declared.request.Request.TheVariants as request
+use Rattle.rep_core.specs.declared.stamped.Stamped.{Stamped}
+use Rattle.rep_core.specs.State.{State}
+use Rattle.rep_core.specs.Service.{after_up, after_down, after}
+use Rattle.rep_core.specs.Serving.{is_full, served, answer_of}
+use Rattle.rep_core.proofs.Members.{Has, any_has}
+use Rattle.weak_cache.specs.Entries.{Cache, forgotten}
+use Rattle.txn_core.specs.declared.job.Job.{Job}
+use Rattle.txn_core.specs.declared.job.Job.TheVariants.{Transaction}
+use Rattle.txn_core.specs.declared.ending.Ending.{Ending}
+use Rattle.txn_core.specs.Suites.{Suites}
+use Rattle.txn_core.specs.Doing as doing
+use Rattle.txn_core.specs.Doing.{Fixed, Task, Phase, Gathering, Fetching, Preparing, Deciding, Finishing, TransactionRun, Doing, Running, RunningSweep}
+use Rattle.txn_core.specs.Agents as agents
+use Rattle.txn_core.specs.Agents.{Agent, fixed_of, is_idle, begin, forget, after_all}
+use Rattle.txn_core.proofs.Upheld.{after-append}
+use Rattle.run_core.specs.declared.done.Served.{Served}
+use Rattle.run_core.specs.declared.event.Event.{Event}
+use Rattle.run_core.specs.declared.event.Event.TheVariants.{Begin, Step, Crash, Return, Forget, Lack}
+use Rattle.run_core.specs.Worlds.{Actor, World, server_at, actor_at, operates, operated, step}
+use Rattle.run_core.specs.Runs.{run}
+use Rattle.run_core.specs.Decisions.{decisions}
+use Rattle.run_core.specs.TableOfRun.{table_of}
+use Rattle.law_runs.specs.Naming.{names, may_sweep}
+use Rattle.law_runs.proofs.Agents.{same_place}
+use Rattle.law_runs.proofs.Begun.{agents_ask_for_themselves}
+use Rattle.law_runs.proofs.Conclusions.{holds_of}
+use Rattle.law_runs.proofs.Table.{service_stays}
+use Rattle.law_runs.proofs.Worlds.{agent_of, agent_at, puts_in}
+use Rattle.law_run_recovers.specs.Standing.{up_in, is_up, locks_in, locks_at}
+use Rattle.law_run_recovers.specs.Unmet.{runs, running_in, is_running, is_telling, begun_world, world_after, up_and, of_up, robs, hinders_itself}
+use Rattle.law_run_recovers.specs.Among.{GoesAmongLocks}
+use Rattle.law_run_recovers.proofs.AmongLocks.{drops, bereaves}
+use Rattle.law_run_recovers.proofs.Apart.{Apart, hint_forgotten, event_apart}
+use Rattle.law_run_recovers.proofs.Keeps.{after_append, run_at, step_asks, operates_it, becomes_none, lacks_none}
+use Rattle.law_run_recovers.proofs.NearGround.{its, answers, opens, first_asked, opens_up, Known, ground, number, sight}
+use Rattle.law_run_recovers.proofs.Open.{its_begin}
+use Rattle.law_run_recovers.proofs.Polled.{Sight}
+use Rattle.law_run_recovers.proofs.Serves.{On, Told, told_on}
+use Rattle.law_run_recovers.proofs.Stands.{EndsRight, PhaseStands}
+use Rattle.law_run_recovers.proofs.AmongAt.{IsCalm, IsSpared, HasWhereOpen}
+
+-- ---- lists
+
+abbrev head_or : {X : Type 0} → X → List X → X
+head_or x [] = x
+head_or x (y ∷ ys) = y
+
+abbrev tail_or : {X : Type 0} → List X → List X
+tail_or [] = []
+tail_or (y ∷ ys) = ys
+
+nil_cons : {X : Type 0} (xs : List X) (x : X) (ys : List X) → [] ≡ xs ++ x ∷ ys → ⊥
+nil_cons [] x ys is = cc
+nil_cons (y ∷ xs) x ys is = cc
+
+-- a list with one more behind is parted there, or before
+pub parted : {X : Type 0} (xs : List X) (x : X) (front : List X) (y : X) (back : List X) → xs ++ x ∷ [] ≡ front ++ y ∷ back → ((front ≡ xs) × (y ≡ x)) ⊎ ((rest : List X) × (xs ≡ front ++ y ∷ rest))
+parted [] x [] y back is = inl (refl, sym (ap (head_or x) is))
+parted [] x (z ∷ front) y back is = absurd (nil_cons front y back (ap tail_or is))
+parted (w ∷ xs) x [] y back is = inr (xs, ap (λ z. z ∷ xs) (ap (head_or w) is))
+parted (w ∷ xs) x (z ∷ front) y back is =
+    ⊎_elim
+    (λ here. inl (ap (λ z. z ∷ front) (sym (ap (head_or w) is)) ∙ ap (λ front. w ∷ front) here.0, here.1))
+    (λ before. inr (before.0, ap (λ z. z ∷ xs) (ap (head_or w) is) ∙ ap (λ xs. z ∷ xs) before.1))
+    (parted xs x front y back (ap tail_or is))
+
+-- ---- a crash
+
+-- a server that crashed is down
+crash_downs : (fixed : Fixed) (w : World) (server : ℕ) (what : Served) → (step fixed w (Crash server)).done.served ≡ Some what → (what.server ≡ server) × (is_up (step fixed w (Crash server)).world server ≡ false)
+crash_downs fixed w server what = of (server_at w server) refl
+  where
+    asked : Stamped Request
+    asked = record { stamp = 0; value = request.Crash }
+
+    downs : (st : State) → (after st request.Crash).up ≡ false
+    downs st = by st.up refl
+      where
+        by : (b : Bool) → st.up ≡ b → (cond b (after_up st request.Crash) (after_down st request.Crash)).up ≡ false
+        by true up = refl
+        by false up = up
+
+    of : (found : Option State) → server_at w server ≡ found → (operates w server request.Crash found).done.served ≡ Some what → (what.server ≡ server) × (is_up (operates w server request.Crash found).world server ≡ false)
+    of None at is = absurd (none-some what is)
+    of (Some st) at is = by (is_full st (record { stamp = 0; value = request.Crash })) is
+      where
+        by : (b : Bool) → (operated w st (cond b None (Some (record { server = server; request = record { stamp = 0; value = request.Crash }; reply = answer_of st (record { stamp = 0; value = request.Crash }) })))).done.served ≡ Some what
+            → (what.server ≡ server) × (is_up (operated w st (cond b None (Some (record { server = server; request = record { stamp = 0; value = request.Crash }; reply = answer_of st (record { stamp = 0; value = request.Crash }) })))).world server ≡ false)
+        by true is = absurd (none-some what is)
+        by false is = (
+          ap (λ (what : Served). what.server) (sym (same_Some _ what is)),
+          ap up_in (puts_in w.servers server st (served st (record { stamp = 0; value = request.Crash })) at).here ∙ downs st,
+        )
+
+both_so : (a b c : Bool) → (a || b) ≡ false → c ≡ false → (a || (b || c)) ≡ false
+both_so a b c one two = grind (arith, nat_tests)
+
+-- ---- at each moment
+
+module _ (given : Opening) (events later : List Event) (agent t : ℕ) (caller : Identity) (site : ℕ) (ops : List Op) (actor : Actor) (goes : GoesAmongLocks given events later agent t caller site ops actor) where
+  abbrev pub fixed : Fixed
+  fixed = fixed_of given
+
+  abbrev pub first : World
+  first = run given events
+
+  abbrev pub table : PlainTable
+  table = table_of given events
+
+  abbrev pub job : Job
+  job = Transaction caller site ops
+
+  abbrev pub task : Task
+  task = its given events later agent t caller site ops actor goes
+
+  abbrev pub its_sight : Sight
+  its_sight = sight given events later agent t caller site ops actor goes
+
+  abbrev pub Was' : ℕ → Prefix → Type 0
+  Was' = Known given events later agent t caller site ops actor goes
+
+  abbrev pub world_at : List Event → World
+  world_at so_far = world_after given events agent caller site ops so_far
+
+  pub same_service : (table_of given events).service ≡ (fixed_of given).service
+  same_service = service_stays (rows.opening given) (decisions given events)
+
+  abbrev pub Right : Ending → Type 0
+  Right ended = EndsRight fixed first its_sight table task actor.agent.cache ended
+
+  abbrev pub PhaseIn : Suites → Cache → Phase → Type 0
+  PhaseIn suites now phase = PhaseStands fixed first its_sight table task actor.agent.cache Was' (ground given events later agent t caller site ops actor goes) suites now phase
+
+  -- what it does
+  abbrev pub StandsIn : Cache → Option Doing → Type 0
+  StandsIn now None = Unit {0}
+  StandsIn now (Some (RunningSweep sweep_run)) = ⊥
+  StandsIn now (Some (Running txn_run)) = (txn_run.task ≡ task) × PhaseIn txn_run.suites now txn_run.phase
+
+  pub record Course (so_far : List Event) : Type 0 where
+    pub here : Actor
+    pub there : actor_at (world_after given events agent caller site ops so_far) agent ≡ Some here
+    pub stands : StandsIn here.agent.cache here.agent.doing
+    pub busy : is_idle here.agent.doing ≡ false
+    pub told : List agents.Event
+    pub is : here.agent ≡ after_all (fixed_of given) (begin (fixed_of given) actor.agent (Transaction caller site ops)) told
+    pub count : here.agent.count ≡ actor.agent.count + 1
+    pub locks : HasWhereOpen given events later agent t caller site ops actor goes (world_after given events agent caller site ops so_far)
+    pub spared : IsSpared given events later agent t caller site ops actor goes so_far
+
+  -- so it runs the transaction
+  pub record RunsIt (so_far : List Event) (c : Course so_far) : Type 0 where
+    pub txn_run : TransactionRun
+    pub running : c.here.agent.doing ≡ Some (Running txn_run)
+    pub at : (txn_run.task ≡ task) × PhaseIn txn_run.suites c.here.agent.cache txn_run.phase
+
+  pub runs_it : (so_far : List Event) (c : Course so_far) → RunsIt so_far c
+  runs_it so_far c = of c.here.agent.doing refl c.stands c.busy
+    where
+      of : (doing : Option Doing) → c.here.agent.doing ≡ doing → StandsIn c.here.agent.cache doing → is_idle doing ≡ false → RunsIt so_far c
+      of None at stands busy = absurd (false≢true (sym busy))
+      of (Some (RunningSweep sweep_run)) at stands busy = absurd stands
+      of (Some (Running txn_run)) at stands busy = record { txn_run = txn_run; running = at; at = stands }
+
+  pub next_is : (so_far : List Event) (event : Event) → world_after given events agent caller site ops (so_far ++ event ∷ []) ≡ (step (fixed_of given) (world_after given events agent caller site ops so_far) event).world
+  next_is so_far event = after_append (fixed_of given) so_far (event ∷ []) (begun_world given events agent caller site ops)
+
+  -- where it was told of a lock, the server was open to it
+  abbrev pub NewOpen : List Event → Event → Type 0
+  NewOpen so_far event = (server z : ℕ) (told : Told (fixed_of given) (world_after given events agent caller site ops so_far) event t server) → told.told.suite ≡ z → opens given events later agent t caller site ops actor goes z (first_asked given events later agent t caller site ops actor goes z) server ≡ true
+
+  module _ (so_far rest : List Event) (event : Event) (split : later ≡ so_far ++ event ∷ rest) (c : Course so_far) where
+    pub split_on : later ≡ (so_far ++ event ∷ []) ++ rest
+    split_on = split ∙ sym (append_assoc so_far (event ∷ []) rest)
+
+    runs_here : runs t c.here.agent.doing ≡ true
+    runs_here =
+        let r = runs_it so_far c in
+        ap (runs t) r.running ∙ eq-eqb r.txn_run.task.t t (ap (λ (task : Task). task.t) r.at.0 ∙ number given events later agent t caller site ops actor goes)
+
+    pub running_now : is_running (world_after given events agent caller site ops so_far) agent t ≡ true
+    running_now = ap (running_in t) c.there ∙ runs_here
+
+    pub calm : (hinders_itself given agent (world_after given events agent caller site ops so_far) event || robs given agent t (world_after given events agent caller site ops so_far) event) ≡ false
+    calm = goes.free_hand so_far rest event split running_now
+
+    pub unhindered : hinders_itself given agent (world_after given events agent caller site ops so_far) event ≡ false
+    unhindered = or_first (hinders_itself given agent (world_after given events agent caller site ops so_far) event) (robs given agent t (world_after given events agent caller site ops so_far) event) calm
+      where
+        or_first : (a b : Bool) → (a || b) ≡ false → a ≡ false
+        or_first false b is = refl
+        or_first true b is = absurd (false≢true (sym is))
+
+    -- ---- no near server crashes
+
+    runs_apart : Apart given agent (world_after given events agent caller site ops so_far) c.here c.there c.busy (step (fixed_of given) (world_after given events agent caller site ops so_far) event)
+        → is_running (world_after given events agent caller site ops (so_far ++ event ∷ [])) agent t ≡ true
+    runs_apart apart =
+        ap (λ w. is_running w agent t) (next_is so_far event) ∙ ap (running_in t) apart.now
+        ∙ ⊎_elim (λ same. ap (λ (a : Agent). runs t a.doing) same) (λ gone. ap (λ (a : Agent). runs t a.doing) gone.1) apart.is
+        ∙ runs_here
+
+    no_crash : (server : ℕ) → event ≡ Crash server → (what : Served) → (step (fixed_of given) (world_after given events agent caller site ops so_far) (Crash server)).done.served ≡ Some what
+        → answers given events later agent t caller site ops actor goes what.server ≡ true → ⊥
+    no_crash server is what done answered =
+        let crashed = crash_downs (fixed_of given) (world_after given events agent caller site ops so_far) server what done in
+        let parts = and_parts (goes.near what.server) (is_up (run given events) what.server) answered in
+        ⊎_elim
+        (λ apart.
+        let up = (goes.stays (so_far ++ event ∷ []) rest split_on (runs_apart apart.0)).up what.server parts.0 ∙ parts.1 in
+        let now : is_up (world_after given events agent caller site ops (so_far ++ event ∷ [])) what.server ≡ false =
+        ap (λ w. is_up w what.server) (next_is so_far event) ∙ ap (λ event. is_up (step (fixed_of given) (world_after given events agent caller site ops so_far) event).world what.server) is
+        ∙ ap (is_up (step (fixed_of given) (world_after given events agent caller site ops so_far) (Crash server)).world) crashed.0 ∙ crashed.1 in
+        false≢true (sym now ∙ up))
+        (λ own. crash_not server (sym is ∙ own.0))
+        (event_apart given agent (world_after given events agent caller site ops so_far) c.here c.there c.busy event unhindered)
+      where
+        crash_not : (server : ℕ) → Crash server ≡ Step agent → ⊥
+        crash_not server is = cc
+
+    kept : bereaves given agent t (world_after given events agent caller site ops so_far) event ≡ false
+    kept = of event refl
+      where
+        of : (same : Event) → event ≡ same → bereaves given agent t (world_after given events agent caller site ops so_far) same ≡ false
+        of (Begin i _) is = refl
+        of (Step i) is = refl
+        of (Return server) is = refl
+        of (Forget i _) is = refl
+        of (Lack i _) is = refl
+        of (Crash server) is = by (of_up (drops t) (world_after given events agent caller site ops so_far) (step (fixed_of given) (world_after given events agent caller site ops so_far) (Crash server)).done.served) refl
+          where
+            at_server : (what : Served) → (step (fixed_of given) (world_after given events agent caller site ops so_far) (Crash server)).done.served ≡ Some what → (found : Option State)
+                → server_at (world_after given events agent caller site ops so_far) what.server ≡ found → up_and (drops t) what.request.value found ≡ true → ⊥
+            at_server what done None at some = false≢true some
+            at_server what done (Some st) at some =
+                let parts = and_parts st.up (drops t st what.request.value) some in
+                let asked = operates_it (world_after given events agent caller site ops so_far) server request.Crash (server_at (world_after given events agent caller site ops so_far) server) what done in
+                let lock = any_has (λ (lock : Lock). (lock.t == t) && not lock.prepared) st.locks (ap (drops t st) (sym asked) ∙ parts.1) in
+                let own = and_parts (lock.0.t == t) (not lock.0.prepared) lock.2 in
+                no_crash server is what done (opens_up given events later agent t caller site ops actor goes lock.0.suite (first_asked given events later agent t caller site ops actor goes lock.0.suite) what.server
+                (c.locks what.server lock.0.suite (record { lock = lock.0; has = subst (λ locks. Has locks lock.0) (sym (ap locks_in at)) lock.1; of_it = eqb-true lock.0.t t own.0; on_it = refl })))
+
+            served_so : (found : Option Served) → (step (fixed_of given) (world_after given events agent caller site ops so_far) (Crash server)).done.served ≡ found → of_up (drops t) (world_after given events agent caller site ops so_far) found ≡ true → ⊥
+            served_so None done some = false≢true some
+            served_so (Some what) done some = at_server what done (server_at (world_after given events agent caller site ops so_far) what.server) refl some
+
+            by : (b : Bool) → of_up (drops t) (world_after given events agent caller site ops so_far) (step (fixed_of given) (world_after given events agent caller site ops so_far) (Crash server)).done.served ≡ b
+                → (not (is_telling (world_after given events agent caller site ops so_far) agent) && of_up (drops t) (world_after given events agent caller site ops so_far) (step (fixed_of given) (world_after given events agent caller site ops so_far) (Crash server)).done.served) ≡ false
+            by true some = absurd (served_so (step (fixed_of given) (world_after given events agent caller site ops so_far) (Crash server)).done.served refl some)
+            by false none = both (not (is_telling (world_after given events agent caller site ops so_far) agent)) _ none
+              where
+                both : (a b : Bool) → b ≡ false → (a && b) ≡ false
+                both true b is = is
+                both false b is = refl
+
+    -- nothing is taken of it
+    calm_now : IsCalm given events later agent t caller site ops actor goes so_far event
+    calm_now =
+        both_so (hinders_itself given agent (world_after given events agent caller site ops so_far) event) (robs given agent t (world_after given events agent caller site ops so_far) event)
+        (bereaves given agent t (world_after given events agent caller site ops so_far) event) calm kept
+
+    pub spared_on : IsSpared given events later agent t caller site ops actor goes (so_far ++ event ∷ [])
+    spared_on front back other is work = of (parted so_far event front other back is)
+      where
+        of : ((front ≡ so_far) × (other ≡ event)) ⊎ ((rest : List Event) × (so_far ≡ front ++ other ∷ rest)) → IsCalm given events later agent t caller site ops actor goes front other
+        of (inl here) =
+            subst (λ front. IsCalm given events later agent t caller site ops actor goes front other) (sym here.0)
+            (subst (λ other. IsCalm given events later agent t caller site ops actor goes so_far other) (sym here.1) calm_now)
+        of (inr before) = c.spared front before.0 other before.1 work
+
+    -- its locks are where it was open
+    pub locks_on : NewOpen so_far event → HasWhereOpen given events later agent t caller site ops actor goes (world_after given events agent caller site ops (so_far ++ event ∷ []))
+    locks_on new server z on =
+        ⊎_elim (λ old. c.locks server z old) (λ told. new server z told.0 told.1)
+        (told_on (fixed_of given) (world_after given events agent caller site ops so_far) event server t z (subst (λ w. On (locks_at w server) t z) (next_is so_far event) on))
+
+    -- ---- an event that is not its own
+
+    small_all : (i : ℕ) (a : Agent) → agent_at (world_after given events agent caller site ops so_far) i ≡ Some a → i < 64
+    small_all i a at = (holds_of given goes.can.accepted (events ++ Begin agent (Transaction caller site ops) ∷ so_far)).agents.small i a
+        (ap (λ w. agent_at w i) (sym (run_at given events later agent t caller site ops actor goes.can goes.there goes.begins so_far)) ∙ at)
+
+    others_lock : (event ≡ Step agent → ⊥) → NewOpen so_far event
+    others_lock apart server z told same = absurd (of event refl told)
+      where
+        of : (same : Event) → event ≡ same → Told (fixed_of given) (world_after given events agent caller site ops so_far) event t server → ⊥
+        of (Begin i job') is told = none-some told.what (sym (becomes_none (world_after given events agent caller site ops so_far) i (λ a. begin (fixed_of given) a job') (actor_at (world_after given events agent caller site ops so_far) i))
+            ∙ ap (λ event. (step (fixed_of given) (world_after given events agent caller site ops so_far) event).done.served) (sym is) ∙ told.served)
+        of (Forget i site') is told = none-some told.what (sym (becomes_none (world_after given events agent caller site ops so_far) i (λ a. forget a site') (actor_at (world_after given events agent caller site ops so_far) i))
+            ∙ ap (λ event. (step (fixed_of given) (world_after given events agent caller site ops so_far) event).done.served) (sym is) ∙ told.served)
+        of (Lack i why) is told = none-some told.what (sym (lacks_none (fixed_of given) (world_after given events agent caller site ops so_far) i why (actor_at (world_after given events agent caller site ops so_far) i))
+            ∙ ap (λ event. (step (fixed_of given) (world_after given events agent caller site ops so_far) event).done.served) (sym is) ∙ told.served)
+        of (Crash at) is told = poll_not t told.told.suite told.told.mode
+            (sym (operates_it (world_after given events agent caller site ops so_far) at request.Crash (server_at (world_after given events agent caller site ops so_far) at) told.what
+            (ap (λ event. (step (fixed_of given) (world_after given events agent caller site ops so_far) event).done.served) (sym is) ∙ told.served)) ∙ told.told.poll)
+          where
+            poll_not : (u suite : ℕ) (mode : LockMode) → request.Crash ≡ request.Poll u suite mode → ⊥
+            poll_not u suite mode is = cc
+        of (Return at) is told = poll_not t told.told.suite told.told.mode
+            (sym (operates_it (world_after given events agent caller site ops so_far) at request.Return (server_at (world_after given events agent caller site ops so_far) at) told.what
+            (ap (λ event. (step (fixed_of given) (world_after given events agent caller site ops so_far) event).done.served) (sym is) ∙ told.served)) ∙ told.told.poll)
+          where
+            poll_not : (u suite : ℕ) (mode : LockMode) → request.Return ≡ request.Poll u suite mode → ⊥
+            poll_not u suite mode is = cc
+        of (Step other) is told =
+            let asks = step_asks (fixed_of given) (world_after given events agent caller site ops so_far) other (actor_at (world_after given events agent caller site ops so_far) other) told.what
+            (ap (λ event. (step (fixed_of given) (world_after given events agent caller site ops so_far) event).done.served) (sym is) ∙ told.served) in
+            let runs_so = run_at given events later agent t caller site ops actor goes.can goes.there goes.begins so_far in
+            ⊎_elim
+            (λ self.
+            let named : (t == self.task.t) ≡ true = ap (names self.task.t) (sym told.told.poll) ∙ self.named in
+            let last = self.last in
+            let its_number = (its_begin given events later agent t caller site ops actor goes.can goes.there goes.begins).0 in
+            let same = eqb-true t self.task.t named in
+            let small = small_all other asks.0.agent (ap agent_of asks.1) in
+            let mine = small_all agent c.here.agent (ap agent_of c.there) in
+            let places = same_place asks.0.agent.count (actor.agent.count + 1) other agent (omega (arith, last, same, its_number)) small mine in
+            apart (is ∙ ap Step places.1))
+            (λ sweeps. false≢true (sym (ap may_sweep told.told.poll) ∙ sweeps.swept))
+            (agents_ask_for_themselves given goes.can.accepted (events ++ Begin agent (Transaction caller site ops) ∷ so_far) other asks.0 told.what.server told.what.request.value (ap (λ w. actor_at w other) (sym runs_so) ∙ asks.1) asks.2)
+
+    -- what it hinted it hints no more than before
+    forgets : (site' : ℕ) (now : Cache) (doing : Option Doing) → StandsIn now doing → StandsIn (forgotten site' now) doing
+    forgets site' now None stands = tt
+    forgets site' now (Some (RunningSweep sweep_run)) stands = stands
+    forgets site' now (Some (Running txn_run)) stands = (stands.0, of txn_run.suites txn_run.phase stands.1)
+      where
+        of : (suites : Suites) (phase : Phase) → PhaseIn suites now phase → PhaseIn suites (forgotten site' now) phase
+        of suites (Gathering z) at = (at.0, λ z none prefix hinted. at.1 z none prefix (hint_forgotten site' site z now prefix hinted))
+        of suites (Fetching z) at = (at.0, λ z none prefix hinted. at.1 z none prefix (hint_forgotten site' site z now prefix hinted))
+        of suites (doing.Widening [] granted) at = at
+        of suites (doing.Widening (z ∷ left) granted) at = at
+        of suites (Preparing left outcome) at = at
+        of suites (Deciding outcome) at = at
+        of suites (Finishing left v ended) at = at
+
+    -- it goes on, and was told no more, or to forget a site
+    pub apart_on : Apart given agent (world_after given events agent caller site ops so_far) c.here c.there c.busy (step (fixed_of given) (world_after given events agent caller site ops so_far) event) → (event ≡ Step agent → ⊥)
+        → (on : Course (so_far ++ event ∷ [])) × ((on.told ≡ c.told) ⊎ ((site' : ℕ) × (on.told ≡ c.told ++ agents.Forget site' ∷ [])))
+    apart_on apart other = of apart.is
+      where
+        of : (apart.new.agent ≡ c.here.agent) ⊎ ((site' : ℕ) × (apart.new.agent ≡ forget c.here.agent site')) → (on : Course (so_far ++ event ∷ [])) × ((on.told ≡ c.told) ⊎ ((site' : ℕ) × (on.told ≡ c.told ++ agents.Forget site' ∷ [])))
+        of (inl same) = (
+          record {
+            here = apart.new;
+            there = ap (λ w. actor_at w agent) (next_is so_far event) ∙ apart.now;
+            stands = subst (λ (a : Agent). StandsIn a.cache a.doing) (sym same) c.stands;
+            busy = ap (λ (a : Agent). is_idle a.doing) same ∙ c.busy;
+            told = c.told;
+            is = same ∙ c.is;
+            count = ap (λ (a : Agent). a.count) same ∙ c.count;
+            locks = locks_on (others_lock other);
+            spared = spared_on;
+          },
+          inl refl,
+        )
+        of (inr gone) = (
+          record {
+            here = apart.new;
+            there = ap (λ w. actor_at w agent) (next_is so_far event) ∙ apart.now;
+            stands = subst (λ (a : Agent). StandsIn a.cache a.doing) (sym gone.1) (forgets gone.0 c.here.agent.cache c.here.agent.doing c.stands);
+            busy = ap (λ (a : Agent). is_idle a.doing) gone.1 ∙ c.busy;
+            told = c.told ++ agents.Forget gone.0 ∷ [];
+            is = gone.1 ∙ ap (λ a. forget a gone.0) c.is ∙ sym (after-append (fixed_of given) (begin (fixed_of given) actor.agent (Transaction caller site ops)) c.told (agents.Forget gone.0));
+            count = ap (λ (a : Agent). a.count) gone.1 ∙ c.count;
+            locks = locks_on (others_lock other);
+            spared = spared_on;
+          },
+          inr (gone.0, refl),
+        )

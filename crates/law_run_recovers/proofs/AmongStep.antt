@@ -1,0 +1,430 @@
+-- A transaction that goes among locks that stay ends as the votes say that are open: its own steps.
+use Rattle.std.proofs.Common.{◌≡◌, ◌⊎◌, inl, inr, ⊎_elim, ℕ, Bool, true, false, cond, List, [], ◌∷◌, ◌++◌, Option, Some, None, is_some, refl, sym, ap, subst, ◌∙◌, arith}
+use Rattle.std.specs.Prelude.{◌*◌, ◌+◌, ◌-◌, ◌&&◌, nat_lt, Contains}
+use Rattle.std.specs.Ordering.{nat_cmp}
+use Rattle.std.proofs.lemmas.Bool.{false≢true, and_parts, eq-eqb}
+use Rattle.std.proofs.lemmas.Option.{none-some, same_Some}
+use Rattle.sorted_map.specs.SortedMap.{IsOrdered}
+use Rattle.acl_core.specs.Identity.{Identity}
+use Rattle.vote_core.specs.Quorums.{Configuration}
+use Rattle.suite_prefix.specs.SettingsRules.{Opening}
+use Rattle.suite_prefix.specs.declared.copies.Replica.{Replica}
+use Rattle.suite_prefix.specs.declared.lock_mode.LockMode.{LockMode}
+use Rattle.suite_prefix.specs.declared.lock_mode.LockMode.TheVariants.{Exclusive}
+use Rattle.file_ops.specs.declared.operation.Op.{Op}
+use Rattle.rep_core.specs.declared.request.Request.{Request}
+use Rattle.rep_core.specs.declared.request.Request.TheVariants as request
+use Rattle.rep_core.specs.declared.reply.Reply.{Reply}
+use Rattle.rep_core.specs.declared.reply.Reply.TheVariants as reply
+use Rattle.rep_core.specs.Fits.{is_prepared}
+use Rattle.rep_core.specs.declared.reply.Verdict.{Verdict}
+use Rattle.rep_core.specs.Service.{reply_of, held, verdict_of}
+use Rattle.rep_core.specs.Serving.{answer_of}
+use Rattle.rep_core.specs.State.{State}
+use Rattle.rep_core.proofs.Members.{Has, contains_from}
+use Rattle.suite_collect.specs.Telling.{newest}
+use Rattle.suite_collect.specs.Collecting.{Collector, Asked, Poll, Upgrade, counted, wanted, votes_or, mode_or, request_for, mode_asked, mode_of}
+use Rattle.weak_cache.specs.Entries.{Cache}
+use Rattle.txn_core.specs.declared.ending.Ending.{Ending}
+use Rattle.txn_core.specs.declared.job.Job.TheVariants.{Transaction}
+use Rattle.txn_core.specs.declared.response.Response.TheVariants.{Replied}
+use Rattle.file_ops.specs.Rows.{row_of}
+use Rattle.file_exec.specs.Known as known
+use Rattle.file_exec.specs.Known.{IsSoAt}
+use Rattle.run_core.specs.TableOfRun.{table_of}
+use Rattle.txn_core.specs.Suites.{Suites, suite_of, known_of}
+use Rattle.txn_core.specs.Writing.{has_vote, parts_at}
+use Rattle.txn_core.specs.Doing as doing
+use Rattle.txn_core.specs.Doing.{Task, Granted, Phase, Gathering, Fetching, Preparing, Deciding, Finishing, TransactionRun, Doing, Running, After, GoesOn, Ends, home_of}
+use Rattle.txn_core.specs.Transactions.{Step as CourseStep, execute, asked_for, given_in, changes_of, decision_of, request_in, after_reply}
+use Rattle.txn_core.specs.Agents as agents
+use Rattle.txn_core.specs.Agents.{Agent, Taken, fixed_of, is_idle, has_sense, max_jobs, next_in, next_of, left, end_of, with_step, take_in, take, begins, begin, started, after_all}
+use Rattle.txn_core.specs.Laws.{exchanges, is_decide}
+use Rattle.txn_core.proofs.Asks.{asks_same}
+use Rattle.txn_core.proofs.Locks as keeping
+use Rattle.txn_core.proofs.Locks.{Keeps, nothing_held, plus_all, begin_keeps}
+use Rattle.txn_core.proofs.Upheld.{after-append}
+use Rattle.run_core.specs.declared.event.Event.{Event}
+use Rattle.run_core.specs.declared.event.Event.TheVariants.{Begin, Step}
+use Rattle.run_core.specs.declared.done.EndedJob.{EndedJob}
+use Rattle.run_core.specs.declared.done.Served.{Served}
+use Rattle.run_core.specs.Worlds.{Actor, World, server_at, actor_at, one_more, outcome_of, step}
+use Rattle.run_core.specs.Runs.{run}
+use Rattle.run_core.specs.Decisions.{decisions}
+use Rattle.law_runs.specs.Claims.{ended}
+use Rattle.law_runs.specs.Numbers.{number_of}
+use Rattle.law_runs.proofs.Agents.{take_keeps}
+use Rattle.law_runs.proofs.Conclusions.{holds_of}
+use Rattle.law_runs.proofs.Worlds.{agent_of}
+use Rattle.law_run_alone.proofs.Named.{no_lock}
+use Rattle.law_run_alone.proofs.Unswept.{is_resolve, never_resolves}
+use Rattle.law_run_recovers.specs.Standing.{is_up, locks_in}
+use Rattle.law_run_recovers.specs.Demands.{locks_asked, votes_set}
+use Rattle.law_run_recovers.specs.Near.{asks_for}
+use Rattle.law_run_recovers.specs.Unmet.{runs, running_in, world_after}
+use Rattle.law_run_recovers.specs.Among.{GoesAmongLocks}
+use Rattle.law_run_recovers.proofs.Asked.{onto_left, onto_so_far, asked_exclusive, next_vote, next_mode}
+use Rattle.law_run_recovers.proofs.Asking.{onto}
+use Rattle.law_run_recovers.proofs.Ends.{early_open, early_asks, fetch_is, ending_in}
+use Rattle.law_run_recovers.proofs.Executes.{begin_stands}
+use Rattle.law_run_recovers.proofs.Heard.{LockRight, RightFor, MayExecute, AsksFor, asks_for as asked_by, reply_stands}
+use Rattle.law_run_recovers.proofs.Keeps.{IsAtWork, at_work, last_of, run_at}
+use Rattle.law_run_recovers.proofs.NearGround.{its, opens, first_asked, opens_first, Known, ground, number, sight}
+use Rattle.law_run_recovers.proofs.Open.{its_begin, begun_there, begun_servers, begun_runs}
+use Rattle.law_run_recovers.proofs.Polled.{Answers}
+use Rattle.law_run_recovers.proofs.Serves.{On}
+use Rattle.law_run_recovers.proofs.Stands.{AfterStands, StepStands, asks_of, locks_on, sets_on}
+use Rattle.law_run_recovers.proofs.Still.{IsOpen, IsOpenPhase}
+use Rattle.law_run_recovers.proofs.Took.{OwnTook}
+use Rattle.law_run_recovers.proofs.AmongAt.{HasWhereOpen, lock_right, fetch_right, prepare_right, decide_right}
+use Rattle.law_run_recovers.proofs.AmongCourse.{Course, RunsIt, PhaseIn, StandsIn, Right, same_service, next_is, NewOpen, spared_on, locks_on as answered_on}
+use Rattle.law_run_recovers.proofs.Widened.{same_mode}
+use Rattle.law_run_recovers.proofs.AmongKnows.{knows_begun}
+
+-- a request for a lock on a suite is of that suite
+abbrev suite_in : Request → ℕ
+suite_in (request.Poll u suite mode) = suite
+suite_in other = 0
+
+suite_same : (t z : ℕ) (question : Asked) (u suite : ℕ) (mode : LockMode) → request_for t z question ≡ request.Poll u suite mode → z ≡ suite
+suite_same t z (Poll other) u suite mode is = ap suite_in is
+suite_same t z Upgrade u suite mode is = cc
+
+module _ (given : Opening) (events later : List Event) (agent t : ℕ) (caller : Identity) (site : ℕ) (ops : List Op) (actor : Actor) (goes : GoesAmongLocks given events later agent t caller site ops actor) where
+  abbrev its_task : Task
+  its_task = its given events later agent t caller site ops actor goes
+
+  abbrev world_at : List Event → World
+  world_at so_far = world_after given events agent caller site ops so_far
+
+  abbrev Good : CourseStep → Type 0
+  Good step = StepStands (fixed_of given) (run given events) (sight given events later agent t caller site ops actor goes) (table_of given events) (its given events later agent t caller site ops actor goes) actor.agent.cache (Known given events later agent t caller site ops actor goes) (ground given events later agent t caller site ops actor goes) step
+
+  stands_left : (step : CourseStep) → Good step → StandsIn given events later agent t caller site ops actor goes step.cache (left Running step.after)
+  stands_left step = of step.after
+    where
+      of : (after : After TransactionRun) → AfterStands (fixed_of given) (run given events) (sight given events later agent t caller site ops actor goes) (table_of given events) (its given events later agent t caller site ops actor goes) actor.agent.cache (Known given events later agent t caller site ops actor goes) (ground given events later agent t caller site ops actor goes) step.cache after → StandsIn given events later agent t caller site ops actor goes step.cache (left Running after)
+      of (GoesOn txn_run) good = good
+      of (Ends ended) good = tt
+
+  right_end : (step : CourseStep) → Good step → (ended : Ending) → end_of step.after ≡ Some ended → Right given events later agent t caller site ops actor goes ended
+  right_end step = of step.after
+    where
+      of : (after : After TransactionRun) → AfterStands (fixed_of given) (run given events) (sight given events later agent t caller site ops actor goes) (table_of given events) (its given events later agent t caller site ops actor goes) actor.agent.cache (Known given events later agent t caller site ops actor goes) (ground given events later agent t caller site ops actor goes) step.cache after → (ended : Ending) → end_of after ≡ Some ended → Right given events later agent t caller site ops actor goes ended
+      of (GoesOn txn_run) good ended is = absurd (none-some ended is)
+      of (Ends other) good ended is = subst (Right given events later agent t caller site ops actor goes) (same_Some other ended is) good
+
+  -- ---- its begin
+
+  pub begun : (64 * actor.agent.count + agent ≡ t) × (begins (fixed_of given) actor.agent (Transaction caller site ops) ≡ true)
+  begun = its_begin given events later agent t caller site ops actor goes.can goes.there goes.begins
+
+  first_stands : StandsIn given events later agent t caller site ops actor goes (begin (fixed_of given) actor.agent (Transaction caller site ops)).cache (begin (fixed_of given) actor.agent (Transaction caller site ops)).doing
+  first_stands =
+      subst (λ b. StandsIn given events later agent t caller site ops actor goes (begin_if b).cache (begin_if b).doing) (sym begun.1)
+      (stands_left (execute (fixed_of given) its_task (record { suites = []; cache = actor.agent.cache }))
+      (begin_stands (fixed_of given) (run given events) (sight given events later agent t caller site ops actor goes) (table_of given events) (its given events later agent t caller site ops actor goes) actor.agent.cache (Known given events later agent t caller site ops actor goes) (ground given events later agent t caller site ops actor goes) (same_service given events later agent t caller site ops actor goes)))
+    where
+      begin_if : Bool → Agent
+      begin_if b = cond b (record (started (fixed_of given) actor.agent (Transaction caller site ops)) { count = actor.agent.count + 1 }) actor.agent
+
+  first_count : (begin (fixed_of given) actor.agent (Transaction caller site ops)).count ≡ actor.agent.count + 1
+  first_count = ap (λ b. (cond b (record (started (fixed_of given) actor.agent (Transaction caller site ops)) { count = actor.agent.count + 1 }) actor.agent).count) begun.1
+
+  pub idle_before : is_idle actor.agent.doing ≡ true
+  idle_before =
+      (and_parts (is_idle actor.agent.doing) (has_sense (fixed_of given) (Transaction caller site ops))
+      (and_parts (is_idle actor.agent.doing && has_sense (fixed_of given) (Transaction caller site ops)) (nat_lt actor.agent.count max_jobs) begun.1).0).0
+
+  pub first_course : Course given events later agent t caller site ops actor goes []
+  first_course = record {
+    here = record actor { agent = begin (fixed_of given) actor.agent (Transaction caller site ops) };
+    there = begun_there given events later agent t caller site ops actor goes.can goes.there goes.begins;
+    stands = first_stands;
+    busy = busy_so (begin (fixed_of given) actor.agent (Transaction caller site ops)).doing runs_so;
+    told = [];
+    is = refl;
+    count = first_count;
+    locks = none_has;
+    spared = λ front back event is. absurd (nil_not front event back is);
+  }
+    where
+      runs_so : runs t (begin (fixed_of given) actor.agent (Transaction caller site ops)).doing ≡ true
+      runs_so =
+          ap (running_in t) (sym (begun_there given events later agent t caller site ops actor goes.can goes.there goes.begins))
+          ∙ begun_runs given events later agent t caller site ops actor goes.can goes.there goes.begins
+
+      busy_so : (doing : Option Doing) → runs t doing ≡ true → is_idle doing ≡ false
+      busy_so None is = absurd (false≢true is)
+      busy_so (Some doing) is = refl
+
+      nil_not : (front : List Event) (event : Event) (back : List Event) → [] ≡ front ++ event ∷ back → ⊥
+      nil_not [] event back is = cc
+      nil_not (one ∷ front) event back is = cc
+
+      none_has : HasWhereOpen given events later agent t caller site ops actor goes (world_after given events agent caller site ops [])
+      none_has server z on =
+          of (server_at (run given events) server) refl
+          (subst (λ found. On (locks_in found) t z) (begun_servers given events later agent t caller site ops actor goes.can goes.there goes.begins server) on)
+        where
+          of : (found : Option State) → server_at (run given events) server ≡ found → On (locks_in (server_at (run given events) server)) t z → opens given events later agent t caller site ops actor goes z (first_asked given events later agent t caller site ops actor goes z) server ≡ true
+          of None at on = absurd (subst (λ found. Has (locks_in found) on.lock) at on.has)
+          of (Some st) at on =
+              absurd (no_lock given goes.can.accepted events agent t (Transaction caller site ops) goes.begins server st at on.lock (subst (λ found. Has (locks_in found) on.lock) at on.has) on.of_it)
+
+  pub first_told : first_course.told ≡ []
+  unfolding first_course
+  first_told = refl
+
+  -- ---- a step of its own
+
+  module _ (so_far rest : List Event) (split : later ≡ so_far ++ Step agent ∷ rest) (c : Course given events later agent t caller site ops actor goes so_far)
+      (r : RunsIt given events later agent t caller site ops actor goes so_far c) (took : OwnTook (fixed_of given) (world_after given events agent caller site ops so_far) agent c.here c.there (step (fixed_of given) (world_after given events agent caller site ops so_far) (Step agent))) where
+    abbrev said : Reply
+    said = reply_of took.st took.asked.1
+
+    number_here : r.txn_run.task.t ≡ t
+    number_here = ap (λ (task : Task). task.t) r.at.0 ∙ number given events later agent t caller site ops actor goes
+
+    asks_so : (asked : Request) → took.asked.1 ≡ asked → next_of (fixed_of given) c.here.agent ≡ Some (took.asked.0, asked)
+    asks_so asked is = took.next ∙ ap (λ asked. Some (took.asked.0, asked)) is
+
+    request_is : request_in (fixed_of given) its_task r.txn_run.suites r.txn_run.phase ≡ Some (took.asked.0, took.asked.1)
+    request_is = subst (λ task. request_in (fixed_of given) task r.txn_run.suites r.txn_run.phase ≡ Some (took.asked.0, took.asked.1)) r.at.0 (sym (ap (next_in (fixed_of given)) r.running) ∙ took.next)
+
+    work_in : IsOpenPhase r.txn_run.phase → IsAtWork (world_after given events agent caller site ops so_far) agent t
+    work_in open' = at_work (world_at so_far) agent t c.here c.there (subst IsOpen (sym r.running) open') (ap (runs t) r.running ∙ eq-eqb r.txn_run.task.t t number_here)
+
+    -- ---- it is answered rightly
+
+    lock_here : (z : ℕ) (collector : Collector) → IsAtWork (world_after given events agent caller site ops so_far) agent t → (asks : AsksFor its_task.t z collector took.asked.0 took.asked.1) → goes.near took.asked.0 ≡ true
+        → Contains (asks_for given events t caller ops) (z, mode_asked asks.question) → LockRight (fixed_of given) (run given events) (sight given events later agent t caller site ops actor goes) its_task.t z took.asked.0 took.asked.1 said
+    lock_here z collector work asks near has question asked =
+        let is : took.asked.1 ≡ request_for t z question = asked ∙ ap (λ n. request_for n z question) (number given events later agent t caller site ops actor goes) in
+        let modes : mode_asked asks.question ≡ mode_asked question = sym (same_mode its_task.t z asks.question) ∙ ap mode_of (sym asks.asked_is ∙ asked) ∙ same_mode its_task.t z question in
+        subst (λ asked. Answers (fixed_of given) (run given events) (sight given events later agent t caller site ops actor goes) z question took.asked.0 (reply_of took.st asked)) (sym is)
+        (lock_right given events later agent t caller site ops actor goes so_far (Step agent ∷ rest) split work c.spared c.locks took.asked.0 took.st took.at c.here r.txn_run c.there r.running number_here z question (asks_so (request_for t z question) is) near
+        (subst (λ mode. Contains (asks_for given events t caller ops) (z, mode)) modes has))
+
+    -- what it has on the table by its number
+    asked_there : (one : ℕ × LockMode) → Has (locks_on (table_of given events) its_task) one → Contains (asks_for given events t caller ops) one
+    asked_there one has = contains_from (asks_for given events t caller ops) one (subst (λ n. Has (locks_asked (table_of given events) n caller ops) one) (number given events later agent t caller site ops actor goes) has)
+
+    set_there : (one : ℕ × Configuration) → Has (sets_on (table_of given events) its_task) one → Contains (votes_set (table_of given events) t caller ops) one
+    set_there one has = contains_from (votes_set (table_of given events) t caller ops) one (subst (λ n. Has (votes_set (table_of given events) n caller ops) one) (number given events later agent t caller site ops actor goes) has)
+
+    gather_asks : (now : Cache) (suites : Suites) (z : ℕ) (at : PhaseIn given events later agent t caller site ops actor goes suites now (Gathering z)) (asks : AsksFor its_task.t z at.0.suite.collector took.asked.0 took.asked.1)
+        → Contains (asks_for given events t caller ops) (z, mode_asked asks.question)
+    gather_asks now suites z at asks =
+        let g = at.0 in
+        let mode : mode_asked asks.question ≡ g.mode = next_mode g.suite.collector took.asked.0 asks.question asks.is ∙ ap wanted g.found.reached.is ∙ ap (λ (c : Collector). c.mode) (sym g.found.reached.is) ∙ g.mode_is in
+        subst (λ mode. Contains (asks_for given events t caller ops) (z, mode)) (sym mode)
+        (asked_there (z, g.mode) (subst (λ locks. Has locks (z, g.mode)) (sym (g.asks.order ∙ ap (onto g.asked) g.next_is)) (onto_left g.asked _ (z, g.mode) (inl refl))))
+
+    widen_asks : (now : Cache) (suites : Suites) (z : ℕ) (left : List ℕ) (granted : Granted) (at : PhaseIn given events later agent t caller site ops actor goes suites now (doing.Widening (z ∷ left) granted)) (asks : AsksFor its_task.t z at.suite.collector took.asked.0 took.asked.1)
+        → Contains (asks_for given events t caller ops) (z, mode_asked asks.question)
+    widen_asks now suites z left granted at asks =
+        let mode : mode_asked asks.question ≡ Exclusive = next_mode at.suite.collector took.asked.0 asks.question asks.is ∙ ap (λ o. mode_or o at.suite.collector.mode) at.widening_is in
+        subst (λ mode. Contains (asks_for given events t caller ops) (z, mode)) (sym mode)
+        (asked_there (z, Exclusive) (subst (λ locks. Has locks (z, Exclusive)) (sym at.sets.all) (onto_so_far at.sets.so_far [] (z, Exclusive) (asked_exclusive at.sets.so_far z (at.sets.exclusive (z, at.votes) (inl refl))))))
+
+    right_for : (now : Cache) (suites : Suites) (phase : Phase) → PhaseIn given events later agent t caller site ops actor goes suites now phase → (IsOpenPhase phase → IsAtWork (world_after given events agent caller site ops so_far) agent t)
+        → request_in (fixed_of given) its_task suites phase ≡ Some (took.asked.0, took.asked.1) → RightFor (fixed_of given) (run given events) (sight given events later agent t caller site ops actor goes) its_task phase took.asked.0 took.asked.1 said
+    right_for now suites (Gathering z) at work asks' =
+        let g = at.0 in
+        let asks = asked_by its_task z g.suite.collector took.asked.0 took.asked.1 (sym (ap (asked_for its_task z) g.there) ∙ asks') in
+        let vote = next_vote g.suite.collector took.asked.0 asks.question asks.is in
+        lock_here z g.suite.collector (work tt) asks (g.found.reached.going.known.1 took.asked.0 (subst (λ (c : Collector). has_vote (counted c) took.asked.0 ≡ true) g.found.reached.is vote)) (gather_asks now suites z at asks)
+    right_for now suites (Fetching z) at work asks' =
+        let is : took.asked.1 ≡ request.Fetch t z = fetch_is its_task z (suite_of suites z) took.asked.0 took.asked.1 asks' ∙ ap (λ n. request.Fetch n z) (number given events later agent t caller site ops actor goes) in
+        ap (λ asked. is_some (given_in (reply_of took.st asked))) is
+        ∙ fetch_right given events later agent t caller site ops actor goes so_far (Step agent ∷ rest) split (work tt) c.spared c.locks took.asked.0 took.st took.at c.here r.txn_run c.there r.running number_here z (asks_so (request.Fetch t z) is)
+    right_for now suites (doing.Widening [] granted) at work asks' = tt
+    right_for now suites (doing.Widening (z ∷ left) granted) at work asks' =
+        let asks = asked_by its_task z at.suite.collector took.asked.0 took.asked.1 (sym (ap (asked_for its_task z) at.there) ∙ asks') in
+        let vote = next_vote at.suite.collector took.asked.0 asks.question asks.is in
+        let count' : counted at.suite.collector ≡ at.votes = ap (λ o. votes_or o (newest at.suite.collector.start at.suite.collector.told)) at.widening_is ∙ at.votes_are in
+        lock_here z at.suite.collector (work tt) asks
+        (goes.are_near.set (z, at.votes) took.asked.0 (set_there (z, at.votes) (subst (λ sets. Has sets (z, at.votes)) (sym at.sets.sets) (onto_left at.done _ (z, at.votes) (inl refl)))) (subst (λ votes. has_vote votes took.asked.0 ≡ true) count' vote))
+        (widen_asks now suites z left granted at asks)
+    right_for now suites (Preparing [] outcome) at work asks' = absurd (none-some (took.asked.0, took.asked.1) asks')
+    right_for now suites (Preparing (server ∷ left) outcome) at work asks' =
+        let parts = parts_at suites (changes_of outcome) server in
+        let is : took.asked.1 ≡ request.Prepare t parts = sym (asks_same server took.asked.0 (request.Prepare its_task.t parts) took.asked.1 asks') ∙ ap (λ n. request.Prepare n parts) (number given events later agent t caller site ops actor goes) in
+        ap (λ asked. is_prepared (reply_of took.st asked)) is
+        ∙ prepare_right given events later agent t caller site ops actor goes so_far (Step agent ∷ rest) split (work tt) c.spared c.locks took.asked.0 took.st took.at c.here r.txn_run c.there r.running number_here parts (asks_so (request.Prepare t parts) is)
+    right_for now suites (Deciding outcome) at work asks' =
+        let decision = decision_of its_task outcome in
+        let home : took.asked.0 ≡ home_of (fixed_of given).service t =
+        sym (ap (λ (asked : ℕ × Request). asked.0) (same_Some (home_of (fixed_of given).service its_task.t, request.Decide its_task.t decision) (took.asked.0, took.asked.1) asks')) ∙ ap (home_of (fixed_of given).service) (number given events later agent t caller site ops actor goes) in
+        let is : took.asked.1 ≡ request.Decide t decision = sym (asks_same (home_of (fixed_of given).service its_task.t) took.asked.0 (request.Decide its_task.t decision) took.asked.1 asks') ∙ ap (λ n. request.Decide n decision) (number given events later agent t caller site ops actor goes) in
+        let near : goes.near took.asked.0 ≡ true = ap goes.near home ∙ goes.are_near.home in
+        let d = decide_right given events later agent t caller site ops actor goes so_far (Step agent ∷ rest) split (work tt) c.spared c.locks took.asked.0 took.st took.at c.here r.txn_run c.there r.running number_here decision (asks_so (request.Decide t decision) is) near in
+        by (is_up (run given events) took.asked.0) refl (λ up. ap (reply_of took.st) is ∙ d.0 up) (λ down. ap (reply_of took.st) is ∙ d.1 down)
+      where
+        by : (b : Bool) → is_up (run given events) took.asked.0 ≡ b → (is_up (run given events) took.asked.0 ≡ true → said ≡ reply.Verdict (verdict_of (decision_of its_task outcome))) → (is_up (run given events) took.asked.0 ≡ false → said ≡ reply.Down)
+            → ((is_up (run given events) took.asked.0 ≡ true) × (said ≡ reply.Verdict (verdict_of (decision_of its_task outcome)))) ⊎ ((is_up (run given events) took.asked.0 ≡ false) × (said ≡ reply.Down))
+        by true is up down = inl (is, up is)
+        by false is up down = inr (is, down is)
+    right_for now suites (Finishing left v ended) at work asks' = tt
+
+    right_here : RightFor (fixed_of given) (run given events) (sight given events later agent t caller site ops actor goes) its_task r.txn_run.phase took.asked.0 took.asked.1 said
+    right_here = right_for c.here.agent.cache r.txn_run.suites r.txn_run.phase r.at.1 work_in request_is
+
+    -- ---- where it was told of a lock, it was answered
+
+    -- what is open in the mode asked for is in the first one
+    open_so : (z : ℕ) (asks : Request) (question : Asked) → Contains (asks_for given events t caller ops) (z, mode_asked question) → asks ≡ request_for its_task.t z question → opens given events later agent t caller site ops actor goes z (mode_asked question) took.asked.0 ≡ true
+        → (u suite : ℕ) (mode : LockMode) → asks ≡ request.Poll u suite mode → opens given events later agent t caller site ops actor goes suite (first_asked given events later agent t caller site ops actor goes suite) took.asked.0 ≡ true
+    open_so z asks question has is open' u suite mode poll =
+        subst (λ z. opens given events later agent t caller site ops actor goes z (first_asked given events later agent t caller site ops actor goes z) took.asked.0 ≡ true) (suite_same its_task.t z question u suite mode (sym is ∙ poll))
+        (opens_first given events later agent t caller site ops actor goes z (mode_asked question) has took.asked.0 open')
+
+    polls_answered : (phase : Phase) → PhaseIn given events later agent t caller site ops actor goes r.txn_run.suites c.here.agent.cache phase → request_in (fixed_of given) its_task r.txn_run.suites phase ≡ Some (took.asked.0, took.asked.1)
+        → RightFor (fixed_of given) (run given events) (sight given events later agent t caller site ops actor goes) its_task phase took.asked.0 took.asked.1 said → (u suite : ℕ) (mode : LockMode) → took.asked.1 ≡ request.Poll u suite mode → (copy : Replica) → said ≡ held copy
+        → opens given events later agent t caller site ops actor goes suite (first_asked given events later agent t caller site ops actor goes suite) took.asked.0 ≡ true
+    polls_answered (Gathering z) at asks' right u suite mode poll copy is =
+        let asks = asked_by its_task z at.0.suite.collector took.asked.0 took.asked.1 (sym (ap (asked_for its_task z) at.0.there) ∙ asks') in
+        open_so z took.asked.1 asks.question (gather_asks c.here.agent.cache r.txn_run.suites z at asks) asks.asked_is
+        (subst (Answers (fixed_of given) (run given events) (sight given events later agent t caller site ops actor goes) z asks.question took.asked.0) is (right asks.question asks.asked_is)).0 u suite mode poll
+    polls_answered (Fetching z) at asks' right u suite mode poll copy is = absurd (false≢true (ap (λ said. is_some (given_in said)) (sym is) ∙ right))
+    polls_answered (doing.Widening [] granted) at asks' right u suite mode poll copy is = absurd at
+    polls_answered (doing.Widening (z ∷ left) granted) at asks' right u suite mode poll copy is =
+        let asks = asked_by its_task z at.suite.collector took.asked.0 took.asked.1 (sym (ap (asked_for its_task z) at.there) ∙ asks') in
+        open_so z took.asked.1 asks.question (widen_asks c.here.agent.cache r.txn_run.suites z left granted at asks) asks.asked_is
+        (subst (Answers (fixed_of given) (run given events) (sight given events later agent t caller site ops actor goes) z asks.question took.asked.0) is (right asks.question asks.asked_is)).0 u suite mode poll
+    polls_answered (Preparing left outcome) at asks' right u suite mode poll copy is = absurd (false≢true (ap is_prepared (sym is) ∙ right))
+    polls_answered (Deciding outcome) at asks' right u suite mode poll copy is =
+        absurd (⊎_elim (λ up. not_verdict (verdict_of (decision_of its_task outcome)) (sym is ∙ up.1)) (λ down. not_down (sym is ∙ down.1)) right)
+      where
+        not_verdict : (v : Verdict) → held copy ≡ reply.Verdict v → ⊥
+        not_verdict v is = cc
+
+        not_down : held copy ≡ reply.Down → ⊥
+        not_down is = cc
+    polls_answered (Finishing [] v ended) at asks' right u suite mode poll copy is = absurd (none-some (took.asked.0, took.asked.1) asks')
+    polls_answered (Finishing (first ∷ left) v ended) at asks' right u suite mode poll copy is = absurd (not_poll (asks_same first took.asked.0 (request.Finish its_task.t v) took.asked.1 asks' ∙ poll))
+      where
+        not_poll : request.Finish its_task.t v ≡ request.Poll u suite mode → ⊥
+        not_poll is = cc
+
+    new_answered : NewOpen given events later agent t caller site ops actor goes so_far (Step agent)
+    new_answered server z told of_it =
+        let same : the (record { server = took.asked.0; request = record { stamp = c.here.stamp; value = took.asked.1 }; reply = answer_of took.st (record { stamp = c.here.stamp; value = took.asked.1 }) }) ≡ told.what = same_Some _ told.what (sym took.done ∙ told.served) in
+        let asked_is : took.asked.1 ≡ request.Poll t told.told.suite told.told.mode = ap (λ (what : Served). what.request.value) same ∙ told.told.poll in
+        let said_is : said ≡ held told.told.copy = ap (λ (what : Served). what.reply.value) same ∙ told.told.reply in
+        let at : took.asked.0 ≡ server = ap (λ (what : Served). what.server) same ∙ told.at in
+        subst (λ z. opens given events later agent t caller site ops actor goes z (first_asked given events later agent t caller site ops actor goes z) server ≡ true) of_it
+        (subst (λ server. opens given events later agent t caller site ops actor goes told.told.suite (first_asked given events later agent t caller site ops actor goes told.told.suite) server ≡ true) at (polls_answered r.txn_run.phase r.at.1 request_is right_here t told.told.suite told.told.mode asked_is told.told.copy said_is))
+      where
+        the : Served → Served
+        the what = what
+
+    locks_then : HasWhereOpen given events later agent t caller site ops actor goes (world_after given events agent caller site ops (so_far ++ Step agent ∷ []))
+    locks_then = answered_on given events later agent t caller site ops actor goes so_far rest (Step agent) split c new_answered
+
+    -- ---- its course
+
+    abbrev step_of : Task → CourseStep
+    step_of task = after_reply (fixed_of given) task c.here.agent.cache r.txn_run.suites r.txn_run.phase took.asked.0 took.asked.1 said
+
+    taken : take (fixed_of given) c.here.agent (Replied said) ≡ with_step c.here.agent (step_of r.txn_run.task)
+    taken =
+        ap (λ doing. take_in (fixed_of given) c.here.agent (Replied said) doing (next_of (fixed_of given) c.here.agent)) r.running
+        ∙ ap (take_in (fixed_of given) c.here.agent (Replied said) (Some (Running r.txn_run))) took.next
+
+    here_is : took.new.agent ≡ (with_step c.here.agent (step_of r.txn_run.task)).agent
+    here_is = took.took ∙ ap (λ (taken : Taken). taken.agent) taken
+
+    there_then : actor_at (world_after given events agent caller site ops (so_far ++ Step agent ∷ [])) agent ≡ Some took.new
+    there_then = ap (λ w. actor_at w agent) (next_is given events later agent t caller site ops actor goes so_far (Step agent)) ∙ took.now
+
+    count_then : took.new.agent.count ≡ actor.agent.count + 1
+    count_then =
+        ap (λ (a : Agent). a.count) took.took
+        ∙ (take_keeps (fixed_of given) c.here.agent (Replied said) c.here.agent.doing (next_of (fixed_of given) c.here.agent)).1 ∙ c.count
+
+    abbrev told_then : List agents.Event
+    told_then = c.told ++ agents.Take (Replied (reply_of took.st took.asked.1)) ∷ []
+
+    is_then : took.new.agent ≡ after_all (fixed_of given) (begin (fixed_of given) actor.agent (Transaction caller site ops)) (c.told ++ agents.Take (Replied (reply_of took.st took.asked.1)) ∷ [])
+    is_then = took.took ∙ ap (λ a. (take (fixed_of given) a (Replied said)).agent) c.is ∙ sym (after-append (fixed_of given) (begin (fixed_of given) actor.agent (Transaction caller site ops)) c.told (agents.Take (Replied said)))
+
+    module _ (may : MayExecute r.txn_run.phase) (more : TransactionRun) (is : (step_of its_task).after ≡ GoesOn more) where
+      running_on : took.new.agent.doing ≡ Some (Running more)
+      running_on = ap (λ (a : Agent). a.doing) here_is ∙ ap (left Running) (ap (λ task. (step_of task).after) r.at.0 ∙ is)
+
+      number_on : more.task.t ≡ t
+      number_on =
+          let at = (holds_of given goes.can.accepted (events ++ Begin agent (Transaction caller site ops) ∷ (so_far ++ Step agent ∷ []))).agents.at agent took.new.agent
+          (ap agent_of (ap (λ w. actor_at w agent) (sym (run_at given events later agent t caller site ops actor goes.can goes.there goes.begins (so_far ++ Step agent ∷ []))) ∙ there_then)) in
+          let last = last_of (decisions given (events ++ Begin agent (Transaction caller site ops) ∷ (so_far ++ Step agent ∷ []))) agent took.new.agent.count more.task.t took.new.agent.doing at (ap (runs more.task.t) running_on ∙ eq-eqb more.task.t more.task.t refl) in
+          let counts = count_then in
+          let first = begun.0 in
+          omega (arith, last, counts, first)
+
+      ordered_on : IsOrdered nat_cmp more.suites
+      ordered_on =
+          (subst (Keeps (plus_all nothing_held (exchanges (fixed_of given) (begin (fixed_of given) actor.agent (Transaction caller site ops)) told_then))) (ap (λ (a : Agent). a.doing) (sym is_then) ∙ running_on)
+          (keeping.all_keep nothing_held (fixed_of given) (begin (fixed_of given) actor.agent (Transaction caller site ops)) told_then (begin_keeps (fixed_of given) actor.agent (Transaction caller site ops) idle_before))).0
+
+      asks_early : is_decide took.asked.1 ≡ false
+      asks_early = (early_asks (fixed_of given) its_task r.txn_run.suites r.txn_run.phase may took.asked.0 took.asked.1 request_is).1
+
+      resolves_none : is_resolve took.asked.1 ≡ false
+      resolves_none = never_resolves (fixed_of given) its_task r.txn_run.suites r.txn_run.phase took.asked.0 took.asked.1 request_is
+
+      knows_on : (z : ℕ) → asks_of (locks_on (table_of given events) its_task) z ≡ true → IsSoAt (known.known_of (known_of more.suites) z) (row_of (table_of given events).rows z)
+      knows_on =
+          knows_begun given events later agent t caller site ops actor goes so_far rest split (work_in (early_open r.txn_run.phase may)) (spared_on given events later agent t caller site ops actor goes so_far rest (Step agent) split c) c.here c.there took asks_early resolves_none
+          locks_then took.new more there_then running_on number_on ordered_on
+
+    good_step : Good (step_of r.txn_run.task)
+    good_step =
+        subst (λ task. Good (step_of task)) (sym r.at.0)
+        (reply_stands (fixed_of given) (run given events) (sight given events later agent t caller site ops actor goes) (table_of given events) (its given events later agent t caller site ops actor goes) actor.agent.cache (Known given events later agent t caller site ops actor goes) (ground given events later agent t caller site ops actor goes) (same_service given events later agent t caller site ops actor goes) c.here.agent.cache r.txn_run.suites r.txn_run.phase r.at.1
+        took.asked.0 took.asked.1 request_is said right_here knows_on)
+
+    stands_then : StandsIn given events later agent t caller site ops actor goes took.new.agent.cache took.new.agent.doing
+    stands_then = subst (λ (a : Agent). StandsIn given events later agent t caller site ops actor goes a.cache a.doing) (sym here_is) (stands_left (step_of r.txn_run.task) good_step)
+
+    -- how it ends, where it ends in this step
+    pub ends_right : (one : EndedJob) → (step (fixed_of given) (world_after given events agent caller site ops so_far) (Step agent)).done.outcome ≡ Some one → Right given events later agent t caller site ops actor goes one.ending
+    ends_right one is =
+        right_end (step_of r.txn_run.task) good_step one.ending
+        (sym (ap (λ (taken : Taken). taken.ending) taken) ∙ ending_in agent c.here (take (fixed_of given) c.here.agent (Replied said)).ending one (sym took.ended ∙ is))
+
+    -- it goes on, and was told this; or it is idle, and its job has ended
+    abbrev pub OwnOn : Type 0
+    OwnOn = ((on : Course given events later agent t caller site ops actor goes (so_far ++ Step agent ∷ [])) × (on.told ≡ c.told ++ agents.Take (Replied (reply_of took.st took.asked.1)) ∷ []))
+        ⊎ ((one : EndedJob) × ((step (fixed_of given) (world_after given events agent caller site ops so_far) (Step agent)).done.outcome ≡ Some one) × (number_of one ≡ t))
+
+    pub own_on : OwnOn
+    own_on = of (step_of r.txn_run.task).after refl
+      where
+        number_ended : (one : EndedJob) → one.agent ≡ agent → one.count ≡ c.here.agent.count - 1 → number_of one ≡ t
+        number_ended one at count =
+            let counts = c.count in
+            let first = begun.0 in
+            omega (arith, at, count, counts, first)
+
+        of : (after : After TransactionRun) → (step_of r.txn_run.task).after ≡ after → OwnOn
+        of (GoesOn more) is = inl (
+          record {
+            here = took.new;
+            there = there_then;
+            stands = stands_then;
+            busy = ap (λ (a : Agent). is_idle a.doing) here_is ∙ ap (λ after. is_idle (left Running after)) is;
+            told = told_then;
+            is = is_then;
+            count = count_then;
+            locks = locks_then;
+            spared = spared_on given events later agent t caller site ops actor goes so_far rest (Step agent) split c;
+          },
+          refl,
+        )
+        of (Ends ended) is =
+            inr (the_one, took.ended ∙ ap (outcome_of agent c.here) (ap (λ (taken : Taken). taken.ending) taken ∙ ap end_of is), number_ended the_one refl refl)
+          where
+            the_one : EndedJob
+            the_one = record { agent = agent; count = c.here.agent.count - 1; steps = one_more c.here.steps; ending = ended }
