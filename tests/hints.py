@@ -18,12 +18,12 @@ WIDEST = 120
 TYPED = (
     (
         "tools",
-        "after build choose compare console explain faulty grammar guarded happened in_script looking scenario shapes "
-        "shown sources trial votes worded wrong_bodies wrong_bodies_page gate gate_times named proved_page",
+        "after build choose compare console explain explore faulty grammar guarded happened in_script looking scenario "
+        "shapes shown sources trial votes worded wrong_bodies wrong_bodies_page gate gate_times named proved_page",
     ),
     (
         "tests",
-        "against-the-kernel checked-build damaged-copies damaged-scripts defaults-on-linux explained hints "
+        "against-the-kernel checked-build damaged-copies damaged-scripts defaults-on-linux explained explored hints "
         "played reading scratch typed voted votes-left wrapper",
     ),
     ("tests", "votes"),

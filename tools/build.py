@@ -108,7 +108,7 @@ def build(needs: dict[str, list[str]], teller: console.Teller) -> tuple[str, str
 
 def main() -> int:
     if len(sys.argv) > 1:
-        raise console.Stop("--prove takes no other word than trace or may")
+        raise console.Stop("--prove takes no other word than trace, may or explore")
     kit = sources.Kit()
     kit.wanted()
     sources.make_folder()

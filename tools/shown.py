@@ -24,7 +24,7 @@ import played
 import typing
 
 PICTURE, STORY = "docs/revocation.svg", "examples/play/revocation.script"
-HELP, OF_TOOLS = "help", "tools.txt"
+HELP, OF_TOOLS = "help", ("tools.txt", "explore.txt")
 # The commands of which no row can tell the output.
 TOOLS = re.compile(rb"\$ \./suites (?:explain|trace|draw|show|votes|may|--version)\b")
 
@@ -82,7 +82,7 @@ def texts_of_help(known: list[tuple[str, bytes, bytes]]) -> typing.Iterator[str]
     words_of = {"suites": "--help", "help": "help help"}
     for name in sorted(os.listdir(os.path.join(TOP, HELP))):
         words = words_of.get(name[:-4], f"{name[:-4]} --help")
-        if name != OF_TOOLS and content(os.path.join(HELP, name)) != printed.get(words):
+        if name not in OF_TOOLS and content(os.path.join(HELP, name)) != printed.get(words):
             yield f"{HELP}/{name} is not what the row of '{words}' prints"
 
 

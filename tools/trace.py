@@ -29,7 +29,6 @@ from known_paths import FEW, Paths, paths
 
 TOOLS = os.path.dirname(os.path.abspath(__file__))
 TOP = os.path.dirname(TOOLS)
-CHOICE = os.path.join(TOP, "out", "trace-choice.sh")
 REQUEST = re.compile(r"  (\d+) -> s(\d+)  (.*?) +: (.*)")
 OUTCOME = re.compile(r"(\d+)\.(\d+) (\d+) (.*)")
 SUITE = re.compile(r"\bsuite (\d+)\b")
@@ -49,10 +48,11 @@ EXPLAINED = {6: "the input is above 16 MiB, or a read or a write failed (./suite
 ENV = {**os.environ, "SUITES_PROGRAM": "trace"}
 
 
-def kept_choice():
-    """The kind and the path of the program that was chosen last, where all stands that it was chosen from (`./suites` looks
-    so at the other one): choosing takes longer than playing a story."""
-    with contextlib.suppress(OSError, ValueError, KeyError), open(CHOICE, encoding="utf-8") as file:
+def kept_choice(name):
+    """The kind and the path of the program of this name that was chosen last, where all stands that it was chosen from
+    (`./suites` looks so at the program `suites`): choosing takes longer than playing a story."""
+    path = os.path.join(TOP, "out", f"{name}-choice.sh")
+    with contextlib.suppress(OSError, ValueError, KeyError), open(path, encoding="utf-8") as file:
         kept = dict(word.split("=", 1) for word in shlex.split(file.read()))
         names = [*kept["files"].split("\n"), kept["program"]]
         is_same_kit = os.environ.get("PATH") == kept["searched"] or shutil.which("rt") == kept["rt"]
@@ -63,18 +63,20 @@ def kept_choice():
 
 
 @functools.cache
-def program():
-    """The program `trace`: the proved one where it is that of the sources, else a checked build."""
-    choice = kept_choice()
+def program(name="trace"):
+    """The program of this name: the proved one where it is that of the sources, else a checked build."""
+    choice = kept_choice(name)
     if not choice:
-        chosen = subprocess.run([sys.executable, os.path.join(TOOLS, "choose.py")], env=ENV, stdin=subprocess.DEVNULL, stdout=subprocess.PIPE, text=True)
+        env = {**os.environ, "SUITES_PROGRAM": name}
+        words = [sys.executable, os.path.join(TOOLS, "choose.py")]
+        chosen = subprocess.run(words, env=env, stdin=subprocess.DEVNULL, stdout=subprocess.PIPE, text=True)
         if chosen.returncode != 0:
             sys.exit(chosen.returncode)
         choice = chosen.stdout.split()
     kind, path = choice
     if kind == "checked":
-        text = "checked build of trace, not proved yet; ./suites --prove trace proves and builds it"
-        console.say_once_a_day(os.path.join(TOP, "out", "trace-told"), text)
+        text = f"checked build of {name}, not proved yet; ./suites --prove {name} proves and builds it"
+        console.say_once_a_day(os.path.join(TOP, "out", f"{name}-told"), text)
     return os.path.join(TOP, path)
 
 
