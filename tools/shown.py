@@ -1,7 +1,8 @@
 #!/usr/bin/env python3
 """Looks whether all that README.md and examples/ show is played by the gate.
 
-Each file of examples/ has to be the input of a row of crates/rows/stdin; each script, command and output that
+Each file of examples/ has to be the input of a row of crates/rows/stdin, and one of examples/explore have its ways in
+tests/explored; each script, command and output that
 README.md shows has to be that of a row, and an output that of the script or the command before it. Each text of help/
 but that of the tools has to be what a row of help prints. The picture and what is shown of `./suites trace` have to be
 those of the trace which the program of crates/trace is to print of the same script (its stdin and stdout). What differs
@@ -27,6 +28,9 @@ PICTURE, STORY = "docs/revocation.svg", "examples/play/revocation.script"
 HELP, OF_TOOLS = "help", ("tools.txt", "explore.txt")
 # The commands of which no row can tell the output.
 TOOLS = re.compile(rb"\$ \./suites (?:explain|trace|draw|show|votes|may|--version)\b")
+# Stories of `explore`, and where what it tells of them is kept; tests/explored.py compares.
+STORIES, WAYS = "examples/explore", "tests/explored"
+RUN = re.compile(rb"^# +\./suites (explore[^<]*?) < ", re.M)
 
 
 def content(name: str) -> bytes:
@@ -37,6 +41,15 @@ def content(name: str) -> bytes:
 def rows() -> list[tuple[str, bytes, bytes]]:
     """The rows: words, input and output of each."""
     return [(b" ".join(row["words"]).decode(), row["input"], row["output"]) for row in played.rows()]
+
+
+def stories() -> typing.Iterator[tuple[str, bytes, bytes]]:
+    """The same of the stories of `explore`."""
+    for name in sorted(os.listdir(os.path.join(TOP, STORIES))):
+        given = content(os.path.join(STORIES, name))
+        found, ways = RUN.search(given), os.path.join(WAYS, f"{name.removesuffix('.script')}.ways")
+        if found and os.path.exists(os.path.join(TOP, ways)):
+            yield found[1].decode(), given, content(ways)
 
 
 def blocks(text: bytes) -> typing.Iterator[tuple[int, list[bytes]]]:
@@ -57,7 +70,7 @@ def commands(block: list[bytes]) -> typing.Iterator[tuple[str, str]]:
     """The commands of the program in a block, as words and the name of their input."""
     for line in block:
         match = re.match(r"(?:\$ )?\./suites (.*?) < (\S+)", line.decode())
-        if match and not match[1].startswith("trace"):
+        if match and not match[1].startswith(("trace", "explore --way")):
             yield match[1], match[2]
 
 
@@ -95,7 +108,7 @@ def told_of_votes(block: list[bytes]) -> bytes | None:
 
 
 def main() -> int:
-    known = rows()
+    known = [*rows(), *stories()]
     wrong = list(texts_of_help(known))
     inputs = {given for _, given, _ in known}
     for folder, _, names in sorted(os.walk(os.path.join(TOP, "examples"))):
