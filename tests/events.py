@@ -2,8 +2,9 @@
 """tests/events.py
 
 Holds docs/events.schema.json against what `./suites trace --json` prints of all stories, of the scripts of tests/drawn.py, and
-of random ones. What servers had by the changes that each event tells has to be what the program tells at the end, and all
-that `trace` tells in lines has to be told in the objects too. Status 1 where something differs.
+of random ones. What servers and agents had by the changes that each event tells has to be what the program tells at the end,
+an agent has to have gathered the locks that replies gave, and all that `trace` tells in lines has to be told in the objects
+too. Status 1 where something differs.
 """
 import json
 import os
@@ -87,6 +88,60 @@ def replayed(events: list[dict]) -> list[dict]:
     return [{**one, "copies": sorted(one["copies"].values(), key=lambda copy: copy["suite"])} for one in servers]
 
 
+def agents_replayed(events: list[dict]) -> list[dict]:
+    """What agents do and keep at the end, by what is told of them in each event."""
+    agents = [*events[0]["agents"]]
+    for event in events[1:-1]:
+        by = event.get("by")
+        if by:
+            before = {name: part for name, part in agents[by["agent"]].items() if name not in ("next", "of")}
+            agents[by["agent"]] = {**before, **by}
+    return agents
+
+
+def letters(one: dict) -> dict[int, str]:
+    """Which servers hold which lock on a suite that was gathered."""
+    return {server: letter for server, letter in enumerate(one["held"]) if letter != "-"}
+
+
+class Talk:
+    """What the replies to an agent say that it gathered and keeps, as far as replies alone say it: which locks servers
+    hold for its transaction, and what was fetched at which version."""
+
+    def __init__(self, event: dict):
+        self.locks: dict[int, dict[int, str]] = {}
+        self.fetched: set[int] = set()
+        self.number = event["agent"]
+
+    def hear(self, event: dict) -> None:
+        asked, said = event.get("request", {}), event["reply"]["says"]
+        if said == "held":
+            letter = "x" if asked.get("mode") != "shared" else "s"
+            self.locks.setdefault(asked["suite"], {})[event["server"]] = letter
+        if said == "given":
+            self.fetched.add(asked["suite"])
+
+
+def talks(events: list[dict]):
+    """Where an event tells otherwise of an agent than the requests and replies say: of each event what differs, if anything does."""
+    heard = {one["agent"]: Talk(one) for one in events[0]["agents"]}
+    agents = [*events[0]["agents"]]
+    for event in events[1:-1]:
+        by = event.get("by")
+        if not by:
+            continue
+        agents[by["agent"]] = {**agents[by["agent"]], **by}
+        own, talk = agents[by["agent"]], heard[by["agent"]]
+        if event["kind"] == "request":
+            talk.hear(event)
+        if "end" in event or own["stage"] == "idle":
+            talk = heard[by["agent"]] = Talk(own)
+            yield event, own["gathered"] == []
+            continue
+        yield event, {one["suite"]: letters(one) for one in own["gathered"] if letters(one)} == talk.locks
+        yield event, talk.fetched <= {one["suite"] for one in own["gathered"] if one["open"]}
+
+
 def lines_of(events: list[dict]):
     """What a trace tells in lines, as far as it is the same words: lines of the script, requests, and what `play` prints."""
     for event in events[1:-1]:
@@ -129,6 +184,9 @@ def main() -> int:
             judge.holds(said is None, name, "event", event.get("event"), said)
         judge.holds([event["event"] for event in events] == [*range(len(events))], name, "numbers of events")
         judge.holds(replayed(events) == events[-1]["servers"], name, "what changed is not what there is at the end")
+        judge.holds(agents_replayed(events) == events[-1]["agents"], name, "agents by their changes are not what there is at the end")
+        for event, is_so in talks(events):
+            judge.holds(is_so, name, "gathered otherwise than replies say", event)
         lines = trace.traced(script.encode())
         for own, told in zip([*lines_of(events), None], [*lines_in(lines), None]):
             judge.holds(own == told, name, "told otherwise", own, told)

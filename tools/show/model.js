@@ -65,73 +65,6 @@ const Model = (() => {
     return known;
   }
 
-  // ---- caches
-
-  // The limits of each agent's cache, which a line of the script's header tells.
-  function limitsOf(script) {
-    const line = script.map((text) => text.trim().split(/\s+/)).find((words) => words[0] === "cache") || [];
-    const [budget, quota, slots] = line.slice(1).map(Number);
-    return { budget, quota, slots };
-  }
-
-  function sizeOf(told) {
-    if (told.names === undefined) return told.bytes.length / 2;
-    return Object.keys(told.names).reduce((sum, name) => sum + name.length + 9, 2);
-  }
-
-  const isOf = (entry, site, suite) => entry.site === site && entry.suite === suite;
-
-  // The entries, the newest first, once one is put: its site's oldest go while it is above the quota, and the oldest of
-  // all while they are above the budget or the slots.
-  function put(cache, entry, limits) {
-    if (entry.size > Math.min(limits.budget, limits.quota) || limits.slots === 0) {
-      return cache.filter((own) => !isOf(own, entry.site, entry.suite));
-    }
-    let quota = limits.quota;
-    let isOver = false;
-    const left = [entry, ...cache.filter((own) => !isOf(own, entry.site, entry.suite))].filter((own) => {
-      if (own.site !== entry.site) return true;
-      isOver = isOver || own.size > quota;
-      quota -= own.size;
-      return !isOver;
-    });
-    let budget = limits.budget;
-    const end = left.findIndex((own, place) => {
-      budget -= own.size;
-      return budget < 0 || place >= limits.slots;
-    });
-    return end < 0 ? left : left.slice(0, end);
-  }
-
-  // What was looked for at this version, and found, is the newest.
-  function searched(cache, site, suite, content) {
-    const found = cache.find((own) => isOf(own, site, suite) && own.content === content);
-    return found ? [found, ...cache.filter((own) => own !== found)] : cache;
-  }
-
-  // What the first quorum of a suite gave: the newest prefix and content that it saw.
-  function firstOf(suite) {
-    const votes = votesOf(suite);
-    if (!votes || votes.got < votes.of) return null;
-    const held = Object.values(suite.held);
-    const most = (part) => Math.max(...held.map((one) => one[part]));
-    return { prefix: most("prefix"), content: most("content") };
-  }
-
-  // A cache once a job heard a reply: a first quorum looks into it, and a content that was fetched is put there.
-  function cacheAfter(cache, before, job, event, limits) {
-    const { request, reply } = event;
-    if (!job || !request || job.site === null) return cache;
-    const own = job.suites[request.suite];
-    const was = before && before.suites[request.suite];
-    if (reply.says === "held" && own.first && !(was && was.first) && own.first.content > 0) {
-      return searched(cache, job.site, request.suite, own.first.content);
-    }
-    if (request.asks !== "fetch" || reply.says !== "given") return cache;
-    const entry = { site: job.site, suite: request.suite, content: reply.content, size: sizeOf(reply) };
-    return put(cache, { ...entry, prefix: own.first ? own.first.prefix : 0 }, limits);
-  }
-
   // ---- worlds
 
   const bySuite = (copies) => Object.fromEntries(copies.map((copy) => [copy.suite, copy]));
@@ -144,7 +77,7 @@ const Model = (() => {
 
   function opening(event) {
     const servers = event.servers.map((server) => ({ ...server, copies: bySuite(server.copies) }));
-    const agents = event.agents.map((agent) => ({ jobs: agent.jobs, cache: [], job: null, end: null }));
+    const agents = event.agents.map((agent) => ({ ...agent, job: null, end: null }));
     let newest = {};
     for (const server of event.servers) {
       for (const copy of server.copies) newest = raised(newest, copy.suite, copy.prefix, copy.content);
@@ -172,31 +105,16 @@ const Model = (() => {
       t: AGENTS * (event.by.jobs - 1) + agent,
       text: isSweep ? `sweeps server ${words[2]}` : words.slice(5).join(" "),
       user: isSweep ? null : words[2],
-      site: isSweep ? null : Number(words[4]),
-      line: event.line, suites: {}, parts: null, prepared: [], decided: null, told: [],
+      line: event.line, refused: {}, parts: null, prepared: [], decided: null, told: [],
     };
   }
 
   // What a job has once it is told a reply.
   function heard(job, server, request, reply) {
     if (!job || !request) return job;
-    if (["poll", "upgrade"].includes(request.asks)) {
-      const mode = request.mode || "exclusive";
-      const before = job.suites[request.suite] || { mode, held: {}, refused: {}, fetched: null };
-      const now = { ...before, mode, held: { ...before.held }, refused: { ...before.refused } };
-      if (reply.says === "held") {
-        now.held[server] = { prefix: reply.prefix, content: reply.content, votes: reply.votes };
-        delete now.refused[server];
-      } else {
-        now.refused[server] = reply.says;
-      }
-      if (!now.first) now.first = firstOf(now);
-      return { ...job, suites: { ...job.suites, [request.suite]: now } };
-    }
-    if (request.asks === "fetch" && reply.says === "given") {
-      const before = job.suites[request.suite];
-      const now = { ...(before || { mode: "shared", held: {}, refused: {} }), fetched: reply.content };
-      return { ...job, suites: { ...job.suites, [request.suite]: now } };
+    if (["poll", "upgrade"].includes(request.asks) && reply.says !== "held") {
+      const refused = { ...job.refused[request.suite], [server]: reply.says };
+      return { ...job, refused: { ...job.refused, [request.suite]: refused } };
     }
     if (request.asks === "prepare") {
       const prepared = reply.says === "prepared" ? [...job.prepared, server] : job.prepared;
@@ -220,14 +138,7 @@ const Model = (() => {
     return newest;
   }
 
-  // The cache behind an event.
-  function cacheOf(cache, before, job, event, limits) {
-    if (event.kind === "request") return cacheAfter(cache, before, job, event, limits);
-    const words = event.text.trim().split(/\s+/);
-    return words[0] === "forget" ? cache.filter((own) => own.site !== Number(words[2])) : cache;
-  }
-
-  function after(world, event, limits) {
+  function after(world, event) {
     if (event.kind === "standing") return world;
     let { servers, agents, newest } = world;
     if (event.at) {
@@ -235,18 +146,14 @@ const Model = (() => {
       for (const copy of event.at.copies || []) newest = raised(newest, copy.suite, copy.prefix, copy.content);
     }
     if (event.by) {
-      const number = event.by.agent;
-      const before = agents[number];
-      let job = before.job;
-      if (event.by.jobs > before.jobs) job = begunBy(event, number);
+      const before = agents[event.by.agent];
+      let job = event.by.jobs > before.jobs ? begunBy(event, event.by.agent) : before.job;
       if (event.kind === "request") job = heard(job, event.server, event.request, event.reply);
       newest = inEffect(newest, job, event);
-      const end = event.end ? event.end : before.end;
-      const cache = cacheOf(before.cache, before.job, job, event, limits);
-      agents = replaced(agents, number, {
-        jobs: event.by.jobs, next: event.by.next, of: event.by.of, cache,
-        job: event.end ? null : job, end, last: event.end ? job : before.last,
-      });
+      // what is not told of an agent is as it was, but for what it asks next
+      const own = { next: undefined, of: undefined, ...event.by };
+      if (event.end) Object.assign(own, { job: null, end: event.end });
+      agents = replaced(agents, event.by.agent, { ...before, job, ...own });
     }
     return { servers, agents, newest };
   }
@@ -257,13 +164,15 @@ const Model = (() => {
     return ["prefix", "content"].filter((part) => newest && copy[part] < newest[part]);
   }
 
-  // How many votes a job has of a suite, and how many it wants: as the newest list of votes says that it met.
+  // Which servers hold a lock on a suite that was gathered, in the mode that is wanted or not.
+  function holdersOf(suite) {
+    return [...suite.held].flatMap((letter, server) => (letter === "-" ? [] : [{ server, counts: letter === "x" || suite.mode === "shared" }]));
+  }
+
+  // How many votes those have that hold what is wanted, and how many are wanted, by the newest votes that were shown.
   function votesOf(suite) {
-    const held = Object.entries(suite.held);
-    if (!held.length) return null;
-    const newest = held.reduce((best, one) => (one[1].prefix > best[1].prefix ? one : best))[1];
-    const votes = readVotes(newest.votes);
-    const got = held.reduce((sum, [server]) => sum + (votes.of[server] || 0), 0);
+    const votes = readVotes(suite.votes);
+    const got = holdersOf(suite).reduce((sum, { server, counts }) => sum + (counts ? votes.of[server] || 0 : 0), 0);
     return { got, of: suite.mode === "exclusive" ? votes.w : votes.r };
   }
 
@@ -405,16 +314,15 @@ const Model = (() => {
   // ---- a run
 
   // The run that events tell, of a script in lines.
-  function read(lines, script) {
+  function read(lines) {
     const events = lines.map((line) => JSON.parse(line));
-    const limits = limitsOf(script);
     const worlds = [opening(events[0])];
-    for (const event of events.slice(1)) worlds.push(after(worlds[worlds.length - 1], event, limits));
+    for (const event of events.slice(1)) worlds.push(after(worlds[worlds.length - 1], event));
     const paths = pathsOf(events);
     return { events, worlds, paths, rows: rowsOf(events, paths), last: events.length - 1 };
   }
 
-  return { read, behind, votesOf, lifeOf, pathOf, askedWords, repliedWords, shortList, shownBytes };
+  return { read, behind, holdersOf, votesOf, lifeOf, pathOf, askedWords, repliedWords, shortList, shownBytes };
 })();
 
 if (typeof module !== "undefined") module.exports = Model;

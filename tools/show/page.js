@@ -3,7 +3,7 @@
 
 const Page = (() => {
   const given = JSON.parse(document.getElementById("given").textContent);
-  const run = Model.read(given.events, given.script);
+  const run = Model.read(given.events);
   const find = (name) => document.getElementById(name);
   const [slider, moment, world, script, hint, life] = ["slider", "moment", "world", "script", "hint", "life"].map(find);
   let here = 0;
@@ -82,16 +82,20 @@ const Page = (() => {
 
   // ---- agents
 
-  function gatheredPart(job) {
-    const parts = Object.entries(job.suites).map(([suite, own]) => {
-      const votes = Model.votesOf(own);
-      const where = Object.keys(own.held).map((server) => `s${server}`).join(" ");
-      const refused = Object.entries(own.refused).map(([server, says]) => ` s${server} ${says}`).join("");
-      const count = votes ? `${votes.got} of ${votes.of} votes` : "no votes";
-      const read = own.fetched === null || own.fetched === undefined ? "" : `, content c${own.fetched}`;
-      const told = `${pathOf(Number(suite))} ${own.mode}: ${count} (${where}${refused})${read}`;
-      return make("div", { class: "small" }, told);
-    });
+  // A suite that was gathered: which servers hold it, what its first quorum gave, and whether its content is there.
+  function suitePart(one, refused) {
+    const { got, of } = Model.votesOf(one);
+    const held = Model.holdersOf(one).map(({ server, counts }) => `s${server}${counts ? "" : " shared"}`);
+    const others = Object.entries(refused || {}).map(([server, says]) => `s${server} ${says}`);
+    const where = [...held, ...others].join(", ");
+    const known = one.prefix === undefined ? "" : `; p${one.prefix} c${one.content} at s${one.source}${one.open ? ", read" : ""}`;
+    const about = { class: "small", "data-gathered": `${one.suite} ${one.mode} ${one.newest} ${one.held}` };
+    return make("div", about, `${pathOf(one.suite)} `, word(one.mode), `: ${got} of ${of} votes${where ? ` (${where})` : ""}${known}`);
+  }
+
+  function gatheredPart(agent) {
+    const { gathered, job } = agent;
+    const parts = gathered.map((one) => suitePart(one, job.refused[one.suite]));
     const named = (servers) => servers.map((one) => `s${one}`).join(" ");
     const add = (kind, ...told) => parts.push(make("div", { class: kind }, ...told));
     if (job.prepared.length) add("small", word("prepared"), `: ${named(job.prepared)}`);
@@ -100,23 +104,27 @@ const Page = (() => {
     return parts;
   }
 
+  function entryPart(one, at) {
+    const about = { "data-entry": `${one.site} ${one.suite} ${one.prefix} ${one.content}` };
+    return make("span", about, `${at === 0 ? "" : ", "}${pathOf(one.suite)} p${one.prefix} c${one.content}`);
+  }
+
+  // What each site keeps, the newest first.
   function cachePart(cache) {
     const bySite = new Map();
     for (const entry of cache) bySite.set(entry.site, [...(bySite.get(entry.site) || []), entry]);
-    return [...bySite].map(([site, entries]) => make("div", { class: "small" }, `cache of site ${site}: `,
-      entries.map((one) => `${pathOf(one.suite)} p${one.prefix} c${one.content}`).join(", ")));
+    return [...bySite].map(([site, entries]) => make("div", { class: "small" }, `cache of site ${site}: `, ...entries.map(entryPart)));
   }
 
   function agentCard(agent, number, isNow) {
     const { job, end } = agent;
-    const about = { class: `card${isNow ? " now" : ""}`, "data-agent": number, "data-busy": job !== null };
+    const about = { class: `card${isNow ? " now" : ""}`, "data-agent": number, "data-stage": agent.stage };
     const card = make("div", about, make("b", {}, `agent ${number}`));
     if (job) {
       const told = job.user === null ? job.text : `user ${job.user}: ${job.text}`;
       card.append(` job ${job.number} (t ${job.t})`, make("div", {}, told));
-      const next = ["asks next: ", word(agent.next || ""), ` of server ${agent.of}`];
-      if (agent.next) card.append(make("div", { class: "small" }, ...next));
-      card.append(...gatheredPart(job));
+      const next = agent.next ? ["; asks next: ", word(agent.next), ` of server ${agent.of}`] : [];
+      card.append(make("div", { class: "small" }, word(agent.stage), ...next), ...gatheredPart(agent));
     } else if (end) {
       const ended = { class: kindOf(end.text), "data-ended": `${end.agent}.${end.job}` };
       card.append(make("div", ended, `job ${end.job} `, ...explained(end.text)));

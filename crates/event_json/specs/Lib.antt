@@ -4,3 +4,4 @@ pub mod Locks
 pub mod Replies
 pub mod Requests
 pub mod Servers
+pub mod Agents

@@ -9,6 +9,7 @@
 //! `Strings`, `Copies`, `Locks`, `Requests`, `Replies`, `Servers`.
 #![tactic(auto)]
 
+mod agents;
 mod copies;
 mod locks;
 mod replies;
@@ -16,6 +17,7 @@ mod requests;
 mod servers;
 mod strings;
 
+pub use agents::{push_cache, push_gathered, stage_word};
 pub use copies::push_copy;
 pub use locks::push_locks;
 pub use replies::{push_reply, push_verdict};

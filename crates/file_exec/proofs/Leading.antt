@@ -116,11 +116,11 @@ content_stays edits suite (Some row) is = sym (stays edits suite row is)
 content_stays edits suite None is = sym (ap content_in (still_none edits suite is))
 
 -- a part of a row stays where no edit sets it
-neither : (a b : Bool) → (a || b) ≡ false → (a ≡ false) × (b ≡ false)
+pub neither : (a b : Bool) → (a || b) ≡ false → (a ≡ false) × (b ≡ false)
 neither true b is = cc
 neither false b is = (refl, is)
 
-part_stays : {A : Type 0} (part : Row → A) (kind : Edit → Bool) → ((edit : Edit) (row : Option Row) → kind edit ≡ false → option_map part row ≡ option_map part (changed edit row))
+pub part_stays : {A : Type 0} (part : Row → A) (kind : Edit → Bool) → ((edit : Edit) (row : Option Row) → kind edit ≡ false → option_map part row ≡ option_map part (changed edit row))
     → (edits : Edits) (suite : ℕ) (row : Option Row) → some kind edits suite ≡ false → option_map part row ≡ option_map part (seen edits suite row)
 part_stays part kind keeps [] suite row is = refl
 part_stays part kind keeps (e ∷ edits) suite row is =
@@ -129,7 +129,7 @@ part_stays part kind keeps (e ∷ edits) suite row is =
       | false ↦ λ is. part_stays part kind keeps edits suite row is
     ] is
 
-keeps_acl : (edit : Edit) (row : Option Row) → sets_acl edit ≡ false → option_map (λ (row : Row). row.acl) row ≡ option_map (λ (row : Row). row.acl) (changed edit row)
+pub keeps_acl : (edit : Edit) (row : Option Row) → sets_acl edit ≡ false → option_map (λ (row : Row). row.acl) row ≡ option_map (λ (row : Row). row.acl) (changed edit row)
 keeps_acl (SetAcl acl) row is = cc
 keeps_acl (SetVotes votes) None is = refl
 keeps_acl (SetVotes votes) (Some row) is = refl
@@ -137,7 +137,7 @@ keeps_acl (SetContent content) None is = refl
 keeps_acl (SetContent content) (Some row) is = refl
 keeps_acl (Make made) row is = cc
 
-keeps_votes : (edit : Edit) (row : Option Row) → sets_votes edit ≡ false → option_map (λ (row : Row). row.votes) row ≡ option_map (λ (row : Row). row.votes) (changed edit row)
+pub keeps_votes : (edit : Edit) (row : Option Row) → sets_votes edit ≡ false → option_map (λ (row : Row). row.votes) row ≡ option_map (λ (row : Row). row.votes) (changed edit row)
 keeps_votes (SetAcl acl) None is = refl
 keeps_votes (SetAcl acl) (Some row) is = refl
 keeps_votes (SetVotes votes) row is = cc

@@ -20,13 +20,13 @@ use Rattle.txn_core.specs.declared.response.Response.{Response}
 use Rattle.txn_core.specs.declared.response.Response.TheVariants.{Replied, Lacked}
 use Rattle.txn_core.specs.declared.job.Job.{Job}
 use Rattle.txn_core.specs.declared.job.Job.TheVariants.{Transaction, Sweep}
-use Rattle.txn_core.specs.Doing.{Fixed, home_of, SweepRun, Doing, Running, RunningSweep, After, GoesOn, Ends}
+use Rattle.txn_core.specs.Doing.{Fixed, home_of, Doing, Running, RunningSweep}
 use Rattle.txn_core.specs.Sweeps as sweep
 use Rattle.txn_core.specs.Agents as agents
 use Rattle.txn_core.specs.Agents.{Agent, Event, Take, Forget, next_in, next_of, take_in, take, begin, started, forget, is_idle, has_sense, max_jobs, after_all}
 use Rattle.txn_core.specs.Laws.{Exchange, exchange_of, exchanges, of_job, among, asks_only, names_of, names_only, listed, listed_in}
 use Rattle.txn_core.proofs.Bound.{ends_in_time}
-use Rattle.txn_core.proofs.Swept.{sweep_ends_in_time}
+use Rattle.txn_core.proofs.Swept.{sweep_ends_in_time, IsNoCourse, no_course}
 use Rattle.txn_core.proofs.Upheld.{exchanges-take}
 use Rattle.law_agents.specs.Steps.{agent_after, VotesAreValid, AsksUntilItEnds, names, names_in, is_known, AsksWhomItKnows, steps_in, names_next, EndsWithin, SweepEndsWithin, CachesStayValid, JobsEnd}
 use Rattle.law_agents.proofs.Collectors.{AllReps}
@@ -255,15 +255,6 @@ asked_are_known fixed agent job events servers idle valid all = asked_all (of_jo
     asked_all (one ∷ past) so = ap (λ b. b && asks_only servers past) so.0 ∙ asked_all past so.1
 
 -- ---- sweeps
-
-abbrev IsNoCourse : Option Doing → Type 0
-IsNoCourse (Some (RunningSweep sweep_run)) = Unit {0}
-IsNoCourse (Some (Running txn_run)) = ⊥
-IsNoCourse None = Unit {0}
-
-no_course : (after : After SweepRun) → IsNoCourse (agents.left RunningSweep after)
-no_course (GoesOn sweep_run) = tt
-no_course (Ends ending) = tt
 
 take_no_course : (fixed : Fixed) (agent : Agent) (response : Response) (doing : Option Doing) (asked : Option (ℕ × Request)) → agent.doing ≡ doing → IsNoCourse doing → IsNoCourse (take_in fixed agent response doing asked).agent.doing
 take_no_course fixed agent response (Some (RunningSweep sweep_run)) (Some asked) was none = no_course (sweep.after_response fixed.service sweep_run asked.0 response)

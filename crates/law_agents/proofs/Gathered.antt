@@ -4,34 +4,30 @@ use Rattle.std.specs.Prelude.{◌&&◌, not, nat_lt, nat_le, find}
 use Rattle.std.proofs.lemmas.Bool.{eqb-true, false≢true}
 use Rattle.std.proofs.lemmas.Bool.Decides.{nat_tests}
 use Rattle.std.proofs.lemmas.Option.{same_Some}
-use Rattle.acl_core.specs.Identity.{Identity}
-use Rattle.file_ops.specs.declared.operation.Op.{Op}
-use Rattle.vote_core.specs.Quorums.{Representative, Configuration}
+use Rattle.vote_core.specs.Quorums.{Representative}
 use Rattle.suite_prefix.specs.declared.lock_mode.LockMode.{LockMode}
 use Rattle.suite_prefix.specs.declared.lock_mode.LockMode.TheVariants.{Shared}
-use Rattle.rep_core.proofs.Members.{contains_from}
 use Rattle.rep_core.specs.declared.request.Request.{Request}
 use Rattle.rep_core.specs.declared.request.Request.TheVariants as request
 use Rattle.suite_collect.specs.declared.told.Said.{Said}
 use Rattle.suite_collect.specs.Telling.{newest, has_told}
-use Rattle.suite_collect.specs.Collecting.{Collector, told_since, votes_or, mode_or, all_told, counted, wanted, needed_of, needed, got, is_member, is_left, asked_of, ask_or_short, version, members_of, request_for, Asked, Poll, Upgrade, Next, Ask, Current, Short, next}
+use Rattle.suite_collect.specs.Collecting.{Collector, told_since, votes_or, mode_or, all_told, counted, wanted, needed, got, is_member, is_left, asked_of, ask_or_short, version, members_of, request_for, Asked, Poll, Upgrade, Next, Ask, Current, Short, next}
 use Rattle.suite_collect.specs.Collecting as collecting
 use Rattle.txn_core.specs.Suites.{Suite, Suites, suite_of, told_in}
 use Rattle.txn_core.specs.Writing.{parts_at}
 use Rattle.txn_core.specs.declared.job.Job.{Job}
-use Rattle.txn_core.specs.declared.job.Job.TheVariants.{Transaction}
 use Rattle.txn_core.specs.Doing.{home_of, Fixed, Task, Phase, Gathering, Fetching, Widening, Preparing, Deciding, Finishing, Sweeping, Listing, Resolving, Telling, Breaking, SweepRun, Doing, Running, RunningSweep}
-use Rattle.txn_core.specs.Transactions.{asked_by, asked_for, request_in, to_widen, heard_on, changes_of, decision_of}
+use Rattle.txn_core.specs.Transactions.{asked_by, asked_for, request_in, changes_of, decision_of}
 use Rattle.txn_core.specs.Sweeps as sweep
 use Rattle.txn_core.specs.Agents.{Agent, Event, next_in, begin, after_all}
-use Rattle.txn_core.specs.Laws.{Exchange, of_job, locks, told_of, has_said, holding, refusing, task_of}
-use Rattle.txn_core.specs.Caching.{IsContentOf}
-use Rattle.txn_core.specs.Undecided.{WereGathered, IsWanted, SetsVotes}
+use Rattle.txn_core.specs.Laws.{Exchange, of_job, locks, told_of, has_said, holding, refusing}
+use Rattle.txn_core.specs.Undecided.{SetsVotes}
 use Rattle.txn_core.proofs.Asks.{asks_same, fetched_as}
 use Rattle.txn_core.proofs.Causes.{StandsOn}
-use Rattle.txn_core.proofs.Gathers.{AllGathered, Wants, Sets}
+use Rattle.txn_core.proofs.Gathers.{Wants, Sets}
 use Rattle.txn_core.proofs.Locks.{Are, asks_lock}
 use Rattle.txn_core.proofs.Shown.{kind_of, told_said, votes_same}
+use Rattle.txn_core.proofs.Undecided.{IsOf, is_wanted, sets}
 use Rattle.txn_core.proofs.Upheld.{Base_of, Started, Begins, DoingStands, stands_after, started_is}
 use Rattle.law_agents.specs.Orders.{number_of}
 use Rattle.law_agents.specs.Gathers as law
@@ -63,62 +59,6 @@ module _ (fixed : Fixed) (agent : Agent) (job : Job) (events : List Event) where
   abbrev past : List Exchange
   past = of_job fixed agent job events
 
-  record IsOf (task : Task) : Type 0 where
-    caller : Identity
-    site : ℕ
-    ops : List Op
-    transaction : job ≡ Transaction caller site ops
-    task_is : task ≡ task_of agent caller site ops
-
-  site_is : (task : Task) → IsOf task → (caller : Identity) (site : ℕ) (ops : List Op) → job ≡ Transaction caller site ops → task.site ≡ site
-  site_is task own caller site ops transaction =
-      let same : Transaction own.caller own.site own.ops ≡ Transaction caller site ops = sym own.transaction ∙ transaction in
-      let sites : own.site ≡ site = cc in
-      ap (λ (task : Task). task.site) own.task_is ∙ sites
-
-  were_gathered : (task : Task) → IsOf task → (suites : Suites) → AllGathered (Base_of fixed agent job events events task.site) past suites → WereGathered fixed agent job events suites
-  unfolding started_is
-  were_gathered task own suites gathered number suite there =
-      let was = gathered number suite there in
-      record {
-        start = suite.collector.start;
-        gathered = started_is fixed agent job events number suite.collector.start was.0;
-        first = was.1.first;
-        was = was.1.was;
-        gave = was.1.gave;
-        content = λ content is.
-            let knows = was.2 content is in
-            let first_is : knows.0 ≡ was.1.first = same_Some knows.0 was.1.first (sym knows.1 ∙ was.1.was) in
-            subst (λ site. IsContentOf fixed agent job events site number was.1.first content) (site_is task own was.0.begins.caller was.0.begins.site was.0.begins.ops was.0.begins.transaction)
-            (subst (λ first. IsContentOf fixed agent job events task.site number first content) first_is knows.2);
-      }
-
-  is_wanted : (task : Task) → IsOf task → (number : ℕ) (mode : LockMode) → Wants fixed task (Base_of fixed agent job events events task.site) past number mode → IsWanted fixed agent job events number mode
-  is_wanted task own number mode wants = record {
-    caller = own.caller;
-    site = own.site;
-    ops = own.ops;
-    transaction = own.transaction;
-    suites = wants.suites;
-    gathered = were_gathered task own wants.suites wants.gathered;
-    needs = ap (λ task. heard_on fixed task wants.suites) (sym own.task_is) ∙ wants.needs;
-  }
-
-  sets : (task : Task) → IsOf task → (number : ℕ) (votes : Configuration) → Sets fixed task (Base_of fixed agent job events events task.site) past number votes → SetsVotes fixed agent job events number votes
-  sets task own number votes set = record {
-    caller = own.caller;
-    site = own.site;
-    ops = own.ops;
-    transaction = own.transaction;
-    suites = set.suites;
-    gathered = were_gathered task own set.suites set.gathered;
-    answers = set.answers;
-    changes = set.changes;
-    done = ap (λ task. heard_on fixed task set.suites) (sym own.task_is) ∙ set.done;
-    gets = contains_from (to_widen set.changes) number set.gets;
-    are = set.are;
-  }
-
   -- ---- a collector that asks
 
   record Collects (task : Task) (suite : ℕ) (c : Collector) : Type 0 where
@@ -127,18 +67,18 @@ module _ (fixed : Fixed) (agent : Agent) (job : Job) (events : List Event) where
     wide : (w : collecting.Widening) → c.widening ≡ Some w → Sets fixed task (Base_of fixed agent job events events task.site) past suite w.votes
     wants : Wants fixed task (Base_of fixed agent job events events task.site) past suite c.mode
 
-  module _ (task : Task) (own : IsOf task) (suite server : ℕ) (c : Collector) (collects : Collects task suite c) where
+  module _ (task : Task) (own : IsOf fixed agent job events task) (suite server : ℕ) (c : Collector) (collects : Collects task suite c) where
     said_of : (kind : LockMode → Said → Bool) (who : ℕ) → has_told (kind_of kind) (all_told c) who ≡ has_said past suite kind who
     said_of kind who = ap (λ told. has_told (kind_of kind) told who) collects.told ∙ told_said kind suite who [] past
 
     which : (widening : Option collecting.Widening) → c.widening ≡ widening → CountsBy fixed agent job events suite c.start (counted c) (wanted c)
     which None is = inl (
       ap (λ w. votes_or w (newest c.start c.told)) is ∙ ap (λ told. (newest c.start told).votes) (sym (ap (λ w. told_since w ++ c.told) is) ∙ collects.told),
-      is_wanted task own suite (wanted c) (subst (Wants fixed task (Base_of fixed agent job events events task.site) past suite) (sym (ap (λ w. mode_or w c.mode) is)) collects.wants),
+      is_wanted fixed agent job events task own suite (wanted c) (subst (Wants fixed task (Base_of fixed agent job events events task.site) past suite) (sym (ap (λ w. mode_or w c.mode) is)) collects.wants),
     )
     which (Some w) is = inr (
       ap (λ w. mode_or w c.mode) is,
-      subst (SetsVotes fixed agent job events suite) (sym (ap (λ w. votes_or w (newest c.start c.told)) is)) (sets task own suite w.votes (collects.wide w is)),
+      subst (SetsVotes fixed agent job events suite) (sym (ap (λ w. votes_or w (newest c.start c.told)) is)) (sets fixed agent job events task own suite w.votes (collects.wide w is)),
     )
 
     left_same : (rep : Representative) → is_left c rep ≡ law.is_left past suite (wanted c) rep
@@ -172,7 +112,7 @@ module _ (fixed : Fixed) (agent : Agent) (job : Job) (events : List Event) where
 
   -- ---- a transaction that asks for a lock
 
-  by_suite : (task : Task) → IsOf task → (number suite server : ℕ) (asked : Request) (found : Option Suite) → ((it : Suite) → found ≡ Some it → Collects task number it.collector)
+  by_suite : (task : Task) → IsOf fixed agent job events task → (number suite server : ℕ) (asked : Request) (found : Option Suite) → ((it : Suite) → found ≡ Some it → Collects task number it.collector)
       → asked_for task number found ≡ Some (server, asked) → locks suite asked ≡ true → IsGathering fixed agent job events server suite asked
   by_suite task own number suite server asked None collects is lock = cc
   by_suite task own number suite server asked (Some it) collects is lock = of (next it.collector) refl is
@@ -194,7 +134,7 @@ module _ (fixed : Fixed) (agent : Agent) (job : Job) (events : List Event) where
   no_lock : {P : Type 0} (a b : ℕ) (suite : ℕ) (asked other : Request) → locks suite asked ≡ false → ◌≡◌ {A = Option (ℕ × Request)} (Some (a, asked)) (Some (b, other)) → locks suite other ≡ true → P
   no_lock a b suite asked other none is lock = absurd (false≢true (sym none ∙ ap (locks suite) (asks_same a b asked other is) ∙ lock))
 
-  by_phase : (task : Task) → IsOf task → (suites : Suites) (phase : Phase) (server suite : ℕ) (asked : Request)
+  by_phase : (task : Task) → IsOf fixed agent job events task → (suites : Suites) (phase : Phase) (server suite : ℕ) (asked : Request)
       → StandsOn fixed task (Base_of fixed agent job events events task.site) (Started fixed agent job events) (Begins fixed agent job events) past suites phase
       → request_in fixed task suites phase ≡ Some (server, asked) → locks suite asked ≡ true → IsGathering fixed agent job events server suite asked
   by_phase task own suites (Gathering number) server suite asked stands is lock =

@@ -12,9 +12,7 @@ use Rattle.std.proofs.lemmas.Map.{lookup-none}
 use Rattle.std.proofs.lemmas.Map.Entries.{none_past_head}
 use Rattle.std.proofs.lemmas.Map.Keys.{IsDistinct-from_sorted, sorted_tail}
 use Rattle.sorted_map.specs.SortedMap.{IsOrdered}
-use Rattle.suite_prefix.specs.declared.lock_mode.LockMode.{LockMode}
-use Rattle.suite_prefix.specs.declared.lock_mode.LockMode.TheVariants.{Shared, Exclusive}
-use Rattle.suite_prefix.specs.LockModes.{serves}
+use Rattle.suite_prefix.specs.declared.lock_mode.LockMode.TheVariants.{Shared}
 use Rattle.vote_core.specs.Validity.{max_servers}
 use Rattle.rep_core.specs.declared.request.Request.{Request}
 use Rattle.rep_core.specs.declared.request.Request.TheVariants as request
@@ -30,14 +28,12 @@ use Rattle.txn_core.specs.Suites.{Suites, suite_of, told_in, told_at, holds_lock
 use Rattle.txn_core.specs.Transactions.{numbers_from, is_poll, said_to, locked_at}
 use Rattle.txn_core.specs.Laws.{Exchange, locks, says_held, was_held, told_of, told_by, more_told}
 use Rattle.txn_core.proofs.Gathers.{self}
-use Rattle.txn_core.proofs.Locks.{Are}
+use Rattle.txn_core.proofs.Locks.{Are, serves_shared}
+use Rattle.txn_core.proofs.Quorums.{or_true}
+use Rattle.txn_core.proofs.Ready.{has_one}
 use Rattle.law_agents.specs.Orders.{wants_lock, was_locked, locked}
 
 -- ---- what was told of a suite is what was heard of it
-
-serves_shared : (mode : LockMode) → serves mode Shared ≡ true
-serves_shared Shared = refl
-serves_shared Exclusive = refl
 
 -- what a reply says to a collector is held where the reply says so
 said_is_held : (asked : Request) (said : Reply) (before : List Told) (server who : ℕ)
@@ -98,10 +94,6 @@ held_from number who before (one ∷ past) =
 
 -- ---- of which suite it was heard
 
-or_true : (a : Bool) {b : Bool} → b ≡ true → (a || b) ≡ true
-or_true true is = refl
-or_true false is = is
-
 -- a lock on a suite is a lock
 locks_wants : (number : ℕ) (asked : Request) → locks number asked ≡ true → wants_lock asked ≡ true
 locks_wants number (request.Poll t suite mode) is = refl
@@ -155,14 +147,6 @@ locked_held who (one ∷ past) is =
     of later false b c at lock said is = later is
 
 -- ---- suites that hold locks
-
-has_one : (suites : Suites) (number server : ℕ) → holds Shared (told_at suites number) server ≡ true → has_locks suites server ≡ true
-has_one [] number server is = cc
-has_one (e ∷ es) number server is =
-    elim (is_at (nat_cmp number) e.0) as (λ b. holds Shared (told_in (cond b (Some e.1) (suite_of es number))) server ≡ true → (holds_lock e.1 server || has_locks es server) ≡ true) [
-      | true ↦ λ is. ap (λ b. b || has_locks es server) is
-      | false ↦ λ is. or_true (holds_lock e.1 server) (has_one es number server is)
-    ] is
 
 one_of : (suites : Suites) (server : ℕ) → IsOrdered nat_cmp suites → has_locks suites server ≡ true → (number : ℕ) × (holds Shared (told_at suites number) server ≡ true)
 one_of [] server ordered is = cc

@@ -1,18 +1,14 @@
 -- Agents keep nothing for sites that are not there: an agent by itself, and each agent of a run.
 use Rattle.std.proofs.Common.{◌≡◌, ◌⊎◌, inl, inr, ℕ, zero, suc, ◌+◌, ◌<◌, Bool, true, false, cond, List, [], ◌∷◌, ◌++◌, append_assoc, Option, Some, None, refl, sym, ap, subst, ◌∙◌, arith}
-use Rattle.std.specs.Prelude.{◌&&◌, nat_lt, slice_get, slice_set}
+use Rattle.std.specs.Prelude.{◌&&◌, nat_lt, slice_get}
 use Rattle.std.proofs.lemmas.Bool.{false≢true, and_parts}
 use Rattle.std.proofs.lemmas.Bool.Decides.{nat_tests}
 use Rattle.std.proofs.lemmas.List.{append-nil}
 use Rattle.std.proofs.lemmas.Option.{none-some, same_Some}
 use Rattle.rep_core.specs.declared.request.Request.{Request}
-use Rattle.rep_core.specs.declared.request.Request.TheVariants as request
-use Rattle.rep_core.specs.declared.stamped.Lack.TheVariants as lack
-use Rattle.rep_core.specs.State.{State}
 use Rattle.weak_cache.specs.Entries.{Entry}
 use Rattle.weak_cache.proofs.Origins.{has_from}
 use Rattle.txn_core.specs.declared.response.Response.{Response}
-use Rattle.txn_core.specs.declared.response.Response.TheVariants.{Replied, Lacked}
 use Rattle.txn_core.specs.declared.job.Job.{Job}
 use Rattle.txn_core.specs.Caching.{IsFetched}
 use Rattle.txn_core.specs.Doing.{Fixed, Doing}
@@ -21,11 +17,10 @@ use Rattle.txn_core.specs.Agents.{Agent, Take, next_in, next_of, take_in, take, 
 use Rattle.txn_core.proofs.Caching.{caches_what_was_fetched}
 use Rattle.txn_core.proofs.Upheld.{after-append}
 use Rattle.run_core.specs.declared.event.Event.{Event}
-use Rattle.run_core.specs.declared.event.Event.TheVariants.{Begin, Step, Crash, Return, Forget, Lack}
-use Rattle.run_core.specs.declared.done.Served.{Served}
-use Rattle.run_core.specs.Worlds as worlds
-use Rattle.run_core.specs.Worlds.{World, Actor, server_at, actor_at, actors_from, serve, answered, asks_at, asks, steps_once, lacks_for, lacks, operated, operates, becomes, opening, step}
+use Rattle.run_core.specs.declared.event.Event.TheVariants.{Forget}
+use Rattle.run_core.specs.Worlds.{World, Actor, actors_from, opening, step}
 use Rattle.run_core.specs.Runs.{after}
+use Rattle.run_core.proofs.EachAgent.{OfEach, after_event as each_after}
 use Rattle.law_agents.specs.Steps.{agent_after}
 use Rattle.law_agents.specs.Sites.{KeepsToSites, AgentsStaySo, RunsKeepTo}
 use Rattle.law_agents.proofs.Told.{busy_before}
@@ -131,69 +126,11 @@ begins_job fixed agent job fits = of (is_idle agent.doing) refl
 
 -- ---- every agent of a run, event by event
 
--- what holds of what stands in a list, once one of it is another
-all_set : (P : Actor → Type 0) (actors : List Actor) (i : ℕ) (new : Actor) → P new → ((n : ℕ) (x : Actor) → slice_get actors n ≡ Some x → P x)
-    → (n : ℕ) (x : Actor) → slice_get (slice_set actors i new) n ≡ Some x → P x
-all_set P [] i new fits all n x is = absurd (none-some x is)
-all_set P (y ∷ ys) zero new fits all zero x is = subst P (same_Some new x is) fits
-all_set P (y ∷ ys) zero new fits all (suc n) x is = all (suc n) x is
-all_set P (y ∷ ys) (suc i) new fits all zero x is = all zero x is
-all_set P (y ∷ ys) (suc i) new fits all (suc n) x is = all_set P ys i new fits (λ n x is. all (suc n) x is) n x is
-
 abbrev AllFit : Fixed → World → Type 0
-AllFit fixed world = (n : ℕ) (actor : Actor) → actor_at world n ≡ Some actor → Fits fixed actor.agent
+AllFit fixed world = OfEach (Fits fixed) world
 
-module _ (fixed : Fixed) (world : World) (all : AllFit fixed world) where
-  set : (i : ℕ) (new : Actor) → Fits fixed new.agent → (n : ℕ) (x : Actor) → slice_get (slice_set world.agents i new) n ≡ Some x → Fits fixed x.agent
-  set i new fits = all_set (λ actor. Fits fixed actor.agent) world.agents i new fits all
-
-  told : (i : ℕ) (actor : Actor) (stamp : ℕ) (response : Response) → actor_at world i ≡ Some actor
-      → (n : ℕ) (x : Actor) → slice_get (slice_set world.agents i (worlds.moved actor stamp (take fixed actor.agent response))) n ≡ Some x → Fits fixed x.agent
-  told i actor stamp response there = set i (worlds.moved actor stamp (take fixed actor.agent response)) (takes fixed actor.agent response (all i actor there))
-
-  answered_all : (i : ℕ) (actor : Actor) (st : State) → actor_at world i ≡ Some actor → (what : Option Served) → AllFit fixed (answered fixed world i actor st what).world
-  answered_all i actor st there (Some what) = told i actor what.reply.stamp (Replied what.reply.value) there
-  answered_all i actor st there None = told i actor actor.stamp (Lacked lack.Full) there
-
-  at_all : (i : ℕ) (actor : Actor) (asked : ℕ × Request) → actor_at world i ≡ Some actor → (found : Option State) → AllFit fixed (asks_at fixed world i actor asked found).world
-  at_all i actor asked there (Some st) = answered_all i actor st there (serve asked.0 st (record { stamp = actor.stamp; value = asked.1 }))
-  at_all i actor asked there None = all
-
-  asks_all : (i : ℕ) (actor : Actor) → actor_at world i ≡ Some actor → (asked : Option (ℕ × Request)) → AllFit fixed (asks fixed world i actor asked).world
-  asks_all i actor there (Some asked) = at_all i actor asked there (server_at world asked.0)
-  asks_all i actor there None = all
-
-  step_all : (i : ℕ) (found : Option Actor) → actor_at world i ≡ found → AllFit fixed (steps_once fixed world i found).world
-  step_all i (Some actor) there = asks_all i actor there (next_of fixed actor.agent)
-  step_all i None there = all
-
-  lacks_all : (i : ℕ) (actor : Actor) (response : Response) → actor_at world i ≡ Some actor → (asked : Option (ℕ × Request)) → AllFit fixed (lacks_for fixed world i actor response asked).world
-  lacks_all i actor response there (Some asked) = told i actor actor.stamp response there
-  lacks_all i actor response there None = all
-
-  lack_all : (i : ℕ) (response : Response) (found : Option Actor) → actor_at world i ≡ found → AllFit fixed (lacks fixed world i response found).world
-  lack_all i response (Some actor) there = lacks_all i actor response there (next_of fixed actor.agent)
-  lack_all i response None there = all
-
-  operated_all : (st : State) (what : Option Served) → AllFit fixed (operated world st what).world
-  operated_all st (Some what) = all
-  operated_all st None = all
-
-  operates_all : (server : ℕ) (asked : Request) (found : Option State) → AllFit fixed (operates world server asked found).world
-  operates_all server asked (Some st) = operated_all st (serve server st (record { stamp = 0; value = asked }))
-  operates_all server asked None = all
-
-  becomes_all : (i : ℕ) (change : Agent → Agent) → ((agent : Agent) → Fits fixed agent → Fits fixed (change agent)) → (found : Option Actor) → actor_at world i ≡ found → AllFit fixed (becomes world i change found).world
-  becomes_all i change fits (Some actor) there = set i (record actor { agent = change actor.agent }) (fits actor.agent (all i actor there))
-  becomes_all i change fits None there = all
-
-  event_all : (event : Event) → AllFit fixed (step fixed world event).world
-  event_all (Begin i job) = becomes_all i (λ agent. begin fixed agent job) (λ agent fits. begins_job fixed agent job fits) (actor_at world i) refl
-  event_all (Step i) = step_all i (actor_at world i) refl
-  event_all (Crash server) = operates_all server request.Crash (server_at world server)
-  event_all (Return server) = operates_all server request.Return (server_at world server)
-  event_all (Forget i site) = becomes_all i (λ agent. forget agent site) (λ agent fits. forgets fixed agent site fits) (actor_at world i) refl
-  event_all (Lack i why) = lack_all i (Lacked why) (actor_at world i) refl
+event_all : (fixed : Fixed) (world : World) → AllFit fixed world → (event : Event) → AllFit fixed (step fixed world event).world
+event_all fixed world all event = each_after (Fits fixed) world all fixed (forgets fixed) (takes fixed) event (λ number job actor is there. begins_job fixed actor.agent job (all number actor there))
 
 events_all : (fixed : Fixed) (world : World) (events : List Event) → AllFit fixed world → AllFit fixed (after fixed world events)
 events_all fixed world [] all = all

@@ -8,7 +8,7 @@ use Rattle.vote_core.specs.Validity.{IsValid}
 use Rattle.suite_prefix.specs.Absent.{absent_prefix}
 use Rattle.suite_prefix.specs.declared.copies.Prefix.{Prefix}
 use Rattle.suite_prefix.specs.declared.lock_mode.LockMode.{LockMode}
-use Rattle.suite_prefix.specs.declared.lock_mode.LockMode.TheVariants.{Shared, Exclusive}
+use Rattle.suite_prefix.specs.declared.lock_mode.LockMode.TheVariants.{Exclusive}
 use Rattle.rep_core.proofs.Members.{Has, contains_from}
 use Rattle.file_exec.specs.Known as known
 use Rattle.file_exec.specs.KnownSuites.{KnownSuite}
@@ -16,7 +16,8 @@ use Rattle.file_exec.proofs.Unset.{changes_are_held}
 use Rattle.suite_collect.specs.declared.told.Said.{Said}
 use Rattle.suite_collect.specs.declared.told.Told.{Told}
 use Rattle.suite_collect.specs.Telling.{has_told, newest}
-use Rattle.suite_collect.specs.Collecting.{Collector, needed_of, next, Current}
+use Rattle.suite_collect.specs.Collecting.{Collector, next, Current}
+use Rattle.suite_collect.proofs.Sources.{some_needed}
 use Rattle.weak_cache.specs.Cache.{hint}
 use Rattle.weak_cache.proofs.Origins.{hint_has, has_to}
 use Rattle.txn_core.specs.Suites.{Suite, known_of}
@@ -52,10 +53,6 @@ no_total (rep ∷ reps) none =
 
 none_said : (past : List Exchange) (suite : ℕ) (kind : LockMode → Said → Bool) (server : ℕ) → told_of suite [] past ≡ [] → has_said past suite kind server ≡ false
 none_said past suite kind server none = sym (told_said kind suite server [] past) ∙ ap (λ told. has_told (kind_of kind) told server) none
-
-some_needed : (mode : LockMode) (votes : Configuration) → IsValid votes → 0 < needed_of mode votes
-some_needed Shared votes valid = valid.r_in_range.0
-some_needed Exclusive votes valid = valid.w_in_range.0
 
 -- so no quorum of valid votes was told
 untold_short : (start : Prefix) (mode : LockMode) (told : List Told) (prefix : Prefix) (dver : ℕ) (members : List ℕ) → IsValid start.votes → told ≡ []

@@ -1,6 +1,6 @@
 -- What is decided was begun so: by whom, and with which operations.
 use Rattle.std.proofs.Common.{◌≡◌, ⊎_elim, ℕ, ◌+◌, true, false, cond, List, [], ◌∷◌, ◌++◌, append_assoc, Option, Some, None, refl, sym, ap, subst, ◌∙◌}
-use Rattle.std.specs.Prelude.{◌*◌, ◌&&◌, nat_lt, Contains, slice_get, slice_set}
+use Rattle.std.specs.Prelude.{◌*◌, ◌&&◌, nat_lt, Contains}
 use Rattle.std.specs.List.{cons_option}
 use Rattle.std.proofs.lemmas.List.{append-nil}
 use Rattle.std.proofs.lemmas.List.Elements.{Contains-append_cases}
@@ -9,13 +9,10 @@ use Rattle.suite_prefix.specs.SettingsRules.{Opening, IsAccepted}
 use Rattle.acl_core.specs.Identity.{Identity}
 use Rattle.file_ops.specs.declared.operation.Op.{Op}
 use Rattle.rep_core.specs.declared.request.Request.{Request}
-use Rattle.rep_core.specs.declared.request.Request.TheVariants as request
 use Rattle.rep_core.specs.declared.reply.Reply.{Reply}
 use Rattle.rep_core.specs.declared.reply.Verdict.{Verdict}
 use Rattle.rep_core.specs.declared.reply.Verdict.TheVariants as verdict
-use Rattle.rep_core.specs.declared.stamped.Lack.TheVariants as lack
 use Rattle.rep_core.specs.Fits.{is_prepared}
-use Rattle.rep_core.specs.State.{State}
 use Rattle.rep_core.proofs.Members.{has_from}
 use Rattle.weak_cache.specs.Entries.{Cache}
 use Rattle.txn_core.specs.declared.ending.Cause.{Cause}
@@ -30,22 +27,20 @@ use Rattle.txn_core.specs.Suites.{Suites}
 use Rattle.txn_core.specs.Doing.{Fixed, Task, Proposal, Phase, Gathering, Fetching, Widening, Preparing, Deciding, Finishing, TransactionRun, SweepRun, Doing, Running, RunningSweep, After, GoesOn, Ends}
 use Rattle.txn_core.specs.Transactions.{execute, tell_end, give_up, prepare, prepared, locked_at, lack_cause, after_response, verdict_in, ending_by, cause_of_abort}
 use Rattle.txn_core.specs.Sweeps as sweep
-use Rattle.txn_core.specs.Agents.{Agent, left as left_doing, fixed_of, next_of, take_in, take, begin, started, forget, is_idle, has_sense, max_jobs}
+use Rattle.txn_core.specs.Agents.{Agent, left as left_doing, fixed_of, next_of, take_in, take, begin, started, is_idle, has_sense, max_jobs}
 use Rattle.txn_core.proofs.Walk.{IsEarly, goes_response, goes_execute}
 use Rattle.run_core.specs.declared.event.Event.{Event}
-use Rattle.run_core.specs.declared.event.Event.TheVariants.{Begin, Step, Crash, Return, Forget, Lack}
-use Rattle.run_core.specs.declared.done.Served.{Served}
-use Rattle.run_core.specs.Worlds as worlds
-use Rattle.run_core.specs.Worlds.{World, Actor, server_at, actor_at, serve, answered, asks_at, asks, steps_once, lacks_for, lacks, operated, operates, becomes, opening, step}
+use Rattle.run_core.specs.declared.event.Event.TheVariants.{Begin}
+use Rattle.run_core.specs.Worlds.{World, Actor, actor_at, becomes, opening, step}
 use Rattle.run_core.specs.Runs.{run}
 use Rattle.run_core.specs.Decisions.{Decided, task_of, decided, decisions, decisions_from}
 use Rattle.run_core.proofs.Appending.{after-append, decisions_from-append}
+use Rattle.run_core.proofs.EachAgent.{OfEach, each_becomes, after_event as each_after}
 use Rattle.law_runs.specs.Numbers.{begins_now}
 use Rattle.law_runs.proofs.Worlds.{agent_of}
 use Rattle.law_runs.proofs.Conclusions.{holds_of}
 use Rattle.law_runs.proofs.Answering.{answers_follow_knowledge}
 use Rattle.law_run_machine.proofs.Kept.{actor_opens}
-use Rattle.law_run_machine.proofs.Turned.{set_here, set_apart, same_or}
 use Rattle.law_headline.specs.Promises.{WasBegun, AreAsBegun}
 
 -- ---- a transaction stays with its task
@@ -109,7 +104,7 @@ module _ (fixed : Fixed) (Q : Task → Type 0) where
   Has agent = (task : Task) → task_of agent.doing ≡ Some task → Q task
 
   abbrev pub AllHave : World → Type 0
-  AllHave world = (n : ℕ) (actor : Actor) → actor_at world n ≡ Some actor → Has actor.agent
+  AllHave world = OfEach Has world
 
   pub on_course : (was : Task) (after : After TransactionRun) → Stays was after → Q was → (task : Task) → task_of (left_doing Running after) ≡ Some task → Q task
   on_course was (GoesOn more) stays has task is = subst Q (sym stays ∙ same_Some more.task task is) has
@@ -130,59 +125,11 @@ module _ (fixed : Fixed) (Q : Task → Type 0) where
   takes : (agent : Agent) (response : Response) → Has agent → Has (take fixed agent response).agent
   takes agent response has = takes_in agent response agent.doing (next_of fixed agent) refl has
 
-  module _ (world : World) (all : AllHave world) where
-    set : (n : ℕ) (was now : Actor) → actor_at world n ≡ Some was → Has now.agent → (m : ℕ) (x : Actor) → slice_get (slice_set world.agents n now) m ≡ Some x → Has x.agent
-    set n was now there here m x is =
-        same_or (Has x.agent) m n
-        (λ same.
-        let x_is : now ≡ x = same_Some now x (sym (set_here world.agents n was now there) ∙ ap (slice_get (slice_set world.agents n now)) (sym same) ∙ is) in
-        subst (λ (x : Actor). Has x.agent) x_is here)
-        (λ apart. all m x (sym (set_apart world.agents n m now apart) ∙ is))
+  pub becomes_all : (world : World) → AllHave world → (number : ℕ) (change : Agent → Agent) → ((actor : Actor) → actor_at world number ≡ Some actor → Has (change actor.agent)) → (o : Option Actor) → actor_at world number ≡ o → AllHave (becomes world number change o).world
+  becomes_all world all = each_becomes Has world all
 
-    answered_all : (number : ℕ) (actor : Actor) (st : State) → actor_at world number ≡ Some actor → (what : Option Served) → AllHave (answered fixed world number actor st what).world
-    answered_all number actor st there (Some what) =
-        set number actor (worlds.moved actor what.reply.stamp (take fixed actor.agent (Replied what.reply.value))) there (takes actor.agent (Replied what.reply.value) (all number actor there))
-    answered_all number actor st there None = set number actor (worlds.moved actor actor.stamp (take fixed actor.agent (Lacked lack.Full))) there (takes actor.agent (Lacked lack.Full) (all number actor there))
-
-    at_all : (number : ℕ) (actor : Actor) (asked : ℕ × Request) → actor_at world number ≡ Some actor → (o : Option State) → AllHave (asks_at fixed world number actor asked o).world
-    at_all number actor asked there (Some st) = answered_all number actor st there (serve asked.0 st (record { stamp = actor.stamp; value = asked.1 }))
-    at_all number actor asked there None = all
-
-    asks_all : (number : ℕ) (actor : Actor) → actor_at world number ≡ Some actor → (o : Option (ℕ × Request)) → AllHave (asks fixed world number actor o).world
-    asks_all number actor there (Some asked) = at_all number actor asked there (server_at world asked.0)
-    asks_all number actor there None = all
-
-    step_all : (number : ℕ) (o : Option Actor) → actor_at world number ≡ o → AllHave (steps_once fixed world number o).world
-    step_all number (Some actor) there = asks_all number actor there (next_of fixed actor.agent)
-    step_all number None there = all
-
-    lacks_all : (number : ℕ) (actor : Actor) (response : Response) → actor_at world number ≡ Some actor → (o : Option (ℕ × Request)) → AllHave (lacks_for fixed world number actor response o).world
-    lacks_all number actor response there (Some asked) = set number actor (worlds.moved actor actor.stamp (take fixed actor.agent response)) there (takes actor.agent response (all number actor there))
-    lacks_all number actor response there None = all
-
-    lack_all : (number : ℕ) (response : Response) (o : Option Actor) → actor_at world number ≡ o → AllHave (lacks fixed world number response o).world
-    lack_all number response (Some actor) there = lacks_all number actor response there (next_of fixed actor.agent)
-    lack_all number response None there = all
-
-    operated_all : (st : State) (what : Option Served) → AllHave (operated world st what).world
-    operated_all st (Some what) = all
-    operated_all st None = all
-
-    operates_all : (i : ℕ) (asked : Request) (o : Option State) → AllHave (operates world i asked o).world
-    operates_all i asked (Some st) = operated_all st (serve i st (record { stamp = 0; value = asked }))
-    operates_all i asked None = all
-
-    pub becomes_all : (number : ℕ) (change : Agent → Agent) → ((actor : Actor) → actor_at world number ≡ Some actor → Has (change actor.agent)) → (o : Option Actor) → actor_at world number ≡ o → AllHave (becomes world number change o).world
-    becomes_all number change keeps (Some actor) there = set number actor (record actor { agent = change actor.agent }) there (keeps actor there)
-    becomes_all number change keeps None there = all
-
-    pub event_all : (event : Event) → ((number : ℕ) (job : Job) (actor : Actor) → event ≡ Begin number job → actor_at world number ≡ Some actor → Has (begin fixed actor.agent job)) → AllHave (step fixed world event).world
-    event_all (Begin number job) begins = becomes_all number (λ agent. begin fixed agent job) (λ actor there. begins number job actor refl there) (actor_at world number) refl
-    event_all (Step number) begins = step_all number (actor_at world number) refl
-    event_all (Crash server) begins = operates_all server request.Crash (server_at world server)
-    event_all (Return server) begins = operates_all server request.Return (server_at world server)
-    event_all (Forget number site) begins = becomes_all number (λ agent. forget agent site) (λ actor there. all number actor there) (actor_at world number) refl
-    event_all (Lack number why) begins = lack_all number (Lacked why) (actor_at world number) refl
+  pub event_all : (world : World) → AllHave world → (event : Event) → ((number : ℕ) (job : Job) (actor : Actor) → event ≡ Begin number job → actor_at world number ≡ Some actor → Has (begin fixed actor.agent job)) → AllHave (step fixed world event).world
+  event_all world all = each_after Has world all fixed (λ agent site has. has) takes
 
 -- ---- what was begun, was begun however the run goes on
 

@@ -5,7 +5,6 @@ use Rattle.std.proofs.lemmas.Bool.{false≢true}
 use Rattle.std.proofs.lemmas.Bool.Decides.{nat_tests}
 use Rattle.vote_core.specs.Validity.{IsValid}
 use Rattle.suite_content.specs.declared.content.Content.{Content}
-use Rattle.suite_content.specs.declared.content.Kind.{Kind}
 use Rattle.suite_content.specs.declared.content.Kind.TheVariants as holds
 use Rattle.suite_content.specs.Contents.{kind_of}
 use Rattle.suite_prefix.specs.SettingsRules.{Opening}
@@ -15,7 +14,7 @@ use Rattle.suite_prefix.specs.declared.copies.Replica.{Replica}
 use Rattle.rep_core.specs.Store.{root_copy}
 use Rattle.file_exec.specs.declared.changes.Change as executor
 use Rattle.txn_core.specs.Suites.{ReadPoint, Suite, suite_of}
-use Rattle.txn_core.specs.Writing.{change_of, prefix_kind, new_prefix}
+use Rattle.txn_core.specs.Writing.{change_of, new_prefix}
 use Rattle.txn_core.specs.Doing.{Proposal, Deciding, Phase, Gathering, Fetching, Widening, Preparing, Finishing, TransactionRun, Doing, Running, RunningSweep}
 use Rattle.txn_core.specs.Transactions.{changes_of}
 use Rattle.txn_core.specs.Agents.{Agent, fixed_of}
@@ -37,7 +36,7 @@ use Rattle.law_run_machine.proofs.Stages.{Stage}
 use Rattle.law_run_machine.proofs.Readying.{ReadyIn, IsReadying}
 use Rattle.law_run_machine.proofs.Linked.{InCourse, IsDoing}
 use Rattle.law_one_table.proofs.Logs.{LogIs, decision_of_actor, decision_at}
-use Rattle.law_one_table.proofs.Shown.{FitsAs}
+use Rattle.law_one_table.proofs.Shown.{FitsAs, fits_kind}
 use Rattle.law_headline.proofs.Carried.{AllValid, ValidOr, CameWell, came_well}
 use Rattle.law_headline.proofs.Fair.{Leaves, came_fair}
 use Rattle.law_headline.proofs.Together.{Together}
@@ -56,10 +55,6 @@ opens_kind given (suc z) = subst (λ b. HoldsItsKind (cond b (root_copy given) (
     not_zero z = grind (arith, nat_tests)
 
 -- ---- a decision
-
-fits_kind : (k : Kind) (content : Content) → kind_of content ≡ k → FitsAs (prefix_kind k) content
-fits_kind holds.File content is = is
-fits_kind holds.Folder content is = is
 
 module _ (start : Beginning) (w : World) (inv : Inv start w) (kind : HoldsItsKind (row start w.log)) (first : ReadPoint) (suite : Suite) (knows : IsKnown (row start w.log) (known_by first suite)) where
   pub known_fits : (c : Content) → suite.content ≡ Some c → FitsAs first.prefix.kind c

@@ -1,28 +1,21 @@
 -- Agents of jobs that set no votes but valid ones, event by event; and what they came to where they decide.
 use Rattle.std.proofs.Common.{◌≡◌, ◌⊎◌, inl, inr, ℕ, ◌+◌, true, false, cond, List, [], ◌∷◌, ◌++◌, Option, Some, None, refl, sym, ap, subst, ◌∙◌}
-use Rattle.std.specs.Prelude.{◌*◌, ◌&&◌, nat_lt, slice_get, slice_set}
+use Rattle.std.specs.Prelude.{◌*◌, ◌&&◌, nat_lt}
 use Rattle.std.proofs.lemmas.Bool.{false≢true}
-use Rattle.std.proofs.lemmas.Option.{same_Some, none-some}
-use Rattle.rep_core.specs.declared.request.Request.{Request}
-use Rattle.rep_core.specs.declared.request.Request.TheVariants as request
-use Rattle.rep_core.specs.declared.stamped.Lack.TheVariants as lack
-use Rattle.rep_core.specs.State.{State}
 use Rattle.txn_core.specs.declared.response.Response.{Response}
-use Rattle.txn_core.specs.declared.response.Response.TheVariants.{Replied, Lacked}
 use Rattle.txn_core.specs.declared.job.Job.{Job}
 use Rattle.txn_core.specs.declared.job.Job.TheVariants.{Transaction, Sweep}
-use Rattle.txn_core.specs.Doing.{Fixed, Task, Proposal, Phase, Preparing, Deciding, TransactionRun, SweepRun, Doing, Running, RunningSweep, After, GoesOn, Ends}
-use Rattle.txn_core.specs.Sweeps as sweep
+use Rattle.txn_core.specs.Doing.{Fixed, Task, Proposal, Phase, Preparing, Deciding, TransactionRun, Doing, Running}
 use Rattle.txn_core.specs.Agents as agents
-use Rattle.txn_core.specs.Agents.{Agent, Take, Forget, next_in, next_of, left, take, take_in, begin, started, forget, is_idle, has_sense, max_jobs, after_event, after_all}
+use Rattle.txn_core.specs.Agents.{Agent, Take, Forget, next_of, take, begin, started, forget, is_idle, has_sense, max_jobs, after_event, after_all}
 use Rattle.txn_core.proofs.Upheld.{DoingStands, stands_after}
 use Rattle.run_core.specs.declared.event.Event.{Event}
-use Rattle.run_core.specs.declared.event.Event.TheVariants.{Begin, Step, Crash, Return, Forget as Forgets, Lack}
-use Rattle.run_core.specs.declared.done.Served.{Served}
-use Rattle.run_core.specs.Worlds.{World, Actor, server_at, actor_at, serve, moved, answered, asks_at, asks, steps_once, lacks_for, lacks, operated, operates, becomes, step}
+use Rattle.run_core.specs.Worlds.{World, step}
+use Rattle.run_core.proofs.EachAgent.{OfEach, after_event as each_after}
 use Rattle.law_runs.proofs.Knowing.{none_fit}
-use Rattle.law_runs.proofs.Executed.{Came, Keeps, Left, left_execute, left_response}
-use Rattle.law_run_machine.proofs.Turned.{set_here, set_apart, same_or}
+use Rattle.law_runs.proofs.Executed.{Came, Keeps, left_execute}
+use Rattle.law_runs.proofs.Answering.{Knows, knows_left, take_knows}
+use Rattle.law_run_machine.proofs.Jobs.{one_more, taken_idle}
 use Rattle.law_headline.specs.Premises.{AllGiveValidVotes, JobGivesValidVotes, EventGivesValidVotes}
 
 -- ---- what is so of an agent of a valid job
@@ -39,10 +32,6 @@ pub record IsOfValidJob (fixed : Fixed) (agent : Agent) : Type 0 where
 abbrev pub ValidOr : Fixed → Agent → Type 0
 ValidOr fixed agent = (is_idle agent.doing ≡ true) ⊎ IsOfValidJob fixed agent
 
-one_more : (fixed : Fixed) (agent : Agent) (told : List agents.Event) (event : agents.Event) → after_all fixed agent (told ++ event ∷ []) ≡ after_event fixed (after_all fixed agent told) event
-one_more fixed agent [] event = refl
-one_more fixed agent (first ∷ told) event = one_more fixed (after_event fixed agent first) told event
-
 told_more : (fixed : Fixed) (agent : Agent) (event : agents.Event) → IsOfValidJob fixed agent → IsOfValidJob fixed (after_event fixed agent event)
 told_more fixed agent event is = record {
   before = is.before;
@@ -53,13 +42,9 @@ told_more fixed agent event is = record {
   valid = is.valid;
 }
 
-idle_asks : {A : Type 0} (fixed : Fixed) (doing : Option Doing) (asked : ℕ × Request) → is_idle doing ≡ true → next_in fixed doing ≡ Some asked → A
-idle_asks fixed None asked idle next = absurd (none-some asked next)
-idle_asks fixed (Some doing) asked idle next = absurd (false≢true idle)
-
-takes : (fixed : Fixed) (agent : Agent) (response : Response) (asked : ℕ × Request) → next_of fixed agent ≡ Some asked → ValidOr fixed agent → ValidOr fixed (take fixed agent response).agent
-takes fixed agent response asked next (inl idle) = idle_asks fixed agent.doing asked idle next
-takes fixed agent response asked next (inr is) = inr (told_more fixed agent (Take response) is)
+takes : (fixed : Fixed) (agent : Agent) (response : Response) → ValidOr fixed agent → ValidOr fixed (take fixed agent response).agent
+takes fixed agent response (inl idle) = subst (ValidOr fixed) (sym (taken_idle fixed agent response agent.doing (next_of fixed agent) idle)) (inl idle)
+takes fixed agent response (inr is) = inr (told_more fixed agent (Take response) is)
 
 forgets : (fixed : Fixed) (agent : Agent) (site : ℕ) → ValidOr fixed agent → ValidOr fixed (forget agent site)
 forgets fixed agent site (inl idle) = inl idle
@@ -76,82 +61,13 @@ begins fixed agent job valid (inr is) =
 -- ---- all agents
 
 abbrev pub AllValid : Fixed → World → Type 0
-AllValid fixed world = (n : ℕ) (actor : Actor) → actor_at world n ≡ Some actor → ValidOr fixed actor.agent
+AllValid fixed world = OfEach (ValidOr fixed) world
 
-module _ (fixed : Fixed) (world : World) (all : AllValid fixed world) where
-  set : (n : ℕ) (was now : Actor) → actor_at world n ≡ Some was → ValidOr fixed now.agent → (m : ℕ) (x : Actor) → slice_get (slice_set world.agents n now) m ≡ Some x → ValidOr fixed x.agent
-  set n was now there here m x is =
-      same_or (ValidOr fixed x.agent) m n
-      (λ same.
-      let x_is : now ≡ x = same_Some now x (sym (set_here world.agents n was now there) ∙ ap (slice_get (slice_set world.agents n now)) (sym same) ∙ is) in
-      subst (λ (x : Actor). ValidOr fixed x.agent) x_is here)
-      (λ apart. all m x (sym (set_apart world.agents n m now apart) ∙ is))
-
-  answered_all : (number : ℕ) (actor : Actor) (asked : ℕ × Request) (st : State) → actor_at world number ≡ Some actor → next_of fixed actor.agent ≡ Some asked → (what : Option Served) → AllValid fixed (answered fixed world number actor st what).world
-  answered_all number actor asked st there next None = set number actor (moved actor actor.stamp (take fixed actor.agent (Lacked lack.Full))) there (takes fixed actor.agent (Lacked lack.Full) asked next (all number actor there))
-  answered_all number actor asked st there next (Some what) = set number actor (moved actor what.reply.stamp (take fixed actor.agent (Replied what.reply.value))) there (takes fixed actor.agent (Replied what.reply.value) asked next (all number actor there))
-
-  at_all : (number : ℕ) (actor : Actor) (asked : ℕ × Request) → actor_at world number ≡ Some actor → next_of fixed actor.agent ≡ Some asked → (o : Option State) → AllValid fixed (asks_at fixed world number actor asked o).world
-  at_all number actor asked there next (Some st) = answered_all number actor asked st there next (serve asked.0 st (record { stamp = actor.stamp; value = asked.1 }))
-  at_all number actor asked there next None = all
-
-  asks_all : (number : ℕ) (actor : Actor) → actor_at world number ≡ Some actor → (o : Option (ℕ × Request)) → next_of fixed actor.agent ≡ o → AllValid fixed (asks fixed world number actor o).world
-  asks_all number actor there (Some asked) next = at_all number actor asked there next (server_at world asked.0)
-  asks_all number actor there None next = all
-
-  step_all : (number : ℕ) (o : Option Actor) → actor_at world number ≡ o → AllValid fixed (steps_once fixed world number o).world
-  step_all number (Some actor) there = asks_all number actor there (next_of fixed actor.agent) refl
-  step_all number None there = all
-
-  lacks_all : (number : ℕ) (actor : Actor) (response : Response) → actor_at world number ≡ Some actor → (o : Option (ℕ × Request)) → next_of fixed actor.agent ≡ o → AllValid fixed (lacks_for fixed world number actor response o).world
-  lacks_all number actor response there (Some asked) next = set number actor (moved actor actor.stamp (take fixed actor.agent response)) there (takes fixed actor.agent response asked next (all number actor there))
-  lacks_all number actor response there None next = all
-
-  lack_all : (number : ℕ) (response : Response) (o : Option Actor) → actor_at world number ≡ o → AllValid fixed (lacks fixed world number response o).world
-  lack_all number response (Some actor) there = lacks_all number actor response there (next_of fixed actor.agent) refl
-  lack_all number response None there = all
-
-  operated_all : (st : State) (what : Option Served) → AllValid fixed (operated world st what).world
-  operated_all st (Some what) = all
-  operated_all st None = all
-
-  operates_all : (i : ℕ) (asked : Request) (o : Option State) → AllValid fixed (operates world i asked o).world
-  operates_all i asked (Some st) = operated_all st (serve i st (record { stamp = 0; value = asked }))
-  operates_all i asked None = all
-
-  becomes_all : (number : ℕ) (change : Agent → Agent) → ((agent : Agent) → ValidOr fixed agent → ValidOr fixed (change agent)) → (o : Option Actor) → actor_at world number ≡ o → AllValid fixed (becomes world number change o).world
-  becomes_all number change keeps (Some actor) there = set number actor (record actor { agent = change actor.agent }) there (keeps actor.agent (all number actor there))
-  becomes_all number change keeps None there = all
-
-  pub event_valid : (event : Event) → EventGivesValidVotes event → AllValid fixed (step fixed world event).world
-  event_valid (Begin number job) valid = becomes_all number (λ agent. begin fixed agent job) (λ agent. begins fixed agent job valid) (actor_at world number) refl
-  event_valid (Step number) valid = step_all number (actor_at world number) refl
-  event_valid (Crash server) valid = operates_all server request.Crash (server_at world server)
-  event_valid (Return server) valid = operates_all server request.Return (server_at world server)
-  event_valid (Forgets number site) valid = becomes_all number (λ agent. forget agent site) (λ agent. forgets fixed agent site) (actor_at world number) refl
-  event_valid (Lack number why) valid = lack_all number (Lacked why) (actor_at world number) refl
+pub event_valid : (fixed : Fixed) (world : World) → AllValid fixed world → (event : Event) → EventGivesValidVotes event → AllValid fixed (step fixed world event).world
+event_valid fixed world all event valid =
+    each_after (ValidOr fixed) world all fixed (forgets fixed) (takes fixed) event (λ number job actor is there. begins fixed actor.agent job (subst EventGivesValidVotes is valid) (all number actor there))
 
 -- ---- what it came to
-
-abbrev Knows : Fixed → Option Doing → Type 0
-Knows fixed (Some (Running txn_run)) = Keeps fixed txn_run.task txn_run.suites txn_run.phase
-Knows fixed (Some (RunningSweep sweep_run)) = Unit {0}
-Knows fixed None = Unit {0}
-
-knows_left : (fixed : Fixed) (after : After TransactionRun) → Left fixed after → Knows fixed (left Running after)
-knows_left fixed (GoesOn txn_run) keeps = keeps
-knows_left fixed (Ends ending) keeps = tt
-
-knows_round : (fixed : Fixed) (after : After SweepRun) → Knows fixed (left RunningSweep after)
-knows_round fixed (GoesOn sweep_run) = tt
-knows_round fixed (Ends ending) = tt
-
-take_knows : (fixed : Fixed) (agent : Agent) (response : Response) (doing : Option Doing) (asked : Option (ℕ × Request)) → agent.doing ≡ doing → Knows fixed doing → Knows fixed (take_in fixed agent response doing asked).agent.doing
-take_knows fixed agent response (Some (Running running)) (Some asked) was knows = knows_left fixed _ (left_response fixed running.task agent.cache running.suites running.phase asked.0 asked.1 response knows)
-take_knows fixed agent response (Some (Running running)) None was knows = subst (Knows fixed) (sym was) knows
-take_knows fixed agent response (Some (RunningSweep sweep_run)) (Some asked) was knows = knows_round fixed (sweep.after_response fixed.service sweep_run asked.0 response)
-take_knows fixed agent response (Some (RunningSweep sweep_run)) None was knows = subst (Knows fixed) (sym was) tt
-take_knows fixed agent response None asked was knows = subst (Knows fixed) (sym was) tt
 
 all_know : (fixed : Fixed) (agent : Agent) (told : List agents.Event) → Knows fixed agent.doing → Knows fixed (after_all fixed agent told).doing
 all_know fixed agent [] knows = knows

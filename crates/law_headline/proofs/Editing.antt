@@ -9,7 +9,7 @@ use Rattle.suite_content.specs.declared.content.Content.{Content}
 use Rattle.suite_content.specs.declared.content.Content.TheVariants.{Bytes, Names}
 use Rattle.suite_content.specs.declared.content.Kind.{Kind}
 use Rattle.suite_content.specs.declared.content.Kind.TheVariants as holds
-use Rattle.suite_content.specs.Contents.{kind_of, empty_content}
+use Rattle.suite_content.specs.Contents.{kind_of}
 use Rattle.suite_content.specs.Limits.{max_content, max_names}
 use Rattle.suite_content.specs.Folders as folders
 use Rattle.suite_prefix.specs.declared.lock_mode.LockMode.{LockMode}
@@ -37,6 +37,7 @@ use Rattle.file_exec.specs.Known.{Known, known_rows, Done, exec_of, first_unmet}
 use Rattle.file_exec.specs.Following.{needs}
 use Rattle.file_exec.specs.Operations as asked
 use Rattle.file_exec.proofs.Unmet.{done_unmet}
+use Rattle.law_one_table.proofs.Shown.{kind_empty}
 use Rattle.law_headline.specs.Premises.{AreValid, GivesValidVotes, AllGiveValidVotes}
 
 -- an edit fits the row of its suite
@@ -94,10 +95,6 @@ gives (Ok given) = record { goes = tt }
 gives (Err why) = record { goes = tt }
 
 -- ---- kinds
-
-kind_empty : (k : Kind) → kind_of (empty_content k) ≡ k
-kind_empty holds.File = refl
-kind_empty holds.Folder = refl
 
 of_bytes : (content : Content) (bytes : List ℕ) → bytes_in content ≡ Ok bytes → kind_of content ≡ holds.File
 of_bytes (Bytes bytes) other is = refl

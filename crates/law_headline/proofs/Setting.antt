@@ -19,43 +19,14 @@ use Rattle.file_exec.specs.declared.edit_log.Edit.{Edit}
 use Rattle.file_exec.specs.declared.edit_log.Edit.TheVariants.{SetAcl, SetVotes, SetContent, Make}
 use Rattle.file_exec.specs.Changes.{makes, sets_acl, sets_votes, some}
 use Rattle.file_exec.specs.Following.{Edits, changed, seen, sets_content, emptied, head}
+use Rattle.file_exec.proofs.Leading.{neither, part_stays, keeps_acl, keeps_votes}
 use Rattle.txn_core.specs.Suites.{ReadPoint, Suite, row_with}
 use Rattle.txn_core.specs.Writing.{sets_prefix, new_prefix, prefix_kind, one_if}
 use Rattle.law_run_quorums.specs.Fairness.{IsFair}
-use Rattle.law_one_table.proofs.Shown.{FitsAs, told_as}
+use Rattle.law_one_table.proofs.Shown.{FitsAs, told_as, kind_empty}
 use Rattle.law_headline.proofs.Editing.{FitsRow, AllFit}
 
 -- ---- edits, one by one
-
-neither : (a b : Bool) → (a || b) ≡ false → (a ≡ false) × (b ≡ false)
-neither true b is = cc
-neither false b is = (refl, is)
-
--- a part of a row that no edit sets stays
-part_stays : {A : Type 0} (part : Row → A) (kind : Edit → Bool) → ((edit : Edit) (row : Option Row) → kind edit ≡ false → option_map part row ≡ option_map part (changed edit row))
-    → (edits : Edits) (suite : ℕ) (row : Option Row) → some kind edits suite ≡ false → option_map part row ≡ option_map part (seen edits suite row)
-part_stays part kind keeps [] suite row is = refl
-part_stays part kind keeps (e ∷ edits) suite row is =
-    elim (e.0 == suite) as (λ b. ((b && kind e.1) || some kind edits suite) ≡ false → option_map part row ≡ option_map part (cond b (changed e.1 (seen edits suite row)) (seen edits suite row))) [
-      | true ↦ λ is. let both = neither (kind e.1) (some kind edits suite) is in part_stays part kind keeps edits suite row both.1 ∙ keeps e.1 (seen edits suite row) both.0
-      | false ↦ λ is. part_stays part kind keeps edits suite row is
-    ] is
-
-keeps_acl : (edit : Edit) (row : Option Row) → sets_acl edit ≡ false → option_map (λ (row : Row). row.acl) row ≡ option_map (λ (row : Row). row.acl) (changed edit row)
-keeps_acl (SetAcl acl) row is = cc
-keeps_acl (SetVotes votes) None is = refl
-keeps_acl (SetVotes votes) (Some row) is = refl
-keeps_acl (SetContent content) None is = refl
-keeps_acl (SetContent content) (Some row) is = refl
-keeps_acl (Make made) row is = cc
-
-keeps_votes : (edit : Edit) (row : Option Row) → sets_votes edit ≡ false → option_map (λ (row : Row). row.votes) row ≡ option_map (λ (row : Row). row.votes) (changed edit row)
-keeps_votes (SetAcl acl) None is = refl
-keeps_votes (SetAcl acl) (Some row) is = refl
-keeps_votes (SetVotes votes) row is = cc
-keeps_votes (SetContent content) None is = refl
-keeps_votes (SetContent content) (Some row) is = refl
-keeps_votes (Make made) row is = cc
 
 keeps_content : (edit : Edit) (row : Option Row) → sets_content edit ≡ false → option_map (λ (row : Row). row.content) row ≡ option_map (λ (row : Row). row.content) (changed edit row)
 keeps_content (SetAcl acl) None is = refl
@@ -168,10 +139,6 @@ pub record IsHeadOf (k : PrefixKind) (prefix : Prefix) (row : Row) : Type 0 wher
   pub group : row.group ≡ prefix.group
   pub acl : row.acl ≡ prefix.acl
   pub votes : row.votes ≡ prefix.votes
-
-kind_empty : (k : Kind) → kind_of (empty_content k) ≡ k
-kind_empty holds.File = refl
-kind_empty holds.Folder = refl
 
 -- of a content that goes with a kind, or of none
 kind_held : (k : Kind) (content : Option Content) → ((c : Content) → content ≡ Some c → kind_of c ≡ k) → kind_of (unwrap_or content (empty_content k)) ≡ k

@@ -51,6 +51,7 @@ use Rattle.law_run_machine.proofs.Consistent.{AllConsistent}
 use Rattle.law_run_machine.proofs.Following.{event_comes}
 use Rattle.law_run_machine.proofs.Joining.{run-append}
 use Rattle.law_run_machine.proofs.Servers.{server_there}
+use Rattle.law_run_machine.proofs.Decided.{some_of}
 use Rattle.law_headline.specs.Premises.{CanBe}
 use Rattle.law_headline.specs.Laws.{AsksForLock, TellsOfLock, LocksStand}
 use Rattle.law_headline.proofs.Unbroken.{told_stays, stood, ToldMode, HoldsMode, mode_some, mode_stays, AllAsTold, as_told, holds_mode}
@@ -266,10 +267,6 @@ found_serving p mode (lock ∷ locks) is =
       | true ↦ λ is. ap (λ b. b || list_any (λ lock. p lock && serves lock.mode mode) locks) (serves_it lock.mode mode is)
       | false ↦ λ is. found_serving p mode locks is
     ] is
-
-some_of : {X : Type 0} (o : Option X) → is_some o ≡ true → (x : X) × (o ≡ Some x)
-some_of None is = absurd (false≢true is)
-some_of (Some x) is = (x, refl)
 
 -- what it was told then it was told still after some events more
 mode_after : (given : Opening) (events : List happening.Event) (event : happening.Event) (between : List happening.Event) → CanBe given (events ++ event ∷ between) → (t suite : ℕ) (mode : LockMode) (server : ℕ) → TellsOfLock given events event t suite mode server

@@ -2,7 +2,7 @@
 use Rattle.std.proofs.Common.{ℕ, ◌≤◌, sym, subst}
 use Rattle.suite_prefix.specs.SettingsRules.{Opening}
 use Rattle.vote_core.specs.Validity.{IsValid, max_servers}
-use Rattle.txn_core.specs.Agents.{Agent, fixed_of}
+use Rattle.txn_core.specs.Agents.{fixed_of}
 use Rattle.run_core.specs.declared.event.Event as happening
 use Rattle.run_core.specs.Worlds as worlds
 use Rattle.run_core.specs.Worlds.{step}
@@ -23,10 +23,11 @@ use Rattle.law_run_machine.proofs.Linked.{AllLinked}
 use Rattle.law_run_machine.proofs.Waited.{AllWaiting, waits_next}
 use Rattle.law_run_machine.proofs.Readied.{Readied, ready_next}
 use Rattle.law_run_machine.proofs.Jobs.{All, event_all, opens as jobs_open}
-use Rattle.law_run_machine.proofs.Kept.{next, actor_opens, opens_linked, opens_waiting, opens_readied}
+use Rattle.law_run_machine.proofs.Kept.{next, opens_linked, opens_waiting, opens_readied}
 use Rattle.law_run_knowledge.proofs.Events.{AllFit, event_fits, opens_fit}
-use Rattle.law_run_quorums.specs.Telling.{DoingAgrees, AllAgree}
+use Rattle.law_run_quorums.specs.Telling.{AllAgree}
 use Rattle.law_run_quorums.proofs.Events.{event_agrees}
+use Rattle.law_run_quorums.proofs.Runs.{opens_agree}
 
 pub record Together (given : Opening) (z : ℕ) (w : World) (world : worlds.World) : Type 0 where
   pub inv : Inv (beginning z given) w
@@ -38,11 +39,6 @@ pub record Together (given : Opening) (z : ℕ) (w : World) (world : worlds.Worl
   pub jobs : All (fixed_of given) world
   pub fits : AllFit z (beginning z given) w world  -- what agents hold of the suite was its register's
   pub agrees : AllAgree z w world  -- and collectors hold what the machine told
-
-opens_agree : (given : Opening) (z : ℕ) → AllAgree z (begun (beginning z given)) (worlds.opening given)
-opens_agree given z n actor there =
-    let is = actor_opens 0 given.agents n actor there in
-    subst (λ (agent : Agent). DoingAgrees z (begun (beginning z given)) agent.doing) (sym is.1) tt
 
 -- at the opening
 pub opens : (given : Opening) (z : ℕ) → IsValid given.c0 → given.agents ≤ 64 → given.servers ≤ max_servers → Together given z (begun (beginning z given)) (worlds.opening given)

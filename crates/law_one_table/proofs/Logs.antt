@@ -34,6 +34,7 @@ use Rattle.run_core.specs.Decisions.{Decided, to_decide, answer_in, decided_as, 
 use Rattle.run_core.specs.Decisions as decisions
 use Rattle.law_runs.proofs.Asking.{decides, sweep_decides_none}
 use Rattle.law_runs.proofs.Turns.{decides_at, no_decide}
+use Rattle.law_runs.proofs.Answering.{none_at}
 use Rattle.law_suite_machine.specs.Registers.{Beginning, Change, Entry}
 use Rattle.law_suite_machine.specs.Machine.{Verdict, World}
 use Rattle.law_suite_machine.specs.Events.{Event, Held, Upgrade, Overrule, GiveUp, Lose, happens, run, aimed}
@@ -127,15 +128,6 @@ decision_of_actor z w None = GiveUp 0
 abbrev pub decision_at : ℕ → World → worlds.World → happening.Event → Event
 decision_at z w world (Step number) = decision_of_actor z w (actor_at world number)
 decision_at z w world event = GiveUp 0
-
-none_at : (found : Option State) (t : Option ℕ) → decided_at found t None ≡ None
-none_at found None = refl
-none_at None (Some t) = refl
-none_at (Some st) (Some t) = of (is_some (record_of st t))
-  where
-    of : (b : Bool) → ◌≡◌ {A = Option Decided} (cond b None None) None
-    of true = refl
-    of false = refl
 
 pub no_task : (world : worlds.World) (what : Option Served) → decided_by world None what ≡ None
 no_task world None = refl

@@ -109,7 +109,7 @@ made_row : (k : Kind) (prefix : Prefix) (content : Content) → row_with (prefix
 made_row holds.File prefix content = refl
 made_row holds.Folder prefix content = refl
 
-fits_kind : (k : Kind) (content : Content) → kind_of content ≡ k → FitsAs (prefix_kind k) content
+pub fits_kind : (k : Kind) (content : Content) → kind_of content ≡ k → FitsAs (prefix_kind k) content
 fits_kind holds.File content is = is
 fits_kind holds.Folder content is = is
 
@@ -117,7 +117,7 @@ made_now : (k : Kind) (pver dver : ℕ) → NeverAs (prefix_kind k) pver dver
 made_now holds.File pver dver = tt
 made_now holds.Folder pver dver = tt
 
-kind_empty : (k : Kind) → kind_of (empty_content k) ≡ k
+pub kind_empty : (k : Kind) → kind_of (empty_content k) ≡ k
 kind_empty holds.File = refl
 kind_empty holds.Folder = refl
 

@@ -15,13 +15,13 @@ use Rattle.run_core.specs.Worlds.{Actor, World, opening, actor_at, step}
 use Rattle.run_core.specs.Runs.{after, dones, outcomes, run}
 use Rattle.run_core.specs.Decisions.{Decided, decided, decisions, decisions_from}
 use Rattle.law_runs.specs.Claims.{ended}
-use Rattle.law_runs.proofs.Worlds.{Holds, agent_of, event_holds}
+use Rattle.law_runs.proofs.Worlds.{Holds, agent_of, event_holds, cons_is}
 use Rattle.law_runs.proofs.Conclusions.{holds_at_first, fresh_agents}
 use Rattle.law_run_alone.specs.Alone.{begins_job, begins_alone, jobs_from, jobs_of, one_at_a_time_from, one_at_a_time}
 use Rattle.law_run_alone.specs.Endings.{decided_ending, decided_endings}
 use Rattle.law_run_alone.proofs.Verdicts.{Asked, asked_of, answer_to, answered, undecided}
 use Rattle.law_run_alone.proofs.Along.{Along, along_more, along_less}
-use Rattle.law_run_alone.proofs.Turns.{doing_of, doing_at, transactions_of, transaction_in, Goes, event_goes}
+use Rattle.law_run_alone.proofs.Turns.{doing_of, doing_at, transactions_of, transaction_in, Goes, event_goes, append_none}
 
 -- One agent at most has a job. What was decided has ended, or is still to be told by that agent; and what was decided, with the transaction that it
 -- runs where that is not, stands along what was begun.
@@ -30,14 +30,6 @@ pub record Orderly (world : World) (ds : List Decided) (past : List EndedJob) (j
   pub alone : (i : ℕ) → i ≢ turn → doing_at world i ≡ None
   pub listed : map answer_to ds ≡ decided_endings past ++ answered (doing_at world turn)
   pub along : Along (map asked_of ds ++ undecided (doing_at world turn)) (transactions_of jobs)
-
-append_none : {X : Type 0} (xs : List X) → xs ++ [] ≡ xs
-append_none [] = refl
-append_none (x ∷ xs) = ap (λ xs. x ∷ xs) (append_none xs)
-
-cons_is : {X : Type 0} (one : Option X) (xs : List X) → option_to_list one ++ xs ≡ cons_option one xs
-cons_is None xs = refl
-cons_is (Some x) xs = refl
 
 joined : {X : Type 0} (xs : List X) (one : Option X) (ys : List X) → (xs ++ option_to_list one) ++ ys ≡ xs ++ cons_option one ys
 joined xs one ys = append_assoc xs (option_to_list one) ys ∙ ap (λ rest. xs ++ rest) (cons_is one ys)

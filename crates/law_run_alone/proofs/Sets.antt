@@ -39,6 +39,7 @@ use Rattle.law_one_table.proofs.Shown.{FitsAs, told_as}
 use Rattle.law_headline.specs.Premises.{AllGiveValidVotes}
 use Rattle.law_headline.proofs.Editing.{edits_fit}
 use Rattle.law_headline.proofs.Setting.{same_kind}
+use Rattle.law_headline.proofs.Fair.{FromEdits}
 use Rattle.law_run_alone.proofs.FittingLists.{ListsFit, seen_fit, shown_fit}
 use Rattle.law_run_alone.proofs.Courses.{IsNumber, AllNumbered, AreSmall, set_small, edits_well}
 
@@ -64,11 +65,6 @@ head_before mode None row so held = absurd (false≢true held)
 head_before mode (Some it) row so held = so.head
 
 -- ---- what edits told
-
-record FromEdits (rows : ℕ → Option Row) (z : ℕ) (edits : Edits) (change : executor.Change) : Type 0 where
-  pub row : Row
-  pub is : seen edits z (rows z) ≡ Some row
-  pub told : told_as edits z row ≡ change
 
 from_edits : (before : Known) (edits : Edits) (z : ℕ) (change : executor.Change) → get nat_cmp (changes.changes_of before edits) z ≡ Some change → FromEdits (known_rows before) z edits change
 from_edits before edits z change told = if_touched (touches edits z) (sym (changes_by_suite before edits z) ∙ told)

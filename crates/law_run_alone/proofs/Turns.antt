@@ -83,7 +83,7 @@ pub record Goes (world : World) (turn : ℕ) (new : World) (d : Option Decided) 
   pub parts : map asked_of (option_to_list d) ++ more ≡ undecided (doing_at world turn) ++ transactions_of (option_to_list begun)
   pub still : (undecided (doing_at new next) ≡ more) ⊎ (undecided (doing_at new next) ≡ [])
 
-append_none : {X : Type 0} (xs : List X) → xs ++ [] ≡ xs
+pub append_none : {X : Type 0} (xs : List X) → xs ++ [] ≡ xs
 append_none [] = refl
 append_none (x ∷ xs) = ap (λ xs. x ∷ xs) (append_none xs)
 

@@ -1,5 +1,5 @@
 -- A content that may be had without asking is never fetched.
-use Rattle.std.proofs.Common.{◌≡◌, ℕ, zero, suc, ◌+◌, ◌<◌, ◌≤◌, Bool, true, false, cond, List, [], ◌∷◌, Option, Some, None, Ok, Err, refl, sym, ap, subst, ◌∙◌, arith, Equal, Greater}
+use Rattle.std.proofs.Common.{◌≡◌, ℕ, zero, suc, ◌+◌, ◌<◌, ◌≤◌, Bool, true, false, cond, [], ◌∷◌, Option, Some, None, refl, sym, ap, subst, ◌∙◌, arith, Equal, Greater}
 use Rattle.std.specs.Prelude.{◌==◌, length, is_some}
 use Rattle.std.specs.Ordering.{nat_cmp, is_eq}
 use Rattle.std.specs.BTreeMap.{is_at}
@@ -16,20 +16,18 @@ use Rattle.suite_content.specs.declared.content.Content.{Content}
 use Rattle.suite_content.specs.Contents.{empty_content}
 use Rattle.suite_prefix.specs.Copies.{held_by}
 use Rattle.weak_cache.specs.Cache.{content_at}
-use Rattle.file_ops.specs.declared.answer.Answer.{Answer}
-use Rattle.file_ops.specs.declared.refusal.Refusal.{Refusal}
 use Rattle.file_exec.specs.declared.executor.Outcome.{Outcome as Executed}
 use Rattle.file_exec.specs.declared.executor.Outcome.TheVariants as exec
 use Rattle.file_exec.specs.declared.need.Need.{Need}
 use Rattle.file_exec.specs.declared.need.Need.TheVariants.{Hold, Know}
 use Rattle.file_exec.specs.Known as known
-use Rattle.file_exec.specs.Known.{Known, Heard, Needs, Done}
-use Rattle.file_exec.specs.Changes.{answered}
+use Rattle.file_exec.specs.Known.{Done}
 use Rattle.file_exec.proofs.Unmet.{needs_what_is_unmet}
 use Rattle.txn_core.specs.Suites.{ReadPoint, Suite, Suites, suite_of, with_suite, known_of}
 use Rattle.txn_core.specs.Doing.{Fixed, Task}
 use Rattle.txn_core.specs.Transactions.{Gathered, opened, or_all, open_needed, open_suite, open_first, opened_with, free_content, heard_on}
 use Rattle.txn_core.proofs.Setting.{known_at}
+use Rattle.txn_core.proofs.Fetches.{needed_first}
 
 -- ---- suites whose content is not there
 
@@ -71,17 +69,6 @@ opens_one (e ∷ es) number suite content ordered there none =
     ap (λ suites. closed suites + 1) (insert_step nat_cmp e es number new Greater greater) ∙ (let sum : closed (e ∷ with_suite number new es) + 1 ≡ closed (e ∷ es) = omega (arith, rest) in sum))
 
 -- ---- what the executor needs is not there
-
-need_in : Executed → Option Need
-need_in (exec.Need need) = Some need
-need_in (exec.Done answers changes) = None
-need_in (exec.Refused refusal) = None
-
-needed_first : (known' : Known) (heard : Heard (List Answer) Refusal) (need : Need) → answered known' heard ≡ exec.Need need → heard ≡ Needs need
-unfolding need_in
-needed_first known' (Needs other) need is = ap Needs (same_Some other need (ap need_in is))
-needed_first known' (Done (Ok ended)) need is = cc
-needed_first known' (Done (Err refusal)) need is = cc
 
 away : (fixed : Fixed) (task : Task) (suites : Suites) (number : ℕ) → heard_on fixed task suites ≡ exec.Need (Know number) → (suite : Suite) (first : ReadPoint) → suite_of suites number ≡ Some suite → suite.first ≡ Some first → is_some suite.content ≡ false
 away fixed task suites number is suite first there was =

@@ -95,7 +95,7 @@ may_decide start z w task suites outcome going aimed told undecided prepared had
     by_suite start w task.t undecided going.gave_up prepared outcome (to_write z suites outcome) (suite_of suites z) had aimed (writes_none z suites outcome) told owes
 
 -- of what an agent is doing
-some_of : {X : Type 0} (o : Option X) → is_some o ≡ true → (x : X) × (o ≡ Some x)
+pub some_of : {X : Type 0} (o : Option X) → is_some o ≡ true → (x : X) × (o ≡ Some x)
 some_of None is = absurd (false≢true is)
 some_of (Some x) is = (x, refl)
 

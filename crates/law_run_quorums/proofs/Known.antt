@@ -16,7 +16,9 @@ use Rattle.suite_collect.specs.Telling.{is_held, newer, newest, holds, version_i
 use Rattle.suite_collect.specs.Collecting.{Collector, all_told, needed_of}
 use Rattle.suite_collect.specs.Laws.{among, IsCurrent}
 use Rattle.suite_collect.proofs.Collected.{gives_of, current_is_a_quorum}
+use Rattle.suite_collect.proofs.Sources.{some_needed}
 use Rattle.txn_core.specs.Suites.{ReadPoint, Suite}
+use Rattle.txn_core.proofs.Quorums.{votes_more}
 use Rattle.law_suite_machine.specs.Registers.{Beginning, Known, WasPrefix}
 use Rattle.law_suite_machine.specs.Machine.{Told, World, IsQuorum}
 use Rattle.law_suite_machine.proofs.Invariant.{Inv}
@@ -127,15 +129,6 @@ greatest_of list first (second ∷ members) =
 
 -- ---- quorums
 
-votes_more : (reps : List Representative) (f g : ℕ → Bool) → ((server : ℕ) → f server ≡ true → g server ≡ true) → votes_in reps f ≤ votes_in reps g
-votes_more [] f g h = omega arith
-votes_more (rep ∷ reps) f g h = let one = term (f rep.0) (g rep.0) rep.1 (h rep.0) in let rest = votes_more reps f g h in omega (arith, one, rest)
-  where
-    term : (a b : Bool) (v : ℕ) → (a ≡ true → b ≡ true) → cond a v 0 ≤ cond b v 0
-    term false b v h = omega arith
-    term true true v h = omega arith
-    term true false v h = absurd (false≢true (h refl))
-
 no_votes : (reps : List Representative) → votes_in reps (among []) ≡ 0
 no_votes [] = refl
 no_votes (rep ∷ reps) = let rest = no_votes reps in omega arith
@@ -146,10 +139,6 @@ least a b is = grind (arith, nat_tests)
 is_quorum : (mode : LockMode) (votes : Configuration) (set : ℕ → Bool) → needed_of mode votes ≤ votes_in votes.reps set → IsQuorum votes set
 is_quorum Shared votes set enough = inl (least votes.r (votes_in votes.reps set) enough)
 is_quorum Exclusive votes set enough = inr (least votes.w (votes_in votes.reps set) enough)
-
-some_needed : (mode : LockMode) (votes : Configuration) → IsValid votes → 0 < needed_of mode votes
-some_needed Shared votes valid = valid.r_in_range.0
-some_needed Exclusive votes valid = valid.w_in_range.0
 
 showed_is : (known : Known) (o : Option Told) (one : Told) → o ≡ Some one → one.copy.prefix.pver ≤ known.prefix.pver → one.copy.dver ≤ known.dver → showed known o ≡ true
 showed_is known o one is prefix dver =

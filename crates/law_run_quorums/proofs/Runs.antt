@@ -36,7 +36,7 @@ agree_from given z w world (event ∷ events) inv shows all linked waiting readi
     agree_from given z (moved given z w world event) (step (fixed_of given) world event).world events (all_steps (beginning z given) w inv (events_of given z w world event) comes.obeys) comes.shows comes.consistent one.1 (waits_next given z w world linked waiting event) (ready_next given z w world readied event) (event_all (fixed_of given) world jobs event)
     (event_agrees given z w world inv shows all linked agree event one.0) owed.1
 
-opens_agree : (given : Opening) (z : ℕ) → AllAgree z (begun (beginning z given)) (worlds.opening given)
+pub opens_agree : (given : Opening) (z : ℕ) → AllAgree z (begun (beginning z given)) (worlds.opening given)
 opens_agree given z n actor there =
     let is = actor_opens 0 given.agents n actor there in
     subst (λ (agent : Agent). DoingAgrees z (begun (beginning z given)) agent.doing) (sym is.1) tt

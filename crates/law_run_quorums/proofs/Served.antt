@@ -24,6 +24,7 @@ use Rattle.txn_core.specs.declared.response.Response.{Response}
 use Rattle.txn_core.specs.declared.response.Response.TheVariants.{Replied, Lacked}
 use Rattle.txn_core.specs.Laws.{more_told, told_by, locks}
 use Rattle.txn_core.specs.Transactions.{is_poll, said_to}
+use Rattle.txn_core.proofs.Locks.{serves_shared}
 use Rattle.law_suite_machine.specs.Registers.{Beginning}
 use Rattle.law_suite_machine.specs.Machine.{Told, Hold, Verdict, World, set2}
 use Rattle.law_suite_machine.specs.Events as machine
@@ -84,10 +85,6 @@ refused_agrees f list i mode said none agrees = record {
 -- a request that is not served tells of none
 pub lacked_agrees : (z i : ℕ) (f : ℕ → Option Told) (asked : Request) (why : Lack) (list : List collect.Told) → Agrees f list → Agrees f (heard_by z list i asked (Lacked why))
 lacked_agrees z i f asked why list agrees = elim (locks z asked) as (λ b. Agrees f (cond b list list)) [ true ↦ agrees | false ↦ agrees ]
-
-serves_shared : (mode : LockMode) → serves mode Shared ≡ true
-serves_shared Shared = refl
-serves_shared Exclusive = refl
 
 serves_exclusive : (mode : LockMode) → serves mode Exclusive ≡ modes.is_exclusive mode
 serves_exclusive Shared = refl

@@ -50,15 +50,15 @@ Knows fixed (Some (Running txn_run)) = Keeps fixed txn_run.task txn_run.suites t
 Knows fixed (Some (RunningSweep sweep_run)) = Unit {0}
 Knows fixed None = Unit {0}
 
-knows_left : (fixed : Fixed) (after : After TransactionRun) → Left fixed after → Knows fixed (left Running after)
+pub knows_left : (fixed : Fixed) (after : After TransactionRun) → Left fixed after → Knows fixed (left Running after)
 knows_left fixed (GoesOn txn_run) keeps = keeps
 knows_left fixed (Ends ending) keeps = tt
 
-knows_round : (fixed : Fixed) (after : After SweepRun) → Knows fixed (left RunningSweep after)
+pub knows_round : (fixed : Fixed) (after : After SweepRun) → Knows fixed (left RunningSweep after)
 knows_round fixed (GoesOn sweep_run) = tt
 knows_round fixed (Ends ending) = tt
 
-take_knows : (fixed : Fixed) (agent : Agent) (response : Response) (doing : Option Doing) (asked : Option (ℕ × Request)) → agent.doing ≡ doing → Knows fixed doing → Knows fixed (take_in fixed agent response doing asked).agent.doing
+pub take_knows : (fixed : Fixed) (agent : Agent) (response : Response) (doing : Option Doing) (asked : Option (ℕ × Request)) → agent.doing ≡ doing → Knows fixed doing → Knows fixed (take_in fixed agent response doing asked).agent.doing
 take_knows fixed agent response (Some (Running running)) (Some asked) was knows = knows_left fixed _ (left_response fixed running.task agent.cache running.suites running.phase asked.0 asked.1 response knows)
 take_knows fixed agent response (Some (Running running)) None was knows = subst (Knows fixed) (sym was) knows
 take_knows fixed agent response (Some (RunningSweep sweep_run)) (Some asked) was knows = knows_round fixed (sweep.after_response fixed.service sweep_run asked.0 response)
@@ -101,7 +101,7 @@ always_knows given events = run_knows (fixed_of given) events (opening given) (�
 
 -- ---- a decision
 
-none_at : (found : Option State) (t : Option ℕ) → decided_at found t None ≡ None
+pub none_at : (found : Option State) (t : Option ℕ) → decided_at found t None ≡ None
 none_at found None = refl
 none_at None (Some t) = refl
 none_at (Some st) (Some t) = of (is_some (record_of st t))

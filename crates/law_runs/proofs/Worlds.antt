@@ -359,7 +359,7 @@ event_holds fixed world (Return server) ds past holds = operator_holds fixed wor
 event_holds fixed world (Forget i site) ds past holds = forget_holds fixed world i site ds past holds (actor_at world i) refl
 event_holds fixed world (Lack i why) ds past holds = lack_holds fixed world i why ds past holds (actor_at world i) refl
 
-cons_is : {X : Type 0} (one : Option X) (xs : List X) → option_to_list one ++ xs ≡ cons_option one xs
+pub cons_is : {X : Type 0} (one : Option X) (xs : List X) → option_to_list one ++ xs ≡ cons_option one xs
 cons_is None xs = refl
 cons_is (Some x) xs = refl
 

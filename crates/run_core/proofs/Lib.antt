@@ -1,5 +1,6 @@
 pub mod Appending
 pub mod Exchanging
+pub mod EachAgent
 pub mod Numbered
 pub mod Moving
 pub mod Operating

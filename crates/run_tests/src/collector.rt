@@ -53,10 +53,12 @@ fn prefix(rt: &(impl Abort + AllocGlobal), pver: u64, place: &str) -> SharedPref
     SharedPrefix::new(rt.alloc(), prefix).expect(rt, "memory")
 }
 
-/// A collector, and the first source that its last quorum before a widening gave.
+/// A collector, one that is told the same by `take` alone, and the first source that its last quorum before a
+/// widening gave.
 #[derive(Drop)]
 struct Talk {
     collect: Collect,
+    alone: Collect,
     source: Option<u8>,
     is_widened: bool,
 }
@@ -65,6 +67,7 @@ struct Talk {
 fn talk_on(rt: &(impl Abort + AllocGlobal), mode: LockMode, place: &str) -> Talk {
     Talk {
         collect: Collect::new(7, 9, mode, prefix(rt, 0, place)),
+        alone: Collect::new(7, 9, mode, prefix(rt, 0, place)),
         source: None,
         is_widened: false,
     }
@@ -92,13 +95,21 @@ fn reply(rt: &(impl Abort + AllocGlobal), text: &str) -> Reply {
     }
 }
 
-fn take(rt: &impl Abort, collect: &mut Collect, reply: &Reply) -> Hearing {
-    collect.take(reply).ok().expect(rt, "memory")
+fn hear(rt: &impl Abort, collect: &mut Collect, reply: &Reply) -> Hearing {
+    collect.hear(reply).ok().expect(rt, "memory")
 }
 
-/// What a reply to what is asked next comes to. A lock that gives a quorum is told, too.
+/// What a reply to what is asked next comes to. `take` takes it, unless it is lost.
 fn takes(rt: &impl Abort, talk: &mut Talk, reply: &Reply) -> &'static str {
-    match take(rt, &mut talk.collect, reply) {
+    let taken = talk.alone.take(reply).ok().expect(rt, "memory");
+    let came = hears(rt, talk, reply);
+    assert!(rt; taken == (came != "lost"), "{came}");
+    came
+}
+
+/// What it comes to, heard. A lock that gives a quorum is told, too.
+fn hears(rt: &impl Abort, talk: &mut Talk, reply: &Reply) -> &'static str {
+    match hear(rt, &mut talk.collect, reply) {
         Hearing::Lost => "lost",
         Hearing::Asks => "asks",
         Hearing::Short => "short",
@@ -131,9 +142,13 @@ fn taken(rt: &(impl Abort + AllocGlobal), talk: &mut Talk, text: &str) -> &'stat
 /// What is done with a collector: it is raised, widened to votes, or told a reply.
 fn act(rt: &(impl Abort + AllocGlobal), talk: &mut Talk, text: &str) {
     match text.split_once(' ') {
-        None if text == "raise" => talk.collect.raise(),
+        None if text == "raise" => {
+            talk.collect.raise();
+            talk.alone.raise();
+        }
         Some(("widen", place)) => {
             talk.collect.widen(&votes(rt, place));
+            talk.alone.widen(&votes(rt, place));
             talk.is_widened = true;
         }
         _ => goes_on(rt, talk, text),
@@ -184,12 +199,14 @@ fn next_words(
     }
 }
 
-fn words(rt: &(impl Abort + AllocGlobal), talk: &Talk) -> String {
-    had(rt, next_words(rt, &talk.collect.next(), talk.source))
+fn words(rt: &(impl Abort + AllocGlobal), collect: &Collect, source: Option<u8>) -> String {
+    had(rt, next_words(rt, &collect.next(), source))
 }
 
+/// This comes next, of both collectors.
 fn comes(rt: &(impl Abort + AllocGlobal), talk: &Talk, want: &str, about: &str) {
-    same(rt, &words(rt, talk), want, about);
+    same(rt, &words(rt, &talk.collect, talk.source), want, about);
+    same(rt, &words(rt, &talk.alone, talk.source), want, about);
 }
 
 /// A talk, line by line: what is done, and what comes next.
@@ -329,7 +346,7 @@ fn only_some_replies_are_gone_on_with(rt: HostRuntime) {
 
 /// What a lock tells that gives a quorum.
 fn quorum_of(rt: &impl Abort, collect: &mut Collect, reply: &Reply) -> Told {
-    let last = match take(rt, collect, reply) {
+    let last = match hear(rt, collect, reply) {
         Hearing::Quorum(last) => Some(last),
         _ => None,
     };
@@ -348,6 +365,8 @@ fn known(rt: &(impl Abort + AllocGlobal), talk: &mut Talk, reply: &Reply) {
     comes(rt, talk, "Shared at 1", "a quorum that is not told");
     gives(rt, &talk.collect, &last);
     tell(rt, talk, last);
+    let taken = talk.alone.take(reply).ok().expect(rt, "memory");
+    assert!(rt; taken);
 }
 
 /// What a quorum gives is the same before it is told and after it.

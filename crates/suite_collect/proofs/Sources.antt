@@ -50,7 +50,7 @@ no_members (rep ∷ reps) held none = at (nat_lt 0 rep.1 && held rep.0) refl non
     at true _ none _ = cc
     at false fails none rest = let here = no_votes rep.1 (held rep.0) fails in let zero = rest none in omega arith
 
-some_needed : (mode : LockMode) (votes : Configuration) → IsValid votes → 0 < needed_of mode votes
+pub some_needed : (mode : LockMode) (votes : Configuration) → IsValid votes → 0 < needed_of mode votes
 some_needed Shared votes valid = valid.r_in_range.0
 some_needed Exclusive votes valid = valid.w_in_range.0
 

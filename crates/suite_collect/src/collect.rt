@@ -61,6 +61,7 @@ impl Model for Collect {
 impl Collect {
     ghost use Rattle.suite_collect.specs.Telling.{newest};
     ghost use Rattle.suite_collect.specs.Answering.{Comes, Hears, Tells, asked_in, read_point, shows_lock};
+    ghost use Rattle.suite_collect.specs.Laws.{Take, after_step};
 
     /// A collector that was told nothing yet. `start` is any prefix that the suite once had, or that of
     /// what was never made.
@@ -155,9 +156,25 @@ impl Collect {
         }
     }
 
-    /// Takes the reply to what was asked next. It is told what the reply says, but for a lock with which there
+    /// Takes the reply to what was asked next, and tells whether it answers that: then it is told what the reply
+    /// says, and else nothing changes. Only a lock that is held may run out of memory.
+    pub fn take(&mut self, reply: &Reply) -> Result<bool, AllocError>
+        ensures ok { OnOk result (self.new ≡ record self.old { collector = after_step self.old.collector (Take reply.now) }) }
+        ensures answers { IfOk result (λ answers. answers ≡ is_some (spec.told_by (spec.next self.old.collector) reply.now)) }
+        ensures err { OnErr result (self.new ≡ self.old) }
+        ensures memory { IfErr result (λ _. IsTrue (shows_lock reply.now)) }
+    {
+        let Some(said) = self.said_by(reply) else {
+            return Ok(false);
+        };
+        let after = self.tally_after(said);
+        self.put(said, after)?;
+        Ok(true)
+    }
+
+    /// Hears the reply to what was asked next. It is told what the reply says, but for a lock with which there
     /// is a quorum: nothing changes yet. Only a lock that is held may run out of memory.
-    pub fn take(&mut self, reply: &Reply) -> Result<Hearing, AllocError>
+    pub fn hear(&mut self, reply: &Reply) -> Result<Hearing, AllocError>
         ensures ok { IfOk result (λ hearing. Hears hearing self.old reply.now self.new) }
         ensures err { OnErr result (self.new ≡ self.old) }
         ensures memory { IfErr result (λ _. IsTrue (shows_lock reply.now)) }

@@ -15,9 +15,11 @@
 //! left is asked, in listed order. Else it is Short. `Collect::coming` says the same without what a quorum gives.
 //! `raise` wants exclusive locks from now on; `widen` gathers other votes too.
 //!
-//! The caller asks the server and hands the reply to `Collect::take`. A lock that gives a quorum changes nothing yet
-//! (`Hearing::Quorum`): the caller gets what it gives (`quorum_after`, a `ReadPoint`), and then tells it (`tell`),
-//! which cannot fail. `take` and `quorum_after` alone may be out of memory, for a prefix that is kept.
+//! The caller asks the server and hands the reply to `Collect::take`, which tells whether it answers what was asked.
+//! `next` and `take` are all that a caller needs. One that has more to do before a quorum stands, and that may fail
+//! there, calls `hear` in place of `take`: a lock that gives a quorum changes nothing yet (`Hearing::Quorum`). The
+//! caller gets what it gives (`quorum_after`, a `ReadPoint`), and then tells it (`tell`), which cannot fail. `take`,
+//! `hear` and `quorum_after` alone may be out of memory, for a prefix that is kept.
 //!
 //! The laws (`specs/Laws.antt`): a Current is a quorum under the prefix that it gives, with a source
 //! (`current_is_a_quorum`, `current_has_a_source`). Widened, it is a write quorum of the given votes too, and
@@ -26,7 +28,7 @@
 //! What a Current is worth is said at the decision.
 //!
 //! **The caller owes** such a start, and servers below `MAX_SERVERS` to `tell` and `quorum_after`. After a reply
-//! that does not answer what was asked (`Hearing::Lost`) its transaction ends.
+//! that does not answer what was asked (`take` is false, `Hearing::Lost`) its transaction ends.
 //!
 //! The code keeps sets of servers, versions, the newest prefix, and what is due, and no list but for proofs (`log`,
 //! which has no bytes).

@@ -1,16 +1,61 @@
-//! What agents do, and what they keep, as JSON.
+//! What agents do, what they gathered, and what their caches keep, as JSON.
 
-use event_json::asked_word;
+use event_json::{asked_word, push_cache, push_gathered, stage_word};
 use rep_core::Request;
 use script_text::push_number;
-use std::alloc::AllocError;
+use std::alloc::{AllocError, Global};
 use txn_core::Agent;
 
-/// How many sites an agent has.
-const SITES: u8 = 16;
+/// What was told last of an agent: what it gathered, and what its cache keeps.
+#[derive(Drop)]
+pub(crate) struct Told {
+    gathered: Vec<u8>,
+    cache: Vec<u8>,
+}
 
-/// The number of an agent, how many jobs it began, and what it asks next of which server, where it has a job: that is
-/// put into a place of the caller's.
+impl Told {
+    /// Nothing yet.
+    pub(crate) fn new(alloc: Global) -> Told {
+        Told {
+            gathered: Vec::new(alloc),
+            cache: Vec::new(alloc),
+        }
+    }
+
+    /// What an agent gathered, and what its cache keeps, each where it was told otherwise before.
+    pub(crate) fn push_changes(
+        &mut self,
+        alloc: Global,
+        text: &mut Vec<u8>,
+        agent: &Agent,
+        servers: u8,
+    ) -> Result<(), AllocError> {
+        let mut gathered = Vec::new(alloc);
+        push_gathered(&mut gathered, agent.gathered(), servers)?;
+        push_changed(text, b",\"gathered\":", &mut self.gathered, gathered)?;
+        let mut cache = Vec::new(alloc);
+        push_cache(&mut cache, agent.cache())?;
+        push_changed(text, b",\"cache\":", &mut self.cache, cache)
+    }
+}
+
+/// A member, where it was otherwise before.
+fn push_changed(
+    text: &mut Vec<u8>,
+    before: &[u8],
+    last: &mut Vec<u8>,
+    now: Vec<u8>,
+) -> Result<(), AllocError> {
+    if *last != now {
+        text.extend_from_slice(before)?;
+        text.extend_from_slice(now.as_slice())?;
+        *last = now;
+    }
+    Ok(())
+}
+
+/// The number of an agent, how many jobs it began, how far its job is, and what it asks next of which server, where it
+/// has a job: that is put into a place of the caller's.
 pub(crate) fn push_agent(
     text: &mut Vec<u8>,
     number: u8,
@@ -19,25 +64,15 @@ pub(crate) fn push_agent(
 ) -> Result<(), AllocError> {
     push_member(text, b"{\"agent\":", u64::from(number))?;
     push_member(text, b",\"jobs\":", agent.count())?;
+    text.extend_from_slice(b",\"stage\":\"")?;
+    text.extend_from_slice(stage_word(agent.stage()))?;
+    text.extend_from_slice(b"\"")?;
     if let Some(server) = agent.next(request)? {
         text.extend_from_slice(b",\"next\":\"")?;
         text.extend_from_slice(asked_word(request))?;
         push_member(text, b"\",\"of\":", u64::from(server))?;
     }
     Ok(())
-}
-
-/// Of which sites an agent keeps something.
-pub(crate) fn push_keeps(text: &mut Vec<u8>, agent: &Agent) -> Result<(), AllocError> {
-    text.extend_from_slice(b",\"keeps\":[")?;
-    let mut between: &[u8] = b"";
-    for site in 0..SITES {
-        if agent.keeps(site) {
-            push_member(text, between, u64::from(site))?;
-            between = b",";
-        }
-    }
-    text.extend_from_slice(b"]")
 }
 
 /// What stands before a number, and the number.

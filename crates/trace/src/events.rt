@@ -1,6 +1,6 @@
 //! What happens, as objects of JSON, one a line.
 
-use crate::agents::{push_agent, push_keeps};
+use crate::agents::{Told, push_agent};
 use event_json::{Before, push_denials, push_reply, push_request, push_server, push_string};
 use file_ops::AuditItem;
 use rep_core::Request;
@@ -18,6 +18,8 @@ pub(crate) struct Events {
     line: u64,
     before: Before,
     asked: Request,
+    servers: u8,
+    told: Vec<Told>,
 }
 
 impl Events {
@@ -29,6 +31,8 @@ impl Events {
             line: 0,
             before: Before::new(alloc),
             asked: Request::Locks,
+            servers: 0,
+            told: Vec::new(alloc),
         }
     }
 
@@ -58,6 +62,7 @@ impl Events {
         agents: u8,
         servers: u8,
     ) -> Result<(), AllocError> {
+        self.servers = servers;
         self.tell_all(text, world, (agents, servers), b"opening")
     }
 
@@ -88,11 +93,13 @@ impl Events {
                 before = b",";
             }
         }
+        self.told.clear();
         before = b"],\"agents\":[";
         for number in 0..agents {
+            self.told.push(Told::new(self.alloc))?;
             if let Some(agent) = world.agent(number) {
                 text.extend_from_slice(before)?;
-                self.push_by(text, number, agent, true)?;
+                self.push_by(text, number, agent)?;
                 before = b",";
             }
         }
@@ -138,7 +145,7 @@ impl Events {
             Event::Begin { agent, .. }
             | Event::Step { agent }
             | Event::Forget { agent, .. }
-            | Event::Lack { agent, .. } => self.push_agent_of(text, world, *agent, true)?,
+            | Event::Lack { agent, .. } => self.push_agent_of(text, world, *agent)?,
             Event::Crash { .. } | Event::Return { .. } => (),
         }
         if let Some(served) = &done.served {
@@ -163,7 +170,7 @@ impl Events {
             (None, Some(server)) => push_full(text, server)?,
             (None, None) => (),
         }
-        self.push_agent_of(text, world, agent, is_fetched(done))?;
+        self.push_agent_of(text, world, agent)?;
         self.end(text, done)
     }
 
@@ -199,33 +206,26 @@ impl Events {
         }
     }
 
-    /// What an agent does next, and what it keeps, where that may have changed.
+    /// What an agent does next, and what it gathered and keeps, where that changed.
     fn push_agent_of(
         &mut self,
         text: &mut Vec<u8>,
         world: &World,
         number: u8,
-        changes: bool,
     ) -> Result<(), AllocError> {
         match world.agent(number) {
             Some(agent) => {
                 text.extend_from_slice(b",\"by\":")?;
-                self.push_by(text, number, agent, changes)
+                self.push_by(text, number, agent)
             }
             None => Ok(()),
         }
     }
 
-    fn push_by(
-        &mut self,
-        text: &mut Vec<u8>,
-        number: u8,
-        agent: &Agent,
-        changes: bool,
-    ) -> Result<(), AllocError> {
+    fn push_by(&mut self, text: &mut Vec<u8>, number: u8, agent: &Agent) -> Result<(), AllocError> {
         push_agent(text, number, agent, &mut self.asked)?;
-        if changes {
-            push_keeps(text, agent)?;
+        if let Some(told) = self.told.get_mut(usize::from(number)) {
+            told.push_changes(self.alloc, text, agent, self.servers)?;
         }
         text.extend_from_slice(b"}")
     }
@@ -262,14 +262,6 @@ impl Events {
         text.extend_from_slice(b",\"denials\":")?;
         push_denials(text, items)?;
         text.extend_from_slice(b"}}\n")
-    }
-}
-
-/// Whether a content was asked for, which the agent may keep.
-fn is_fetched(done: &Done) -> bool {
-    match &done.served {
-        Some(served) => matches!(served.request.value, Request::Fetch { .. }),
-        None => false,
     }
 }
 

@@ -123,12 +123,12 @@ more_content : (suite : Suite) (content : Content) → content_in (Some suite) �
 more_content suite content = one_most (Some suite)
 
 -- what the executor needs is not there
-need_in : Executed → Option Need
+pub need_in : Executed → Option Need
 need_in (exec.Need need) = Some need
 need_in (exec.Done answers changes) = None
 need_in (exec.Refused refusal) = None
 
-needed_first : (known' : Known) (heard : Heard (List Answer) Refusal) (need : Need) → answered known' heard ≡ exec.Need need → heard ≡ Needs need
+pub needed_first : (known' : Known) (heard : Heard (List Answer) Refusal) (need : Need) → answered known' heard ≡ exec.Need need → heard ≡ Needs need
 unfolding need_in
 needed_first known' (Needs other) need is = ap Needs (same_Some other need (ap need_in is))
 needed_first known' (Done (Ok ended)) need is = cc

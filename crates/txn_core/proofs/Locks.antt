@@ -199,7 +199,7 @@ no_lock held server asked response none told holds' number other =
     of true = refl
     of false = refl
 
-serves_shared : (mode : LockMode) → serves mode Shared ≡ true
+pub serves_shared : (mode : LockMode) → serves mode Shared ≡ true
 serves_shared Shared = refl
 serves_shared Exclusive = refl
 

@@ -57,11 +57,11 @@ use Rattle.txn_core.proofs.Locks.{all_told-tell}
 abbrev Enough : LockMode → Configuration → List Told → Type 0
 Enough mode votes told = needed_of mode votes ≤ votes_in votes.reps (holds mode told)
 
-or_true : (a : Bool) {b : Bool} → b ≡ true → (a || b) ≡ true
+pub or_true : (a : Bool) {b : Bool} → b ≡ true → (a || b) ≡ true
 or_true true is = refl
 or_true false is = is
 
-votes_more : (reps : List Representative) (f g : ℕ → Bool) → ((server : ℕ) → f server ≡ true → g server ≡ true) → votes_in reps f ≤ votes_in reps g
+pub votes_more : (reps : List Representative) (f g : ℕ → Bool) → ((server : ℕ) → f server ≡ true → g server ≡ true) → votes_in reps f ≤ votes_in reps g
 votes_more [] f g h = omega arith
 votes_more (rep ∷ reps) f g h = let one = term (f rep.0) (g rep.0) rep.1 (h rep.0) in let rest = votes_more reps f g h in omega (arith, one, rest)
   where

@@ -237,7 +237,7 @@ begin_ready fixed agent job idle =
 -- ---- a Decide
 
 -- a lock on a suite is a lock
-has_one : (suites : Suites) (number server : ℕ) → holds Shared (told_at suites number) server ≡ true → has_locks suites server ≡ true
+pub has_one : (suites : Suites) (number server : ℕ) → holds Shared (told_at suites number) server ≡ true → has_locks suites server ≡ true
 has_one [] number server is = cc
 has_one (e ∷ es) number server is =
     elim (is_at (nat_cmp number) e.0) as (λ b. holds Shared (told_in (cond b (Some e.1) (suite_of es number))) server ≡ true → (holds_lock e.1 server || has_locks es server) ≡ true) [

@@ -143,12 +143,12 @@ few_response service sweep_run asked (Lacked lacked) server is = let one = some_
 
 -- ---- all responses
 
-abbrev IsNoCourse : Option Doing → Type 0
+abbrev pub IsNoCourse : Option Doing → Type 0
 IsNoCourse (Some (RunningSweep sweep_run)) = Unit {0}
 IsNoCourse (Some (Running txn_run)) = ⊥
 IsNoCourse None = Unit {0}
 
-no_course : (after : After SweepRun) → IsNoCourse (agents.left RunningSweep after)
+pub no_course : (after : After SweepRun) → IsNoCourse (agents.left RunningSweep after)
 no_course (GoesOn sweep_run) = tt
 no_course (Ends ending) = tt
 

@@ -137,12 +137,12 @@ module _ (fixed : Fixed) (agent : Agent) (job : Job) (events : List Event) where
   past = of_job fixed agent job events
 
   -- of a transaction with this task
-  record IsOf (task : Task) : Type 0 where
-    caller : Identity
-    site : ℕ
-    ops : List Op
-    transaction : job ≡ Transaction caller site ops
-    task_is : task ≡ task_of agent caller site ops
+  pub record IsOf (task : Task) : Type 0 where
+    pub caller : Identity
+    pub site : ℕ
+    pub ops : List Op
+    pub transaction : job ≡ Transaction caller site ops
+    pub task_is : task ≡ task_of agent caller site ops
 
   -- the site of the transaction is one
   site_is : (task : Task) → IsOf task → (caller : Identity) (site : ℕ) (ops : List Op) → job ≡ Transaction caller site ops → task.site ≡ site
@@ -151,7 +151,7 @@ module _ (fixed : Fixed) (agent : Agent) (job : Job) (events : List Event) where
       let sites : own.site ≡ site = cc in
       ap (λ (task : Task). task.site) own.task_is ∙ sites
 
-  gathers : (task : Task) → IsOf task → (suites : Suites) → AllGathered (Base_of fixed agent job events events task.site) past suites → WereGathered fixed agent job events suites
+  pub gathers : (task : Task) → IsOf task → (suites : Suites) → AllGathered (Base_of fixed agent job events events task.site) past suites → WereGathered fixed agent job events suites
   unfolding started_is
   gathers task own suites gathered number suite there =
       let was = gathered number suite there in
@@ -168,7 +168,7 @@ module _ (fixed : Fixed) (agent : Agent) (job : Job) (events : List Event) where
             (subst (λ first. IsContentOf fixed agent job events task.site number first content) first_is knows.2);
       }
 
-  is_wanted : (task : Task) → IsOf task → (number : ℕ) (mode : LockMode) → Wants fixed task (Base_of fixed agent job events events task.site) past number mode → IsWanted fixed agent job events number mode
+  pub is_wanted : (task : Task) → IsOf task → (number : ℕ) (mode : LockMode) → Wants fixed task (Base_of fixed agent job events events task.site) past number mode → IsWanted fixed agent job events number mode
   is_wanted task own number mode wants = record {
     caller = own.caller;
     site = own.site;
@@ -179,7 +179,7 @@ module _ (fixed : Fixed) (agent : Agent) (job : Job) (events : List Event) where
     needs = ap (λ task. heard_on fixed task wants.suites) (sym own.task_is) ∙ wants.needs;
   }
 
-  sets : (task : Task) → IsOf task → (number : ℕ) (votes : Configuration) → Sets fixed task (Base_of fixed agent job events events task.site) past number votes → SetsVotes fixed agent job events number votes
+  pub sets : (task : Task) → IsOf task → (number : ℕ) (votes : Configuration) → Sets fixed task (Base_of fixed agent job events events task.site) past number votes → SetsVotes fixed agent job events number votes
   sets task own number votes set = record {
     caller = own.caller;
     site = own.site;

@@ -7,6 +7,7 @@ ghost use Rattle.weak_cache.specs.Entries.{keeps};
 ghost use Rattle.txn_core.specs.code.AgentFields.{doing_of};
 ghost use Rattle.txn_core.specs.Agents as agents;
 ghost use Rattle.txn_core.specs.Standing.{FitsAsked, response_of};
+ghost use Rattle.txn_core.specs.Stages.{gathered_in, stage_of};
 ghost use Rattle.txn_core.specs.Wanting as wanting;
 ghost use Rattle.txn_core.specs.code.Asking.{Asks, Wants, fixed_on};
 ghost use Rattle.txn_core.specs.code.Goings.{ending_of};
@@ -18,6 +19,8 @@ use crate::ending::{Ending, Flow};
 use crate::fixed_parts::FixedParts;
 use crate::job::Job;
 use crate::resources::Resources;
+use crate::stage::Stage;
+use crate::suites::Suite;
 use crate::sweep_run::SweepRun;
 use crate::task::Task;
 use crate::transaction_run::TransactionRun;
@@ -289,6 +292,34 @@ impl Agent {
         self.resources.cache.keeps(site)
     }
 
+    /// What its sites keep.
+    pub fn cache(&self) -> &WeakCache
+        ensures { result.now ≡ record { limits = self.now.fixed.limits; entries = self.now.state.cache } }
+    {
+        &self.resources.cache
+    }
+
+    /// How far its job is.
+    pub fn stage(&self) -> Stage
+        ensures { result ≡ stage_of self.now.state.doing }
+    {
+        match &self.doing {
+            Some(doing) => doing.stage(),
+            None => Stage::Idle,
+        }
+    }
+
+    /// The suites of which its transaction asked for locks, each with what it gathered of it: none, where it
+    /// carries out no transaction.
+    pub fn gathered(&self) -> &[(u64, Suite)]
+        ensures { result.now ≡ gathered_in self.now.state.doing }
+    {
+        match &self.doing {
+            Some(doing) => doing.gathered(),
+            None => &[],
+        }
+    }
+
     /// Whether it does no job.
     pub fn is_idle(&self) -> bool
         ensures { result ≡ agents.is_idle self.now.state.doing }
@@ -305,6 +336,26 @@ impl Agent {
 }
 
 impl Doing {
+    /// How far it is.
+    fn stage(&self) -> Stage
+        ensures { result ≡ stage_of (Some (doing_of self.now)) }
+    {
+        match self {
+            Doing::Running(txn_run) => txn_run.stage(),
+            Doing::RunningSweep(sweep_run) => sweep_run.stage(),
+        }
+    }
+
+    /// What was gathered.
+    fn gathered(&self) -> &[(u64, Suite)]
+        ensures { result.now ≡ gathered_in (Some (doing_of self.now)) }
+    {
+        match self {
+            Doing::Running(txn_run) => txn_run.gathered(),
+            Doing::RunningSweep(_) => &[],
+        }
+    }
+
     /// The server that is asked next.
     fn asked(&self, fixed_parts: &FixedParts) -> Option<u8>
         requires { (0 < fixed_parts.now.servers) × (fixed_parts.now.servers ≤ MAX_SERVERS) }

@@ -7,7 +7,7 @@
 //! `forget`. `next` puts what it asks into a place of the caller's. `take` is told the reply, or why the request
 //! was not served. An agent's index is below 64. A begin without sense changes nothing. Out of memory leaves the
 //! agent as it was, and the call may be made again. `specs/Wanting.antt` says when memory may run out; an agent
-//! that gave up comes to its end without any.
+//! that gave up comes to its end without any. `stage`, `gathered` and `cache` lend what may be read of it.
 //!
 //! The laws hold of every agent and job, whatever it is told (`specs/Laws.antt`).
 //! - Whatever a transaction does with a word is moves of the protocol, of which there are 24
@@ -37,14 +37,14 @@
 //! known only grows, and else begins anew. Each handler answers a `Flow`: the job goes on, or has ended. The
 //! clauses of its steps have names in `specs/code/Goings.antt`.
 //!
-//! **Files**, what a job is: `job`, `ending`, `response`, `task`, `phase`, `resources`, `fixed_parts`, `servers`,
-//! `home`. Suites: `suites`, `pending_quorum`, `learned`, `suites_after`, `empty`, `cache_after`, `knowing`.
+//! **Files**, what a job is: `job`, `ending`, `response`, `task`, `phase`, `stage`, `resources`, `fixed_parts`,
+//! `servers`, `home`. Suites: `suites`, `pending_quorum`, `learned`, `suites_after`, `empty`, `cache_after`, `knowing`.
 //! Execution: `granted`, `plan`, `next_phase`, `carrying`, `execution`. Late phases: `widening`, `writing`,
 //! `sorting`, `finishing`. The whole: `asking`, `transaction_run`, `sweep_run`, `agent`, `laws`.
 //!
 //! **Definitions** (`specs/`): `Suites`, `Doing`, `Transactions`, `Writing`, `Sweeps`, `Agents`, `Standing`,
-//! `Wanting`, `Moves`; for the laws `Undecided`, `Caching`, `Worlds`, `Runs`, `Laws`. The laws' proofs are one walk
-//! (`proofs/Walk.antt`).
+//! `Stages`, `Wanting`, `Moves`; for the laws `Undecided`, `Caching`, `Worlds`, `Runs`, `Laws`. The laws' proofs are
+//! one walk (`proofs/Walk.antt`).
 #![tactic(auto)]
 
 mod agent;
@@ -70,6 +70,7 @@ mod resources;
 mod response;
 mod servers;
 mod sorting;
+mod stage;
 mod suites;
 mod suites_after;
 mod sweep_run;
@@ -89,3 +90,5 @@ pub use laws::{
     worked_runs,
 };
 pub use response::Response;
+pub use stage::Stage;
+pub use suites::Suite;

@@ -1,13 +1,14 @@
 //! What a transaction gathered of a suite.
 
 ghost use Rattle.std.specs.FinSet.{contains};
-ghost use Rattle.std.specs.Prelude.{◌≡◌, ℕ, ◌<◌, IfOk, IfErr, IfSome, IsTrue, OnErr, None, Some, false, true};
+ghost use Rattle.std.specs.Prelude.{◌≡◌, ℕ, ◌<◌, IfOk, IfErr, IfSome, IsTrue, OnErr, None, Some, is_some, false, true};
 ghost use Rattle.std.specs.Option.{option_copied, option_or};
 ghost use Rattle.rep_core.specs.Fits.{is_held};
 ghost use Rattle.rep_core.specs.Store.{is_used_up};
 ghost use Rattle.suite_prefix.specs.LockModes.{serves};
 ghost use Rattle.suite_collect.specs.Answering.{Comes};
 ghost use Rattle.suite_collect.specs.Collecting as spec;
+ghost use Rattle.suite_collect.specs.Telling.{newest};
 ghost use Rattle.txn_core.specs.code.Hearing.{Hears, IsFirstAfter, IsSound, SettlesBy};
 ghost use Rattle.txn_core.specs.code.Plans.{takes_in};
 ghost use Rattle.txn_core.specs.code.Seeing.{settled_with, suite_view_of, view_of_suite};
@@ -26,7 +27,7 @@ use vote_core::{MAX_SERVERS, ServerSet, Votes};
 
 /// A suite that was asked for. What was gathered of it stands on the heap, so that it is cheap to move.
 #[derive(Drop)]
-pub(crate) struct Suite {
+pub struct Suite {
     gathered: Box<Gathered>,
 }
 
@@ -75,11 +76,32 @@ impl Suite {
     }
 
     /// What its first quorum gave.
-    pub(crate) fn first(&self) -> Option<&ReadPoint>
+    pub fn first(&self) -> Option<&ReadPoint>
         ensures value { option_copied result ≡ self.now.first }
         ensures unused { IfSome (option_copied result) GaveUnused }
     {
         self.gathered.first.as_ref()
+    }
+
+    /// The newest prefix that was shown, or that from which it is gathered. A widening leaves it as it was.
+    pub fn newest(&self) -> &SharedPrefix
+        ensures { result.now ≡ newest self.now.collector.start self.now.collector.told }
+    {
+        self.gathered.collect.newest()
+    }
+
+    /// The mode in which locks are wanted. A widening leaves it as it was.
+    pub fn mode(&self) -> LockMode
+        ensures { result ≡ self.now.collector.mode }
+    {
+        self.gathered.collect.mode()
+    }
+
+    /// Whether its content is there.
+    pub fn is_open(&self) -> bool
+        ensures { result ≡ is_some self.now.content }
+    {
+        self.gathered.content.is_some()
     }
 
     /// Its content is there from now on.
@@ -136,7 +158,7 @@ impl Suite {
         ensures err { OnErr result (self.new ≡ self.old) }
         ensures memory { IfErr result (λ _. IsTrue (is_held reply.now)) }
     {
-        self.gathered.collect.take(reply)
+        self.gathered.collect.hear(reply)
     }
 
     /// The quorum that it is to have with a lock that completes one.
@@ -198,7 +220,7 @@ impl Suite {
     }
 
     /// Whether a server answered that it holds a lock.
-    pub(crate) fn holds_lock(&self, server: u8) -> bool
+    pub fn holds_lock(&self, server: u8) -> bool
         ensures { result ≡ gathering.holds_lock self.now server }
     {
         self.gathered.collect.holds(LockMode::Shared, server)
@@ -212,7 +234,7 @@ impl Suite {
     }
 
     /// Whether a server answered that it holds an exclusive lock.
-    pub(crate) fn holds_exclusively(&self, server: u8) -> bool
+    pub fn holds_exclusively(&self, server: u8) -> bool
         ensures { result ≡ gathering.holds_exclusively self.now server }
     {
         self.gathered.collect.holds(LockMode::Exclusive, server)

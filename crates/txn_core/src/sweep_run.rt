@@ -9,6 +9,7 @@ ghost use Rattle.txn_core.specs.code.Goings.{ending_of};
 ghost use Rattle.txn_core.specs.declared.ending.Flow.TheVariants.{Ended};
 ghost use Rattle.txn_core.specs.declared.ending.Cause.TheVariants.{Lost};
 ghost use Rattle.txn_core.specs.code.Sorting.{in_order};
+ghost use Rattle.txn_core.specs.Stages.{sweep_stage};
 ghost use Rattle.txn_core.specs.Sweeps as sweeping;
 ghost use Rattle.txn_core.specs.Transactions as txn_run;
 ghost use Rattle.txn_core.specs.Wanting as wanting;
@@ -18,6 +19,7 @@ use crate::ending::{Cause, Ending, Flow};
 use crate::fixed_parts::FixedParts;
 use crate::home::home_of;
 use crate::sorting::rising;
+use crate::stage::Stage;
 use rep_core::{Lack, Lock, Reply, Request, Verdict};
 use std::alloc::{AllocError, Global};
 use std::collections::VecDeque;
@@ -108,6 +110,18 @@ impl SweepRun {
             },
         };
         Ok(self.asked(fixed_parts))
+    }
+
+    /// How far it is.
+    pub(crate) fn stage(&self) -> Stage
+        ensures { result ≡ sweep_stage self.now.now }
+    {
+        match &self.asking {
+            Asking::Locks => Stage::Listing,
+            Asking::Resolve(_) => Stage::Resolving,
+            Asking::Finish(..) => Stage::Telling,
+            Asking::Break(_) => Stage::Breaking,
+        }
     }
 
     /// The server that is asked next.

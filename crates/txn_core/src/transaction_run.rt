@@ -12,6 +12,7 @@ ghost use Rattle.txn_core.specs.code.Learning.{Fits, IsKeepable, content_kept};
 ghost use Rattle.txn_core.specs.code.Reaching.{IsReachedBy, IsReachedIf, IsReachedIn};
 ghost use Rattle.txn_core.specs.code.NextPhases.{follow};
 ghost use Rattle.txn_core.specs.Standing.{FitsAsked};
+ghost use Rattle.txn_core.specs.Stages.{stage_in};
 ghost use Rattle.txn_core.specs.Suites.{suite_of};
 ghost use Rattle.txn_core.specs.Transactions as txn_run;
 ghost use Rattle.txn_core.specs.code.Unused.{HasUnused};
@@ -27,6 +28,7 @@ use crate::pending_quorum::PendingQuorum;
 use crate::phase::Phase;
 use crate::resources::Resources;
 use crate::servers::locked_at;
+use crate::stage::Stage;
 use crate::suites::Suite;
 use crate::task::Task;
 use rep_core::Reply;
@@ -79,6 +81,27 @@ impl TransactionRun {
             Flow::On => Ok(Some(txn_run)),
             Flow::Ended(_) => Ok(None),
         }
+    }
+
+    /// How far it is.
+    pub(crate) fn stage(&self) -> Stage
+        ensures { result ≡ stage_in self.now.phase }
+    {
+        match &self.phase {
+            Phase::Gathering(_) => Stage::Gathering,
+            Phase::Fetching(_) => Stage::Fetching,
+            Phase::Widening { .. } => Stage::Widening,
+            Phase::Preparing(..) => Stage::Preparing,
+            Phase::Deciding(_) => Stage::Deciding,
+            Phase::Finishing(..) => Stage::Finishing,
+        }
+    }
+
+    /// What was gathered of suites, the suites rising.
+    pub(crate) fn gathered(&self) -> &[(u64, Suite)]
+        ensures { result.now ≡ self.now.suites }
+    {
+        self.suites.as_slice()
     }
 
     /// The server that is asked next replied. An error leaves all as it was. What was reached is kept as long

@@ -28,6 +28,10 @@ pub record IsWithin (cache : Limited) : Type 0 where
 abbrev pub hint : Cache → ℕ → ℕ → Option Prefix
 hint cache site suite = option_map (λ (entry : Entry). entry.prefix) (entry_of cache site suite)
 
+-- the version of the content that a site keeps of a suite
+abbrev pub version : Cache → ℕ → ℕ → Option ℕ
+version cache site suite = option_map (λ (entry : Entry). entry.dver) (entry_of cache site suite)
+
 -- the content, where it is of this version
 abbrev pub at_version : ℕ → Option Entry → Option Content
 at_version dver (Some entry) = if entry.dver == dver then Some entry.content else None

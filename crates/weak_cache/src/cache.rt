@@ -48,7 +48,7 @@ impl Model for WeakCache {
 }
 
 impl WeakCache {
-    ghost use Rattle.weak_cache.specs.Cache.{IsWithin, hint, has_room, put, searched, content_at};
+    ghost use Rattle.weak_cache.specs.Cache.{IsWithin, hint, version, has_room, put, searched, content_at};
     ghost use Rattle.weak_cache.specs.Entries.{size_of, keys_of, forgotten, keeps, entry_of, entry_with, max_sites};
     ghost use Rattle.weak_cache.specs.Loans.{EndsWith};
     ghost use Rattle.weak_cache.specs.code.Beside.{room_beside};
@@ -92,6 +92,13 @@ impl WeakCache {
         ensures { option_copied result ≡ hint self.now.entries site suite }
     {
         self.entries.find(site, suite).map(|entry| entry.prefix())
+    }
+
+    /// The version of the content that a site keeps of a suite.
+    pub fn version(&self, site: u8, suite: u64) -> Option<u64>
+        ensures { result ≡ version self.now.entries site suite }
+    {
+        self.entries.find(site, suite).map(|entry| entry.dver())
     }
 
     /// The content that a site keeps of a suite, if it is of this version. It is the newest then.

@@ -76,6 +76,13 @@ impl SizedEntry {
         (self.site, self.suite)
     }
 
+    /// The version of its content.
+    pub(crate) fn dver(&self) -> u64
+        ensures { result ≡ self.now.dver }
+    {
+        self.dver
+    }
+
     /// Whether its content is of this version.
     pub(crate) fn is_at_version(&self, dver: u64) -> bool
         ensures { result ≡ (self.now.dver == dver) }

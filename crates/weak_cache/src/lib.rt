@@ -15,7 +15,8 @@
 //!   budget and slots reach across sites (`site_lists`).
 //! - `content`, `hint_beside` and `content_beside` change nothing. The last two say what would be found once an
 //!   entry was put: an agent plans with them.
-//! - `keeps` says whether a site keeps anything.
+//! - `keeps` says whether a site keeps anything. `entries` goes through all once; `version` says of which version
+//!   a content is.
 //! - Out of memory leaves the cache as it was. Beside `new`, only a put where the site kept nothing of the suite
 //!   can be refused.
 //!

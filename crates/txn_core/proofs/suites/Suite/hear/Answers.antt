@@ -15,7 +15,7 @@ invariant_of-self c =
     let was = c.deref_mut.result.now in
     let saw = subst (λ (gathered : Gathered). SawUnused gathered.collect.collector) (sym c.deref_mut.ensures.value) c.self.invariant.saw in
     record {
-      saw = heard_unused (viewed was) was.collect c.take.new.self c.args.reply.now c.requires c.take.result c.take.ensures.ok c.take.ensures.err saw;
+      saw = heard_unused (viewed was) was.collect c.hear.new.self c.args.reply.now c.requires c.hear.result c.hear.ensures.ok c.hear.ensures.err saw;
       first = ap (λ (gathered : Gathered). first_unused gathered.first) c.deref_mut.ensures.value ∙ c.self.invariant.first;
     }
 
@@ -23,5 +23,5 @@ pub returns-clause-ok : goal.returns-clause-ok
 returns-clause-ok c =
     let was = c.deref_mut.result.now in
     let same : viewed was ≡ c.args.self.now = ap viewed c.deref_mut.ensures.value ∙ c.self.view_is in
-    subst (λ (suite : Suite). IfOk c.take.result (λ hearing. Hears hearing suite c.args.reply.now (record (viewed was) { collector = c.take.new.self.collector }))) same
-    (heard_as (viewed was) was.collect c.take.new.self c.args.reply.now c.requires c.take.result c.take.ensures.ok)
+    subst (λ (suite : Suite). IfOk c.hear.result (λ hearing. Hears hearing suite c.args.reply.now (record (viewed was) { collector = c.hear.new.self.collector }))) same
+    (heard_as (viewed was) was.collect c.hear.new.self c.args.reply.now c.requires c.hear.result c.hear.ensures.ok)

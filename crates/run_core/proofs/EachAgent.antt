@@ -1,0 +1,85 @@
+-- What holds of each agent of a world holds of each after an event, where it stays so as an agent forgets or takes a response, and where it is so
+-- of an agent that begins.
+use Rattle.std.proofs.Common.{◌≡◌, ℕ, zero, suc, List, [], ◌∷◌, Option, Some, None, refl, subst}
+use Rattle.std.specs.Prelude.{slice_get, slice_set}
+use Rattle.std.proofs.lemmas.Option.{none-some, same_Some}
+use Rattle.rep_core.specs.declared.request.Request.{Request}
+use Rattle.rep_core.specs.declared.request.Request.TheVariants as request
+use Rattle.rep_core.specs.declared.stamped.Lack.TheVariants as lack
+use Rattle.rep_core.specs.State.{State}
+use Rattle.txn_core.specs.declared.job.Job.{Job}
+use Rattle.txn_core.specs.declared.response.Response.{Response}
+use Rattle.txn_core.specs.declared.response.Response.TheVariants.{Replied, Lacked}
+use Rattle.txn_core.specs.Doing.{Fixed}
+use Rattle.txn_core.specs.Agents.{Agent, next_of, take, begin, forget}
+use Rattle.run_core.specs.declared.event.Event.{Event}
+use Rattle.run_core.specs.declared.event.Event.TheVariants.{Begin, Step, Crash, Return, Forget, Lack}
+use Rattle.run_core.specs.declared.done.Served.{Served}
+use Rattle.run_core.specs.Worlds.{World, Actor, server_at, actor_at, serve, moved, answered, asks_at, asks, steps_once, lacks_for, lacks, operated, operates, becomes, step}
+
+abbrev pub OfEach : (Agent → Type 0) → World → Type 0
+OfEach P world = (number : ℕ) (actor : Actor) → actor_at world number ≡ Some actor → P actor.agent
+
+-- what holds of what stands in a list, once one of it is another
+all_set : (P : Actor → Type 0) (actors : List Actor) (i : ℕ) (new : Actor) → P new → ((n : ℕ) (x : Actor) → slice_get actors n ≡ Some x → P x)
+    → (n : ℕ) (x : Actor) → slice_get (slice_set actors i new) n ≡ Some x → P x
+all_set P [] i new fits all n x is = absurd (none-some x is)
+all_set P (y ∷ ys) zero new fits all zero x is = subst P (same_Some new x is) fits
+all_set P (y ∷ ys) zero new fits all (suc n) x is = all (suc n) x is
+all_set P (y ∷ ys) (suc i) new fits all zero x is = all zero x is
+all_set P (y ∷ ys) (suc i) new fits all (suc n) x is = all_set P ys i new fits (λ n x is. all (suc n) x is) n x is
+
+module _ (P : Agent → Type 0) (world : World) (all : OfEach P world) where
+  set : (number : ℕ) (new : Actor) → P new.agent → (n : ℕ) (x : Actor) → slice_get (slice_set world.agents number new) n ≡ Some x → P x.agent
+  set number new fits = all_set (λ actor. P actor.agent) world.agents number new fits all
+
+  -- an agent becomes another
+  pub each_becomes : (number : ℕ) (change : Agent → Agent) → ((actor : Actor) → actor_at world number ≡ Some actor → P (change actor.agent)) → (found : Option Actor) → actor_at world number ≡ found
+      → OfEach P (becomes world number change found).world
+  each_becomes number change keeps (Some actor) there = set number (record actor { agent = change actor.agent }) (keeps actor there)
+  each_becomes number change keeps None there = all
+
+  each_operated : (st : State) (what : Option Served) → OfEach P (operated world st what).world
+  each_operated st (Some what) = all
+  each_operated st None = all
+
+  each_operates : (server : ℕ) (asked : Request) (found : Option State) → OfEach P (operates world server asked found).world
+  each_operates server asked (Some st) = each_operated st (serve server st (record { stamp = 0; value = asked }))
+  each_operates server asked None = all
+
+  module _ (fixed : Fixed) (forgets : (agent : Agent) (site : ℕ) → P agent → P (forget agent site)) (takes : (agent : Agent) (response : Response) → P agent → P (take fixed agent response).agent) where
+    told : (number : ℕ) (actor : Actor) (stamp : ℕ) (response : Response) → actor_at world number ≡ Some actor
+        → (n : ℕ) (x : Actor) → slice_get (slice_set world.agents number (moved actor stamp (take fixed actor.agent response))) n ≡ Some x → P x.agent
+    told number actor stamp response there = set number (moved actor stamp (take fixed actor.agent response)) (takes actor.agent response (all number actor there))
+
+    each_answered : (number : ℕ) (actor : Actor) (st : State) → actor_at world number ≡ Some actor → (what : Option Served) → OfEach P (answered fixed world number actor st what).world
+    each_answered number actor st there (Some what) = told number actor what.reply.stamp (Replied what.reply.value) there
+    each_answered number actor st there None = told number actor actor.stamp (Lacked lack.Full) there
+
+    each_asks_at : (number : ℕ) (actor : Actor) (asked : ℕ × Request) → actor_at world number ≡ Some actor → (found : Option State) → OfEach P (asks_at fixed world number actor asked found).world
+    each_asks_at number actor asked there (Some st) = each_answered number actor st there (serve asked.0 st (record { stamp = actor.stamp; value = asked.1 }))
+    each_asks_at number actor asked there None = all
+
+    each_asks : (number : ℕ) (actor : Actor) → actor_at world number ≡ Some actor → (asked : Option (ℕ × Request)) → OfEach P (asks fixed world number actor asked).world
+    each_asks number actor there (Some asked) = each_asks_at number actor asked there (server_at world asked.0)
+    each_asks number actor there None = all
+
+    each_steps : (number : ℕ) (found : Option Actor) → actor_at world number ≡ found → OfEach P (steps_once fixed world number found).world
+    each_steps number (Some actor) there = each_asks number actor there (next_of fixed actor.agent)
+    each_steps number None there = all
+
+    each_lacks_for : (number : ℕ) (actor : Actor) (response : Response) → actor_at world number ≡ Some actor → (asked : Option (ℕ × Request)) → OfEach P (lacks_for fixed world number actor response asked).world
+    each_lacks_for number actor response there (Some asked) = told number actor actor.stamp response there
+    each_lacks_for number actor response there None = all
+
+    each_lacks : (number : ℕ) (response : Response) (found : Option Actor) → actor_at world number ≡ found → OfEach P (lacks fixed world number response found).world
+    each_lacks number response (Some actor) there = each_lacks_for number actor response there (next_of fixed actor.agent)
+    each_lacks number response None there = all
+
+    pub after_event : (event : Event) → ((number : ℕ) (job : Job) (actor : Actor) → event ≡ Begin number job → actor_at world number ≡ Some actor → P (begin fixed actor.agent job)) → OfEach P (step fixed world event).world
+    after_event (Begin number job) begins = each_becomes number (λ agent. begin fixed agent job) (λ actor there. begins number job actor refl there) (actor_at world number) refl
+    after_event (Step number) begins = each_steps number (actor_at world number) refl
+    after_event (Crash server) begins = each_operates server request.Crash (server_at world server)
+    after_event (Return server) begins = each_operates server request.Return (server_at world server)
+    after_event (Forget number site) begins = each_becomes number (λ agent. forget agent site) (λ actor there. forgets actor.agent site (all number actor there)) (actor_at world number) refl
+    after_event (Lack number why) begins = each_lacks number (Lacked why) (actor_at world number) refl
