@@ -42,6 +42,7 @@ def doubled_at_the_end() -> tuple[bytes, int]:
 
 
 def main() -> None:
+    measure.console.words(__doc__).parse_args()
     count = 300
     measure.head("suites acl")
     spent = largest = 0.0

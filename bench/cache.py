@@ -8,16 +8,14 @@ best of five runs).
 
 The program (bench/cache.rattle) is no crate of the repository: it is built in a scratch copy of it, by `rt run`.
 """
-import os
-import sys
 
-sys.path.insert(0, os.path.join(os.path.dirname(os.path.abspath(__file__)), "..", "tests"))
-import scratch
+from measure import console, scratch
 
 KINDS = ("put", "used", "hint", "beside", "forget")
 
 
 def main() -> None:
+    console.words(__doc__).parse_args()
     timed = scratch.runs("cache", "acl_core suite_content suite_prefix vote_core weak_cache", KINDS)
     print(f"{'':10}{'entries':>10}{'us a call':>14}")
     for line in timed:

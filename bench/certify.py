@@ -7,11 +7,9 @@ program that takes them in a script.
 
 The program (bench/certify.rattle) is no crate of the repository: it is built in a scratch copy of it, by `rt run`.
 """
-import os
 import sys
 
-sys.path.insert(0, os.path.join(os.path.dirname(os.path.abspath(__file__)), "..", "tests"))
-import scratch
+from measure import console, scratch
 
 FILES, ROUNDS = 100, 20
 CRATES = "acl_core file_ops rep_core run_certify run_core server_lock suite_content suite_prefix txn_core vote_core"
@@ -28,8 +26,11 @@ def script() -> str:
 
 
 def main() -> None:
-    if len(sys.argv) == 2:
-        with open(sys.argv[1], "w", encoding="utf-8") as file:
+    read = console.words(__doc__)
+    read.add_argument("file", nargs="?", help="where the script is written to, and nothing is measured")
+    given = read.parse_args()
+    if given.file:
+        with open(given.file, "w", encoding="utf-8") as file:
             file.write(script())
         return
     (timed,) = scratch.runs("certify", CRATES, ("certified",))

@@ -7,17 +7,15 @@ best of five runs).
 
 The program (bench/copies.rattle) is no crate of the repository: it is built in a scratch copy of it, by `rt run`.
 """
-import os
-import sys
 
-sys.path.insert(0, os.path.join(os.path.dirname(os.path.abspath(__file__)), "..", "tests"))
-import scratch
+from measure import console, scratch
 
 KINDS = ("encode", "decode", "plain")
 TIMES = 2000
 
 
 def main() -> None:
+    console.words(__doc__).parse_args()
     timed = scratch.runs("copies", "acl_core suite_content suite_prefix vote_core", KINDS)
     print(f"{'':8}{'copy':8}{'bytes':>8}{'us':>9}{'MB/s':>9}")
     for line in timed:

@@ -1,18 +1,20 @@
 #!/usr/bin/env python3
 """bench/left.py [PROGRAM [OTHER]]
 
-Inputs of `play` that are made to be slow, each in three sizes of which one is double the one before: much that was left behind.
+Inputs of `play` that are made to be slow, each in three sizes of which one is double the one before: much that was left
+behind.
 
     left       an agent prepares and decides a `list /` at a server that then crashes, so that its lock stays; N times
     swept      the same, and at the end one sweep of them all
-    relisted   an agent leaves N locks over nine files and folders; one of lower number then ends N/16 transactions of 65 locks
+    relisted   an agent leaves N locks over nine files and folders; one of lower number then ends N/16 transactions of
+               65 locks
     in-flight  64 agents, each with 65 locks; the oldest ends and begins anew, N times; nothing crashes
     verdicts   N verdicts are put in front of N others
     crashes    N times a crash with one lock that is not prepared, behind N prepared ones
     among      N times a lock is set in front of N that were left
 
-Prints the processor seconds (the least of three runs) and the growth, and the same of OTHER, a program of the same service, where
-that is named, and the ratio to it. Where time is linear the growth is 2.
+Prints the processor seconds (the least of three runs) and the growth, and the same of OTHER, a program of the same
+service, where that is named, and the ratio to it. Where time is linear the growth is 2.
 """
 import sys
 
@@ -30,56 +32,73 @@ READ_TOPS = " ; ".join(f"getacl {path[:3]}" for path in DEEP)
 HOLDS_ALL, DECIDED = 80, 12
 
 
-def job(agent, words):
+def job(agent: int, words: str) -> str:
     return f"begin {agent} 1 1 0 {words}\nrun {agent}\n"
 
 
-def folders():
+def folders() -> str:
     return "".join(job(0, f"folder {path[:end]} 777") for path in DEEP for end in range(3, len(DEEP[0]) + 1, 3))
 
 
-def left(count):
+def left(count: int) -> str:
     return HEAD.format(1) + LEFT.format(0) * count
 
 
-def swept(count):
+def swept(count: int) -> str:
     return left(count) + "sweep 0 0\nrun 0\n"
 
 
-def relisted(count):
+def relisted(count: int) -> str:
     rounds = count // 16
     leaves = f"begin 1 1 1 0 {READ_TOPS}\nstep 1 {DECIDED}\ncrash 0\nrun 1\nreturn 0\n"
     # agent 1 numbers its transactions above those of agent 0 that follow
-    return HEAD.format(2) + folders() + job(1, "read x") * (rounds + 99) + leaves * (count // 9) + job(0, READ_ALL) * rounds
+    return (
+        HEAD.format(2)
+        + folders()
+        + job(1, "read x") * (rounds + 99)
+        + leaves * (count // 9)
+        + job(0, READ_ALL) * rounds
+    )
 
 
-def in_flight(count):
+def in_flight(count: int) -> str:
     begins = [f"begin {agent} 1 1 0 {READ_ALL}\nstep {agent} {HOLDS_ALL}\n" for agent in range(64)]
     later = "".join(job(agent, "read x") * 64 for agent in range(1, 64))
-    return HEAD.format(64) + folders() + later + "".join(begins) + "".join(f"run {turn % 64}\n{begins[turn % 64]}" for turn in range(count))
+    return (
+        HEAD.format(64)
+        + folders()
+        + later
+        + "".join(begins)
+        + "".join(f"run {turn % 64}\n{begins[turn % 64]}" for turn in range(count))
+    )
 
 
-def verdicts(count):
+def verdicts(count: int) -> str:
     recorded = LIST.format(1) + "step 1 3\ncrash 0\nrun 1\nreturn 0\n"
     return HEAD.format(2) + recorded * count + job(1, "read x") * count + "sweep 0 0\nrun 0\n"
 
 
-def crashes(count):
+def crashes(count: int) -> str:
     return HEAD.format(2) + LEFT.format(1) * count + (LIST.format(1) + "step 1 1\ncrash 0\nrun 1\nreturn 0\n") * count
 
 
-def among(count):
+def among(count: int) -> str:
     return HEAD.format(2) + LEFT.format(1) * count + (LIST.format(0) + "run 0\n") * count
 
 
 MANY = (16_000, 32_000, 64_000)
 INPUTS = (
-    ("left", left, MANY), ("swept", swept, MANY), ("relisted", relisted, (4_000, 8_000, 16_000)), ("in-flight", in_flight, (500, 1_000, 2_000)),
-    ("verdicts", verdicts, MANY), ("crashes", crashes, MANY), ("among", among, MANY),
+    ("left", left, MANY),
+    ("swept", swept, MANY),
+    ("relisted", relisted, (4_000, 8_000, 16_000)),
+    ("in-flight", in_flight, (500, 1_000, 2_000)),
+    ("verdicts", verdicts, MANY),
+    ("crashes", crashes, MANY),
+    ("among", among, MANY),
 )
 
 
-def timed(program, data):
+def timed(program: str, data: bytes) -> tuple[float, bytes]:
     """The least seconds of a program, and what it printed."""
     status, output, seconds = measure.work([program, "play"], data, 3)
     if status != 0:
@@ -87,8 +106,12 @@ def timed(program, data):
     return seconds, output
 
 
-def main():
-    program, other = [*sys.argv[1:], *[measure.PROGRAM, None][len(sys.argv) - 1:]][:2]
+def main() -> None:
+    read = measure.console.words(__doc__)
+    read.add_argument("program", nargs="?", default=measure.PROGRAM)
+    read.add_argument("other", nargs="?")
+    given = read.parse_args()
+    program, other = given.program, given.other
     measure.head("Much that was left behind")
     for title, made, counts in INPUTS:
         print(f"{title:>20}{'seconds':>10}{'growth':>8}" + (f"{'other':>10}{'ratio':>8}" if other else ""))

@@ -6,14 +6,13 @@ best of five runs).
 
 The program (bench/locks.rattle) is no crate of the repository: it is built in a scratch copy of it, by `rt run`.
 """
-import os
 import sys
 
-sys.path.insert(0, os.path.join(os.path.dirname(os.path.abspath(__file__)), "..", "tests"))
-import scratch
+from measure import console, scratch
 
 
 def main() -> None:
+    console.words(__doc__).parse_args()
     timed = scratch.runs("locks", "acl_core rep_core server_lock suite_prefix vote_core", ("bare", "locked"))
     print(f"{'':10}{'us a request':>14}{'requests a second':>19}")
     for line in timed:

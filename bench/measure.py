@@ -5,8 +5,14 @@ import sys
 import tempfile
 import typing
 
-PROGRAM = os.path.join(os.path.dirname(os.path.abspath(__file__)), "..", "crates", "suites", "out", "suites")
+TOP = os.path.realpath(os.path.join(os.path.dirname(os.path.abspath(__file__)), ".."))
+# What benches take of tests and tools: the one edit of where modules are looked for.
+sys.path += [os.path.join(TOP, "tests"), os.path.join(TOP, "tools")]
+import console  # noqa: E402, F401
+import scratch  # noqa: E402, F401
+import trial  # noqa: E402, F401
 
+PROGRAM = os.path.join(TOP, "crates", "suites", "out", "suites")
 # How much was done of a run, its input, its seconds and its peak.
 Played = tuple[int, bytes, float, float]
 # A child's peak begins with that of the process that starts it, so a process of its own starts it, which is small.
@@ -73,9 +79,10 @@ def head(title: str) -> None:
 
 
 def growth(what: str, counts: list[int], played: typing.Callable[[int], "Played"]) -> None:
-    """A table of runs that grow, of the sizes that the command line names or else these. `played(count)` plays one: how
-    much was done, the input, the seconds and the peak."""
+    """A table of runs that grow, of these sizes. `played(count)` plays one: how much was done, the input, the seconds
+    and the peak.
+    """
     print(f"{what:>10} {'input MiB':>10} {'seconds':>8} {'a second':>10} {'peak MiB':>9}")
-    for count in [int(word) for word in sys.argv[1:]] or counts:
+    for count in counts:
         done, data, seconds, peak = played(count)
         print(f"{done:>10} {len(data) / 2**20:>10.2f} {seconds:>8.3f} {done / seconds:>10.0f} {peak:>9.1f}")

@@ -53,7 +53,9 @@ def by_words(program: str, names: list[str]) -> tuple[list[str], bytes, bytes]:
 
 
 def main() -> None:
-    program = sys.argv[1] if len(sys.argv) > 1 else measure.PROGRAM
+    read = measure.console.words(__doc__)
+    read.add_argument("program", nargs="?", default=measure.PROGRAM)
+    program = read.parse_args().program
     print(f"{'names that':20}{'names':>8}{'MB':>8}{'seconds':>10}{'growth':>8}")
     above = []
     hostile, usual = colliding(max(COUNTS)), plain(max(COUNTS))

@@ -1,6 +1,6 @@
 #!/usr/bin/env python3
 """bench/play.py [STEPS]..
-bench/play.py servers
+bench/play.py --servers
 
 Plays scripts of events with `suites play` that take about so many steps (1,000, 10,000, 100,000 and 1,000,000), and
 prints the seconds (the least of five runs), the steps a second and the peak memory of each: a step is to cost the
@@ -9,7 +9,7 @@ same however much was done before it.
 Two agents on three servers: files are made in the root folder, at most 100 of them; then they are written and read
 in turn, and each tenth transaction sets a list. A fault of a transaction ends the bench.
 
-With the word `servers`: the steps a second of one agent that reads a file, once and eight times a transaction, of 1,
+With --servers: the steps a second of one agent that reads a file, once and eight times a transaction, of 1,
 4 and 16 servers with a vote each.
 """
 import sys
@@ -75,11 +75,15 @@ def played(steps: int) -> measure.Played:
 
 
 def main() -> None:
-    if sys.argv[1:] == ["servers"]:
+    read = measure.console.words(__doc__)
+    read.add_argument("--servers", action="store_true")
+    read.add_argument("steps", nargs="*", type=int)
+    given = read.parse_args()
+    if given.servers:
         by_servers()
         return
     measure.head("suites play, two agents on three servers")
-    measure.growth("steps", [1_000, 10_000, 100_000, 1_000_000], played)
+    measure.growth("steps", given.steps or [1_000, 10_000, 100_000, 1_000_000], played)
 
 
 main()

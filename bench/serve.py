@@ -22,8 +22,11 @@ def script(jobs: int, files: int) -> bytes:
 
 
 def main() -> None:
-    jobs = int(sys.argv[1]) if len(sys.argv) > 1 else 20_000
-    program = sys.argv[2] if len(sys.argv) > 2 else measure.PROGRAM
+    read = measure.console.words(__doc__)
+    read.add_argument("jobs", nargs="?", type=int, default=20_000)
+    read.add_argument("program", nargs="?", default=measure.PROGRAM)
+    given = read.parse_args()
+    jobs, program = given.jobs, given.program
     for name, files in (("files of their own", FILES), ("one file", 1)):
         for agents in (1, 2, 4):
             words = [program, "serve", "--agents", str(agents)]

@@ -9,16 +9,15 @@ runs).
 
 The program (bench/server.rattle) is no crate of the repository: it is built in a scratch copy of it, by `rt run`.
 """
-import os
 import sys
 
-sys.path.insert(0, os.path.join(os.path.dirname(os.path.abspath(__file__)), "..", "tests"))
-import scratch
+from measure import console, scratch
 
 KINDS = ("copies", "locks", "told", "recorded", "refused", "taken")
 
 
 def main() -> None:
+    console.words(__doc__).parse_args()
     timed = scratch.runs("server", "acl_core file_ops rep_core suite_content suite_prefix vote_core", KINDS)
     print(f"{'':10}{'there':>10}{'us a request':>14}{'requests a second':>19}")
     for line in timed:

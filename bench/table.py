@@ -53,8 +53,11 @@ def played(count: int) -> measure.Played:
 
 
 def main() -> None:
+    read = measure.console.words(__doc__)
+    read.add_argument("operations", nargs="*", type=int)
+    given = read.parse_args()
     measure.head("suites table, one operation a line")
-    measure.growth("operations", [1_000, 10_000, 100_000, 340_000], played)
+    measure.growth("operations", given.operations or [1_000, 10_000, 100_000, 340_000], played)
 
 
 main()

@@ -66,7 +66,9 @@ def microseconds(count: int, kind: typing.Callable[[str, str, int], tuple[str, s
 
 
 def main() -> None:
-    transactions = int(sys.argv[1]) if len(sys.argv) > 1 else 20_000
+    read = measure.console.words(__doc__)
+    read.add_argument("transactions", nargs="?", type=int, default=20_000)
+    transactions = read.parse_args().transactions
     measure.head(f"suites table, {transactions} transactions of eight operations")
     print(f"{'':>10} {'100 rows':>10} {'100000 rows':>12} {'ratio':>6}")
     for name, kind in (("answered", answered), ("refused", refused)):

@@ -7,7 +7,7 @@ proved program does, so far as that can be told.
 
 `rt try` makes the module, with checks at run time. `tools/trial.py` takes it while that runs; the checks are struck
 out, since the proved program has none, and so is the filling of fresh slots with a pattern, which only `rt try` asks
-for; the hints on inlining, which `rt try` drops, are put in again (`hints.py`); then it is compiled.
+for; the hints on inlining, which `rt try` drops, are put in again (`inlining.py`); then it is compiled.
 
 Count instructions with `valgrind --tool=callgrind OUT play < SCRIPT`: the count is the same whatever else the machine
 does.
@@ -15,15 +15,10 @@ does.
 import os
 import re
 import subprocess
-import sys
 import tempfile
 
-import hints
-
-TOP = os.path.join(os.path.dirname(os.path.abspath(__file__)), "..")
-sys.path.insert(0, os.path.join(TOP, "tools"))
-import console
-import trial
+import inlining
+from measure import TOP, console, trial
 
 # A check ends in a trap, after which nothing is reached: without the trap the compiler takes the check as passed.
 TRAP = re.compile(r"^  call void @llvm\.trap\(\)\n", re.MULTILINE)
@@ -32,8 +27,9 @@ PATTERN = re.compile(r"^  call void @llvm\.memset\.p0\.i64\(ptr %r[0-9]+, i8 -86
 
 def main() -> None:
     """Builds the program to the file that the command line names."""
-    if len(sys.argv) != 2:
-        sys.exit(__doc__)
+    read = console.words(__doc__)
+    read.add_argument("out")
+    out = read.parse_args().out
     clang = trial.clang()
     with tempfile.TemporaryDirectory() as folder:
         text, made = os.path.join(folder, "module.ll"), os.path.join(folder, "module.o")
@@ -45,9 +41,9 @@ def main() -> None:
             struck = PATTERN.sub("", TRAP.sub("", given.read()))
         roots = [os.path.join(trial.kit(), "rattle"), os.path.join(TOP, "crates")]
         with open(text, "w", encoding="utf-8") as target:
-            target.write(hints.hinted(struck, roots))
+            target.write(inlining.hinted(struck, roots))
         subprocess.run([clang, "-O2", "-c", text, "-o", made], check=True)
-        subprocess.run(["gcc", "-static", "-o", sys.argv[1], made, *trial.libraries()], check=True)
+        subprocess.run(["gcc", "-static", "-o", out, made, *trial.libraries()], check=True)
 
 
 if __name__ == "__main__":

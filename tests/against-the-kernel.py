@@ -22,7 +22,6 @@ All else has to agree. Status 1 where it does not.
 It needs root, Debian's package acl, and a file system with lists, here /dev/shm (tmpfs). It is no part of the gate.
 """
 import argparse
-import collections
 import ctypes
 import os
 import random

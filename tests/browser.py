@@ -9,6 +9,7 @@ import subprocess
 import tempfile
 import time
 from collections.abc import Iterator
+from typing import Any
 
 NAMES = ("chromium", "chromium-browser", "google-chrome")
 # How long an answer of the browser may take, and how much of it is read at once.
@@ -24,19 +25,20 @@ def program() -> str | None:
 class Browser:
     """A browser with one page."""
 
-    def __init__(self, path: str, width: int = 1280, height: int = 720):
+    def __init__(self, path: str, width: int = 1280, height: int = 720) -> None:
         self.profile = tempfile.TemporaryDirectory()
         theirs, self.out = os.pipe()
         self.into, own = os.pipe()
-        words = [path, "--headless=new", "--no-sandbox", "--disable-gpu", "--remote-debugging-pipe", "--hide-scrollbars",
-                 f"--user-data-dir={self.profile.name}", f"--window-size={width},{height}", "--disable-dev-shm-usage",
-                 "--no-first-run", "--disable-background-networking", "about:blank"]
+        words = [path, "--headless=new", "--no-sandbox", "--disable-gpu", "--remote-debugging-pipe",
+                 "--hide-scrollbars", f"--user-data-dir={self.profile.name}", f"--window-size={width},{height}",
+                 "--disable-dev-shm-usage", "--no-first-run", "--disable-background-networking", "about:blank"]
         # the browser reads descriptor 3, and writes descriptor 4
         shell = ["sh", "-c", f'exec "$@" 3<&{theirs} 4>&{own}', "sh", *words]
-        self.process = subprocess.Popen(shell, pass_fds=(theirs, own), stdout=subprocess.DEVNULL, stderr=subprocess.DEVNULL)
+        silent = subprocess.DEVNULL
+        self.process = subprocess.Popen(shell, pass_fds=(theirs, own), stdout=silent, stderr=silent)
         os.close(theirs)
         os.close(own)
-        self.number, self.held, self.faults = 0, b"", []
+        self.number, self.held, self.faults = 0, b"", list[str]()
         target = self.ask("Target.createTarget", {"url": "about:blank"})["targetId"]
         self.session = None
         self.session = self.ask("Target.attachToTarget", {"targetId": target, "flatten": True})["sessionId"]
@@ -110,7 +112,7 @@ class Browser:
         while self.value("document.readyState") != "complete":
             time.sleep(0.02)
 
-    def value(self, text: str) -> object:
+    def value(self, text: str) -> Any:
         """What an expression comes to on the page."""
         done = self.ask("Runtime.evaluate", {"expression": text, "returnByValue": True, "awaitPromise": True})
         if "exceptionDetails" in done:
@@ -124,17 +126,21 @@ class Browser:
         return 1000 * told["TaskDuration"]
 
     def press(self, key: str, times: int = 1) -> None:
-        how = {"key": key, "code": "Space" if key == " " else key, "windowsVirtualKeyCode": KEYS[key], **({"text": " "} if key == " " else {})}
+        how = {"key": key, "code": "Space" if key == " " else key, "windowsVirtualKeyCode": KEYS[key]}
+        how |= {"text": " "} if key == " " else {}
         for place in range(times):
             self.tell("Input.dispatchKeyEvent", {"type": "keyDown", **how})
-            (self.ask if place % 16 == 15 or place == times - 1 else self.tell)("Input.dispatchKeyEvent", {"type": "keyUp", **how})
+            told = self.ask if place % 16 == 15 or place == times - 1 else self.tell
+            told("Input.dispatchKeyEvent", {"type": "keyUp", **how})
 
     def click(self, selector: str) -> None:
         """Clicks the middle of an element."""
-        box = self.value(f"(() => {{ const e = document.querySelector({json.dumps(selector)}); e.scrollIntoView({{block: 'nearest'}});"
-                         " const b = e.getBoundingClientRect(); return [b.left + b.width / 2, b.top + b.height / 2]; })()")
+        box = self.value(f"(() => {{ const e = document.querySelector({json.dumps(selector)});"
+                         " e.scrollIntoView({block: 'nearest'}); const b = e.getBoundingClientRect();"
+                         " return [b.left + b.width / 2, b.top + b.height / 2]; })()")
         for kind in ("mousePressed", "mouseReleased"):
-            self.ask("Input.dispatchMouseEvent", {"type": kind, "x": box[0], "y": box[1], "button": "left", "clickCount": 1})
+            how = {"type": kind, "x": box[0], "y": box[1], "button": "left", "clickCount": 1}
+            self.ask("Input.dispatchMouseEvent", how)
 
     def point(self, selector: str) -> None:
         """Points at the middle of an element."""
@@ -143,7 +149,8 @@ class Browser:
         self.ask("Input.dispatchMouseEvent", {"type": "mouseMoved", "x": box[0], "y": box[1]})
 
     def size(self, width: int, height: int) -> None:
-        self.ask("Emulation.setDeviceMetricsOverride", {"width": width, "height": height, "deviceScaleFactor": 1, "mobile": False})
+        how = {"width": width, "height": height, "deviceScaleFactor": 1, "mobile": False}
+        self.ask("Emulation.setDeviceMetricsOverride", how)
 
     def scheme(self, name: str) -> None:
         """The system's wish: dark or light."""

@@ -12,6 +12,8 @@ import typing
 
 import played
 
+import console
+
 
 def differs(program: str, row: played.Row, source: dict[str, typing.Any]) -> subprocess.CompletedProcess[bytes] | None:
     """What the program does otherwise than the row says, with this as its standard input."""
@@ -21,7 +23,9 @@ def differs(program: str, row: played.Row, source: dict[str, typing.Any]) -> sub
 
 
 def main() -> int:
-    program = played.program(sys.argv[1:])
+    read = console.words(__doc__)
+    read.add_argument("program", nargs="?")
+    program = played.program(read.parse_args().program)
     count = wrong = 0
     for row in played.rows():
         found = differs(program, row, {"input": row["input"]})

@@ -1,8 +1,8 @@
 #!/usr/bin/env python3
 """tests/compiled.py
 
-Compiles, and proves nothing of, every program of tests/programs and of bench/ (`*.rattle`), so that none is left behind where
-the crates change. All of them become one program, each a module of it, in a copy of the crates that they name
+Compiles, and proves nothing of, every program of tests/programs and of bench/ (`*.rattle`), so that none is left behind
+where the crates change. All of them become one program, each a module of it, in a copy of the crates that they name
 (tests/scratch.py), and `rt try` compiles that. Prints what does not compile; status 1 where something does not.
 """
 import glob
@@ -16,35 +16,41 @@ import played
 import scratch
 
 # Programs of tests/programs: with each, the modules of which it is made, here and in crates/.
-MADE_OF = {"liar": ("lies", "story", "telling", "trace/src/asked", "trace/src/told", "trace/src/words"), "damaged_copies": ()}
-# The program of which the others become modules, and what a measurement takes in place of the runtime that only a `main` has.
+MADE_OF = {
+    "liar": ("lies", "story", "telling", "trace/src/asked", "trace/src/told", "trace/src/words"),
+    "damaged_copies": (),
+}
+# The program of which the others become modules, and what a measurement takes in place of the runtime that only a
+# `main` has.
 ROOT, RUNTIME = "liar", "&(impl AllocGlobal + Print + std::rt::Clock + std::sync::Wait)"
 
 
-def source(path):
+def source(path: str) -> str:
     with open(os.path.join(played.TOP, path), encoding="utf-8") as file:
         return file.read()
 
 
-def as_module(text):
+def as_module(text: str) -> str:
     """A program's text as that of a module."""
     text = re.sub(r"^#!\[.*\]\n", "", text, flags=re.M)
     return text.replace("fn main(rt: HostRuntime)", f"fn main(rt: {RUNTIME})").replace("(&rt, ", "(rt, ")
 
 
-def as_root(text, names):
+def as_root(text: str, names: list[str]) -> str:
     """A program's text with these modules more."""
     return re.sub(r"^mod ", "".join(f"mod {name};\n" for name in names) + "mod ", text, count=1, flags=re.M)
 
 
-def modules():
+def modules() -> tuple[dict[str, str], int]:
     """All modules with their texts, and how many programs there are."""
     texts, count = {}, 0
     for program, parts in MADE_OF.items():
         text = source(f"tests/programs/{program}.rt.txt")
         texts[program] = text if program == ROOT else re.sub(r"^#!\[.*\]\n", "", text, flags=re.M)
         for part in parts:
-            texts[os.path.basename(part)] = source(f"crates/{part}.rt" if "/" in part else f"tests/programs/{part}.rt.txt")
+            texts[os.path.basename(part)] = source(
+                f"crates/{part}.rt" if "/" in part else f"tests/programs/{part}.rt.txt"
+            )
         count += 1
     for path in sorted(glob.glob(os.path.join(played.TOP, "bench", "*.rattle"))):
         texts[f"bench_{os.path.basename(path).split('.')[0]}"] = as_module(source(path))
@@ -52,21 +58,23 @@ def modules():
     return texts, count
 
 
-def named(texts):
+def named(texts: dict[str, str]) -> list[str]:
     """The crates that the texts name, those of the kit too."""
     needs = scratch.needs_of_crates()
     known = {*needs, *(name for names in needs.values() for name in names)}
     return sorted({name for text in texts.values() for name in re.findall(r"^use (\w+)::", text, re.M)} & known)
 
 
-def unused():
+def unused() -> list[str]:
     """The files of tests/programs that belong to no program."""
     kept = {name for program, parts in MADE_OF.items() for name in (program, *parts)}
-    there = {os.path.basename(path).split(".")[0] for path in glob.glob(os.path.join(played.TOP, "tests", "programs", "*"))}
+    there = {
+        os.path.basename(path).split(".")[0] for path in glob.glob(os.path.join(played.TOP, "tests", "programs", "*"))
+    }
     return sorted(there - kept)
 
 
-def main():
+def main() -> int:
     texts, count = modules()
     wrong = [f"tests/programs/{name}.rt.txt belongs to no program of tests/compiled.py" for name in unused()]
     with tempfile.TemporaryDirectory(prefix="suites-") as copy:

@@ -11,7 +11,10 @@ import sys
 import time
 import typing
 
+import played  # noqa: F401
 import scratch
+
+import console
 
 ABSENT, FILE, FOLDER = 0, 1, 2
 USER_OBJ, USER, GROUP_OBJ, GROUP, MASK, OTHER = range(1, 7)
@@ -85,8 +88,11 @@ def copies() -> list[bytes]:
 
 
 def main() -> int:
-    cases = int(sys.argv[1]) if len(sys.argv) > 1 else 1_000_000
-    seed = int(sys.argv[2]) if len(sys.argv) > 2 else 1
+    read = console.words(__doc__)
+    read.add_argument("cases", nargs="?", type=int, default=1_000_000)
+    read.add_argument("seed", nargs="?", type=int, default=1)
+    words = read.parse_args()
+    cases, seed = words.cases, words.seed
     all_copies = copies()
     program = scratch.built("damaged_copies", ["byte_streams", "suite_prefix"])
     given = "\n".join([f"{seed} {cases}", *(one.hex() for one in all_copies)]) + "\n"

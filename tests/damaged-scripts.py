@@ -320,7 +320,7 @@ def main() -> int:
     read.add_argument("--from", type=int, default=0, dest="first")
     read.add_argument("--kind")
     read.add_argument("--tell", action="store_true", help="tells each case that is not named")
-    read.add_argument("program", nargs="*")
+    read.add_argument("program", nargs="?")
     given = read.parse_args()
     program = played.program(given.program)
     counts: collections.Counter[tuple[str, str]] = collections.Counter()

@@ -15,6 +15,10 @@ import sys
 import tempfile
 import typing
 
+import played
+
+import console
+
 TOP = os.path.join(os.path.dirname(os.path.abspath(__file__)), "..")
 ACCESS = "u::rwx,g::r-x,o::--x"
 # Without a mask, with named users and groups under wide and narrow masks, and with a mask alone.
@@ -126,11 +130,14 @@ def told(found: typing.Any) -> str:
 
 
 def main() -> None:
-    names = [word for word in sys.argv[1:] if word != "--rows"]
-    if "--rows" in sys.argv[1:]:
+    read = console.words(__doc__)
+    read.add_argument("--rows", action="store_true")
+    read.add_argument("program", nargs="?")
+    given = read.parse_args()
+    if given.rows:
         print("".join(told(found) for found in measured()), end="")
         return
-    program = names[0] if names else os.path.join(TOP, "crates", "suites", "out", "suites")
+    program = given.program or os.path.join(TOP, "crates", "suites", "out", "suites")
     with open(os.path.join(TOP, "crates", "rows", "stdin"), encoding="utf-8") as file:
         kept = file.read()
     rows = [found for found in measured() if not isinstance(found, str)]

@@ -5,14 +5,15 @@ Draws runs with tools/draw.py, reads the pictures as XML, and looks whether all 
 is `suites` (the checked build, if none is named): how many requests there are is what `play` tells. Status 1 where
 something differs.
 
-whole    nothing is off the canvas, no text is on another one, each label is on its arrow, and what is cut is there whole
+whole    nothing is off the canvas, no text is on another one, each label is on its arrow, and what is cut is there
+         whole
 names    agents and servers are named at the top and again within each screen; those that do nothing are left out
 begun    the number of a job stands where it begins, and no names stand between that and its first arrow
 folded   with --fold each request stands in one arrow or dot
 chosen   --agent, --suite, --from and --to draw what they say, and --all all; what was so before is drawn as such
 many     above 2,000 requests nothing is drawn without --anyway, and it is said how many there are and how to choose
-told     a trace that is written piece by piece is the one that is written as a whole, and tells each line of the script; of
-         a suite it tells what a slow reading of the whole finds
+told     a trace that is written piece by piece is the one that is written as a whole, and tells each line of the
+         script; of a suite it tells what a slow reading of the whole finds
 slow     a terminal is told how far it is, and nothing else is
 """
 import io
@@ -21,19 +22,20 @@ import pty
 import re
 import subprocess
 import sys
+import typing
 import xml.etree.ElementTree as etree
 
 import played
 
-sys.path.insert(0, os.path.join(played.TOP, "tools"))
+import console
 import draw
 import scenario
 import trace
 
 DRAW = os.path.join(played.TOP, "tools", "draw.py")
 STORIES = os.path.join(played.TOP, "examples", "play")
-# An em of these fonts has 2,048 units, and each letter 1,233 (DejaVu Sans Mono; the others have less). A letter reaches so
-# far above and below its line.
+# An em of these fonts has 2,048 units, and each letter 1,233 (DejaVu Sans Mono; the others have less). A letter reaches
+# so far above and below its line.
 SIZE, LETTER, ABOVE, BELOW = 11, 1233 / 2048, 9, 2
 # What a browser shows of a page on a small screen.
 SCREEN = 700
@@ -42,25 +44,64 @@ HEADER = ["root 1000 100 777", "cache 4096 4096 16"]
 LONG = "/a-name-of-more-letters-than-there-is-room-for-between-two-lines"
 
 
-def script_of(servers, agents, votes, *lines):
+def script_of(servers: int, agents: int, votes: str, *lines: str) -> str:
     return "\n".join([f"servers {servers}", f"agents {agents}", f"votes {votes}", *HEADER, *lines]) + "\n"
 
 
-def begun(agent, asked, uid=1000):
+def begun(agent: int, asked: str, uid: int = 1000) -> str:
     return f"begin {agent} {uid} 100 0 {asked}\nrun {agent}"
 
 
 SCRIPTS = {
-    "two": script_of(2, 2, "1,1/1/2", begun(0, "folder /d 777 ; file /d/f 644 ; write /d/f 6869"), "forget 1 0", begun(1, "read /d/f", 2000),
-                     "crash 1", begun(0, "write /d/f " + "00" * 200), "return 1", begun(1, "write /d/f 00", 2000), "sweep 1 0", "run 1"),
-    "five": script_of(5, 4, "1,1,1,1,1/3/3", begun(0, "file /a 666 ; write /a 6869"), f"crash 4\n{begun(2, f'file {LONG} 666 ; write {LONG} 00')}",
-                      "begin 0 1000 100 0 write /a 00\nstep 0 5", f"begin 1 1000 100 0 read /a\nbegin 1 1000 100 0 read {LONG}\nrun 1",
-                      "sweep 2 1\nrun 2", "return 4", begun(2, "drop " + LONG), begun(2, " ; ".join(["read /a"] * 9)), begun(2, "read /a")),
-    "twenty": script_of(20, 6, ",".join(["1"] * 9 + ["-"] * 10 + ["1"]) + "/6/6", begun(0, "file /a 666 ; write /a 00"), begun(5, f"file {LONG} 600"), "crash 12",
-                        begun(3, "read /a")),
-    "late": script_of(3, 2, "1,1,1/2/2", "begin 0 1000 100 0 file /late 666\nstep 0 5", "run 0", begun(1, "write /late 00"), "audit 0"),
-    "swept": script_of(1, 3, "1/1/1", begun(0, "file /a 666 ; file /b 666"), "begin 0 1000 100 0 read /a\nstep 0 4", "begin 1 1000 100 0 read /b\nstep 1 4",
-                       "sweep 2 0" + "\nstep 2" * 12),
+    "two": script_of(
+        2,
+        2,
+        "1,1/1/2",
+        begun(0, "folder /d 777 ; file /d/f 644 ; write /d/f 6869"),
+        "forget 1 0",
+        begun(1, "read /d/f", 2000),
+        "crash 1",
+        begun(0, "write /d/f " + "00" * 200),
+        "return 1",
+        begun(1, "write /d/f 00", 2000),
+        "sweep 1 0",
+        "run 1",
+    ),
+    "five": script_of(
+        5,
+        4,
+        "1,1,1,1,1/3/3",
+        begun(0, "file /a 666 ; write /a 6869"),
+        f"crash 4\n{begun(2, f'file {LONG} 666 ; write {LONG} 00')}",
+        "begin 0 1000 100 0 write /a 00\nstep 0 5",
+        f"begin 1 1000 100 0 read /a\nbegin 1 1000 100 0 read {LONG}\nrun 1",
+        "sweep 2 1\nrun 2",
+        "return 4",
+        begun(2, "drop " + LONG),
+        begun(2, " ; ".join(["read /a"] * 9)),
+        begun(2, "read /a"),
+    ),
+    "twenty": script_of(
+        20,
+        6,
+        ",".join(["1"] * 9 + ["-"] * 10 + ["1"]) + "/6/6",
+        begun(0, "file /a 666 ; write /a 00"),
+        begun(5, f"file {LONG} 600"),
+        "crash 12",
+        begun(3, "read /a"),
+    ),
+    "late": script_of(
+        3, 2, "1,1,1/2/2", "begin 0 1000 100 0 file /late 666\nstep 0 5", "run 0", begun(1, "write /late 00"), "audit 0"
+    ),
+    "swept": script_of(
+        1,
+        3,
+        "1/1/1",
+        begun(0, "file /a 666 ; file /b 666"),
+        "begin 0 1000 100 0 read /a\nstep 0 4",
+        "begin 1 1000 100 0 read /b\nstep 1 4",
+        "sweep 2 0" + "\nstep 2" * 12,
+    ),
     "alone": script_of(3, 3, "1/1/1", "forget 2 0"),
     "still": script_of(3, 3, "1/1/1"),
 }
@@ -69,7 +110,7 @@ SCRIPTS = {
 class Picture:
     """A picture: its size, its names, its texts with how far they reach, its arrows, and where servers are grey."""
 
-    def __init__(self, text):
+    def __init__(self, text: str) -> None:
         root = etree.fromstring(text)
         self.width, self.height = int(root.get("width")), int(root.get("height"))
         self.texts = [Text(one) for one in root.iter(f"{SVG}text")]
@@ -79,23 +120,31 @@ class Picture:
         self.paths = [path for path in paths if re.fullmatch(r"M\d+ \d+[HV]\d+", path)]
         ways = [path.get("d") for path in root.iter(f"{SVG}path") if path.get("class") in ("ask", "told")]
         self.arrows = [tuple(map(int, re.findall(r"\d+", way))) for way in ways]
-        self.boxes = [tuple(int(box.get(key)) for key in ("x", "y", "width", "height")) for box in root.iter(f"{SVG}rect") if box.get("class")]
+        self.boxes = [
+            tuple(int(box.get(key)) for key in ("x", "y", "width", "height"))
+            for box in root.iter(f"{SVG}rect")
+            if box.get("class")
+        ]
         self.dots = [dot for dot in root.iter(f"{SVG}circle") if dot.get("r") == "4"]
-        self.greys = [tuple(int(box.get(key)) for key in ("x", "y", "width", "height")) for box in root.iter(f"{SVG}rect") if box.get("class") == "down"]
+        self.greys = [
+            tuple(int(box.get(key)) for key in ("x", "y", "width", "height"))
+            for box in root.iter(f"{SVG}rect")
+            if box.get("class") == "down"
+        ]
 
-    def requests(self):
+    def requests(self) -> list[tuple[str, str, str]]:
         """Each request with its agent, its server and what is asked, whole."""
         labels = [text for text in self.texts if text.style is None]
         return [(self.places[a], self.places[b], label.whole) for (a, _, b), label in zip(self.arrows[::2], labels)]
 
-    def said(self):
+    def said(self) -> list[tuple[str | None, str]]:
         return [(self.places.get(text.x - 7), text.whole) for text in self.texts if text.style == "event"]
 
 
 class Text:
     """A text of a picture: what is shown, what is there whole, and the box that it fills."""
 
-    def __init__(self, found):
+    def __init__(self, found: etree.Element) -> None:
         self.x, self.y, self.style = int(found.get("x")), int(found.get("y")), found.get("class")
         self.shown, title = found.text, found.find(f"{SVG}title")
         self.is_cut, self.whole = title is not None, found.text if title is None else title.text
@@ -107,34 +156,34 @@ class Text:
 class Judge:
     """Keeps what differs."""
 
-    def __init__(self):
-        self.wrong, self.count = [], 0
+    def __init__(self) -> None:
+        self.wrong, self.count = list[str](), 0
 
-    def holds(self, is_so, *about):
+    def holds(self, is_so: object, *about: object) -> None:
         self.count += 1
         if not is_so:
             self.wrong.append(": ".join(map(str, about)))
 
 
-def run(script, *words):
+def run(script: str, *words: str) -> tuple[int, str, str]:
     done = subprocess.run([sys.executable, DRAW, *words], input=script.encode(), capture_output=True)
     return done.returncode, done.stdout.decode(), done.stderr.decode()
 
 
-def drawn(script, *words):
+def drawn(script: str, *words: str) -> Picture:
     status, text, said = run(script, *words)
     if status != 0:
         sys.exit(f"{words} ends with {status}: {said}")
     return Picture(text)
 
 
-def jobs(program, script):
+def jobs(program: str, script: str) -> list[int]:
     """How many requests each job took, as `play` tells."""
     done = subprocess.run([program, "play"], input=script.encode(), stdout=subprocess.PIPE, check=True)
     return [int(found[1]) for found in re.finditer(r"^\d+\.\d+ (\d+) ", done.stdout.decode(), re.M)]
 
 
-def scripts():
+def scripts() -> typing.Iterator[tuple[str, str]]:
     """The scripts above, the stories, and random ones."""
     yield from SCRIPTS.items()
     for name in sorted(os.listdir(STORIES)):
@@ -144,23 +193,40 @@ def scripts():
         yield f"seed {seed}", scenario.Scenario(seed, 160).script()
 
 
-def whole(judge, name, picture):
+def whole(judge: Judge, name: str, picture: Picture) -> None:
     for text in picture.texts:
         is_on = 0 <= text.left and text.right <= picture.width and 0 <= text.top and text.bottom <= picture.height
         judge.holds(is_on, name, "off the canvas", text.shown)
         judge.holds(text.is_cut == text.shown.endswith("…"), name, "cut, and not there whole", text.shown)
-        judge.holds(not text.is_cut or text.whole.startswith(text.shown[:-1]) and len(text.whole) > len(text.shown), name, "cut", text.shown)
+        judge.holds(
+            not text.is_cut or text.whole.startswith(text.shown[:-1]) and len(text.whole) > len(text.shown),
+            name,
+            "cut",
+            text.shown,
+        )
     for path in picture.paths:
         x, y, end = map(int, re.findall(r"\d+", path))
-        judge.holds(x <= picture.width and y <= picture.height and end <= (picture.width if "H" in path else picture.height), name, path)
+        judge.holds(
+            x <= picture.width and y <= picture.height and end <= (picture.width if "H" in path else picture.height),
+            name,
+            path,
+        )
     for x, y, wide, high in picture.boxes:
-        judge.holds(0 <= x and x + wide <= picture.width and 0 <= y and y + high <= picture.height, name, "a box is off the canvas", x, y)
+        judge.holds(
+            0 <= x and x + wide <= picture.width and 0 <= y and y + high <= picture.height,
+            name,
+            "a box is off the canvas",
+            x,
+            y,
+        )
     texts = sorted(picture.texts, key=lambda text: text.top)
     for place, one in enumerate(texts):
         for other in texts[place + 1 :]:
             if other.top >= one.bottom:
                 break
-            judge.holds(other.left >= one.right or one.left >= other.right, name, "on one another", one.shown, other.shown)
+            judge.holds(
+                other.left >= one.right or one.left >= other.right, name, "on one another", one.shown, other.shown
+            )
     for style, arrows in ((None, picture.arrows[::2]), ("reply", picture.arrows[1::2])):
         labels = [text for text in picture.texts if text.style == style]
         judge.holds(len(labels) == len(arrows), name, "labels and arrows", style, len(labels), len(arrows))
@@ -169,8 +235,9 @@ def whole(judge, name, picture):
             judge.holds(is_on, name, "not on its arrow", label.shown)
 
 
-def named(judge, name, script, picture, lines):
-    """Who is named: whoever asks, is asked, or stands in a line of the script but of those of a job that is not begun."""
+def named(judge: Judge, name: str, script: str, picture: Picture, lines: list[str]) -> None:
+    """Who is named: whoever asks, is asked, or stands in a line of the script but of those of a job that is not begun.
+    """
     rows = sorted({text.y for text in picture.names})
     shown = [[text.shown for text in picture.names if text.y == y] for y in rows]
     judge.holds(all(row == shown[0] for row in shown), name, "other names further below")
@@ -186,37 +253,58 @@ def named(judge, name, script, picture, lines):
     judge.holds(set(shown[0] if shown else ()) == acting, name, "named are", shown[:1], "and not", sorted(acting))
 
 
-def begun_there(judge, name, picture, lines):
+def begun_there(judge: Judge, name: str, picture: Picture, lines: list[str]) -> None:
     """Jobs have the numbers with which they end, and are on one screen with their first arrow."""
     ended = [re.match(r"(\d+)\.(\d+) ", line) for line in lines]
     jobs = {(int(found[1]), int(found[2])) for found in ended if found}
-    shown = {(int(where[6:]), int(found[1])): int(found[2]) for where, words in picture.said() for found in [re.match(r"job (\d+) \(t (\d+)\)", words)] if found}
+    shown = {
+        (int(where[6:]), int(found[1])): int(found[2])
+        for where, words in picture.said()
+        for found in [re.match(r"job (\d+) \(t (\d+)\)", words)]
+        if found
+    }
     judge.holds(jobs <= shown.keys(), name, "jobs that are not named", sorted(jobs - shown.keys()))
     judge.holds(all(t == 64 * job + agent for (agent, job), t in shown.items()), name, "t of a job", shown)
     rows = sorted({text.y for text in picture.names})
     arrows = sorted(y for _, y, _ in picture.arrows)
     for text in picture.texts:
-        first = next((y for y in arrows if y > text.y), None) if text.style == "event" and text.whole.startswith("job ") else None
+        first = (
+            next((y for y in arrows if y > text.y), None)
+            if text.style == "event" and text.whole.startswith("job ")
+            else None
+        )
         is_near = first is not None and first - text.y < draw.NEAR * draw.BAND
-        judge.holds(not is_near or not any(text.y < row < first for row in rows), name, "names between a job and its first arrow", text.whole)
+        judge.holds(
+            not is_near or not any(text.y < row < first for row in rows),
+            name,
+            "names between a job and its first arrow",
+            text.whole,
+        )
 
 
-def folded(judge, name, script, lines):
+def folded(judge: Judge, name: str, script: str, lines: list[str]) -> None:
     picture = drawn(script, "--fold", "--anyway")
     count = sum("->" in line for line in lines if line.startswith("  "))
-    judge.holds(len(picture.arrows) // 2 + len(picture.dots) == count, name, "--fold leaves out requests", len(picture.arrows) // 2, len(picture.dots), count)
+    judge.holds(
+        len(picture.arrows) // 2 + len(picture.dots) == count,
+        name,
+        "--fold leaves out requests",
+        len(picture.arrows) // 2,
+        len(picture.dots),
+        count,
+    )
     for one in picture.texts:
         judge.holds(0 <= one.left and one.right <= picture.width, name, "--fold: off the canvas", one.shown)
 
 
-def everybody(judge):
+def everybody(judge: Judge) -> None:
     for name, script in SCRIPTS.items():
         counts = [(word, int(re.search(rf"^{word}s (\d+)", script, re.M)[1])) for word in ("agent", "server")]
         wanted = {f"{word} {number}" for word, count in counts for number in range(count)}
         judge.holds(set(drawn(script, "--all").places.values()) == wanted, name, "--all leaves some out")
 
 
-def chosen(judge):
+def chosen(judge: Judge) -> None:
     two, picture = SCRIPTS["two"], drawn(SCRIPTS["two"])
     every = picture.requests()
     judge.holds(("agent 1", "forgets its cache of site 0") in picture.said(), "forget is not drawn")
@@ -226,10 +314,16 @@ def chosen(judge):
     own = drawn(two, "--agent", "1")
     judge.holds(own.requests() == [one for one in every if one[0] == "agent 1"], "--agent 1")
     judge.holds(("agent 1", "forgets its cache of site 0") in own.said(), "forget of an agent is not drawn")
-    judge.holds({("server 1", "crashes"), ("server 1", "restarts")} <= set(own.said()), "servers are left out for an agent", own.said())
+    judge.holds(
+        {("server 1", "crashes"), ("server 1", "restarts")} <= set(own.said()),
+        "servers are left out for an agent",
+        own.said(),
+    )
     part = drawn(two, "--agent", "1", "--from", "2", "--to", "4").requests()
     judge.holds(part == own.requests()[1:4], "--agent 1 --from 2 --to 4")
-    judge.holds(drawn(two, "--suite", "/d/f").requests() == drawn(two, "--suite", "2").requests() != [], "a path and its number")
+    judge.holds(
+        drawn(two, "--suite", "/d/f").requests() == drawn(two, "--suite", "2").requests() != [], "a path and its number"
+    )
     status, text, said = run(two, "--from", "1000")
     judge.holds(status == 1 and text == "" and f"{len(every)} requests" in said, "--from behind the last", said)
     judge.holds(run(two, "--from", "3", "--to", "2")[:2] == (1, ""), "--from above --to")
@@ -237,34 +331,58 @@ def chosen(judge):
     judge.holds(not drawn(SCRIPTS["still"]).names and len(drawn(SCRIPTS["still"]).texts) == 1, "nothing happens")
 
 
-def stands(judge):
+def stands(judge: Judge) -> None:
     """What was so before the first request: a job that is under way, and a server that is down."""
     lines = [begun(0, "file /a 666"), "crash 2", begun(0, "read /a"), begun(1, "write /a 00"), begun(0, "write /a 00")]
     picture = drawn(script_of(3, 2, "1,1,1/2/2", *lines))
     at = next(place for place, one in enumerate(picture.requests(), 1) if one[0] == "agent 1") + 1
     later = drawn(script_of(3, 2, "1,1,1/2/2", *lines), "--from", str(at))
     judge.holds(later.requests() == picture.requests()[at - 1 :], "--from in a job")
-    judge.holds(later.said()[:2] == [("server 2", "is down"), ("agent 1", "begun before, job 0 (t 1), user 1000: write /a 00")], "before", later.said())
+    judge.holds(
+        later.said()[:2] == [("server 2", "is down"), ("agent 1", "begun before, job 0 (t 1), user 1000: write /a 00")],
+        "before",
+        later.said(),
+    )
     server = next(x for x, name in later.places.items() if name == "server 2")
-    judge.holds([(x + wide / 2, high > later.height - 100 - draw.LEGEND) for x, _, wide, high in later.greys] == [(server, True)], "grey from before", later.greys)
+    judge.holds(
+        [(x + wide / 2, high > later.height - 100 - draw.LEGEND) for x, _, wide, high in later.greys]
+        == [(server, True)],
+        "grey from before",
+        later.greys,
+    )
     judge.holds(all("file /a" not in words for _, words in later.said()), "a job that ended before is drawn")
 
 
-def about(judge, program):
+def about(judge: Judge, program: str) -> None:
     """--suite draws the jobs that asked for it, of which `play` tells how many requests they took."""
-    lines = [begun(0, "file /a 666"), begun(0, "file /b 666"), begun(0, "read /a"), begun(0, "write /b 00"), begun(0, "read /b"), begun(0, "read /a")]
+    lines = [
+        begun(0, "file /a 666"),
+        begun(0, "file /b 666"),
+        begun(0, "read /a"),
+        begun(0, "write /b 00"),
+        begun(0, "read /b"),
+        begun(0, "read /a"),
+    ]
     counts = jobs(program, script_of(3, 1, "1,1,1/2/2", *lines))
     picture = drawn(script_of(3, 1, "1,1,1/2/2", *lines), "--suite", "/b")
-    wanted = [f"job {job} (t {64 * job}), user 1000: {asked}" for job, asked in ((1, "file /b 666"), (3, "write /b 00"), (4, "read /b"))]
+    wanted = [
+        f"job {job} (t {64 * job}), user 1000: {asked}"
+        for job, asked in ((1, "file /b 666"), (3, "write /b 00"), (4, "read /b"))
+    ]
     judge.holds([words for _, words in picture.said()] == wanted, "--suite /b", picture.said())
     own = counts[1] + counts[3] + counts[4]
     # of a job is drawn what it asks of the suite itself, and of its transaction
     judge.holds(0 < len(picture.requests()) <= own, "requests about /b", len(picture.requests()), own)
-    judge.holds(all("/b" in asked or asked.startswith(("decide", "finish")) for _, _, asked in picture.requests()), "--suite /b draws others")
+    judge.holds(
+        all("/b" in asked or asked.startswith(("decide", "finish")) for _, _, asked in picture.requests()),
+        "--suite /b draws others",
+    )
 
 
-def many(judge, program):
-    script = script_of(3, 2, "1,1,1/2/2", begun(0, "file /a 666"), *[begun(number % 2, "read /a") for number in range(250)])
+def many(judge: Judge, program: str) -> None:
+    script = script_of(
+        3, 2, "1,1,1/2/2", begun(0, "file /a 666"), *[begun(number % 2, "read /a") for number in range(250)]
+    )
     total = sum(jobs(program, script))
     judge.holds(total > 2000, "the script has too few requests", total)
     status, text, said = run(script)
@@ -277,7 +395,7 @@ def many(judge, program):
     judge.holds(len(drawn(script, "--from", str(total - 4)).requests()) == 5, "--from of many")
 
 
-def written(script, size, agent):
+def written(script: str, size: int, agent: int | None) -> str:
     """What is written of a trace, or of what is about an agent, where it is read in pieces of this size."""
     trace.PIECE, out = size, io.BytesIO()
     with trace.Run(script.encode()) as playing:
@@ -285,7 +403,7 @@ def written(script, size, agent):
     return out.getvalue().decode("latin1")
 
 
-def told(judge, name, script, lines):
+def told(judge: Judge, name: str, script: str, lines: list[str]) -> None:
     known = trace.paths(lines)
     whole = "".join(f"{line}\n" for line in trace.with_paths(trace.behind(lines), known))
     for size in (97, 4096, 4 << 20):
@@ -293,7 +411,9 @@ def told(judge, name, script, lines):
     judge.holds(written(script, 97, 1) == trace.shown(lines, 1), name, "told of an agent in pieces")
     verbs = ("begin", "sweep", "step", "run", "crash", "return", "forget", "audit")
     given = [line for line in script.splitlines() if line.startswith(verbs)]
-    judge.holds([line[2:] for line in whole.splitlines() if line.startswith("> ")] == given, name, "lines of the script")
+    judge.holds(
+        [line[2:] for line in whole.splitlines() if line.startswith("> ")] == given, name, "lines of the script"
+    )
     asked = [line.partition(" : ")[0] for line in whole.splitlines() if re.match(r"  \d", line)]
     judge.holds(all(len(words) == max(56, len(words.rstrip())) for words in asked), name, "where replies stand")
     for suite in (0, 1, 2, 9, 10):
@@ -301,13 +421,17 @@ def told(judge, name, script, lines):
         judge.holds(list(found) == about_suite(lines, suite), name, "told of suite", suite)
 
 
-def about_suite(lines, suite):
-    """The lines that are about a suite: requests that name it or are of a transaction that does, the ends of such jobs, what
-    agents are told that do nothing, audits and servers; and the lines of the script that have such lines, or begin such jobs."""
+def about_suite(lines: list[str], suite: int) -> list[str]:
+    """The lines that are about a suite: requests that name it or are of a transaction that does, the ends of such jobs,
+    what agents are told that do nothing, audits and servers; and the lines of the script that have such lines, or begin
+    such jobs.
+    """
     asked = [re.match(r"  (\d+) -> s\d+  (?:t (\d+) )?(.*?) +: ", line) for line in lines]
     suites = [set(map(int, re.findall(r"suite (\d+)", found[3]))) if found else set() for found in asked]
     own = {found[2] for found, named in zip(asked, suites) if found and suite in named}
-    jobs, heads, shown = {}, {}, set()
+    jobs: dict[str, bool] = {}
+    heads: dict[str, int] = {}
+    shown: set[int] = set()
     for place, (line, found, named) in enumerate(zip(lines, asked, suites)):
         ended, words = re.match(r"(\d+)\.\d+ ", line), line[2:].split()
         is_about = True
@@ -324,39 +448,55 @@ def about_suite(lines, suite):
             is_about = re.search(rf"suite {suite}\b", line) is not None
         if is_about:
             shown |= {place, head}
-            shown |= {heads[words[1]] for words in [lines[head][2:].split()] if words[0] in ("step", "run") and words[1] in heads}
+            shown |= {
+                heads[words[1]]
+                for words in [lines[head][2:].split()]
+                if words[0] in ("step", "run") and words[1] in heads
+            }
     return [line for place, line in enumerate(lines) if place in shown]
 
 
-def unordered(judge):
+def unordered(judge: Judge) -> None:
     """A folder's names may be told before its own is."""
-    lines = [f"  0 -> s0  t 0 fetch suite {suite} : given, content 1 names {names}" for suite, names in ((9, "f=17 g=25"), (17, "h=33"), (0, "a=1 d=9"))]
+    lines = [
+        f"  0 -> s0  t 0 fetch suite {suite} : given, content 1 names {names}"
+        for suite, names in ((9, "f=17 g=25"), (17, "h=33"), (0, "a=1 d=9"))
+    ]
     wanted = {0: "/", 1: "/a", 9: "/d", 17: "/d/f", 25: "/d/g", 33: "/d/f/h"}
     for told in (lines, lines[::-1], ["\n".join(lines)]):
         judge.holds(trace.paths(told) == wanted, "paths", trace.paths(told))
 
 
-SLOW = "import sys; sys.path.insert(0, 'tools'); sys.argv[0] = 'draw'; import {0} as tool, trace; trace.PATIENCE = trace.AGAIN = 0; trace.PIECE = 999; tool.main()"
+SLOW = (
+    "import sys; sys.argv[0] = 'draw'; import {0} as tool, trace; trace.PATIENCE = trace.AGAIN = 0; trace.PIECE = 999;"
+    " tool.main()"
+)
 
 
-def slow(judge):
-    """Standard error of both tools, as if each took longer than two seconds, where it is a terminal and where it is not."""
-    script = SCRIPTS["five"].encode()
+def slow(judge: Judge) -> None:
+    """Standard error of both tools, as if each took longer than two seconds, where it is a terminal and where it is
+    not.
+    """
+    script, folder = SCRIPTS["five"].encode(), os.path.join(played.TOP, "tools")
     for tool in ("trace", "draw"):
         words = [sys.executable, "-c", SLOW.format(tool)]
         own, terminal = pty.openpty()
-        done = subprocess.run(words, input=script, stdout=subprocess.PIPE, stderr=terminal, cwd=played.TOP)
+        done = subprocess.run(words, input=script, stdout=subprocess.PIPE, stderr=terminal, cwd=folder)
         os.close(terminal)
         said = read_all(own)
-        judge.holds(done.returncode == 0 and " % of the script is played, 0 s" in said, tool, "a terminal is told", said)
+        judge.holds(
+            done.returncode == 0 and " % of the script is played, 0 s" in said, tool, "a terminal is told", said
+        )
         judge.holds(said.endswith("\r\033[K"), tool, "what was said last stays", said[-60:])
-        silent = subprocess.run(words, input=script, capture_output=True, cwd=played.TOP)
-        judge.holds("%" not in silent.stderr.decode() and silent.stdout == done.stdout, tool, "not on a terminal", silent.stderr)
+        silent = subprocess.run(words, input=script, capture_output=True, cwd=folder)
+        judge.holds(
+            "%" not in silent.stderr.decode() and silent.stdout == done.stdout, tool, "not on a terminal", silent.stderr
+        )
 
 
-def read_all(terminal):
+def read_all(terminal: int) -> str:
     """What was written to a terminal that nobody writes to any more."""
-    parts = []
+    parts: list[bytes] = []
     while True:
         try:
             part = os.read(terminal, 4096)
@@ -368,8 +508,10 @@ def read_all(terminal):
         parts.append(part)
 
 
-def main():
-    program, judge = played.program(sys.argv[1:]), Judge()
+def main() -> int:
+    read = console.words(__doc__)
+    read.add_argument("program", nargs="?")
+    program, judge = played.program(read.parse_args().program), Judge()
     cut = 0
     for name, script in scripts():
         lines = trace.traced(script.encode())
@@ -379,7 +521,11 @@ def main():
         told(judge, name, script, lines)
         begun_there(judge, name, picture, lines)
         folded(judge, name, script, lines)
-        judge.holds(len(picture.requests()) == sum("->" in line for line in lines if line.startswith("  ")), name, "requests that are drawn")
+        judge.holds(
+            len(picture.requests()) == sum("->" in line for line in lines if line.startswith("  ")),
+            name,
+            "requests that are drawn",
+        )
         cut += sum(text.is_cut for text in picture.texts)
     judge.holds(cut > 0, "no label was cut")
     unordered(judge)

@@ -1,21 +1,22 @@
 #!/usr/bin/env python3
 """tests/events.py
 
-Holds docs/events.schema.json against what `./suites trace --json` prints of all stories, of the scripts of tests/drawn.py, and
-of random ones. What servers and agents had by the changes that each event tells has to be what the program tells at the end,
-an agent has to have gathered the locks that replies gave, and all that `trace` tells in lines has to be told in the objects
-too. Status 1 where something differs.
+Holds docs/events.schema.json against what `./suites trace --json` prints of all stories, of the scripts of
+tests/drawn.py, and of random ones. What servers and agents had by the changes that each event tells has to be what the
+program tells at the end, an agent has to have gathered the locks that replies gave, and all that `trace` tells in lines
+has to be told in the objects too. Status 1 where something differs.
 """
 import json
 import os
 import re
 import sys
+from collections.abc import Iterator
+from typing import Any
 
 import drawn
 import played
 import shown_page
 
-sys.path.insert(0, os.path.join(played.TOP, "tools"))
 import scenario
 import show
 import trace
@@ -27,15 +28,16 @@ TYPES = {"object": dict, "array": list, "string": str, "integer": int, "boolean"
 class Schema:
     """A JSON Schema, of whose words it knows those that docs/events.schema.json has."""
 
-    def __init__(self, whole: dict):
+    def __init__(self, whole: dict) -> None:
         self.whole = whole
 
-    def refused(self, value: object, rule: dict, where: str = "$") -> str | None:
+    def refused(self, value: Any, rule: dict, where: str = "$") -> str | None:
         """Where a value breaks a rule, and how; nothing, where it keeps it."""
         if "$ref" in rule:
             return self.refused(value, self.whole["$defs"][rule["$ref"].rsplit("/", 1)[1]], where)
-        if "type" in rule and (not isinstance(value, TYPES[rule["type"]]) or rule["type"] == "integer" and isinstance(value, bool)):
-            return f"{where} is no {rule['type']}"
+        kind = rule.get("type")
+        if kind and (not isinstance(value, TYPES[kind]) or kind == "integer" and isinstance(value, bool)):
+            return f"{where} is no {kind}"
         if "const" in rule and value != rule["const"] or "enum" in rule and value not in rule["enum"]:
             return f"{where} is {value!r}"
         if "pattern" in rule and not re.search(rule["pattern"], value):
@@ -45,10 +47,11 @@ class Schema:
         parts = self.of_object(value, rule, where) if isinstance(value, dict) else self.of_list(value, rule, where)
         return next(filter(None, parts), None) or self.of_one(value, rule, where)
 
-    def of_object(self, value: dict, rule: dict, where: str):
+    def of_object(self, value: dict, rule: dict, where: str) -> Iterator[str | None]:
         yield from (f"{where} lacks {name}" for name in rule.get("required", ()) if name not in value)
         for name, others in rule.get("dependentRequired", {}).items():
-            yield from (f"{where} has {name} and lacks {other}" for other in others if name in value and other not in value)
+            lacking = [other for other in others if name in value and other not in value]
+            yield from (f"{where} has {name} and lacks {other}" for other in lacking)
         rest = rule.get("additionalProperties", True)
         for name, part in value.items():
             known = rule.get("properties", {}).get(name)
@@ -57,7 +60,7 @@ class Schema:
             elif known is not None or isinstance(rest, dict):
                 yield self.refused(part, known if known is not None else rest, f"{where}.{name}")
 
-    def of_list(self, value: object, rule: dict, where: str):
+    def of_list(self, value: object, rule: dict, where: str) -> Iterator[str | None]:
         if isinstance(value, list) and "items" in rule:
             yield from (self.refused(part, rule["items"], f"{where}[{place}]") for place, part in enumerate(value))
 
@@ -68,7 +71,7 @@ class Schema:
         return None
 
 
-def scripts():
+def scripts() -> Iterator[tuple[str, str]]:
     yield from shown_page.stories().items()
     yield from drawn.SCRIPTS.items()
     for seed in range(30):
@@ -108,7 +111,7 @@ class Talk:
     """What the replies to an agent say that it gathered and keeps, as far as replies alone say it: which locks servers
     hold for its transaction, and what was fetched at which version."""
 
-    def __init__(self, event: dict):
+    def __init__(self, event: dict) -> None:
         self.locks: dict[int, dict[int, str]] = {}
         self.fetched: set[int] = set()
         self.number = event["agent"]
@@ -122,8 +125,10 @@ class Talk:
             self.fetched.add(asked["suite"])
 
 
-def talks(events: list[dict]):
-    """Where an event tells otherwise of an agent than the requests and replies say: of each event what differs, if anything does."""
+def talks(events: list[dict]) -> Iterator[tuple[dict, bool]]:
+    """Where an event tells otherwise of an agent than the requests and replies say: of each event what differs, if
+    anything does.
+    """
     heard = {one["agent"]: Talk(one) for one in events[0]["agents"]}
     agents = [*events[0]["agents"]]
     for event in events[1:-1]:
@@ -142,15 +147,18 @@ def talks(events: list[dict]):
         yield event, talk.fetched <= {one["suite"] for one in own["gathered"] if one["open"]}
 
 
-def lines_of(events: list[dict]):
-    """What a trace tells in lines, as far as it is the same words: lines of the script, requests, and what `play` prints."""
+def lines_of(events: list[dict]) -> Iterator[str]:
+    """What a trace tells in lines, as far as it is the same words: lines of the script, requests, and what `play`
+    prints.
+    """
     for event in events[1:-1]:
         if event["kind"] == "line":
             yield f"> {event['text']}"
             if "nothing" in event:
                 yield "nothing"
         else:
-            yield f"{event['agent']} -> s{event['server']} {event.get('request', {}).get('asks', 'full')} {event['reply']['says']}"
+            asks = event.get("request", {}).get("asks", "full")
+            yield f"{event['agent']} -> s{event['server']} {asks} {event['reply']['says']}"
         if "end" in event:
             yield "{agent}.{job} {requests} {text}".format(**event["end"])
         if "audit" in event:
@@ -159,7 +167,7 @@ def lines_of(events: list[dict]):
             yield from ("t {t} uid {uid} {denied}".format(**item) for item in audit["denials"])
 
 
-def lines_in(lines: list[str]):
+def lines_in(lines: list[str]) -> Iterator[str]:
     """The same of a trace."""
     for line in lines:
         found = trace.REQUEST.match(line)
@@ -184,7 +192,7 @@ def main() -> int:
             judge.holds(said is None, name, "event", event.get("event"), said)
         judge.holds([event["event"] for event in events] == [*range(len(events))], name, "numbers of events")
         judge.holds(replayed(events) == events[-1]["servers"], name, "what changed is not what there is at the end")
-        judge.holds(agents_replayed(events) == events[-1]["agents"], name, "agents by their changes are not what there is at the end")
+        judge.holds(agents_replayed(events) == events[-1]["agents"], name, "agents by their changes")
         for event, is_so in talks(events):
             judge.holds(is_so, name, "gathered otherwise than replies say", event)
         lines = trace.traced(script.encode())

@@ -19,6 +19,7 @@ import typing
 
 import played
 
+import console
 import after
 import explain
 import grammar
@@ -447,7 +448,9 @@ def false_limits() -> typing.Iterator[str]:
 
 
 def main() -> int:
-    program = played.program(sys.argv[1:])
+    read = console.words(__doc__)
+    read.add_argument("program", nargs="?")
+    program = played.program(read.parse_args().program)
     count, wrong = play_examples(program)
     for told in (play_commands, lambda: told_of_runs(program), told_alone, lambda: silent_lines(program)):
         more, differing = told()

@@ -1,10 +1,12 @@
 #!/usr/bin/env python3
 """tests/hints.py
 
-Checks the type hints of tools, tests and benches with mypy, where that is installed (Debian's package `mypy`): each
-function of the files of TYPED has hints, and they fit. In those files no line is longer than 120 characters. Without
-mypy it says `skipped`. Status 1 where something is wrong.
+Checks the type hints of all files of tools, tests and benches with mypy, where that is installed (Debian's package
+`mypy`): each function has hints, and they fit. No line of these files is longer than 120 characters. Without mypy it
+says `skipped`. Status 1 where something is wrong.
 """
+import collections
+import glob
 import os
 import re
 import shutil
@@ -13,6 +15,7 @@ import sys
 import tempfile
 
 TOP = os.path.realpath(os.path.join(os.path.dirname(os.path.abspath(__file__)), ".."))
+<<<<<<< HEAD
 WIDEST = 120
 # The files that are checked; those of a line together, since of two files with one name only one can be.
 TYPED = (
@@ -34,6 +37,10 @@ TYPED = (
 )
 # A text of Markdown stands in it, whose lines are paragraphs.
 HAS_TEXT = "wrong_bodies_page.py"
+=======
+WIDEST, FEWEST = 120, 90
+FOLDERS = ("tools", "tools/machine", "tests", "bench")
+>>>>>>> origin/next
 # What may be nothing is not told apart from what may not: a match that was looked for is taken to be there.
 CONFIG = """[mypy]
 strict_optional = False
@@ -46,6 +53,12 @@ cache_dir = {cache}
 """
 
 
+def paths() -> list[str]:
+    """All files of Python."""
+    found = [path for folder in FOLDERS for path in sorted(glob.glob(os.path.join(TOP, folder, "*.py")))]
+    return found if len(found) >= FEWEST else sys.exit(f"only {len(found)} files are found")
+
+
 def too_wide(path: str) -> list[str]:
     """The lines of a file that are too long."""
     with open(path, encoding="utf-8") as file:
@@ -53,14 +66,23 @@ def too_wide(path: str) -> list[str]:
     return [f"{os.path.relpath(path, TOP)}:{number}: longer than {WIDEST} characters" for number in wide]
 
 
-def checked(folder: str, names: str, room: str) -> list[str]:
+def groups(files: list[str]) -> list[list[str]]:
+    """The files in groups that are checked together: of two files with one name only one can be, so those of each
+    folder whose names others have stand alone.
+    """
+    names = {path: os.path.basename(path) for path in files}
+    count = collections.Counter(names.values())
+    shared = [path for path in files if count[names[path]] > 1 and not path.startswith(f"{TOP}/tools/")]
+    return [[path for path in files if path not in shared], *([path] for path in shared)]
+
+
+def checked(files: list[str], room: str) -> list[str]:
     """What mypy says of some files."""
-    files = [os.path.join(TOP, folder, f"{name}.py") for name in names.split()]
     # a test that has the name of a tool stands in a package, and the tool in none
     is_alone = len(files) == 1
     path = f"{TOP}:{TOP}/tools" if is_alone else f"{TOP}/tools:{TOP}/tests:{TOP}/bench"
     with open(os.path.join(room, "mypy.ini"), "w", encoding="utf-8") as file:
-        file.write(CONFIG.format(path=path, cache=os.path.join(room, folder)))
+        file.write(CONFIG.format(path=path, cache=os.path.join(room, "alone" if is_alone else "all")))
         file.write("explicit_package_bases = True\n" if is_alone else "")
     done = subprocess.run(["mypy", "--config-file", file.name, *files], cwd=TOP, stdout=subprocess.PIPE, text=True)
     found = [line for line in done.stdout.splitlines() if re.search(r": (error|note): ", line)]
@@ -68,11 +90,11 @@ def checked(folder: str, names: str, room: str) -> list[str]:
 
 
 def main() -> int:
-    files = [os.path.join(TOP, folder, f"{name}.py") for folder, names in TYPED for name in names.split()]
-    wrong = [line for path in files if not path.endswith(HAS_TEXT) for line in too_wide(path)]
+    files = paths()
+    wrong = [line for path in files for line in too_wide(path)]
     if shutil.which("mypy"):
         with tempfile.TemporaryDirectory(prefix="suites-") as room:
-            wrong += [line for folder, names in TYPED for line in checked(folder, names, room)]
+            wrong += [line for group in groups(files) for line in checked(group, room)]
     else:
         print("type hints skipped: no mypy")
     for line in wrong:

@@ -1,29 +1,55 @@
 """Whether histories and transcripts are those of one run: judged without `certify`, for tests/lies.py.
 
-The pair is woven into a script of `play`: the items of all servers by stamp and then by server, and before each what its
-agent did up to its next request; last what is left of each agent. `trace` plays the script. Then what was served has to be
-the items, in their order: who asked whom, the words of request and reply, and the stamps, which are counted here (a reply's
-is one above the greater of the server's and the request's; an agent's request has that of its last reply, the operator's 0).
-What each agent did has to be its transcript, with how each job ended.
+The pair is woven into a script of `play`: the items of all servers by stamp and then by server, and before each what
+its agent did up to its next request; last what is left of each agent. `trace` plays the script. Then what was served
+has to be the items, in their order: who asked whom, the words of request and reply, and the stamps, which are counted
+here (a reply's is one above the greater of the server's and the request's; an agent's request has that of its last
+reply, the operator's 0). What each agent did has to be its transcript, with how each job ended.
 
-Words do not tell all of a request and a reply. So the program that tells lies gives equal ones one number, and a request of
-an agent's job at the same step as in the run as it was, with the same words, has to have its number. A step that was not in
-that run, of a job that was not begun there, leaves the case open, where all else agrees: "open". What no script can say is a
-request that was not served for want of room or memory: "unsaid".
+Words do not tell all of a request and a reply. So the program that tells lies gives equal ones one number, and a
+request of an agent's job at the same step as in the run as it was, with the same words, has to have its number. A step
+that was not in that run, of a job that was not begun there, leaves the case open, where all else agrees: "open". What
+no script can say is a request that was not served for want of room or memory: "unsaid".
 """
-import collections
 import functools
-import os
 import re
 import subprocess
-import sys
+import typing
 
-import played
+import played  # noqa: F401
 
-import trace  # noqa: E402
+import trace
 
-Item = collections.namedtuple("Item", "stamp agent sent numbers server request reply")
-Said = collections.namedtuple("Said", "verdict why decided")
+
+
+class Item(typing.NamedTuple):
+    """One thing that a server served; the operator is no agent."""
+
+    stamp: int
+    agent: int | None
+    sent: int
+    numbers: tuple[int, int] | None
+    server: int
+    request: str
+    reply: str
+
+
+# An entry of a transcript is its words.
+Element = Item | tuple[str, ...]
+# The histories of servers and the transcripts of agents, by which of both and by number.
+Lists = dict[tuple[str, int], list[Element]]
+# The transaction, the first job that asks for the same, and the answer.
+Decision = tuple[int, int, str]
+
+
+class Said(typing.NamedTuple):
+    """What is said of a pair: the verdict, why, and what was decided where it is a run."""
+
+    verdict: str
+    why: str
+    decided: list[Decision] | None
+
+
 ITEM = re.compile(r"item (\d+) (\d+|-) (\d+) (\d+) (\d+)(  .*)")
 DECIDE = re.compile(r"t (\d+) decide (?:answered|refused)$")
 OPERATOR = {"crash", "return"}
@@ -37,7 +63,7 @@ class Unsaid(Exception):
     """No script can say what the pair tells."""
 
 
-def element(line):
+def element(line: str) -> Element:
     """An item or an entry as the liar prints it."""
     found = ITEM.match(line)
     if not found:
@@ -47,46 +73,52 @@ def element(line):
     return Item(int(found[1]), agent, int(found[3]), (int(found[4]), int(found[5])), int(server), request, reply)
 
 
-def decision(text):
+def decision(text: str) -> Decision:
     """A decision as the liar prints it: the transaction, the first job that asks for the same, and the answer."""
     t, job, _, _, answer = text.split(" ", 4)
     return int(t), int(job), answer
 
 
 @functools.lru_cache(maxsize=256)
-def traced(script):
+def traced(script: str) -> list[tuple[str, list[str]]]:
     """The lines that `trace` prints below each event of a script, and those of the events."""
     done = subprocess.run([trace.program()], input=script.encode("latin1"), stdout=subprocess.PIPE)
     if done.returncode != 0:
-        raise AssertionError(f"trace ends with status {done.returncode}: {done.stdout[:200]} of\n{script}")
-    return [(head[2:], block) for head, block in trace.blocks(done.stdout.decode("latin1").splitlines()) if head[0] == ">"]
+        raise AssertionError(f"trace ends with status {done.returncode}: {done.stdout[:200]!r} of\n{script}")
+    return [
+        (head[2:], block) for head, block in trace.blocks(done.stdout.decode("latin1").splitlines()) if head[0] == ">"
+    ]
 
 
 class Played:
     """A woven pair as `trace` plays it: what was served, what each agent did, and what was decided."""
 
-    def __init__(self, servers, agents):
-        self.stamps, self.last, self.down = [0] * servers, [0] * agents, set()
-        self.served, self.told, self.steps = [], [[] for _ in range(agents)], []
-        self.counts, self.jobs, self.asked = [0] * agents, [None] * agents, [0] * agents
-        self.decisions, self.ends = [], {}
+    def __init__(self, servers: int, agents: int) -> None:
+        self.stamps, self.last, self.down = [0] * servers, [0] * agents, set[int]()
+        self.counts, self.jobs, self.asked = [0] * agents, [0] * agents, [0] * agents
+        self.served: list[Item] = []
+        self.told: list[list[Element]] = [[] for _ in range(agents)]
+        # of what is served for an agent: the agent, which job of it, which request of that, and what the job is
+        self.steps: list[tuple[int, int, int, int] | None] = []
+        self.decisions: list[tuple[int, int, tuple[int, int]]] = []
+        self.ends: dict[tuple[int, int], str] = {}
 
-    def stamp(self, server, sent):
+    def stamp(self, server: int, sent: int) -> int:
         self.stamps[server] = max(self.stamps[server], sent) + 1
         return self.stamps[server]
 
-    def operate(self, what, server):
+    def operate(self, what: str, server: int) -> None:
         reply = "down" if what == "crash" and server in self.down else "done"
         (self.down.add if what == "crash" else self.down.discard)(server)
         self.served.append(Item(self.stamp(server, 0), None, 0, None, server, what, reply))
         self.steps.append(None)
 
-    def begin(self, agent, job):
+    def begin(self, agent: int, job: int) -> None:
         self.told[agent].append(("begun", str(job)))
         self.jobs[agent], self.asked[agent] = job, 0
         self.counts[agent] += 1
 
-    def step(self, agent, block):
+    def step(self, agent: int, block: list[str]) -> None:
         request = trace.REQUEST.match(block[0])
         if not request or request[4] == "full":
             raise Mismatch(block[0].strip())
@@ -102,7 +134,7 @@ class Played:
         for line in block[1:]:
             self.told[agent].append(("ended", line))
 
-    def end(self, block):
+    def end(self, block: list[str]) -> None:
         """Keeps how jobs ended."""
         for outcome in filter(None, map(trace.OUTCOME.match, block)):
             self.ends[int(outcome[1]), int(outcome[2])] = outcome[4]
@@ -111,7 +143,7 @@ class Played:
 class Judge:
     """Judges pairs that come of one run, which is given as it was."""
 
-    def __init__(self, script, agents, lists):
+    def __init__(self, script: str, agents: int, lists: Lists) -> None:
         lines = [line for line in script.split("\n") if line.strip() and not line.startswith("#")]
         first = next(place for place, line in enumerate(lines) if line.startswith(("do ", "sweep ")))
         self.jobs = [line for line in lines if line.startswith(("do ", "sweep "))]
@@ -124,10 +156,10 @@ class Judge:
             if key:
                 self.known[key[:3], self.jobs[key[3]], own.server, own.request, own.reply] = item.numbers
 
-    def list_of(self, kind, number, changed):
+    def list_of(self, kind: str, number: int, changed: Lists) -> list[typing.Any]:
         return changed.get((kind, number), self.lists.get((kind, number), []))
 
-    def merged(self, changed):
+    def merged(self, changed: Lists) -> list[Item]:
         """All items, by stamp and then by server."""
         items = []
         for server in range(self.servers):
@@ -137,7 +169,7 @@ class Judge:
             items += [item._replace(server=server) for item in history]
         return sorted(items, key=lambda item: (item.stamp, item.server))
 
-    def events(self, changed):
+    def events(self, changed: Lists) -> typing.Iterator[tuple[typing.Any, ...]]:
         """The events that a pair says, in their order."""
         left = [iter(self.list_of("transcript", agent, changed)) for agent in range(self.agents)]
         for item in self.merged(changed):
@@ -151,7 +183,7 @@ class Judge:
             for entry in entries:
                 yield (*entry, agent)
 
-    def lines(self, changed):
+    def lines(self, changed: Lists) -> typing.Iterator[tuple[str, tuple[typing.Any, ...]]]:
         """The same, as lines of a script with what they stand for."""
         for event in self.events(changed):
             if event[0] in OPERATOR:
@@ -168,8 +200,10 @@ class Judge:
                     raise Mismatch(f"there is no site {event[1]}")
                 yield f"forget {event[2]} {event[1]}", event
 
-    def played(self, changed):
-        """What comes of a pair where it is played. At the end all jobs go on, so that it is told what was decided in them."""
+    def played(self, changed: Lists) -> Played:
+        """What comes of a pair where it is played. At the end all jobs go on, so that it is told what was decided in
+        them.
+        """
         lines = list(self.lines(changed))
         rest = [f"run {agent}" for agent in range(self.agents)]
         blocks = traced(self.header + "".join(f"{line}\n" for line in [*(line for line, _ in lines), *rest]))
@@ -189,13 +223,17 @@ class Judge:
             play.end(block)
         return play
 
-    def differs(self, play, changed):
+    def differs(self, play: Played, changed: Lists) -> bool:
         """Looks whether all that is told is what was played. Answers whether that is left open."""
         is_open, items = False, self.merged(changed)
         for key, own, item in zip(play.steps, play.served, items):
             if item._replace(numbers=None) != own:
                 raise Mismatch(f"{item} told, {own} played")
-            wanted = self.known.get((key[:3], self.jobs[key[3]], own.server, own.request, own.reply)) if key else item.numbers
+            wanted = (
+                self.known.get((key[:3], self.jobs[key[3]], own.server, own.request, own.reply))
+                if key
+                else item.numbers
+            )
             is_open |= wanted is None
             if wanted not in (None, item.numbers):
                 raise Mismatch(f"{item} is of the words of {wanted}, and is another")
@@ -206,14 +244,16 @@ class Judge:
                 raise Mismatch(f"agent {agent} did something else")
         return is_open
 
-    def asks(self, job):
+    def asks(self, job: int) -> int:
         """The first job that asks for the same as a transaction does, at whichever site."""
-        def key(line):
+
+        def key(line: str) -> object:
             words = line.split()
             return [words[1:3], words[4:]] if words[0] == "do" else line
+
         return next(place for place, line in enumerate(self.jobs) if key(line) == key(self.jobs[job]))
 
-    def judge(self, changed):
+    def judge(self, changed: Lists) -> Said:
         """What is to be said of a pair that has other lists in place of these."""
         try:
             play = self.played(changed)

@@ -9,11 +9,10 @@ import os
 import random
 import stat
 import subprocess
-import sys
 from typing import Callable
 
-TOP = os.path.join(os.path.dirname(os.path.abspath(__file__)), "..")
-sys.path.insert(0, os.path.join(TOP, "tools"))
+import played  # noqa: F401
+
 from machine import lists
 from machine.people import Caller
 

@@ -1,11 +1,11 @@
 #!/usr/bin/env python3
 """tests/lies.py [CASES [SEED]]
 
-Has jobs carried out by agents in threads, as `serve` does, with servers that crash and caches that are forgotten on
-the way, and tells lies about what servers served and what agents did: a hundred thousand seeded cases (CASES another
-number) over several scripts, each with one lie or two, of 27 kinds. A lie may leave a run that could have been, so its kind
-is no verdict: each case is judged by `certify`, and by tests/judging.py, which has `trace` play what the case tells and
-compares; and both have to say the same, also what was decided. Builds a program for it (tests/scratch.py,
+Has jobs carried out by agents in threads, as `serve` does, with servers that crash and caches that are forgotten on the
+way, and tells lies about what servers served and what agents did: a hundred thousand seeded cases (CASES another
+number) over several scripts, each with one lie or two, of 27 kinds. A lie may leave a run that could have been, so its
+kind is no verdict: each case is judged by `certify`, and by tests/judging.py, which has `trace` play what the case
+tells and compares; and both have to say the same, also what was decided. Builds a program for it (tests/scratch.py,
 tests/programs/liar.rt.txt), which needs `rt`. Status 1 where they differ.
 """
 import collections
@@ -16,33 +16,54 @@ import subprocess
 import sys
 import tempfile
 import time
+import typing
 from concurrent.futures import ThreadPoolExecutor
 
 import judging
 import played
 import scratch
 
-CRATES = ["agent_pool", "byte_streams", "rep_core", "run_certify", "run_core", "script_text", "server_lock", "suite_content",
-          "suite_play", "suite_prefix", "suite_serve", "txn_core", "vote_core"]
+import console
+
+CRATES = [
+    "agent_pool",
+    "byte_streams",
+    "rep_core",
+    "run_certify",
+    "run_core",
+    "script_text",
+    "server_lock",
+    "suite_content",
+    "suite_play",
+    "suite_prefix",
+    "suite_serve",
+    "txn_core",
+    "vote_core",
+]
 MODULES = [os.path.join("tests", "programs", f"{name}.rt.txt") for name in ("lies", "story", "telling")]
 MODULES += [os.path.join("crates", "trace", "src", f"{name}.rt") for name in ("asked", "told", "words")]
-KINDS = """a reply that tells of a lock lost, the reply of another item, an item left out, an item doubled, a stamp a little off,
-a request's stamp a little off, another agent or the operator, two items exchanged, the request of another item, an item put to
-another server, two servers exchanged, a last item left out with all that its agent did from there on, the operator asks once
-more, the operator asks for the opposite, an entry left out, an entry doubled, two entries exchanged, an entry's stamp a little
-off, another server in an entry, the end of another job, another job begun, entries cut off, an agent that stops with its last
-items gone, two agents exchanged, a job begun besides, a cache forgotten, a server that lacked something"""
+KINDS = """a reply that tells of a lock lost, the reply of another item, an item left out, an item doubled, a stamp a
+little off, a request's stamp a little off, another agent or the operator, two items exchanged, the request of another
+item, an item put to another server, two servers exchanged, a last item left out with all that its agent did from there
+on, the operator asks once more, the operator asks for the opposite, an entry left out, an entry doubled, two entries
+exchanged, an entry's stamp a little off, another server in an entry, the end of another job, another job begun,
+entries cut off, an agent that stops with its last items gone, two agents exchanged, a job begun besides, a cache
+forgotten, a server that lacked something"""
 BATCH = 64
+# A script: its name, how many agents, what happens before which job, and the script.
+Row = tuple[str, int, list[tuple[int, str]], str]
+# A case: its lies, its lists, and what was decided where it was certified.
+Case = tuple[list[str], judging.Lists, list[judging.Decision] | None]
 # Of so many cases at most no script can say them, or the words leave them open: the others are judged.
 UNJUDGED = 0.1
 
 
-def example(name):
+def example(name: str) -> str:
     with open(os.path.join(played.TOP, "examples", "serve", name), encoding="utf-8") as file:
         return file.read()
 
 
-def mixed(seed, head, folders, count):
+def mixed(seed: int, head: list[str], folders: list[str], count: int) -> str:
     """Jobs that are in one another's way: so many, of three users, on a few files."""
     chance = random.Random(seed)
     lines = list(head)
@@ -53,22 +74,26 @@ def mixed(seed, head, folders, count):
     for _ in range(count):
         path, who = chance.choice(paths), chance.choice(["1000 100", "1000 100", "2000 100", "3000 300"])
         site = chance.randrange(3)
-        lines.append(chance.choice([
-            f"do {who} {site} read {path}",
-            f"do {who} {site} read {path} ; write {path} {chance.randrange(256):02x}",
-            f"do {who} {site} write {path} {chance.randrange(256):02x}",
-            f"do {who} {site} file {path} 640",
-            f"do {who} {site} list /",
-            f"do 1000 100 {site} setacl {path} u::rw,g::r,o::{chance.choice('r-')} ; getacl {path}",
-            f"do {who} {site} drop {path}",
-            f"do 1000 100 {site} setvotes {path} {chance.choice(['1,1,1/2/2', '-,1,1,1/2/2', '2,1/2/2'])}",
-            f"do {who} {site} {' ; '.join(['read ' + path] * chance.choice([2, 9]))}",
-            f"sweep {chance.randrange(3)}",
-        ]))
+        lines.append(
+            chance.choice(
+                [
+                    f"do {who} {site} read {path}",
+                    f"do {who} {site} read {path} ; write {path} {chance.randrange(256):02x}",
+                    f"do {who} {site} write {path} {chance.randrange(256):02x}",
+                    f"do {who} {site} file {path} 640",
+                    f"do {who} {site} list /",
+                    f"do 1000 100 {site} setacl {path} u::rw,g::r,o::{chance.choice('r-')} ; getacl {path}",
+                    f"do {who} {site} drop {path}",
+                    f"do 1000 100 {site} setvotes {path} {chance.choice(['1,1,1/2/2', '-,1,1,1/2/2', '2,1/2/2'])}",
+                    f"do {who} {site} {' ; '.join(['read ' + path] * chance.choice([2, 9]))}",
+                    f"sweep {chance.randrange(3)}",
+                ]
+            )
+        )
     return "\n".join(lines) + "\n"
 
 
-def scripts():
+def scripts() -> list[Row]:
     """Scripts of jobs, each with its name, a number of agents, and what happens before which job that all agents do."""
     three = ["servers 3", "votes 1,1,1/2/2", "root 1000 100 777", "cache 0 0 0"]
     caches = ["servers 4", "votes 1,1,1,1/2/3", "root 1000 100 775", "cache 64 32 4"]
@@ -77,21 +102,32 @@ def scripts():
         ("files.script", 4, [], example("files.script")),
         ("sweepers.script", 2, [], example("sweepers.script")),
         ("three servers", 4, [(6, "crash 0 0"), (12, "return 0 0"), (20, "crash 2 0")], mixed(1, three, [], 24)),
-        ("small caches", 3, [(5, "forget 1 0"), (9, "crash 3 0"), (9, "forget 0 1"), (15, "return 3 0")], mixed(2, caches, ["d"], 20)),
-        ("uneven votes", 8, [(8, "forget 3 2"), (12, "crash 1 0"), (18, "return 1 0")], mixed(3, uneven, ["d", "e"], 24)),
+        (
+            "small caches",
+            3,
+            [(5, "forget 1 0"), (9, "crash 3 0"), (9, "forget 0 1"), (15, "return 3 0")],
+            mixed(2, caches, ["d"], 20),
+        ),
+        (
+            "uneven votes",
+            8,
+            [(8, "forget 3 2"), (12, "crash 1 0"), (18, "return 1 0")],
+            mixed(3, uneven, ["d", "e"], 24),
+        ),
     ]
 
 
-def deeds(script, given):
+def deeds(script: str, given: list[tuple[int, str]]) -> str:
     """What happens before which job, as the liar reads it."""
     above = script.partition("\ntogether")[0].split("\n")
     alone = sum(line.startswith(("do ", "sweep ")) for line in above)
     return " ".join(f"{alone + place} {deed}" for place, deed in given)
 
 
-def cases_of(lines):
+def cases_of(lines: typing.Iterable[str]) -> typing.Iterator[Case]:
     """The cases that the liar prints, each with its lies, its lists and what is certified."""
-    lies, lists, decided, own = None, {}, [], None
+    lies, decided, own = list[str](), list[judging.Decision](), list[judging.Element]()
+    lists: judging.Lists = {}
     for line in lines:
         word, _, rest = line.rstrip("\n").partition(" ")
         if word == "case":
@@ -106,7 +142,9 @@ def cases_of(lines):
             own.append(judging.element(line.rstrip("\n")))
 
 
-def told(liar, agents, seed, cases, parts):
+def told(
+    liar: str, agents: int, seed: int, cases: int, parts: tuple[str, list[tuple[int, str]]]
+) -> typing.Iterator[Case]:
     """The cases of a script, as the liar prints them."""
     script, given = parts
     with tempfile.TemporaryFile() as text:
@@ -121,22 +159,26 @@ def told(liar, agents, seed, cases, parts):
 class Tally:
     """What came of cases: how many of each kind of lie, and which differ."""
 
-    def __init__(self):
-        self.all, self.kinds, self.differ = collections.Counter(), collections.Counter(), 0
+    def __init__(self) -> None:
+        self.all, self.differ = collections.Counter[str](), 0
+        self.kinds = collections.Counter[tuple[int, str]]()
 
-    def take(self, name, lies, own, other):
+    def take(self, name: str, lies: list[str], own: list[judging.Decision] | None, other: judging.Said) -> None:
         verdict = "a run" if own is not None else "found out"
         if other.verdict in ("unsaid", "open"):
             verdict = other.verdict
         elif (other.decided if other.verdict == "a run" else None) != own:
             self.differ += 1
-            print(f"{name}: case {' '.join(lies)}: certify says {'a run' if own is not None else 'mismatch'}, the judge {other.verdict}: {other.why}")
+            print(
+                f"{name}: case {' '.join(lies)}: certify says {'a run' if own is not None else 'mismatch'},"
+                f" the judge {other.verdict}: {other.why}"
+            )
         self.all[verdict] += 1
         if len(lies) == 4:
             self.kinds[int(lies[0]), verdict] += 1
 
 
-def judge_script(liar, tally, cases, seed, row):
+def judge_script(liar: str, tally: Tally, cases: int, seed: int, row: Row) -> None:
     """Judges the cases of a script."""
     name, agents, given, script = row
     begun, before = time.monotonic(), collections.Counter(tally.all)
@@ -152,23 +194,38 @@ def judge_script(liar, tally, cases, seed, row):
             for (lies, _, own), other in zip(batch, pool.map(lambda one: whole.judge(one[1]), batch)):
                 tally.take(name, lies, own, other)
     counts = tally.all - before
-    print(f"{name}: {agents} agents, {whole.size} items, {len(decided)} decided; {', '.join(f'{count} {what}' for what, count in sorted(counts.items()))};"
-          f" {time.monotonic() - begun:.1f} s", flush=True)
+    print(
+        f"{name}: {agents} agents, {whole.size} items, {len(decided)} decided;"
+        f" {', '.join(f'{count} {what}' for what, count in sorted(counts.items()))};"
+        f" {time.monotonic() - begun:.1f} s",
+        flush=True,
+    )
 
 
-def main():
-    cases = int(sys.argv[1]) if len(sys.argv) > 1 else 100_000
-    seed = int(sys.argv[2]) if len(sys.argv) > 2 else 1
+def main() -> int:
+    read = console.words(__doc__)
+    read.add_argument("cases", nargs="?", type=int, default=100_000)
+    read.add_argument("seed", nargs="?", type=int, default=1)
+    given = read.parse_args()
+    cases, seed = given.cases, given.seed
     liar, tally = scratch.built("liar", CRATES, MODULES), Tally()
     for place, row in enumerate(scripts()):
         judge_script(liar, tally, cases // len(scripts()), seed * len(scripts()) + place, row)
     for number, kind in enumerate(kind.strip() for kind in KINDS.replace("\n", " ").split(",")):
-        print(f"  {kind}: {tally.kinds[number, 'found out']} found out, {tally.kinds[number, 'a run']} a run,"
-              f" {tally.kinds[number, 'unsaid']} unsaid, {tally.kinds[number, 'open']} open")
-    print(f"{sum(tally.all.values())} cases: {tally.all['found out']} found out, {tally.all['a run']} a run, {tally.all['unsaid']} that no script"
-          f" can say, {tally.all['open']} that the words leave open; {tally.differ} differ")
+        print(
+            f"  {kind}: {tally.kinds[number, 'found out']} found out, {tally.kinds[number, 'a run']} a run,"
+            f" {tally.kinds[number, 'unsaid']} unsaid, {tally.kinds[number, 'open']} open"
+        )
+    print(
+        f"{sum(tally.all.values())} cases: {tally.all['found out']} found out, {tally.all['a run']} a run,"
+        f" {tally.all['unsaid']} that no script"
+        f" can say, {tally.all['open']} that the words leave open; {tally.differ} differ"
+    )
     judged = tally.all["found out"] + tally.all["a run"]
-    few = sum(tally.all.values()) - judged > UNJUDGED * sum(tally.all.values()) or min(tally.all["found out"], tally.all["a run"]) == 0
+    few = (
+        sum(tally.all.values()) - judged > UNJUDGED * sum(tally.all.values())
+        or min(tally.all["found out"], tally.all["a run"]) == 0
+    )
     if few:
         print(f"of {sum(tally.all.values())} cases only {judged} are judged, or none is a run, or none is found out")
     return 1 if tally.differ or few else 0

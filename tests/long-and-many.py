@@ -4,13 +4,14 @@
 Runs of `serve` that are too long for a row. The program is the one that `./suites` runs (a checked build where nothing
 is proved), or the one that is named. Prints counts, seconds and memory; status 1 where something differs.
 
-many:   100,000 jobs by 64 agents on 16 servers: files made, written, read, given lists and dropped in 96 folders, sweeps
-        of servers at work, and a server that is filled with suites. Chance decides how most jobs end; looked at is that
-        each has its line, that each ending of those that the script is to bring about comes, and that the last line
-        counts the steps of all jobs but those that a full server did not serve.
-long:   lists by 4 agents on one server, until its history is full: 1,000,000 steps are certified, and whoever asks after
-        that is told that the server is full.
-often:  a thousand runs (RUNS another number) of `examples/serve/files.script`, with 2, 4 and 64 agents in turn: one output.
+many:   100,000 jobs by 64 agents on 16 servers: files made, written, read, given lists and dropped in 96 folders,
+        sweeps of servers at work, and a server that is filled with suites. Chance decides how most jobs end; looked at
+        is that each has its line, that each ending of those that the script is to bring about comes, and that the last
+        line counts the steps of all jobs but those that a full server did not serve.
+long:   lists by 4 agents on one server, until its history is full: 1,000,000 steps are certified, and whoever asks
+        after that is told that the server is full.
+often:  a thousand runs (RUNS another number) of `examples/serve/files.script`, with 2, 4 and 64 agents in turn: one
+        output.
 """
 import collections
 import os
@@ -23,6 +24,8 @@ import time
 
 import played
 
+import console
+
 FILES = os.path.join(played.TOP, "examples", "serve", "files.script")
 SERVERS, AGENTS, JOBS, FOLDERS, NAMES = 16, 64, 100_000, 96, 64
 HISTORY = 1_000_000
@@ -30,15 +33,17 @@ SEED = 1
 # What is told of an operation that was done, and how a job may end.
 REPLY = r"(?:made \d+|read (?:-|[0-9a-f]+)|wrote|dropped|set|(?:list|acl|votes) \S+)"
 ENDINGS = re.compile(
-    rf"answered {REPLY}(?:; {REPLY})*" + r"|denied op [1-8] suite \d+ wants [rwx-]{3} by \S+|refused F\d+ op \d|swept \d+ \d+ \d+"
-    r"|undecided U1 suite \d+ got \d+ of \d+|undecided U2 server \d+ holder \d+|undecided U[36] server \d+|undecided U[457]"
+    rf"answered {REPLY}(?:; {REPLY})*"
+    + r"|denied op [1-8] suite \d+ wants [rwx-]{3} by \S+|refused F\d+ op \d|swept \d+ \d+ \d+"
+    r"|undecided U1 suite \d+ got \d+ of \d+|undecided U2 server \d+ holder \d+|undecided U[36] server \d+"
+    r"|undecided U[457]"
 )
 
 
 class Run:
     """One run of the program: its lines, its status, its seconds and the most memory that it had, in MB."""
 
-    def __init__(self, program, agents, script):
+    def __init__(self, program: str, agents: int, script: bytes) -> None:
         with tempfile.TemporaryFile() as given, tempfile.TemporaryFile() as told:
             given.write(script)
             given.seek(0)
@@ -52,17 +57,17 @@ class Run:
             self.output = told.read()
         self.lines = self.output.decode().splitlines()
 
-    def cost(self):
+    def cost(self) -> str:
         return f"{self.seconds:.1f} s, {self.memory} MB"
 
 
-def some_votes(first):
+def some_votes(first: int) -> str:
     """One vote each at three servers in a row, of which two are a quorum."""
     named = {place % SERVERS for place in range(first, first + 3)}
     return ",".join("1" if place in named else "-" for place in range(max(named) + 1)) + "/2/2"
 
 
-def many_jobs():
+def many_jobs() -> bytes:
     """The script of many jobs."""
     chance = random.Random(SEED)
     last_server = ",".join(["-"] * (SERVERS - 1) + ["1"]) + "/1/1"
@@ -70,10 +75,10 @@ def many_jobs():
     lines += [f"do 1000 100 0 folder /d{folder} 777 {some_votes(folder)}" for folder in range(FOLDERS)]
     lines.append("together")
 
-    def path():
+    def path() -> str:
         return f"/d{chance.randrange(FOLDERS)}/f{chance.randrange(NAMES)}"
 
-    def own(number):
+    def own(number: int) -> str:
         name = f"/d{chance.randrange(FOLDERS)}/g{number}"
         return f"file {name} 600 ; write {name} 00 ; read {name}"
 
@@ -94,15 +99,15 @@ def many_jobs():
     return "\n".join(lines).encode() + b"\n"
 
 
-def kind_of(ending):
+def kind_of(ending: str) -> str:
     """An ending without its numbers, but with its code."""
     first, _, rest = ending.partition(" ")
     return f"{first} {rest.split()[0]}" if first in ("refused", "undecided") else first
 
 
-def judged(run, jobs):
+def judged(run: Run, jobs: int) -> tuple[collections.Counter[str], list[str], int]:
     """How often each ending came, what is wrong with a run of so many jobs, and their steps."""
-    wrong, counts, steps = [], collections.Counter(), 0
+    wrong, counts, steps = list[str](), collections.Counter[str](), 0
     if run.status != 0 or len(run.lines) != jobs + 1:
         wrong.append(f"status {run.status}, {len(run.lines)} lines: {run.lines[-1:]}")
     for job, line in enumerate(run.lines[:-1] if not wrong else []):
@@ -114,11 +119,11 @@ def judged(run, jobs):
     return counts, wrong, steps
 
 
-def last(run):
+def last(run: Run) -> str:
     return run.lines[-1] if run.lines else ""
 
 
-def many(program):
+def many(program: str) -> list[str]:
     run = Run(program, AGENTS, many_jobs())
     counts, wrong, steps = judged(run, JOBS)
     served = steps - counts["undecided U6"]
@@ -131,7 +136,7 @@ def many(program):
     return wrong
 
 
-def long(program):
+def long(program: str) -> list[str]:
     jobs = HISTORY // 5 + 200
     script = "servers 1\nvotes 1/1/1\nroot 1000 100 777\ncache 0 0 0\ntogether\n" + "do 1000 100 0 list /\n" * jobs
     run = Run(program, 4, script.encode())
@@ -146,24 +151,30 @@ def long(program):
     return wrong
 
 
-def often(program, runs):
+def often(program: str, runs: int) -> list[str]:
     with open(FILES, "rb") as file:
         script = file.read()
-    outputs, seconds = collections.Counter(), 0
+    outputs, seconds = collections.Counter[tuple[int, bytes]](), 0.0
     for number in range(runs):
         run = Run(program, (2, 4, AGENTS)[number % 3], script)
         outputs[(run.status, run.output)] += 1
         seconds += run.seconds
     ends = b"certified 192 steps\n"
     wrong = [f"{count} runs: status {status}, {output!r}" for (status, output), count in outputs.items()]
-    print(f"often: {runs} runs of files.script, by 2, 4 and {AGENTS} agents in turn: {len(outputs)} output; {seconds:.1f} s")
+    print(
+        f"often: {runs} runs of files.script, by 2, 4 and {AGENTS} agents in turn: {len(outputs)} output;"
+        f" {seconds:.1f} s"
+    )
     is_one = len(outputs) == 1 and all(status == 0 and output.endswith(ends) for status, output in outputs)
     return [] if is_one else wrong
 
 
-def main():
-    program = played.program(sys.argv[1:])
-    runs = int(sys.argv[2]) if len(sys.argv) > 2 else 1000
+def main() -> int:
+    read = console.words(__doc__)
+    read.add_argument("program", nargs="?")
+    read.add_argument("runs", nargs="?", type=int, default=1000)
+    given = read.parse_args()
+    program, runs = played.program(given.program), given.runs
     wrong = often(program, runs) + many(program) + long(program)
     for one in wrong[:20]:
         print(one)

@@ -305,7 +305,11 @@ def main() -> int:
         print(f"this needs root, and lists in {PLACE}\n0 questions, 0 differ")
         return 0 if given.if_possible else 1
     os.umask(0)
-    said = [ask(form, given) for form in ([given.form] if given.form else FORMS)]
+    forms = [given.form] if given.form else list(FORMS)
+    if given.if_possible and "change" in forms and not shutil.which("setfacl"):
+        print("skipped: change, which needs setfacl (Debian's package `acl`)")
+        forms.remove("change")
+    said = [ask(form, given) for form in forms]
     print(f"{sum(one for one, _ in said)} questions, {sum(bad for _, bad in said)} differ")
     return 1 if any(bad or not one for one, bad in said) else 0
 

@@ -16,14 +16,17 @@ import subprocess
 import sys
 import tempfile
 
-TOP = os.path.realpath(os.path.join(os.path.dirname(os.path.abspath(__file__)), ".."))
-sys.path.insert(0, os.path.join(TOP, "tools"))
+import played
+
+import console
 from machine import changes, everybody, lint, lists, mounts, people, program
 from machine.people import Caller
 from machine.ways import way
 
 LIST = "u::rw,u:1001:rw,g::r,m::r,o::-"
 MANY = ",".join(str(one) for one in range(1, 34))
+# The most bytes of an input.
+MOST = 16 * 1024 * 1024
 # What is asked, the status, and what is printed.
 ROWS = [
     ("", 0, ""),
@@ -81,12 +84,14 @@ def plays_rows(tests: Tests) -> None:
     tests.holds(done.returncode == 6, f"a write that fails: {done.returncode}")
     done = subprocess.run([program.program()], stdin=os.open("/", os.O_RDONLY), stdout=subprocess.PIPE)
     tests.holds((done.returncode, done.stdout) == (6, b""), f"a read that fails: {done}")
+    done = subprocess.run([program.program()], input=b"\n" * (MOST + 1), stdout=subprocess.PIPE)
+    tests.holds((done.returncode, done.stdout) == (6, b""), f"an input that is too long: {done}")
 
 
 def asks(tests: Tests, words: list[str], status: int, last: str, strict: bool = False) -> None:
     """The command, its status, and what its last line has."""
     env = {**os.environ, **({"PYTHONIOENCODING": "utf-8:strict", "LC_ALL": "C"} if strict else {})}
-    command = [sys.executable, os.path.join(TOP, "tools", "may.py"), *words]
+    command = [sys.executable, os.path.join(played.TOP, "tools", "may.py"), *words]
     done = subprocess.run(
         command, env=env, stdin=subprocess.DEVNULL, stdout=subprocess.PIPE, stderr=subprocess.PIPE, text=True
     )
@@ -273,11 +278,11 @@ def plain(code: str) -> str:
 
 
 def shown_code_stands(tests: Tests) -> None:
-    with open(os.path.join(TOP, "README.md"), encoding="utf-8") as file:
+    with open(os.path.join(played.TOP, "README.md"), encoding="utf-8") as file:
         code = re.findall(r"^```rust\n(.*?)^```", file.read(), re.M | re.S)
     sources = ""
-    for name in sorted(os.listdir(os.path.join(TOP, "crates", "may", "src"))):
-        with open(os.path.join(TOP, "crates", "may", "src", name), encoding="utf-8") as file:
+    for name in sorted(os.listdir(os.path.join(played.TOP, "crates", "may", "src"))):
+        with open(os.path.join(played.TOP, "crates", "may", "src", name), encoding="utf-8") as file:
             sources += plain(file.read())
     tests.holds(code, "README shows no code")
     for block in code:
@@ -285,8 +290,11 @@ def shown_code_stands(tests: Tests) -> None:
 
 
 def main() -> int:
-    if len(sys.argv) > 1:
-        os.environ["MAY"] = os.path.abspath(sys.argv[1])
+    read = console.words(__doc__)
+    read.add_argument("program", nargs="?")
+    named = read.parse_args().program
+    if named:
+        os.environ["MAY"] = os.path.abspath(named)
     tests = Tests()
     plays_rows(tests)
     asks_of_files(tests)

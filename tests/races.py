@@ -1,22 +1,23 @@
 #!/usr/bin/env python3
 """tests/races.py [RUNS]
 
-Looks for data races among agents in threads: builds the program as tools/trial.py does, but with each function of its module
-under clang's ThreadSanitizer and linked with gcc's libtsan (the package libgcc-12-dev), and runs scripts of `serve` with 2 to
-64 agents, RUNS times each (default 2). A report is a race; what is printed has to be what `serve` prints.
+Looks for data races among agents in threads: builds the program as tools/trial.py does, but with each function of its
+module under clang's ThreadSanitizer and linked with gcc's libtsan (the package libgcc-12-dev), and runs scripts of
+`serve` with 2 to 64 agents, RUNS times each (default 2). A report is a race; what is printed has to be what `serve`
+prints.
 
-The same once more is the control: linked so that each atomic of the module is one of memory_order_relaxed, whatever it was
-written as, so that nothing that one thread wrote is ordered before what another reads. There reports have to come, else nothing
-is looked at. Status 1 where a race was reported, and where the control has none.
+The same once more is the control: linked so that each atomic of the module is one of memory_order_relaxed, whatever it
+was written as, so that nothing that one thread wrote is ordered before what another reads. There reports have to come,
+else nothing is looked at. Status 1 where a race was reported, and where the control has none.
 
-Both programs stay in out/ until a source changes; `rt` is needed to build them, some minutes, and `clang` is the kit's. Where
-MODULE names a module that was made before (the one of tools/trial.py), they are made of that one.
+Both programs stay in out/ until a source changes; `rt` is needed to build them, some minutes, and `clang` is the kit's.
+Where MODULE names a module that was made before (the one of tools/trial.py), they are made of that one.
 """
 import os
 import re
 import subprocess
-import sys
 import tempfile
+import typing
 import time
 
 import played
@@ -30,45 +31,56 @@ SCRIPTS = ("files", "sweepers", "revocation")
 REPORT = "WARNING: ThreadSanitizer: "
 LAST = re.compile(r"certified [0-9]+ steps\n\Z")
 # What clang calls for these, and libtsan of gcc has under their own names alone.
-SHIM = "\n".join(f"void *{name}({words}); void *__tsan_{name}({words}) {{ return {name}(a, b, n); }}" for name, words in (
-    ("memset", "void *a, int b, unsigned long n"),
-    ("memcpy", "void *a, const void *b, unsigned long n"),
-    ("memmove", "void *a, const void *b, unsigned long n")))
-# What clang calls in place of an atomic of so many bits (`long` stands for their type), whose last words say how it is ordered:
-# its answer, its words, what is handed on of them.
+SHIM = "\n".join(
+    f"void *{name}({words}); void *__tsan_{name}({words}) {{ return {name}(a, b, n); }}"
+    for name, words in (
+        ("memset", "void *a, int b, unsigned long n"),
+        ("memcpy", "void *a, const void *b, unsigned long n"),
+        ("memmove", "void *a, const void *b, unsigned long n"),
+    )
+)
+# What clang calls in place of an atomic of so many bits (`long` stands for their type), whose last words say how it is
+# ordered: its answer, its words, what is handed on of them.
 ATOMICS = {
     "load": ("long", "void *a, int o", "a, 0"),
     "store": ("void", "void *a, long b, int o", "a, b, 0"),
     "compare_exchange_val": ("long", "void *a, long b, long c, int o, int p", "a, b, c, 0, 0"),
     "compare_exchange_strong": ("int", "void *a, void *b, long c, int o, int p", "a, b, c, 0, 0"),
     "compare_exchange_weak": ("int", "void *a, void *b, long c, int o, int p", "a, b, c, 0, 0"),
-    **{name: ("long", "void *a, long b, int o", "a, b, 0")
-       for name in ("exchange", "fetch_add", "fetch_sub", "fetch_and", "fetch_or", "fetch_xor", "fetch_nand")},
+    **{
+        name: ("long", "void *a, long b, int o", "a, b, 0")
+        for name in ("exchange", "fetch_add", "fetch_sub", "fetch_and", "fetch_or", "fetch_xor", "fetch_nand")
+    },
 }
 BITS = {8: "unsigned char", 16: "unsigned short", 32: "unsigned", 64: "unsigned long"}
 FENCE = "__tsan_atomic_thread_fence"
 ORDERED = re.compile(r"R_X86_64_\w+ +(__tsan_atomic\w+)")
 
 
-def sanitized(text):
+def sanitized(text: str) -> str:
     """The text of a module, with each function under the sanitizer."""
     text = re.sub(r"^(attributes #\d+ = \{)", r"\1 sanitize_thread", text, flags=re.M)
     return re.sub(r"^(define (?:(?! #\d).)*\))((?:(?! #\d).)*\{)$", r"\1 sanitize_thread\2", text, flags=re.M)
 
 
-def weakened():
-    """What the linker is told for the control, and the C that its atomics call: the sanitizer's own, with nothing ordered."""
+def weakened() -> tuple[list[str], str]:
+    """What the linker is told for the control, and the C that its atomics call: the sanitizer's own, with nothing
+    ordered.
+    """
     lines, names = [f"void __wrap_{FENCE}(int o) {{ }}"], [FENCE]
     for bits, of in BITS.items():
         for what, parts in ATOMICS.items():
             answer, words, handed = (part.replace("long", of) for part in parts)
             name = f"__tsan_atomic{bits}_{what}"
-            lines.append(f"{answer} __real_{name}({words}); {answer} __wrap_{name}({words}) {{ return __real_{name}({handed}); }}")
+            lines.append(
+                f"{answer} __real_{name}({words}); {answer} __wrap_{name}({words})"
+                f" {{ return __real_{name}({handed}); }}"
+            )
             names.append(name)
     return [f"-Wl,--wrap={name}" for name in names], "\n".join(lines)
 
 
-def done(words, folder):
+def done(words: list[str], folder: str) -> str:
     """Runs a command, which has to end well; what it prints."""
     ended = subprocess.run(words, cwd=folder, stdin=subprocess.DEVNULL, capture_output=True, text=True)
     if ended.returncode != 0:
@@ -76,7 +88,7 @@ def done(words, folder):
     return ended.stdout
 
 
-def linked(folder, made, target, options=(), text=""):
+def linked(folder: str, made: str, target: str, options: typing.Sequence[str] = (), text: str = "") -> None:
     """Links a program of what was made, with these options and this C besides."""
     source, shim = os.path.join(folder, "shim.c"), os.path.join(folder, "shim.o")
     with open(source, "w", encoding="ascii") as file:
@@ -85,14 +97,16 @@ def linked(folder, made, target, options=(), text=""):
     done(["gcc", "-fsanitize=thread", "-pie", *options, "-o", target, shim, made, *trial.libraries()], folder)
 
 
-def built():
-    """The paths of the program and of the control, and how many calls of atomics are weakened in it; builds them where they are not there."""
+def built() -> tuple[str, str, int]:
+    """The paths of the program and of the control, and how many calls of atomics are weakened in it; builds them where
+    they are not there.
+    """
     mark = os.path.join(sources.KEPT, "races.json")
     paths = [os.path.join(sources.KEPT, name) for name in ("races", "races-weakened")]
     module = os.environ.get("MODULE")
     now, kept = sources.sum_of(module) if module else sources.Sources().code, sources.read_json(mark)
     if kept.get("sources") == now and all(map(os.path.exists, paths)):
-        return *paths, kept["calls"]
+        return paths[0], paths[1], kept["calls"]
     console.Teller().say("building the program under the sanitizer, and its control, some minutes")
     sources.make_folder()
     with tempfile.TemporaryDirectory(prefix="suites-") as folder:
@@ -101,7 +115,10 @@ def built():
         done([trial.clang(), "-S", "-emit-llvm", "-Xclang", "-disable-llvm-passes", "-w", module, "-o", plain], folder)
         with open(plain, encoding="latin1") as file, open(text, "w", encoding="latin1") as new:
             new.write(sanitized(file.read()))
-        done([trial.clang(), trial.LEVEL, "-fPIE", *trial.CAREFUL, "-w", "-fsanitize=thread", "-c", text, "-o", made], folder)
+        done(
+            [trial.clang(), trial.LEVEL, "-fPIE", *trial.CAREFUL, "-w", "-fsanitize=thread", "-c", text, "-o", made],
+            folder,
+        )
         options, weak = weakened()
         calls = ORDERED.findall(done(["objdump", "-r", made], folder))
         if unknown := {name for name in calls if f"-Wl,--wrap={name}" not in options}:
@@ -109,14 +126,18 @@ def built():
         linked(folder, made, paths[0])
         linked(folder, made, paths[1], options, weak)
     sources.write_whole(mark, f'{{"sources": "{now}", "calls": {len(calls)}}}')
-    return *paths, len(calls)
+    return paths[0], paths[1], len(calls)
 
 
-def reports(program, runs, with_names):
-    """How many runs of a program there were, how many reports of them, and how many did not end as `serve` does. The first report
-    is printed where names are wanted; without them a report is had ten times sooner."""
+def reports(program: str, runs: int, with_names: bool) -> tuple[int, int, int]:
+    """How many runs of a program there were, how many reports of them, and how many did not end as `serve` does. The
+    first report is printed where names are wanted; without them a report is had ten times sooner.
+    """
     count, found, other = 0, 0, 0
-    options = {**os.environ, "TSAN_OPTIONS": f"exitcode=0 halt_on_error=0 report_thread_leaks=0 symbolize={int(with_names)}"}
+    options = {
+        **os.environ,
+        "TSAN_OPTIONS": f"exitcode=0 halt_on_error=0 report_thread_leaks=0 symbolize={int(with_names)}",
+    }
     for name in SCRIPTS:
         with open(os.path.join(played.TOP, "examples", "serve", f"{name}.script"), encoding="utf-8") as file:
             script = file.read()
@@ -126,7 +147,10 @@ def reports(program, runs, with_names):
             ended = subprocess.run(words, input=script, capture_output=True, text=True, env=options)
             count += 1
             if with_names and not found and REPORT in ended.stderr:
-                print(f"{name} with {agents} agents: {REPORT}{ended.stderr.partition(REPORT)[2].partition('==================')[0]}")
+                print(
+                    f"{name} with {agents} agents:"
+                    f" {REPORT}{ended.stderr.partition(REPORT)[2].partition('==================')[0]}"
+                )
             found += ended.stderr.count(REPORT)
             other += ended.returncode != 0 or not LAST.search(ended.stdout)
             if REPORT not in ended.stderr and ended.stderr:
@@ -134,13 +158,19 @@ def reports(program, runs, with_names):
     return count, found, other
 
 
-def main():
-    runs = int(sys.argv[1]) if len(sys.argv) > 1 else 2
+def main() -> int:
+    read = console.words(__doc__)
+    read.add_argument("runs", nargs="?", type=int, default=2)
+    runs = read.parse_args().runs
     program, control, calls = built()
     begun = time.monotonic()
     count, found, other = reports(program, runs, True)
-    print(f"{count} runs with {AGENTS[0]} to {AGENTS[-1]} agents: {found} reports of a race, {other} that did not end certified;"
-          f" {time.monotonic() - begun:.1f} s", flush=True)
+    print(
+        f"{count} runs with {AGENTS[0]} to {AGENTS[-1]} agents: {found} reports of a race,"
+        f" {other} that did not end certified;"
+        f" {time.monotonic() - begun:.1f} s",
+        flush=True,
+    )
     begun = time.monotonic()
     again, seen, _ = reports(control, runs, False)
     print(f"control: {calls} calls of atomics weakened, {again} runs: {seen} reports; {time.monotonic() - begun:.1f} s")

@@ -1,16 +1,17 @@
 #!/usr/bin/env python3
 """tests/shown_page.py [--shots FOLDER]
 
-Opens the pages of tools/show.py in a headless Chromium, steps through them by keys, and looks whether what they say is what
-`trace` tells in lines. Without Chromium it prints "skipped: no chromium" and ends with 0. With --shots it leaves pictures
-of some pages in a folder. Status 1 where something differs.
+Opens the pages of tools/show.py in a headless Chromium, steps through them by keys, and looks whether what they say is
+what `trace` tells in lines. Without Chromium it prints "skipped: no chromium" and ends with 0. With --shots it leaves
+pictures of some pages in a folder. Status 1 where something differs.
 
 model    the world behind the last event, as the page's model comes to it (by `node`, where that is there), is the one
          that the program tells at the end: also of random scripts
 stories  each story of examples/play, at its end and at its beginning: servers, copies, locks, and what `play` prints
 hostile  what bytes hold, and names of users in a script, stays text
 hands    keys, clicks, what is explained to whoever points at it, a file through time, dark and light, and on paper
-many     five servers and 300 requests, and 2,000 events: each step takes no longer than a picture of a film (processor time)
+many     five servers and 300 requests, and 2,000 events: each step takes no longer than a picture of a film (processor
+         time)
 """
 import argparse
 import json
@@ -24,7 +25,6 @@ import tempfile
 import browser
 import played
 
-sys.path.insert(0, os.path.join(played.TOP, "tools"))
 import scenario
 import show
 import trace
@@ -43,7 +43,8 @@ STEPS = 60
 SEEN = """(() => ({
   servers: [...document.querySelectorAll('[data-server]')].map((card) => ({
     up: card.dataset.up === 'true',
-    copies: [...card.querySelectorAll('[data-copy]')].map((one) => [one.dataset.copy, one.dataset.prefix, one.dataset.content].map(Number)),
+    copies: [...card.querySelectorAll('[data-copy]')].map((one) =>
+      [one.dataset.copy, one.dataset.prefix, one.dataset.content].map(Number)),
     locks: [...card.querySelectorAll('[data-lock]')].map((one) => one.dataset.lock) })),
   told: [...document.querySelectorAll('#script .told:not(.later)')].map((one) => one.dataset.told),
   text: [...document.querySelectorAll('#script .told:not(.later)')].map((one) => one.textContent),
@@ -68,7 +69,8 @@ last.agents.forEach((agent, number) => {
   const own = world.agents[number];
   const sites = [...new Set(own.cache.map((entry) => entry.site))].sort((a, b) => a - b);
   if (own.jobs !== agent.jobs) wrong.push(`jobs of ${number}`);
-  if (JSON.stringify(sites) !== JSON.stringify(agent.keeps)) wrong.push(`cache of ${number}: ${sites} for ${agent.keeps}`);
+  if (JSON.stringify(sites) !== JSON.stringify(agent.keeps))
+    wrong.push(`cache of ${number}: ${sites} for ${agent.keeps}`);
   if ((own.job !== null) !== (agent.next !== undefined)) wrong.push(`job of ${number}`);
 });
 console.log(JSON.stringify(wrong));
@@ -91,7 +93,7 @@ class Judge:
 class Pages:
     """Pages of scripts, in a folder, which a browser opens."""
 
-    def __init__(self, driver: browser.Browser, folder: str):
+    def __init__(self, driver: browser.Browser, folder: str) -> None:
         self.driver, self.folder, self.count = driver, folder, 0
 
     def open(self, script: str) -> int:
@@ -176,7 +178,8 @@ def whole(judge: Judge, pages: Pages) -> None:
 
 def hostile(judge: Judge, pages: Pages) -> None:
     digits = EVIL.encode().hex()
-    pages.open(script_of(f"user {NAMED} 1001", f"begin 0 1000 100 0 file /a u::rw,u:{NAMED}:rw,g::r,m::rw,o::- ; write /a {digits}",
+    asked = f"file /a u::rw,u:{NAMED}:rw,g::r,m::rw,o::- ; write /a {digits}"
+    pages.open(script_of(f"user {NAMED} 1001", f"begin 0 1000 100 0 {asked}",
                          "run 0", "begin 0 1000 100 0 read /a", "run 0"))
     pages.driver.press("End")
     driver = pages.driver
@@ -231,7 +234,8 @@ def hands(judge: Judge, pages: Pages) -> None:
 
 def large(requests: int) -> str:
     """A script with five servers and so many requests, about."""
-    lines = ["servers 5", "agents 3", "votes 1,1,1,1,1/3/3", *HEADER[3:], "begin 0 1000 100 0 folder /d 777 ; file /d/f 666 ; file /g 644", "run 0"]
+    lines = ["servers 5", "agents 3", "votes 1,1,1,1,1/3/3", *HEADER[3:]]
+    lines += ["begin 0 1000 100 0 folder /d 777 ; file /d/f 666 ; file /g 644", "run 0"]
     for number in range(requests // 16):
         agent = number % 3
         asked = ("read /d/f", f"write /d/f {number:04x}", "list /d", "setacl /g u::rw,g::r,o::-", "read /g")[number % 5]
@@ -250,7 +254,8 @@ def many(judge: Judge, pages: Pages, shots: str | None) -> None:
         pages.driver.value(f"for (let at = 0; at < {STEPS}; at += 1) Page.go(at * 7 % Page.run.last)")
         took = (pages.driver.busy() - begun) / STEPS
         judge.holds(took < MOST_STEP, "milliseconds of a step", took)
-        judge.holds(pages.driver.value("document.querySelectorAll('.row').length") < 100, "rows that nobody looks at are drawn")
+        rows = pages.driver.value("document.querySelectorAll('.row').length")
+        judge.holds(rows < 100, "rows that nobody looks at are drawn", rows)
         print(f"{last} events: {size:,} bytes, {took:.1f} ms a step", flush=True)
         for at in (last // 4, last // 2, last) if shots else ():
             pages.driver.value(f"Page.go({at})")

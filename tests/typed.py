@@ -7,7 +7,6 @@ print what is shown below it. Left out are those with a word to be filled in, as
 take an hour or are the tests themselves, and `--is-fresh`, whose status is that of the build. Prints each that
 differs; status 1 where one does.
 """
-import os
 import re
 import subprocess
 import sys

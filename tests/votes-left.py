@@ -79,8 +79,8 @@ def check_scripts(_: argparse.Namespace, __: random.Random) -> tuple[int, list[s
 
 # Scripts of seven servers that move votes, with servers down meanwhile. The root folder's list and votes may move too.
 MOVED = "servers 7\nagents 2\nvotes {}\nroot 1000 100 777\ncache 0 0 0\nbegin 0 1000 100 0 file /a 666 {}\nrun 0\n"
-RULES = {"1,1,1,1,1/2/3": "R + w is 5, and N, all votes together, is 5: a read could miss a write",
-         "1,1,1,1/3/2": "2w is 4, and N, all votes together, is 4: two writes could miss one another",
+RULES = {"1,1,1,1,1/2/3": "Here r + w is 5, and N, all votes together, is 5: a read could miss a write",
+         "1,1,1,1/3/2": "Here 2w is 4, and N, all votes together, is 4: two writes could miss one another",
          "1,1,1/2/4": "A write collects 4, and all votes together are 3", "1,1,1": "'1,1,1' stands where VOTES are due"}
 
 
@@ -166,7 +166,7 @@ def main() -> int:
     read.add_argument("--seed", type=int, default=1)
     read.add_argument("program", nargs="?")
     given = read.parse_args()
-    given.program = played.program([given.program] if given.program else [])
+    given.program = played.program(given.program)
     dice, is_wrong = random.Random(given.seed), False
     for what, check in (("scripts", check_scripts), ("searches", check_moved), ("shapes", check_shapes)):
         count, wrong = check(given, dice)

@@ -21,12 +21,10 @@ import collections
 import fractions
 import itertools
 import math
-import os
 import random
 import re
 import subprocess
 import sys
-import tempfile
 import typing
 
 import played
@@ -373,7 +371,7 @@ def main() -> int:
     read.add_argument("--seed", type=int, default=1)
     read.add_argument("program", nargs="?")
     given = read.parse_args()
-    given.program = played.program([given.program] if given.program else [])
+    given.program = played.program(given.program)
     dice, is_wrong = random.Random(given.seed), False
     for what, check in (("examples", check_examples), ("tries of play", check_losses), ("words", check_faults)):
         count, wrong = check(given, dice)

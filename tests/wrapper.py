@@ -40,6 +40,7 @@ exit "$word"
 HELP = (
     "help votes",
     "help trace",
+    "help show",
     "help --test",
     "--help",
     "-h",

@@ -9,7 +9,6 @@ builds at once wait for each other. Status 0: the program is there; 1: it is not
 import os
 import select
 import subprocess
-import sys
 import tempfile
 import time
 
@@ -107,8 +106,14 @@ def build(needs: dict[str, list[str]], teller: console.Teller) -> tuple[str, str
 
 
 def main() -> int:
+<<<<<<< HEAD
     if len(sys.argv) > 1:
         raise console.Stop("--prove takes no other word than trace, may or explore")
+=======
+    read = console.words(__doc__)
+    read.usage = "./suites --prove [trace|may]"
+    read.parse_args()
+>>>>>>> origin/next
     kit = sources.Kit()
     kit.wanted()
     sources.make_folder()

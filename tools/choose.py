@@ -13,7 +13,6 @@ import os
 import re
 import shlex
 import subprocess
-import sys
 import typing
 
 import console
@@ -114,7 +113,8 @@ def build() -> None:
         teller = console.Teller()
         now, kit = sources.Sources(), sources.Kit()
         teller.say(
-            f"nothing is built of these sources yet: making a checked build of {sources.PROGRAM}, some two minutes"
+            f"the program {sources.PROGRAM} of these sources is not built yet: making a checked build of it, some two"
+            " minutes"
         )
         kind, part = "checked", f"{path_of('checked')}.part"
         try:
@@ -156,10 +156,15 @@ def version() -> typing.Iterator[str]:
 
 
 def main() -> int:
-    if sys.argv[1:] == ["--version"]:
+    read = console.words(__doc__)
+    form = read.add_mutually_exclusive_group()
+    form.add_argument("--version", action="store_true")
+    form.add_argument("--is-fresh", action="store_true")
+    given = read.parse_args()
+    if given.version:
         print("\n".join(version()))
         return 0
-    if sys.argv[1:] == ["--is-fresh"]:
+    if given.is_fresh:
         return 0 if is_fresh("proved", sources.Sources(), sources.Kit(), True) else 1
     kind = choose()
     while not kind:

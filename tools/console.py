@@ -1,6 +1,7 @@
 """What the tools that build the program say on standard error, how two builds wait for each other, and how a build is
 stopped.
 """
+import argparse
 import contextlib
 import fcntl
 import os
@@ -97,6 +98,11 @@ def name_of_input() -> str:
     """The name of the file that standard input is, as a shell takes it; what stands for it where it is none."""
     name = os.readlink("/proc/self/fd/0")
     return shlex.quote(os.path.relpath(name)) if os.path.isfile(name) else "SCRIPT"
+
+
+def words(text: str) -> argparse.ArgumentParser:
+    """What reads the words of a command line; help is the text at the head of the tool."""
+    return argparse.ArgumentParser(description=text, formatter_class=argparse.RawDescriptionHelpFormatter)
 
 
 def tail(text: str, lines: int = 20) -> str:

@@ -144,6 +144,7 @@ def shown(line: str) -> str:
     """A line of the page as a terminal is to show it: of an example each line and what it prints by itself."""
     if not line.startswith("- "):
         return filled(line)
+    line = re.sub(r"^- whole (\w+):", r"- \1, from the first line on:", line)
     told, place, first = [], 2, "  - "
     for found in EXAMPLE.finditer(line):
         told.append(filled(line[place : found.start()].strip(), first, "    "))

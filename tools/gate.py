@@ -14,6 +14,7 @@ import sys
 import time
 
 sys.dont_write_bytecode = True
+import console
 import gate_times
 
 TOOLS = os.path.dirname(os.path.abspath(__file__))
@@ -103,6 +104,7 @@ def tell(times: gate_times.Times, begun: float, number: int | None) -> None:
 
 
 def main() -> int:
+    console.words(__doc__).parse_args()
     if subprocess.run([sys.executable, os.path.join(TOOLS, "test.py")], stdin=subprocess.DEVNULL).returncode != 0:
         return 1
     begun, number = time.monotonic(), lanes()

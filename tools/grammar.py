@@ -264,16 +264,16 @@ def of_votes(word: str, where: Where) -> Wrong | None:
         return Wrong(
             "V6",
             (
-                f"r + w is {read + write}, and N, all votes together, is {total}: a read could miss a write; r + w is"
-                " above N"
+                f"here r + w is {read + write}, and N, all votes together, is {total}: a read could miss a write;"
+                " r + w has to be above N"
             ),
         )
     if 2 * write <= total:
         return Wrong(
             "V7",
             (
-                f"2w is {2 * write}, and N, all votes together, is {total}: two writes could miss one another; 2w is"
-                " above N"
+                f"here 2w is {2 * write}, and N, all votes together, is {total}: two writes could miss one another;"
+                " 2w has to be above N"
             ),
         )
     return None
@@ -344,7 +344,12 @@ def form_of_item(fields: list[str]) -> str | None:
     if count == 3 and fields[1] and kind in ("mask", "other"):
         return f"the entry of {OF_KIND[kind]} names nobody, and here it names {quoted(fields[1])}"
     bad = NO_NAME.search(fields[1]) if count == 3 else None
-    return permissions(fields[-1]) or (f"{quoted(bad[0])} stands in no name" if bad else None)
+    return permissions(fields[-1]) or (f"{quoted(bad[0])} stands in no name{of_escape(bad[0])}" if bad else None)
+
+
+def of_escape(byte: str) -> str:
+    """What is told of a backslash: where getfacl prints a name with one, or with a space, it writes an escape."""
+    return "; a name with an escape, as getfacl prints it, is not read: write its number" if byte == "\\" else ""
 
 
 def entry_of(item: str, names: Names | None) -> tuple[str, str] | tuple[str, str, int | str | None]:

@@ -1,5 +1,6 @@
 """The paths of files and folders, so far as a trace tells the names of folders."""
 import re
+from collections.abc import Iterable
 
 NAMES = re.compile(r"suite (\d+)\b[^;:]*(?:: given, content \d+)? names((?: \S+=\d+)+)")
 # How many texts are kept, so that they need not be read again.
@@ -9,10 +10,11 @@ FEW = 4096
 class Paths:
     """The paths of files and folders, by their numbers, so far as a folder with their names was told."""
 
-    def __init__(self):
-        self.known, self.placed, self.waiting, self.read = {0: "/"}, {0}, {}, set()
+    def __init__(self) -> None:
+        self.known, self.placed, self.read = {0: "/"}, {0}, set[str]()
+        self.waiting: dict[int, list[tuple[str, int]]] = {}
 
-    def learn(self, text):
+    def learn(self, text: str) -> None:
         """Takes what is told in lines of a trace."""
         at = text.find(" names ")
         while at >= 0:
@@ -29,7 +31,7 @@ class Paths:
                         self.place(int(folder), name, int(suite))
             at = text.find(" names ", end)
 
-    def place(self, folder, name, suite):
+    def place(self, folder: int, name: str, suite: int) -> None:
         """A suite is in a folder under a name. It is there for good: what is made later has another number."""
         if suite in self.placed:
             return
@@ -44,7 +46,7 @@ class Paths:
                 self.waiting.setdefault(folder, []).append((name, suite))
 
 
-def paths(lines):
+def paths(lines: Iterable[str]) -> dict[int, str]:
     """The paths of files and folders, by their numbers, so far as a folder with their names was told."""
     found = Paths()
     for line in lines:

@@ -44,10 +44,6 @@ import os
 import sys
 from typing import NoReturn
 
-TOOLS = os.path.dirname(os.path.abspath(__file__))
-if TOOLS not in sys.path:
-    sys.path.insert(0, TOOLS)
-
 from machine import changes, everybody, lint, names, people, telling, under
 from machine.lists import BITS, Bad, Unread, quoted
 from machine.linux import WRITE

@@ -16,6 +16,8 @@ import re
 import sys
 import typing
 
+import console
+
 TOP = os.path.realpath(os.path.join(os.path.dirname(os.path.abspath(__file__)), ".."))
 FOLDERS = ("crates", "tools", "tests", "bench", "examples")
 LEFT_OUT = {"out", "__pycache__"}
@@ -147,6 +149,7 @@ def counts_told(path: str) -> typing.Iterator[tuple[int, str]]:
 
 
 def main() -> int:
+    console.words(__doc__).parse_args()
     known, members, bare = set(), [], []
     for path in files():
         text = content(path)

@@ -18,6 +18,8 @@ import re
 import sys
 import typing
 
+import console
+
 TOP = os.path.realpath(os.path.join(os.path.dirname(os.path.abspath(__file__)), ".."))
 PAGE = os.path.join(TOP, "docs", "PROVED.md")
 LAWS = "<!-- laws: written by tools/proved_page.py -->", "<!-- end of laws -->"
@@ -184,6 +186,9 @@ def written(text: str, marks: tuple[str, str], table: str) -> tuple[str, str]:
 
 
 def main() -> int:
+    read = console.words(__doc__)
+    read.add_argument("--check", action="store_true")
+    given = read.parse_args()
     text = content(PAGE)
     if any(mark not in text for mark in (*LAWS, *FUNCTIONS)):
         print("docs/PROVED.md has no marks for its two tables")
@@ -192,7 +197,7 @@ def main() -> int:
     new, _ = written(new, FUNCTIONS, table_of_functions())
     wrong = list(faults(before))
     print(*wrong, sep="\n", end="\n" if wrong else "")
-    if "--check" not in sys.argv[1:]:
+    if not given.check:
         with open(PAGE, "w", encoding="utf-8") as file:
             file.write(new)
         return 1 if wrong else 0

@@ -7,8 +7,8 @@ alone: it needs a browser, and neither a network nor these tools.
 
     --open   writes the page into a new file, and opens that in a browser
 
-On the page: the arrow keys, Home and End go through the run, and space plays it. A click on an arrow goes there, one on a
-folded phase opens it, and one on a path shows the file through time. What has dots below it is explained to whoever
+On the page: the arrow keys, Home and End go through the run, and space plays it. A click on an arrow goes there, one on
+a folded phase opens it, and one on a path shows the file through time. What has dots below it is explained to whoever
 points at it.
 """
 import argparse
@@ -29,7 +29,8 @@ PARTS = os.path.join(trace.TOOLS, "show")
 FILES = {"STYLE": "style.css", "MODEL": "model.js", "DRAWING": "drawing.js", "PAGE": "page.js"}
 # Words of the page that are explained elsewhere than their like.
 OWN = {
-    "stale": "A copy is stale where one of a newer version is in effect elsewhere: stored, or left by a decided transaction.",
+    "stale": "A copy is stale where one of a newer version is in effect elsewhere:"
+    " stored, or left by a decided transaction.",
     "exclusive": "A lock to write: it keeps all others out.",
     "shared": "A lock to read: others may have one too, but none to write.",
 }
@@ -55,7 +56,8 @@ def events_of(script: bytes) -> list[str]:
     with tempfile.TemporaryFile() as given:
         given.write(script)
         given.seek(0)
-        done = subprocess.run([trace.program(), "--json"], stdin=given, stdout=subprocess.PIPE, env=trace.ENV, check=False)
+        words = [trace.program(), "--json"]
+        done = subprocess.run(words, stdin=given, stdout=subprocess.PIPE, env=trace.ENV, check=False)
     text = done.stdout.decode("latin1")
     if done.returncode != 0:
         sys.stdout.write(text)

@@ -14,16 +14,14 @@ import re
 import sys
 import typing
 
+import console
 import draw
+import read_rows
 import sources
 import trace
 import votes
 
 TOP = os.path.join(os.path.dirname(os.path.abspath(__file__)), "..")
-sys.path.append(os.path.join(TOP, "tests"))
-import played
-import typing
-
 PICTURE, STORY = "docs/revocation.svg", "examples/play/revocation.script"
 HELP, OF_TOOLS = "help", ("tools.txt", "explore.txt")
 # The commands of which no row can tell the output.
@@ -40,7 +38,7 @@ def content(name: str) -> bytes:
 
 def rows() -> list[tuple[str, bytes, bytes]]:
     """The rows: words, input and output of each."""
-    return [(b" ".join(row["words"]).decode(), row["input"], row["output"]) for row in played.rows()]
+    return [(b" ".join(row["words"]).decode(), row["input"], row["output"]) for row in read_rows.rows()]
 
 
 def stories() -> typing.Iterator[tuple[str, bytes, bytes]]:
@@ -108,7 +106,12 @@ def told_of_votes(block: list[bytes]) -> bytes | None:
 
 
 def main() -> int:
+<<<<<<< HEAD
     known = [*rows(), *stories()]
+=======
+    console.words(__doc__).parse_args()
+    known = rows()
+>>>>>>> origin/next
     wrong = list(texts_of_help(known))
     inputs = {given for _, given, _ in known}
     for folder, _, names in sorted(os.walk(os.path.join(TOP, "examples"))):
@@ -131,7 +134,7 @@ def main() -> int:
         elif text in outputs:
             outputs = set()
         else:
-            outputs = {printed for _, given, printed in known if played.said(given) == played.said(text)}
+            outputs = {printed for _, given, printed in known if read_rows.said(given) == read_rows.said(text)}
             if not outputs:
                 wrong.append(f"README.md:{number}: this block is a script or an output of no row")
     if content("crates/trace/stdin") != content(STORY):

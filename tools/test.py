@@ -128,6 +128,7 @@ PARTS = (
     Part("pictures", tool("tests/drawn.py"), [TRACE]),
     Part("events", tool("tests/events.py"), [TRACE]),
     Part("pages in a browser", tool("tests/shown_page.py"), [TRACE]),
+    Part("work done anew", tool("tests/work.py"), [PROGRAM]),
     Part("random scripts", tool("tools/compare.py", "--seeds", "200"), [PROGRAM, TRACE]),
 )
 # What --long adds; of allocations each 61st is refused, and inputs are cut at each 29th byte.
@@ -185,9 +186,10 @@ def play_all(parts: typing.Sequence[Part], number: int, teller: console.Teller) 
 
 
 def main() -> int:
-    if sys.argv[1:] not in ([], ["--long"]):
-        raise console.Stop("--test takes no other word than --long")
-    parts = (*PARTS, *LONG) if sys.argv[1:] else PARTS
+    read = console.words(__doc__)
+    read.usage = "./suites --test [--long]"
+    read.add_argument("--long", action="store_true")
+    parts = (*PARTS, *LONG) if read.parse_args().long else PARTS
     sources.Kit().wanted()
     sources.make_folder()
     teller, number = console.Teller(), lanes()

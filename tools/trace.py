@@ -14,6 +14,7 @@ Where it takes longer than two seconds it says on a terminal how far it is.
 """
 import argparse
 import contextlib
+import dataclasses
 import functools
 import os
 import re
@@ -23,6 +24,8 @@ import subprocess
 import sys
 import tempfile
 import time
+from collections.abc import Iterable, Iterator, Mapping
+from typing import Any, BinaryIO, NoReturn
 
 import console
 from known_paths import FEW, Paths, paths
@@ -48,9 +51,10 @@ EXPLAINED = {6: "the input is above 16 MiB, or a read or a write failed (./suite
 ENV = {**os.environ, "SUITES_PROGRAM": "trace"}
 
 
-def kept_choice(name):
+def kept_choice(name: str) -> tuple[str, str] | None:
     """The kind and the path of the program of this name that was chosen last, where all stands that it was chosen from
-    (`./suites` looks so at the program `suites`): choosing takes longer than playing a story."""
+    (`./suites` looks so at the program `suites`): choosing takes longer than playing a story.
+    """
     path = os.path.join(TOP, "out", f"{name}-choice.sh")
     with contextlib.suppress(OSError, ValueError, KeyError), open(path, encoding="utf-8") as file:
         kept = dict(word.split("=", 1) for word in shlex.split(file.read()))
@@ -63,16 +67,16 @@ def kept_choice(name):
 
 
 @functools.cache
-def program(name="trace"):
+def program(name: str = "trace") -> str:
     """The program of this name: the proved one where it is that of the sources, else a checked build."""
     choice = kept_choice(name)
     if not choice:
-        env = {**os.environ, "SUITES_PROGRAM": name}
-        words = [sys.executable, os.path.join(TOOLS, "choose.py")]
+        words, env = [sys.executable, os.path.join(TOOLS, "choose.py")], {**os.environ, "SUITES_PROGRAM": name}
         chosen = subprocess.run(words, env=env, stdin=subprocess.DEVNULL, stdout=subprocess.PIPE, text=True)
         if chosen.returncode != 0:
             sys.exit(chosen.returncode)
-        choice = chosen.stdout.split()
+        kind, path = chosen.stdout.split()
+        choice = kind, path
     kind, path = choice
     if kind == "checked":
         text = f"checked build of {name}, not proved yet; ./suites --prove {name} proves and builds it"
@@ -83,22 +87,22 @@ def program(name="trace"):
 class Progress:
     """Says on a terminal how far a tool is, where that takes its time."""
 
-    def __init__(self):
-        self.teller, self.last = console.Teller(), 0
+    def __init__(self) -> None:
+        self.teller, self.last = console.Teller(), 0.0
         self.is_over = not self.teller.changes
 
-    def say(self, text):
+    def say(self, text: str) -> None:
         seconds = time.monotonic() - self.teller.begun
         if not self.is_over and seconds >= max(PATIENCE, self.last + AGAIN):
             self.last = seconds
             self.teller.say(f"{text}, {int(seconds)} s", False)
 
-    def make_way(self):
+    def make_way(self) -> None:
         """Before something is written: says nothing more where that goes to the terminal too."""
         if not self.is_over and sys.stdout.isatty():
             self.end()
 
-    def end(self):
+    def end(self) -> None:
         """Takes away what was said last, and says nothing more."""
         if self.last and not self.is_over:
             sys.stderr.write("\r\033[K")
@@ -109,28 +113,31 @@ class Progress:
 class Run:
     """The program `trace`, which plays a script, and what it prints, which is kept in a file."""
 
-    def __init__(self, script):
-        self.printed, self.size, self.places, self.progress = tempfile.TemporaryFile(), 0, [], Progress()
+    def __init__(self, script: bytes) -> None:
+        self.printed, self.size, self.progress = tempfile.TemporaryFile(), 0, Progress()
+        self.places: list[tuple[int, int]] = []
         self.count = max(1, script.count(b"\n"))
         with tempfile.TemporaryFile() as given:
             given.write(script)
             given.seek(0)
             self.process = console.start([program()], None, self.printed, stdin=given, stderr=None, env=ENV)
 
-    def __enter__(self):
+    def __enter__(self) -> "Run":
         return self
 
-    def __exit__(self, *_):
+    def __exit__(self, *_: object) -> None:
         self.progress.end()
         console.stop(self.process)
 
-    def text(self, place):
+    def text(self, place: tuple[int, int]) -> str:
         begin, end = place
         return os.pread(self.printed.fileno(), end - begin, begin).decode("latin1")
 
-    def pieces(self):
-        """What is printed, while the program plays, in pieces of whole lines of the script with all that is below them: where
-        each begins and ends in the file. Ends the tool as the program ends where that does not play the script to its end."""
+    def pieces(self) -> Iterator[tuple[int, int]]:
+        """What is printed, while the program plays, in pieces of whole lines of the script with all that is below them:
+        where each begins and ends in the file. Ends the tool as the program ends where that does not play the script to
+        its end.
+        """
         begin = played = 0
         while True:
             has_ended = self.process.poll() is not None
@@ -153,7 +160,7 @@ class Run:
         self.places.append((begin, self.size))
         yield self.places[-1]
 
-    def give_up(self, text):
+    def give_up(self, text: str) -> NoReturn:
         """Ends the tool as the program has ended, with what it printed last."""
         self.progress.end()
         sys.stdout.write(text)
@@ -164,29 +171,34 @@ class Run:
             console.Teller().say(EXPLAINED[self.process.returncode])
         sys.exit(self.process.returncode)
 
-    def play(self):
-        """Waits until the script is played to its end. Answers the paths that were met, by the numbers of what has them."""
+    def play(self) -> dict[int, str]:
+        """Waits until the script is played to its end. Answers the paths that were met, by the numbers of what has
+        them.
+        """
         found = Paths()
         for place in self.pieces():
             found.learn(self.text(place))
         return found.known
 
-    def __iter__(self):
+    def __iter__(self) -> Iterator[str]:
         """All pieces, once the program has played the script to its end."""
         for place in self.places:
             yield self.text(place)
             self.progress.say(f"the script is played, {100 * place[1] // self.size} % of it is looked through")
 
 
-def traced(script):
-    """The lines of the trace of a script, by the program `trace`; ends the tool as that ends where the script has a fault."""
+def traced(script: bytes) -> list[str]:
+    """The lines of the trace of a script, by the program `trace`; ends the tool as that ends where the script has a
+    fault.
+    """
     with Run(script) as run:
         return [line for place in run.pieces() for line in run.text(place).split("\n")[:-1]]
 
 
-def blocks(lines):
+def blocks(lines: Iterable[str]) -> Iterator[tuple[str, list[str]]]:
     """The lines of the trace below each line of the script, and those of each server at the end, each with its head."""
-    head, block = None, []
+    head: str | None = None
+    block: list[str] = []
     for line in lines:
         if line[:1] in (">", "="):
             if head:
@@ -198,20 +210,23 @@ def blocks(lines):
         yield head, block
 
 
-def asked_in(line):
+def asked_in(line: str) -> str:
     """What is asked in the line of a request; nothing in another line."""
     return line[2:].partition("  ")[2].partition(" : ")[0] if is_request(line) else ""
 
 
-def is_request(line):
+def is_request(line: str) -> bool:
     return line[:2] == "  " and line[2:3].isdigit()
 
 
 class AboutSuite:
-    """Whether lines are about a suite: a request for it, or of a transaction that asked for it, and how its job ended."""
+    """Whether lines are about a suite: a request for it, or of a transaction that asked for it, and how its job
+    ended.
+    """
 
-    def __init__(self, suite, pieces):
-        self.word, self.jobs, self.asked = f" suite {suite} ", {}, set()
+    def __init__(self, suite: int, pieces: Iterable[str]) -> None:
+        self.word, self.asked = f" suite {suite} ", set[str]()
+        self.jobs: dict[str, bool] = {}
         for piece in pieces:
             at = piece.find(self.word)
             while at >= 0:
@@ -221,7 +236,7 @@ class AboutSuite:
                     self.asked.add(words.split(" ", 2)[1])
                 at = piece.find(self.word, end)
 
-    def __call__(self, line):
+    def __call__(self, line: str) -> bool:
         if line[:1].isdigit():
             return self.jobs.pop(line[: line.index(".")], False)
         words = asked_in(line)
@@ -233,15 +248,29 @@ class AboutSuite:
         self.jobs[agent] = self.jobs.get(agent, False) or is_about
         return is_about
 
-    def may_be(self, agent, text):
+    def may_be(self, agent: int, text: str) -> bool:
         """Whether a line may be of what an agent did in its steps, which are looked at all at once."""
-        return self.word in text or "  nothing" in text or self.jobs.get(str(agent), False) or not self.asked.isdisjoint(OF_TRANSACTION.findall(text))
+        if self.word in text or "  nothing" in text or self.jobs.get(str(agent), False):
+            return True
+        return not self.asked.isdisjoint(OF_TRANSACTION.findall(text))
 
 
-def narrowed(pieces, agent, suite):
-    """The lines that are about an agent, and about a suite, of a trace in pieces of whole blocks. For a suite it is gone over twice."""
+@dataclasses.dataclass
+class Block:
+    """A line of the script with what is kept below it, and whether they are shown."""
+
+    is_shown: bool
+    head: str
+    kept: list[str]
+
+
+def narrowed(pieces: Iterable[str], agent: int | None, suite: int | None) -> Iterator[str]:
+    """The lines that are about an agent, and about a suite, of a trace in pieces of whole blocks. For a suite it is
+    gone over twice.
+    """
     about = AboutSuite(suite, pieces) if suite is not None else None
-    held, begun = [], {}
+    held: list[Block] = []
+    begun: dict[int, Block] = {}
     for text in (text for piece in pieces for text in BETWEEN.split(piece[:-1])):
         head, _, below = text.partition("\n")
         words = head[2:].split(None, 2)
@@ -252,12 +281,12 @@ def narrowed(pieces, agent, suite):
         kept = below.split("\n") if below and (not about or words[0] not in STEP or about.may_be(number, below)) else []
         kept = list(filter(about, kept))
         if kept or of_server or not about:
-            held.append([True, head, kept])
+            held.append(Block(True, head, kept))
             if words[0] in STEP and number in begun:
                 # the job came to be about it, so the line that began it is too
-                begun.pop(number)[0] = True
+                begun.pop(number).is_shown = True
         elif words[0] in BEGIN:
-            begun[number] = [False, head, kept]
+            begun[number] = Block(False, head, kept)
             held.append(begun[number])
         if not begun:
             yield from told(held)
@@ -265,16 +294,17 @@ def narrowed(pieces, agent, suite):
     yield from told(held)
 
 
-def told(held):
-    for is_shown, head, kept in held:
-        if is_shown:
-            yield head
-            yield from kept
+def told(held: Iterable[Block]) -> Iterator[str]:
+    for one in held:
+        if one.is_shown:
+            yield one.head
+            yield from one.kept
 
 
-def behind(lines):
+def behind(lines: Iterable[str]) -> Iterator[str]:
     """The lines, and at each copy at the end in what it is behind another one of the same suite."""
-    ending, newest = [], {}
+    ending: list[str] = []
+    newest: dict[str, tuple[int, int]] = {}
     for line in lines:
         if ending or line.startswith("="):
             ending.append(line)
@@ -293,18 +323,21 @@ def behind(lines):
 class WithPaths:
     """Lines with the path before each suite whose path is known by then, and the suites that were met before it was."""
 
-    def __init__(self, known):
-        self.known, self.kept, self.lacking = known, {}, set()
+    def __init__(self, known: dict[int, str]) -> None:
+        self.known, self.lacking = known, set[int]()
+        self.kept: dict[str, str] = {}
 
-    def named(self, found):
+    def named(self, found: re.Match[str]) -> str:
         suite = int(found[1])
         if suite in self.known:
             return f"{self.known[suite]}=suite {found[1]}"
         self.lacking.add(suite)
         return found[0]
 
-    def asked(self, words):
-        """What is asked of suites. It is asked so again and again, so it is kept, where all paths are known: those stay."""
+    def asked(self, words: str) -> str:
+        """What is asked of suites. It is asked so again and again, so it is kept, where all paths are known: those
+        stay.
+        """
         before, self.lacking = self.lacking, set()
         told = SUITE.sub(self.named, f" suite {words.rstrip()}")
         if not self.lacking:
@@ -314,7 +347,7 @@ class WithPaths:
         self.lacking |= before
         return told
 
-    def tell(self, lines):
+    def tell(self, lines: Iterable[str]) -> Iterator[str]:
         kept = self.kept
         for line in lines:
             if line[:2] != "  ":
@@ -331,12 +364,12 @@ class WithPaths:
             yield f"{who.ljust(REPLY_AT)} : {reply}"
 
 
-def with_paths(lines, known):
+def with_paths(lines: Iterable[str], known: dict[int, str]) -> Iterator[str]:
     """The lines, with the path before each suite whose path is known."""
     return WithPaths(known).tell(lines)
 
 
-def asked(words, text, more=None):
+def asked(words: list[str], text: str, more: Mapping[str, Mapping[str, Any]] | None = None) -> argparse.Namespace:
     """The words of the command line, with some more, as argparse has them; help is this text."""
     read = argparse.ArgumentParser(prog=text.split(" [")[0], add_help=False)
     read.add_argument("--agent", type=int)
@@ -354,17 +387,17 @@ def asked(words, text, more=None):
     return given
 
 
-def number_of(suite, known):
+def number_of(suite: str | None, known: dict[int, str]) -> int | None:
     """The number of a suite that is named by its path or number."""
     if suite is None or suite.isdigit():
-        return suite and int(suite)
+        return None if suite is None else int(suite)
     found = [number for number, path in known.items() if path == suite]
     if not found:
         raise console.Stop(f"no path {suite} is met in this run")
     return found[-1]
 
 
-def script(agent=None):
+def script(agent: int | None = None) -> bytes:
     """The script that is read from standard input; ends the tool where it has no such agent."""
     if sys.stdin is None:
         console.Teller().say("a read failed: standard input is closed")
@@ -378,32 +411,35 @@ def script(agent=None):
     return text
 
 
-def text_of(lines):
+def text_of(lines: Iterable[str]) -> str:
     return "\n".join([*lines, ""])
 
 
-def lines_of(text, agent):
+def lines_of(text: str, agent: int | None) -> Iterable[str]:
     """The lines of a piece of a trace, or those that are about an agent, with what is behind where it has the end."""
     lines = text.split("\n")[:-1] if agent is None else narrowed([text], agent, None)
     return behind(lines) if "= server " in text else lines
 
 
-def shown(lines, agent=None, suite=None):
+def shown(lines: list[str], agent: int | None = None, suite: str | None = None) -> str:
     """The text of a trace as the program prints it, or of a part of it, with paths and what is behind."""
     known = paths(lines)
     return text_of(with_paths(behind(narrowed([text_of(lines)], agent, number_of(suite, known))), known))
 
 
 class Held:
-    """What is not written before the end: pieces of a trace, of which those wait that met a suite whose path was not known."""
+    """What is not written before the end: pieces of a trace, of which those wait that met a suite whose path was not
+    known.
+    """
 
-    def __init__(self):
-        self.file, self.pieces = tempfile.TemporaryFile(), []
+    def __init__(self) -> None:
+        self.file = tempfile.TemporaryFile()
+        self.pieces: list[tuple[tuple[int, int], int, int, set[int]]] = []
 
-    def keep(self, place, text, lacking):
+    def keep(self, place: tuple[int, int], text: bytes, lacking: set[int]) -> None:
         self.pieces.append((place, self.file.tell(), self.file.write(text), lacking))
 
-    def texts(self, run, agent, known):
+    def texts(self, run: Run, agent: int | None, known: dict[int, str]) -> Iterator[bytes]:
         """All of it, told anew where it met a suite whose path is known by now."""
         self.file.flush()
         for place, at, size, lacking in self.pieces:
@@ -413,9 +449,10 @@ class Held:
                 yield os.pread(self.file.fileno(), size, at)
 
 
-def write_all(run, out, agent):
-    """Writes a trace, or what is about an agent, while the program plays, up to where a path was not known that may be told
-    later; and then the rest."""
+def write_all(run: Run, out: BinaryIO, agent: int | None) -> None:
+    """Writes a trace, or what is about an agent, while the program plays, up to where a path was not known that may be
+    told later; and then the rest.
+    """
     found, held = Paths(), Held()
     telling = WithPaths(found.known)
     for place in run.pieces():
@@ -432,7 +469,7 @@ def write_all(run, out, agent):
     out.writelines(held.texts(run, agent, found.known))
 
 
-def write_about(run, out, agent, suite):
+def write_about(run: Run, out: BinaryIO, agent: int | None, suite: str | None) -> None:
     """Writes what is about a suite, and of that what is about an agent, once the script is played."""
     known = run.play()
     for line in with_paths(behind(narrowed(run, agent, number_of(suite, known))), known):
@@ -440,7 +477,7 @@ def write_about(run, out, agent, suite):
         out.write(f"{line}\n".encode("latin1"))
 
 
-def main():
+def main() -> int:
     if sys.argv[1:] == ["--json"]:
         os.execve(program(), [program(), "--json"], ENV)
     given = asked(sys.argv[1:], __doc__)

@@ -14,6 +14,7 @@ import os
 import sys
 import typing
 
+import console
 import wrong_bodies
 
 PAGE = os.path.join(wrong_bodies.TOP, "docs", "WRONG-BODIES.md")
@@ -21,23 +22,24 @@ IN_GATE = os.path.join(wrong_bodies.TOP, "docs", "wrong-bodies-in-gate.txt")
 PLACES = ((wrong_bodies.GATE, "gate"), (wrong_bodies.BESIDE, "beside"))
 HEAD = """# Wrong bodies
 
-Each line is an edit that makes a function, a definition or a condition wrong. The prover must refuse it: if it does not, a
-contract is too weak. `tools/wrong_bodies_page.py` writes this page from the edits, so change the edits and not the page.
+Each line is an edit that makes a function, a definition or a condition wrong. The prover must refuse it: if it does
+not, a contract is too weak. `tools/wrong_bodies_page.py` writes this page from the edits, so change the edits and not
+the page.
 
-An edit marked `gate` stands in `crates/NAME/must-fail`, and the gate tries it whenever its crate changes. The gate has the
-edits that break a rule of the service, those that were once let through, and those that a reader would try first. An edit
-marked `beside` stands in `crates/NAME/wrong`. It was refused when it was last tried, or its last column says that it was
-not tried yet; `tools/wrong_bodies.py NAME` tries it again. Try those of a crate before a change of its public contracts or
-its definitions lands.
+An edit marked `gate` stands in `crates/NAME/must-fail`, and the gate tries it whenever its crate changes. The gate
+has the edits that break a rule of the service, those that were once let through, and those that a reader would try
+first. An edit marked `beside` stands in `crates/NAME/wrong`. It was refused when it was last tried, or its last
+column says that it was not tried yet; `tools/wrong_bodies.py NAME` tries it again. Try those of a crate before a
+change of its public contracts or its definitions lands.
 
-The last column names the function, and in brackets the clause or the definition that the edit breaks. A function with one
-clause is named alone.
+The last column names the function, and in brackets the clause or the definition that the edit breaks. A function with
+one clause is named alone.
 
 The gate has none of seven crates of laws, of the programs but `may`, of `event_json`, `suite_cli`, `suite_args`,
-`suite_script` and `suite_play` (the rows of `crates/rows` show what the last four print), and but for `gives_up` none of
-the crates that the others only build on (`suite_content`, `byte_streams`, `script_text`, `acl_text`, `file_exec`): the
-proof of a crate above fails
-where it needs a clause that was weakened. Nobody looked whether each of their clauses is needed above.
+`suite_script` and `suite_play` (the rows of `crates/rows` show what the last four print), and but for `gives_up` none
+of the crates that the others only build on (`suite_content`, `byte_streams`, `script_text`, `acl_text`, `file_exec`):
+the proof of a crate above fails where it needs a clause that was weakened. Nobody looked whether each of their
+clauses is needed above.
 """
 
 
@@ -110,9 +112,12 @@ def page() -> tuple[str, list[str]]:
 
 
 def main() -> int:
+    read = console.words(__doc__)
+    read.add_argument("--check", action="store_true")
+    given = read.parse_args()
     text, faults = page()
     print(*faults, sep="\n", end="\n" if faults else "")
-    if "--check" not in sys.argv[1:]:
+    if not given.check:
         with open(PAGE, "w", encoding="utf-8") as file:
             file.write(text)
         return 1 if faults else 0

@@ -13,3 +13,4 @@ pub mod EntryTexts
 pub mod RoundTrip
 pub mod Trimming
 pub mod ItemGrammar
+pub mod Ids

@@ -5,6 +5,8 @@ pub mod Keywords
 pub mod Sides
 pub mod Grammar
 pub mod Faults
+pub mod Codes
+pub mod Callers
 pub mod Texts
 pub mod Writing
 pub mod Laws

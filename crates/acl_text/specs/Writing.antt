@@ -2,6 +2,8 @@
 -- entries of a list are in canonical order, so two lists have one long text and one short text.
 use Rattle.std.specs.Prelude.{ℕ, Bool, true, false, ◌&&◌, not, if◌then◌else◌, List, [], ◌∷◌, ◌++◌, codes, decimal, Option, None, Some, option_map}
 use Rattle.std.specs.List.{find, flat_map, join_by}
+use Rattle.acl_core.specs.declared.check.Decider.{Decider}
+use Rattle.acl_core.specs.declared.check.Decider.TheVariants as decider
 use Rattle.acl_core.specs.declared.entry.Tag.{Tag}
 use Rattle.acl_core.specs.declared.entry.Tag.TheVariants.{UserObj, User, GroupObj, Group, Mask, Other}
 use Rattle.acl_core.specs.declared.entry.Entry.{Entry}
@@ -23,6 +25,16 @@ tag_text GroupObj = codes "group::"
 tag_text (Group id) = codes "group:" ++ decimal id ++ codes ":"
 tag_text Mask = codes "mask::"
 tag_text Other = codes "other::"
+
+-- what decided a denial: an entry, by whom it is about, or the rule that only the owner may
+abbrev pub decider_text : Decider → List ℕ
+decider_text decider.UserObj = tag_text UserObj
+decider_text (decider.User id) = tag_text (User id)
+decider_text decider.GroupObj = tag_text GroupObj
+decider_text (decider.Group id) = tag_text (Group id)
+decider_text decider.Mask = tag_text Mask
+decider_text decider.Other = tag_text Other
+decider_text decider.OwnerRule = codes "owner"
 
 -- r, w and x, with a hyphen for each that is absent
 abbrev pub letters : (ℕ → Bool) → List ℕ

@@ -1,5 +1,5 @@
 //! The text of access lists, after acl(5): long text with one entry a line, short text with commas. A text may mix
-//! both.
+//! both. And the text of callers.
 //!
 //! **The grammar.**
 //! - A line feed ends a line, and a comment runs from the first `#` to its end. What stands between commas is an
@@ -20,16 +20,21 @@
 //! one long text (`write_acl`, `append_acl`) and one short text (`write_short`, `append_short`), in canonical order
 //! and with numbers. That each spells its lists is a law (`long_text_spells_its_lists`,
 //! `short_text_spells_its_lists`). `Names` takes names of 1 to 64 bytes that are not digits alone, each once.
+//! `read_caller` gives the caller whose groups a text numbers (`caller_in`). `push_text_code` writes the code of a
+//! fault, and `append_decider` what decided a denial.
 //!
 //! **The caller owes** nothing.
 //!
-//! **Files**: `keyword`, `qualifier`, `cut`, `item`, `keys`, `names`, `read`, `write`, `laws`.
+//! **Files**: `keyword`, `qualifier`, `cut`, `item`, `keys`, `names`, `read`, `code`, `write`, `caller`,
+//! `laws`.
 //!
 //! **Definitions** (`specs/`): `Layout`, `Keywords`, `Qualifiers`, `Tables`, `Sides`, `Grammar`, `Faults`, `Texts`,
-//! `Writing`, `Laws`. `Items` says how an item is written; `items_read_as_written` ties it to `Grammar`, so that
+//! `Codes`, `Writing`, `Callers`, `Laws`. `Items` says how an item is written; `items_read_as_written` ties it to `Grammar`, so that
 //! one of the two need not be believed.
 #![tactic(auto)]
 
+mod caller;
+mod code;
 mod cut;
 mod item;
 mod keys;
@@ -40,10 +45,14 @@ mod qualifier;
 mod read;
 mod write;
 
+pub use caller::read_caller;
+pub use code::push_text_code;
 pub use laws::{
     items_read_as_written, long_text_spells_its_lists, short_text_spells_its_lists,
     what_is_spelled_is_read,
 };
 pub use names::{MAX_NAME, NameError, Names};
 pub use read::{TextFault, read_acl};
-pub use write::{append_acl, append_short, append_tag, permission_text, write_acl, write_short};
+pub use write::{
+    append_acl, append_decider, append_short, append_tag, permission_text, write_acl, write_short,
+};

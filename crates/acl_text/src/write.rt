@@ -1,7 +1,7 @@
 //! Lists written as text.
 
 ghost use Rattle.std.specs.Prelude.{◌≡◌, ◌==◌, ◌++◌, codes, decimal, ◌∷◌, List, ℕ, take, IfOk, OnOk, OnErr, if◌then◌else◌};
-ghost use Rattle.acl_text.specs.Writing.{canonical, common_text, entry_text, is_limited, line_text, mask_of, next_text, permission_text, remark, short_text, side_text, sided_text, tag_text};
+ghost use Rattle.acl_text.specs.Writing.{canonical, common_text, decider_text, entry_text, is_limited, line_text, mask_of, next_text, permission_text, remark, short_text, side_text, sided_text, tag_text};
 ghost use Rattle.std.specs.List.{flat_map, join_by};
 ghost use Rattle.acl_text.specs.Sides.{default_entries};
 ghost use Rattle.acl_text.specs.Tables.{Tables};
@@ -9,7 +9,7 @@ ghost use Rattle.acl_text.specs.Texts.{Spells};
 
 use crate::item::Side;
 use crate::laws::{all_numbers_fit, long_text_spells_its_lists, short_text_spells_its_lists};
-use acl_core::{Entry, Lists, Perms, Tag};
+use acl_core::{Decider, Entry, Lists, Perms, Tag};
 use itoa::Buffer;
 use std::alloc::{AllocError, Global};
 
@@ -255,6 +255,22 @@ pub fn append_tag(text: &mut Vec<u8>, tag: Tag) -> Result<(), AllocError>
     let begun = text.len();
     let done = push_tag(text, tag);
     or_truncated(text, begun, done)
+}
+
+/// Appends what decided a denial. Where memory runs out, the text stays as it was.
+pub fn append_decider(text: &mut Vec<u8>, decider: Decider) -> Result<(), AllocError>
+    ensures appended { OnOk result (text.new.items ≡ text.old.items ++ decider_text decider) }
+    ensures unchanged { OnErr result (text.new.items ≡ text.old.items) }
+{
+    match decider {
+        Decider::UserObj => append_tag(text, Tag::UserObj),
+        Decider::User(id) => append_tag(text, Tag::User(id)),
+        Decider::GroupObj => append_tag(text, Tag::GroupObj),
+        Decider::Group(id) => append_tag(text, Tag::Group(id)),
+        Decider::Mask => append_tag(text, Tag::Mask),
+        Decider::Other => append_tag(text, Tag::Other),
+        Decider::OwnerRule => text.extend_from_slice(b"owner"),
+    }
 }
 
 /// Appends the long text of two lists, which spells them under all names. Where memory runs out, the text

@@ -71,7 +71,7 @@ does_by fixed agent server request (Ok reply) delivery is asks suits =
     subst (λ (t : Delivery). Does fixed (at_rest agent) t.entry (after_response fixed (at_rest agent) t.response)) (same_Some _ delivery is) (request, reply.value, refl, asks, suits, refl)
 does_by fixed agent server request (Err (Lack lack)) delivery is asks suits =
     subst (λ (t : Delivery). Does fixed (at_rest agent) t.entry (after_response fixed (at_rest agent) t.response)) (same_Some _ delivery is) (request, refl, asks, refl)
-does_by fixed agent server request (Err Stale) delivery is asks suits = cc
+does_by fixed agent server request (Err (Stale long)) delivery is asks suits = cc
 
 abbrev at_of : Agent → Option Ending → At
 at_of agent ending = record { agent = agent; due = ending }
@@ -121,12 +121,12 @@ pub goes_by : (server before : ℕ) (reply : Result (Stamped Reply) Miss) (deliv
     → GoesOn (delivery.entry ∷ []) pass (after_reply pass server before reply)
 goes_by server before (Ok reply) delivery pass is front rises = subst (λ (t : Delivery). GoesOn (t.entry ∷ []) pass (after_reply pass server before (Ok reply))) (same_Some _ delivery is) (before, front, rises, refl)
 goes_by server before (Err (Lack lack)) delivery pass is front rises = subst (λ (t : Delivery). GoesOn (t.entry ∷ []) pass pass) (same_Some _ delivery is) refl
-goes_by server before (Err Stale) delivery pass is front rises = cc
+goes_by server before (Err (Stale long)) delivery pass is front rises = cc
 
 pub delivery_asks : (server : ℕ) (reply : Result (Stamped Reply) Miss) (delivery : Delivery) → delivery_from server reply ≡ Some delivery → is_ask delivery.entry ≡ true
 delivery_asks server (Ok reply) delivery is = ap (λ (t : Delivery). is_ask t.entry) (sym (same_Some _ delivery is))
 delivery_asks server (Err (Lack lack)) delivery is = ap (λ (t : Delivery). is_ask t.entry) (sym (same_Some _ delivery is))
-delivery_asks server (Err Stale) delivery is = cc
+delivery_asks server (Err (Stale long)) delivery is = cc
 
 -- what an agent does that a delivery is told to
 abbrev DoesBy : Delivery → Standing → Type 0
@@ -296,8 +296,8 @@ heard_begins number begun delivery old entries new more (came.Ended ran) asks h 
     ap begins on.1 ∙ begins-append entries (delivery.entry ∷ end ∷ []) ∙ (let one = ask_first delivery.entry (end ∷ []) asks in omega arith)
 
 -- nothing is delivered where the pass is of other servers, of which it has seen something
-pub stale_seen : (server before : ℕ) (request : Request) (reply : Result (Stamped Reply) Miss) (pass : Held) (asked : Option (ℕ × Request)) → delivery_from server reply ≡ None → (reply ≡ Err Stale → before < front_at pass server)
+pub stale_seen : (server before : ℕ) (request : Request) (reply : Result (Stamped Reply) Miss) (pass : Held) (asked : Option (ℕ × Request)) → delivery_from server reply ≡ None → ((long : ℕ) → reply ≡ Err (Stale long) → before < front_at pass server)
     → asked ≡ Some (server, request) → HasSeen pass asked
 stale_seen server before request (Ok reply) pass asked none stale is = cc
 stale_seen server before request (Err (Lack lack)) pass asked none stale is = cc
-stale_seen server before request (Err Stale) pass asked none stale is = subst (λ a. HasSeen pass a) (sym is) (let low = stale refl in omega arith)
+stale_seen server before request (Err (Stale long)) pass asked none stale is = subst (λ a. HasSeen pass a) (sym is) (let low = stale long refl in omega arith)

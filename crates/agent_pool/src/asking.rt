@@ -54,7 +54,7 @@ pub(crate) fn delivery_from(server: u8, answer: Answer) -> Option<Delivery>
             entry: Entry::Lacked { server, lack },
             response: Response::Lacked(lack),
         }),
-        Err(Miss::Stale) => None,
+        Err(Miss::Stale(_)) => None,
     }
 }
 

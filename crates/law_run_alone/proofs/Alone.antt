@@ -19,9 +19,9 @@ use Rattle.law_runs.proofs.Worlds.{Holds, agent_of, event_holds, cons_is}
 use Rattle.law_runs.proofs.Conclusions.{holds_at_first, fresh_agents}
 use Rattle.law_run_alone.specs.Alone.{begins_job, begins_alone, jobs_from, jobs_of, one_at_a_time_from, one_at_a_time}
 use Rattle.law_run_alone.specs.Endings.{decided_ending, decided_endings}
-use Rattle.law_run_alone.proofs.Verdicts.{Asked, asked_of, answer_to, answered, undecided}
+use Rattle.law_run_alone.proofs.Verdicts.{Asked, asked_of, answer_to, answered, undecided, append_none}
 use Rattle.law_run_alone.proofs.Along.{Along, along_more, along_less}
-use Rattle.law_run_alone.proofs.Turns.{doing_of, doing_at, transactions_of, transaction_in, Goes, event_goes, append_none}
+use Rattle.law_run_alone.proofs.Turns.{doing_of, doing_at, transactions_of, transaction_in, Goes, event_goes}
 
 -- One agent at most has a job. What was decided has ended, or is still to be told by that agent; and what was decided, with the transaction that it
 -- runs where that is not, stands along what was begun.

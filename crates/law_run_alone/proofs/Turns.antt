@@ -47,7 +47,7 @@ use Rattle.law_runs.proofs.Worlds.{agent_of, Holds, puts_in}
 use Rattle.law_run_alone.specs.Alone.{all_idle, begins_job, begins_alone}
 use Rattle.law_run_alone.specs.Endings.{answer_by, decided_endings}
 use Rattle.law_run_alone.proofs.Verdicts as verdicts
-use Rattle.law_run_alone.proofs.Verdicts.{Asked, asked_by, asked_of, answer_to, answers_of, left_by, said_in, said_is, undecided, Turns, adds_answer, takes_asked, turns_served, ended_as, leaves_answer, leaves_asked}
+use Rattle.law_run_alone.proofs.Verdicts.{Asked, asked_by, asked_of, answer_to, answers_of, left_by, said_in, said_is, undecided, Turns, adds_answer, takes_asked, turns_served, ended_as, leaves_answer, leaves_asked, append_none}
 
 -- ---- who does what
 
@@ -82,10 +82,6 @@ pub record Goes (world : World) (turn : ℕ) (new : World) (d : Option Decided) 
   pub more : List Asked
   pub parts : map asked_of (option_to_list d) ++ more ≡ undecided (doing_at world turn) ++ transactions_of (option_to_list begun)
   pub still : (undecided (doing_at new next) ≡ more) ⊎ (undecided (doing_at new next) ≡ [])
-
-pub append_none : {X : Type 0} (xs : List X) → xs ++ [] ≡ xs
-append_none [] = refl
-append_none (x ∷ xs) = ap (λ xs. x ∷ xs) (append_none xs)
 
 -- ---- sweeps end without an answer
 

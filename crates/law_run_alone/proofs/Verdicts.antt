@@ -23,7 +23,6 @@ use Rattle.law_runs.proofs.Asking.{decides}
 use Rattle.law_runs.proofs.Turns.{no_decide}
 use Rattle.law_runs.proofs.Words.{Tells, Leaves}
 use Rattle.law_run_alone.specs.Endings.{answer_by}
-use Rattle.law_run_alone.proofs.Turns.{append_none}
 
 -- ---- what was said
 
@@ -92,6 +91,10 @@ pub record Newly (task : Task) (v new : Verdict) (d : Option Decided) : Type 0 w
 
 abbrev pub Turns : Task → Verdict → Verdict → Option Decided → Type 0
 Turns task v new d = Same v new d ⊎ Newly task v new d
+
+pub append_none : {X : Type 0} (xs : List X) → xs ++ [] ≡ xs
+append_none [] = refl
+append_none (x ∷ xs) = ap (λ xs. x ∷ xs) (append_none xs)
 
 pub adds_answer : (task : Task) (v new : Verdict) (d : Option Decided) → Turns task v new d → answers_of task.t v ++ map answer_to (option_to_list d) ≡ answers_of task.t new
 adds_answer task v new d turns = elim turns [

@@ -283,7 +283,9 @@ static LAST_PLACE: &str = "
 0 poll 3 8000 X = 4098: Held (Absent, 0, 0)
 0 poll 3 9000 X = 4099: Held (Absent, 0, 0)
 0 prepare 3 9000 X 1/1 = 4100: Prepared
-0 poll 4 8001 X = 4101: Held (Absent, 0, 0)
+0 poll 4 8001 X = 4101: Held (Absent, 0, 0)";
+
+static NO_PLACE: &str = "
 0 prepare 4 8001 X 1/1 = Full
 0 prepare 4 8001 X keep = 4102: Prepared
 0 poll 5 0 X = 4103: Held (Folder, 1, 1)
@@ -300,6 +302,19 @@ fn copies_and_intentions_have_4096_places(rt: HostRuntime) {
     line(&rt, &mut server, "0 answered 1 = 2002: Done");
     take_files(&rt, &mut server, 2, 2001..4095, "4097: Prepared");
     play(&rt, &mut server, LAST_PLACE);
+    full_leaves(&rt, &mut server, 0, "prepare 4 8001 X 1/1");
+    play(&rt, &mut server, NO_PLACE);
+}
+
+/// Where a server is full, the reply that stands in the caller's place is left, but for its stamp.
+fn full_leaves(rt: &(impl Abort + AllocGlobal), server: &mut Server, stamp: u64, ask: &str) {
+    let mut reply = Stamped {
+        stamp: 0,
+        value: Reply::Done,
+    };
+    let step = server.evaluate(&stamped(rt, stamp, ask), &mut reply);
+    holds(rt, matches!(step, Err(Lack::Full)), ask);
+    holds(rt, matches!(reply.value, Reply::Done), ask);
 }
 
 /// What was only evaluated was not served: the reply has this stamp.
@@ -320,5 +335,6 @@ fn a_reply_that_is_refused_was_not_served(rt: HostRuntime) {
     refused(&rt, &mut server, "deny 5", 2);
     keeps(&rt, &server, "[]");
     refused(&rt, &mut server, "crash", 2);
+    full_leaves(&rt, &mut server, u64::MAX, "locks");
     line(&rt, &mut server, "0 resolve 5 = 2: Verdict(Aborted)");
 }

@@ -5,11 +5,8 @@ use Rattle.std.specs.Str.Lines.{lines}
 use Rattle.acl_core.specs.Checks.{check_of}
 use Rattle.acl_core.specs.declared.check.Check.{Check}
 use Rattle.acl_core.specs.declared.check.Check.TheVariants.{Granted, Denied}
-use Rattle.acl_core.specs.declared.check.Decider.{Decider}
-use Rattle.acl_core.specs.declared.check.Decider.TheVariants as decider
-use Rattle.acl_core.specs.declared.entry.Tag.TheVariants as tag
 use Rattle.acl_core.specs.declared.perms.Perms.{Perms}
-use Rattle.acl_text.specs.Writing.{permission_text, tag_text}
+use Rattle.acl_text.specs.Writing.{decider_text, permission_text}
 use Rattle.may.specs.declared.fault.InputError.{InputError}
 use Rattle.may.specs.declared.fault.InputError.TheVariants as input
 use Rattle.may.specs.declared.fault.LineFault.{LineFault}
@@ -20,16 +17,6 @@ use Rattle.may.specs.Questions.{question_in}
 -- the answer of the access check
 abbrev pub verdict : Question → Check
 verdict question = check_of question.list question.owner question.group question.caller question.wanted
-
--- what decided a denial: an entry, by whom it is about. The check names no other rule
-abbrev pub decider_text : Decider → List ℕ
-decider_text decider.UserObj = tag_text tag.UserObj
-decider_text (decider.User id) = tag_text (tag.User id)
-decider_text decider.GroupObj = tag_text tag.GroupObj
-decider_text (decider.Group id) = tag_text (tag.Group id)
-decider_text decider.Mask = tag_text tag.Mask
-decider_text decider.Other = tag_text tag.Other
-decider_text decider.OwnerRule = codes "owner"
 
 abbrev pub verdict_text : Perms → Check → List ℕ
 verdict_text wanted Granted = codes "granted"

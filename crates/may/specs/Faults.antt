@@ -1,7 +1,6 @@
 -- The faults of a line, their printed codes, and what a reading by the program comes to.
 use Rattle.std.specs.Prelude.{◌≡◌, ℕ, List, [], ◌∷◌, ◌++◌, codes, decimal, Result, Ok, Err}
-use Rattle.acl_core.specs.declared.fault.AclFault.{AclFault}
-use Rattle.acl_core.specs.declared.fault.AclFault.TheVariants.{NoUserObj, NoGroupObj, NoOther, TwiceSingle, UserTwice, GroupTwice, MaskMissing, TooMany}
+use Rattle.acl_text.specs.Codes.{text_code}
 use Rattle.acl_text.specs.declared.read.TextFault.{TextFault}
 use Rattle.acl_text.specs.declared.read.TextFault.TheVariants as text
 use Rattle.may.specs.declared.fault.InputError.{InputError}
@@ -11,30 +10,6 @@ use Rattle.may.specs.declared.fault.LineError.{LineError}
 use Rattle.may.specs.declared.fault.LineError.TheVariants.{Faulty, Memory}
 use Rattle.may.specs.declared.fault.LineFault.{LineFault}
 use Rattle.may.specs.declared.fault.LineFault.TheVariants as line
-
--- the codes of what can be wrong with a list
-abbrev pub list_code : AclFault → List ℕ
-list_code NoUserObj = codes "A1"
-list_code NoGroupObj = codes "A2"
-list_code NoOther = codes "A3"
-list_code TwiceSingle = codes "A4"
-list_code UserTwice = codes "A5"
-list_code GroupTwice = codes "A6"
-list_code MaskMissing = codes "A7"
-list_code TooMany = codes "A8"
-
--- a code with the number of an item
-abbrev pub item_code : List ℕ → ℕ → List ℕ
-item_code code item = code ++ codes " item " ++ decimal item
-
--- the codes of what can be wrong with a list's text; out of memory is no fault and has none
-abbrev pub text_code : TextFault → List ℕ
-text_code (text.Syntax item) = item_code (codes "A9") item
-text_code (text.UnknownName item) = item_code (codes "A10") item
-text_code (text.NumberTooBig item) = item_code (codes "A11") item
-text_code (text.Invalid fault) = list_code fault
-text_code (text.DefaultInvalid fault) = codes "A13 " ++ list_code fault
-text_code text.Memory = []
 
 -- the codes of what can be wrong with a line
 abbrev pub code_of : LineFault → List ℕ

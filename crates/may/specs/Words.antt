@@ -1,12 +1,14 @@
 -- The words of a question, read from the left: what they say, and the words after it; or what is wrong.
-use Rattle.std.specs.Prelude.{ℕ, ◌==◌, nat_le, Bool, ◌||◌, if◌then◌else◌, List, [], ◌∷◌, ◌++◌, length, Option, Some, None, Result, Ok, Err}
-use Rattle.std.specs.List.{list_all, list_any, slice_split}
+use Rattle.std.specs.Prelude.{ℕ, ◌==◌, Bool, ◌||◌, if◌then◌else◌, List, [], ◌∷◌, Option, Some, None, Result, Ok, Err}
+use Rattle.std.specs.List.{list_all, list_any}
 use Rattle.acl_core.specs.Entries.{entry_of}
 use Rattle.acl_core.specs.Identity.{Identity}
 use Rattle.acl_core.specs.Permissions.{digit_of}
 use Rattle.acl_core.specs.declared.entry.Entry.{Entry}
 use Rattle.acl_core.specs.declared.entry.Tag.TheVariants.{Other}
 use Rattle.acl_core.specs.declared.perms.Perms.{Perms}
+use Rattle.acl_text.specs.Callers.{max_id}
+use Rattle.acl_text.specs.Callers as callers
 use Rattle.acl_text.specs.Sides.{lists_of}
 use Rattle.acl_text.specs.Tables.{Tables}
 use Rattle.acl_text.specs.Texts.{fault, said_in}
@@ -44,9 +46,6 @@ at_end [] = Ok tt
 at_end (first ∷ words) = Err Form
 
 -- the number of a user or a group
-abbrev pub max_id : ℕ
-max_id = 4294967295
-
 abbrev pub id_in : Word → Result ℕ LineFault
 id_in text = found (number_up_to max_id text)
 
@@ -56,30 +55,9 @@ id words = do
   number ← id_in next.value
   Ok (record { value = number; rest = next.rest })
 
--- the numbers of some parts, after those that were read
-abbrev pub ids_after : List ℕ → List Word → Result (List ℕ) LineFault
-ids_after ids [] = Ok ids
-ids_after ids (part ∷ parts) = ◌>>=◌ (id_in part) (λ number. ids_after (ids ++ number ∷ []) parts)
-
--- the numbers of a word, between commas
-abbrev pub ids_in : Word → Result (List ℕ) LineFault
-ids_in text = ids_after [] (slice_split (λ byte. byte == 44) text)
-
--- the most groups beside a caller's own; a limit of this project
-abbrev pub max_groups : ℕ
-max_groups = 32
-
--- a caller: its user, its own group and its other groups
-abbrev pub caller_with : ℕ → List ℕ → Result Identity LineFault
-caller_with uid [] = Err Form
-caller_with uid (gid ∷ groups) =
-    if nat_le (length groups) max_groups then Ok (record { uid = uid; gid = gid; groups = groups }) else Err Form
-
 -- a caller of some user: between commas its own group and its other groups
 abbrev pub caller_in : ℕ → Word → Result Identity LineFault
-caller_in uid text = do
-  ids ← ids_in text
-  caller_with uid ids
+caller_in uid text = found (callers.caller_in uid text)
 
 -- what is wanted: letters of r, w and x, with or without hyphens, as an entry grants it
 abbrev pub letter_r : ℕ

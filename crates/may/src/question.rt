@@ -1,14 +1,14 @@
 //! A question, and its answer.
 
 ghost use Rattle.std.specs.Prelude.{◌≡◌, ◌++◌, OnOk};
-ghost use Rattle.may.specs.Answers.{answer_line, decider_text, verdict};
+ghost use Rattle.may.specs.Answers.{answer_line, verdict};
 ghost use Rattle.may.specs.Faults.{Gives};
 ghost use Rattle.may.specs.Questions.{question_in};
 
 use crate::fault::LineError;
 use crate::words::{at_end, next_word, read_caller, read_id, read_list, read_wanted};
-use acl_core::{Acl, Caller, Check, Decider, Perms, Tag};
-use acl_text::{append_tag, permission_text};
+use acl_core::{Acl, Caller, Check, Perms};
+use acl_text::{append_decider, permission_text};
 use script_text::Words;
 use std::alloc::{AllocError, Global};
 
@@ -67,22 +67,8 @@ pub(crate) fn push_answer(text: &mut Vec<u8>, question: &Question) -> Result<(),
             text.extend_from_slice(b"denied ")?;
             text.extend_from_slice(&permission_text(question.wanted))?;
             text.extend_from_slice(b" by ")?;
-            push_decider(text, decider)?;
+            append_decider(text, decider)?;
             text.extend_from_slice(b"\n")
         }
-    }
-}
-
-fn push_decider(text: &mut Vec<u8>, decider: Decider) -> Result<(), AllocError>
-    ensures { OnOk result (text.new.items ≡ text.old.items ++ decider_text decider) }
-{
-    match decider {
-        Decider::UserObj => append_tag(text, Tag::UserObj),
-        Decider::User(id) => append_tag(text, Tag::User(id)),
-        Decider::GroupObj => append_tag(text, Tag::GroupObj),
-        Decider::Group(id) => append_tag(text, Tag::Group(id)),
-        Decider::Mask => append_tag(text, Tag::Mask),
-        Decider::Other => append_tag(text, Tag::Other),
-        Decider::OwnerRule => text.extend_from_slice(b"owner"),
     }
 }

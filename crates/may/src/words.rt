@@ -3,12 +3,12 @@
 ghost use Rattle.std.specs.Prelude.{◌≡◌, ◌∷◌, [], MatchResult};
 ghost use Rattle.std.specs.List.{list_all};
 ghost use Rattle.may.specs.Faults.{Gives};
-ghost use Rattle.may.specs.Words.{at_end, caller_in, caller_with, id_in, is_letter, list_in, stands_in, wanted_in};
+ghost use Rattle.may.specs.Words.{at_end, caller_in, id_in, is_letter, list_in, stands_in, wanted_in};
 
 use crate::fault::{LineError, LineFault};
 use acl_core::{Acl, Caller, Entry, Perms, Tag};
 use acl_text::{Names, read_acl};
-use script_text::{Numbers, Words, read_number};
+use script_text::{Words, read_number};
 use std::alloc::Global;
 
 /// The next word of a line.
@@ -37,32 +37,11 @@ pub(crate) fn read_id(word: &[u8]) -> Result<u32, LineFault>
     Ok(number as u32)
 }
 
-/// The most numbers of a caller's groups: its own and the others.
-const MAX_NUMBERS: usize = 33;
-
 /// A caller of some user, with the numbers of its groups between commas, its own first.
 pub(crate) fn read_caller(uid: u32, word: &[u8]) -> Result<Caller, LineFault>
     ensures { result ≡ caller_in uid word.now }
 {
-    let mut numbers = [0; MAX_NUMBERS];
-    let mut count = 0;
-    for number in Numbers::new(word, b',', u32::MAX) {
-        if count == MAX_NUMBERS {
-            return Err(LineFault::Form);
-        }
-        numbers[count] = number.ok_or(LineFault::Form)?;
-        count += 1;
-    }
-    caller_with(uid, &numbers[..count])
-}
-
-fn caller_with(uid: u32, numbers: &[u32]) -> Result<Caller, LineFault>
-    ensures { result ≡ caller_with uid numbers.now }
-{
-    match numbers {
-        [gid, groups @ ..] => Caller::new(uid, *gid, groups).map_err(|_| LineFault::Form),
-        [] => Err(LineFault::Form),
-    }
+    acl_text::read_caller(uid, word).ok_or(LineFault::Form)
 }
 
 fn is_letter(byte: u8) -> bool

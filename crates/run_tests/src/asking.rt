@@ -89,7 +89,7 @@ pub(crate) struct Question {
     pub(crate) ask: Ask,
 }
 
-/// Asks a server, which has to be there.
+/// Asks a server, which has to be there. The answer names it, and has the request that it was asked.
 pub(crate) fn ask_once<R: Abort + Wait, G: Gate>(
     rt: &R,
     gate: &G,
@@ -98,7 +98,10 @@ pub(crate) fn ask_once<R: Abort + Wait, G: Gate>(
     question: Question,
 ) -> (Pass, Answer) {
     assert!(rt; usize::from(question.server) < servers.settings().servers());
-    servers.ask(rt, gate, pass, question.server, request(question.ask))
+    let told = servers.ask(rt, gate, pass, question.server, request(question.ask));
+    assert!(rt; told.1.server() == question.server);
+    assert!(rt; told.1.request().value == request(question.ask));
+    told
 }
 
 /// Asks, and once more where memory was refused.

@@ -64,10 +64,7 @@ fn answer_words(
 ) -> Result<String, AllocError> {
     match answer.reply() {
         Ok(reply) => reply_words(rt, servers.settings(), reply),
-        Err(miss) => {
-            let before = answer.before();
-            format!(in rt.alloc(); "{miss:?} {before}")
-        }
+        Err(miss) => format!(in rt.alloc(); "{miss:?}"),
     }
 }
 
@@ -280,7 +277,7 @@ fn asked_once(rt: &impl Abort, pass: &Pass) {
 /// A pass is used with the servers that it is of, and then with others.
 fn is_stale<R: Abort + AllocGlobal + Wait>(rt: &R, own: &Servers, others: &Servers, pass: Pass) {
     let pass = told(rt, own, pass, locks_of(0), "1: Locked 0");
-    let pass = told(rt, others, pass, locks_of(0), "Stale 0");
+    let pass = told(rt, others, pass, locks_of(0), "Stale(0)");
     asked_once(rt, &pass);
 }
 
@@ -293,7 +290,8 @@ fn a_pass_of_another_start_is_stale(rt: HostRuntime) {
 }
 
 fn fault_words(rt: &(impl Abort + AllocGlobal), fault: &CloseFault) -> String {
-    had(rt, format!(in rt.alloc(); "{fault:?}"))
+    let why = fault.why();
+    had(rt, format!(in rt.alloc(); "{why:?}"))
 }
 
 #[test]

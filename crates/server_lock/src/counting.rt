@@ -1,11 +1,12 @@
 //! How many items each agent made, and the operator.
 
 ghost use Rattle.std.specs.Prelude.{◌≡◌, ℕ, ◌+◌, ◌<◌, ◌≤◌, ◌^◌, All, length, slice_index};
-ghost use Rattle.server_lock.specs.Histories.{max_items};
+ghost use Rattle.server_lock.specs.Closed.{histories_of};
+ghost use Rattle.server_lock.specs.Kept.{HoldsLegal};
 ghost use Rattle.server_lock.specs.Counts.{seat_of, made_at, made_at_all, passes_at, is_counted};
 
-use crate::history::History;
 use crate::item::Item;
+use crate::locked::Locked;
 use crate::pass::Pass;
 use vote_core::MAX_SERVERS;
 
@@ -35,16 +36,16 @@ fn count(items: &[Item], tally: &mut [u64])
     }
 }
 
-/// How many items of these histories each has made.
-pub(crate) fn tally(histories: &[History]) -> [u64; SEATS]
-    requires servers { length histories.now ≤ MAX_SERVERS }
-    requires few { All (λ history. length history ≤ max_items) histories.now }
+/// How many items of the histories of these servers each has made.
+pub(crate) fn tally(held: &[Locked]) -> [u64; SEATS]
+    requires servers { length held.now ≤ MAX_SERVERS }
+    requires legal { All HoldsLegal held.now }
     ensures seats { length result ≡ 257 }
-    ensures counted { (seat : ℕ) → seat < 257 → slice_index result seat ≡ made_at_all seat histories.now }
+    ensures counted { (seat : ℕ) → seat < 257 → slice_index result seat ≡ made_at_all seat (histories_of held.now) }
 {
     let mut tally = [0u64; SEATS];
-    for history in histories {
-        count(history.as_slice(), &mut tally);
+    for locked in held {
+        count(locked.items(), &mut tally);
     }
     tally
 }

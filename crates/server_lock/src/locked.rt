@@ -1,11 +1,12 @@
 //! What stands under a server's lock.
 
-ghost use Rattle.std.specs.Prelude.{◌≡◌, ◌↔◌, ◌<◌, ◌≤◌, [], length, IfOk, OnOk, OnErr, IsTrue, Err, Some};
+ghost use Rattle.std.specs.Prelude.{◌≡◌, ◌↔◌, ℕ, ◌<◌, ◌≤◌, [], length, IfOk, OnOk, OnErr, IsTrue, Err, Some};
 ghost use Rattle.rep_core.specs.declared.stamped.Lack.TheVariants.{Full};
 ghost use Rattle.rep_core.specs.Fits.{fits};
 ghost use Rattle.server_lock.specs.declared.miss.Miss.TheVariants.{Lack as Lacked, Stale};
 ghost use Rattle.server_lock.specs.Histories.{IsLegal, given_to, item_of, max_items};
-ghost use Rattle.server_lock.specs.Kept.{end_of, is_spent, with_item};
+ghost use Rattle.server_lock.specs.Kept.{end_of, is_spent, opened, with_item};
+ghost use Rattle.server_lock.specs.Told.{IsGiven};
 
 use crate::answer::Answer;
 use crate::history::History;
@@ -48,7 +49,7 @@ impl Model for Locked {
 impl Locked {
     /// The server of this number as a service opens, with an empty history.
     pub fn opening(alloc: Global, number: u8, settings: &Settings) -> Result<Locked, AllocError>
-        ensures { IfOk result (λ locked. locked ≡ record { number = number; given = settings.now; history = [] }) }
+        ensures { IfOk result (λ locked. locked ≡ opened settings.now number) }
     {
         let server = Server::opening(alloc, number, settings)?;
         let settings = settings.clone()?;
@@ -58,6 +59,20 @@ impl Locked {
             server,
             items: Vec::new(alloc),
         })
+    }
+
+    /// Its number.
+    pub fn number(&self) -> u8
+        ensures { result ≡ self.now.number }
+    {
+        self.number
+    }
+
+    /// What it served.
+    pub(crate) fn items(&self) -> &[Item]
+        ensures { result.now ≡ self.now.history }
+    {
+        &self.items
     }
 
     /// A law: the history is legal, and has at most [`MAX_ITEMS`] items. It does nothing.
@@ -73,8 +88,9 @@ impl Locked {
     pub fn serve(&mut self, agent: Option<u8>, front: usize, request: Stamped<Request>) -> Answer
         ensures server { result.server ≡ self.old.number }
         ensures before { result.before ≡ length self.old.history }
+        ensures lay { result.lay ≡ self.old }
         ensures request { result.request ≡ request }
-        ensures stale { (result.reply ≡ Err Stale) ↔ (length self.old.history < front) }
+        ensures stale { (result.reply ≡ Err (Stale (length self.old.history))) ↔ (length self.old.history < front) }
         ensures full { (result.reply ≡ Err (Lacked Full)) ↔ ((front ≤ length self.old.history) × IsTrue (is_spent self.old request)) }
         ensures reply { IfOk result.reply (λ reply. given_to (end_of self.old) request ≡ Some reply) }
         ensures fits { IfOk result.reply (λ reply. IsTrue (fits request.value reply.value)) }
@@ -84,36 +100,54 @@ impl Locked {
         self.settings.fits();
         let server = self.number;
         let before = self.items.len();
-        let asked = Snapshot::of(&request);
-        if before < front {
-            let reply = Err(Miss::Stale);
-            return Answer {
-                server,
-                before,
-                request: asked,
-                reply,
-            };
-        }
-        let reply = match self.keep(agent, request) {
-            Ok(reply) => Ok(reply),
-            Err(lack) => Err(Miss::Lack(lack)),
-        };
+        let lay = Snapshot::of(&*self);
+        let reply = self.reply_to(agent, front, &request);
         Answer {
             server,
             before,
-            request: asked,
+            request,
+            lay,
             reply,
+        }
+    }
+
+    /// The reply to a request of an asker who has seen so much of the history, or why there is none.
+    fn reply_to(
+        &mut self,
+        agent: Option<u8>,
+        front: usize,
+        request: &Stamped<Request>,
+    ) -> Result<Stamped<Reply>, Miss>
+        ensures stale { (result ≡ Err (Stale (length self.old.history))) ↔ (length self.old.history < front) }
+        ensures long { (long : ℕ) → result ≡ Err (Stale long) → long ≡ length self.old.history }
+        ensures full { (result ≡ Err (Lacked Full)) ↔ ((front ≤ length self.old.history) × IsTrue (is_spent self.old request.now)) }
+        ensures seen { OnOk result (front ≤ length self.old.history) }
+        ensures given { IfOk result (IsGiven self.old request.now) }
+        ensures kept { IfOk result (λ reply. self.new ≡ with_item (item_of agent request.now reply) self.old) }
+        ensures same { OnErr result (self.new ≡ self.old) }
+    {
+        let long = self.items.len();
+        if long < front {
+            return Err(Miss::Stale(long));
+        }
+        match self.keep(agent, request) {
+            Ok(reply) => Ok(reply),
+            Err(lack) => Err(Miss::Lack(lack)),
         }
     }
 
     /// Serves a request, and keeps what was served. That the server is full is told however little memory
     /// there is.
-    fn keep(&mut self, agent: Option<u8>, request: Stamped<Request>) -> Result<Stamped<Reply>, Lack>
+    fn keep(
+        &mut self,
+        agent: Option<u8>,
+        request: &Stamped<Request>,
+    ) -> Result<Stamped<Reply>, Lack>
         ensures room { OnOk result (length self.old.history < max_items) }
-        ensures reply { IfOk result (λ reply. given_to (end_of self.old) request ≡ Some reply) }
-        ensures fits { IfOk result (λ reply. IsTrue (fits request.value reply.value)) }
-        ensures kept { IfOk result (λ reply. self.new ≡ with_item (item_of agent request reply) self.old) }
-        ensures full { (result ≡ Err Full) ↔ IsTrue (is_spent self.old request) }
+        ensures reply { IfOk result (λ reply. given_to (end_of self.old) request.now ≡ Some reply) }
+        ensures fits { IfOk result (λ reply. IsTrue (fits request.now.value reply.value)) }
+        ensures kept { IfOk result (λ reply. self.new ≡ with_item (item_of agent request.now reply) self.old) }
+        ensures full { (result ≡ Err Full) ↔ IsTrue (is_spent self.old request.now) }
         ensures err { OnErr result (self.new ≡ self.old) }
     {
         if self.items.len() >= MAX_ITEMS {
@@ -123,14 +157,15 @@ impl Locked {
             stamp: 0,
             value: Reply::Down,
         };
-        let step = self.server.evaluate(&request, &mut reply)?;
+        let step = self.server.evaluate(request, &mut reply)?;
         self.items.reserve(1)?;
+        let asked = request.clone()?;
         let copy = reply.value.clone()?;
-        self.server.apply(&request, step);
+        self.server.apply(request, step);
         self.items.push_reserved(Item {
             stamp: reply.stamp,
             agent,
-            request,
+            request: asked,
             reply: copy,
         });
         Ok(reply)

@@ -1,10 +1,13 @@
 //! Servers that threads share.
 
-ghost use Rattle.std.specs.Prelude.{◌≡◌, ◌≤◌, ◌<◌, All, Err, IfOk, IsTrue};
+ghost use Rattle.std.specs.Prelude.{◌≡◌, ◌↔◌, ◌≤◌, ◌<◌, ℕ, All, Err, IfErr, IfOk, IsTrue, false};
 ghost use Rattle.std.specs.Vec.{vec_len, vec_capacity};
+ghost use Rattle.std.specs.Sync.Mutex.{mutex_guard_value};
+ghost use Rattle.rep_core.specs.declared.stamped.Lack.TheVariants.{Full, Memory};
 ghost use Rattle.rep_core.specs.Fits.{fits};
-ghost use Rattle.server_lock.specs.declared.miss.Miss.TheVariants.{Stale};
-ghost use Rattle.server_lock.specs.Closed.{AreCounted, AreOf, ClosesSome, HoldsLegal, askers};
+ghost use Rattle.server_lock.specs.declared.miss.Miss.TheVariants.{Lack as Lacked, Stale};
+ghost use Rattle.server_lock.specs.Closed.{AreCounted, AreOf, IsNotClosed, askers};
+ghost use Rattle.server_lock.specs.Kept.{HoldsLegal, is_spent, opened_from};
 ghost use Rattle.server_lock.specs.Told.{IsTold};
 ghost use Rattle.server_lock.specs.Passes.{after_answer, front_at, passes_of, sent_stamp};
 
@@ -18,7 +21,7 @@ use crate::pass::Pass;
 use rep_core::{Request, Stamped};
 use std::alloc::{AllocError, Global};
 use std::marker::Model;
-use std::sync::{Mutex, Wait};
+use std::sync::{Mutex, MutexGuard, Wait};
 use suite_prefix::Settings;
 use vote_core::MAX_SERVERS;
 
@@ -58,7 +61,7 @@ impl Servers {
         ensures passes { IfOk result (λ started. started.1.items ≡ passes_of settings.now.agents) }
     {
         let settings = settings.clone()?;
-        let locks = locks_of(alloc, &settings)?;
+        let locks = locks_over(alloc, first_servers(alloc, &settings)?)?;
         let held = Vec::with_capacity(alloc, locks.len())?;
         let histories = Vec::with_capacity(alloc, locks.len())?;
         let passes = first_passes(alloc, &settings)?;
@@ -78,9 +81,10 @@ impl Servers {
         &self.settings
     }
 
-    /// Asks a server, under its lock. The pass comes back, with an item more where there is a reply. The
-    /// gate's `inside` is called under the lock, before the request is served, and its `after` once the lock is
-    /// free.
+    /// Asks a server, under its lock. The pass comes back, with an item more where there is a reply. There is none
+    /// exactly where the history that lay there is shorter than the pass has seen, or the server is spent, or memory
+    /// was refused. The gate's `inside` is called under the lock, before the request is served, and its `after` once
+    /// the lock is free.
     pub fn ask<R: Wait, G: Gate>(
         &self,
         rt: &R,
@@ -90,10 +94,13 @@ impl Servers {
         request: Request,
     ) -> (Pass, Answer)
         requires { server < self.now.servers }
+        ensures server { result.1.server ≡ server }
         ensures request { result.1.request ≡ record { stamp = sent_stamp pass; value = request } }
         ensures told { IsTold result.1 }
         ensures front { IfOk result.1.reply (λ reply. front_at pass server ≤ result.1.before) }
-        ensures stale { result.1.reply ≡ Err Stale → result.1.before < front_at pass server }
+        ensures stale { (result.1.reply ≡ Err (Stale result.1.before)) ↔ (result.1.before < front_at pass server) }
+        ensures full { (result.1.reply ≡ Err (Lacked Full)) ↔ ((front_at pass server ≤ result.1.before) × IsTrue (is_spent result.1.lay result.1.request)) }
+        ensures memory { result.1.reply ≡ Err (Lacked Memory) → (front_at pass server ≤ result.1.before) × (is_spent result.1.lay result.1.request ≡ false) }
         ensures fits { IfOk result.1.reply (λ reply. IsTrue (fits request reply.value)) }
         ensures rises { IfOk result.1.reply (λ reply. sent_stamp pass < reply.stamp) }
         ensures pass { result.0 ≡ after_answer pass server result.1 }
@@ -105,7 +112,7 @@ impl Servers {
             stamp,
             value: request,
         };
-        let mut guard = self.locks[usize::from(server)].lock(rt);
+        let mut guard = self.lock_of(rt, server);
         gate.inside(server, pass.agent());
         let answer = guard.serve(pass.agent(), front, request);
         drop(guard);
@@ -116,12 +123,28 @@ impl Servers {
         (pass, answer)
     }
 
+    /// The lock of a server, once it is free, with the server of that number under it. No type can say which server lies
+    /// under a lock of a list, so another is let go, and waited for.
+    fn lock_of<R: Wait>(&self, rt: &R, server: u8) -> MutexGuard<'_, Locked>
+        requires { server < self.now.servers }
+        ensures { (mutex_guard_value result).number ≡ server }
+    {
+        let _locks = self.locks.len();
+        for _ in rt.forever() {
+            let guard = self.locks[usize::from(server)].lock(rt);
+            if guard.number() == server {
+                return guard;
+            }
+        }
+        unreachable!()
+    }
+
     /// The histories of the servers, each legal from the opening that the settings of `start` give to its
     /// server. Each agent has made as many of their items as its one pass counted, and so has the operator;
-    /// who hands in no pass has made none. The answer is that of [`close_locked`] on what stood under the locks.
-    /// Closing takes no memory, so a fault is always told.
+    /// who hands in no pass has made none. The answer is that of [`close_locked`] on what stood under the locks, which a
+    /// fault hands out. Closing takes no memory, so a fault is always told.
     pub fn close(self, passes: Vec<Pass>) -> Result<Histories, CloseFault>
-        ensures closes { ClosesSome self passes.items result }
+        ensures fault { IfErr result (IsNotClosed self passes.items) }
         ensures legal { IfOk result (AreOf self) }
         ensures counted { IfOk result (AreCounted passes.items askers) }
     {
@@ -136,16 +159,27 @@ impl Servers {
     }
 }
 
-/// The locks as a service opens.
-fn locks_of(alloc: Global, settings: &Settings) -> Result<Vec<Mutex<Locked>>, AllocError>
-    ensures each { IfOk result (λ locks. vec_len locks ≡ settings.now.servers) }
-    ensures few { IfOk result (λ locks. vec_len locks ≤ MAX_SERVERS) }
+/// The servers as a service opens, in their order.
+fn first_servers(alloc: Global, settings: &Settings) -> Result<Vec<Locked>, AllocError>
+    ensures servers { IfOk result (λ servers. servers.items ≡ opened_from settings.now 0 settings.now.servers) }
+    ensures each { IfOk result (λ servers. vec_len servers ≡ settings.now.servers) }
+    ensures few { IfOk result (λ servers. vec_len servers ≤ MAX_SERVERS) }
 {
     let count = settings.servers() as u8;
-    let mut locks = Vec::new(alloc);
+    let mut servers = Vec::new(alloc);
     for number in 0..count {
-        let locked = Locked::opening(alloc, number, settings)?;
-        locks.push(Mutex::new(locked))?;
+        servers.push(Locked::opening(alloc, number, settings)?)?;
+    }
+    Ok(servers)
+}
+
+/// Each of these under a lock of its own, in their order.
+fn locks_over(alloc: Global, servers: Vec<Locked>) -> Result<Vec<Mutex<Locked>>, AllocError>
+    ensures { IfOk result (λ locks. vec_len locks ≡ vec_len servers) }
+{
+    let mut locks = Vec::with_capacity(alloc, servers.len())?;
+    for locked in servers {
+        locks.push_reserved(Mutex::new(locked));
     }
     Ok(locks)
 }
@@ -163,20 +197,15 @@ fn first_passes(alloc: Global, settings: &Settings) -> Result<Vec<Pass>, AllocEr
     Ok(passes)
 }
 
-/// What stood under the locks, put into this room.
+/// What stood under the locks, in their order, put into this room.
 fn taken_out(locks: Vec<Mutex<Locked>>, room: Vec<Locked>) -> Vec<Locked>
     requires empty { vec_len room ≡ 0 }
     requires room { vec_len locks ≤ vec_capacity room }
-    ensures each { vec_len result ≡ vec_len locks }
-    ensures legal { All HoldsLegal result.items }
+    ensures { vec_len result ≡ vec_len locks }
 {
     let mut held = room;
-    let mut locks = locks;
-    locks.as_mut_slice().reverse();
-    while let Some(lock) = locks.pop() {
-        let locked = lock.into_inner();
-        locked.is_legal();
-        held.push_reserved(locked);
+    for lock in locks {
+        held.push_reserved(lock.into_inner());
     }
     held
 }

@@ -14,7 +14,8 @@ use Rattle.vote_core.specs.declared.TheConstants.{MAX_SERVERS}
 use Rattle.file_ops.specs.declared.answer.Answer.{Answer}
 use Rattle.file_ops.specs.declared.refusal.Refusal.{Refusal}
 use Rattle.suite_script.specs.declared.root.Root.{Root}
-use Rattle.suite_script.specs.Faults.{line_feed, text_code}
+use Rattle.acl_text.specs.Codes.{text_code}
+use Rattle.suite_script.specs.Faults.{line_feed}
 use Rattle.suite_script.specs.Outputs.{Output, Done, Faulty, script_output}
 use Rattle.suite_script.specs.Scripts as scripts
 use Rattle.suite_cli.specs.Scripts.{Job, script_in}

@@ -5,11 +5,11 @@ ghost use Rattle.suite_cli.specs.Outputs.{text_fault_line, word_fault_line};
 ghost use Rattle.suite_cli.specs.code.Errors.{Told};
 
 use crate::command_error::CommandError;
-use acl_text::TextFault;
+use acl_text::{TextFault, push_text_code};
 use byte_streams::{ByteOut, COMMAND_LINE, FAULTY, NO_STREAM, finish, finish_line, lack_memory};
 use script_text::push_number;
 use std::alloc::{AllocError, Global};
-use suite_script::{fault_text, push_text_code};
+use suite_script::fault_text;
 
 /// Tells why a command ended before its work was done, and answers its exit status.
 pub(crate) fn tell<O: ByteOut>(alloc: Global, error: CommandError, writer: &mut O) -> u8

@@ -1,4 +1,3 @@
-pub mod Ids
 pub mod Steps
 pub mod Fields
 pub mod Gathering

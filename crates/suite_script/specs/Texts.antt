@@ -2,10 +2,7 @@
 use Rattle.std.specs.Prelude.{ℕ, List, [], ◌∷◌, ◌++◌, codes, decimal, Result, Ok, Err}
 use Rattle.std.specs.List.{flat_map}
 use Rattle.hex.specs.Hex.{encode_lower}
-use Rattle.acl_core.specs.declared.entry.Tag.TheVariants as tag
-use Rattle.acl_core.specs.declared.check.Decider.{Decider}
-use Rattle.acl_core.specs.declared.check.Decider.TheVariants as decider
-use Rattle.acl_text.specs.Writing.{permission_text, short_text, tag_text}
+use Rattle.acl_text.specs.Writing.{decider_text, permission_text, short_text}
 use Rattle.file_ops.specs.declared.answer.Answer.{Answer}
 use Rattle.file_ops.specs.declared.answer.Answer.TheVariants as answer
 use Rattle.file_ops.specs.declared.refusal.Denial.{Denial}
@@ -39,16 +36,6 @@ reply_text answer.Set = codes "set"
 abbrev pub replies_text : List Answer → List ℕ
 replies_text [] = []
 replies_text (reply ∷ replies) = reply_text reply ++ flat_map (λ next. codes "; " ++ reply_text next) replies
-
--- what decided a denial: an entry, by whom it is about, or the rule that only the owner may
-abbrev pub decider_text : Decider → List ℕ
-decider_text decider.UserObj = tag_text tag.UserObj
-decider_text (decider.User id) = tag_text (tag.User id)
-decider_text decider.GroupObj = tag_text tag.GroupObj
-decider_text (decider.Group id) = tag_text (tag.Group id)
-decider_text decider.Mask = tag_text tag.Mask
-decider_text decider.Other = tag_text tag.Other
-decider_text decider.OwnerRule = codes "owner"
 
 -- what an operation was denied
 abbrev pub denial_text : ℕ → Denial → List ℕ

@@ -43,7 +43,7 @@ mod stage;
 mod votes;
 mod word;
 
-pub use code::{fault_text, push_text_code};
+pub use code::fault_text;
 pub use fault::{LineError, LineFault, ScriptError, ScriptFault};
 pub use gathered::{write_gathered, write_if_full};
 pub use header::read_root;

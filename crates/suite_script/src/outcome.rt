@@ -2,11 +2,10 @@
 
 ghost use Rattle.std.specs.Prelude.{◌≡◌, ◌++◌, OnOk, codes};
 ghost use Rattle.std.specs.List.{flat_map};
-ghost use Rattle.suite_script.specs.Texts.{answered_text, bytes_text, decider_text, denial_text, names_text, refusal_text, refused_text, replies_text, reply_text, why_text};
+ghost use Rattle.suite_script.specs.Texts.{answered_text, bytes_text, denial_text, names_text, refusal_text, refused_text, replies_text, reply_text, why_text};
 
 use crate::votes::push_votes;
-use acl_core::{Decider, Tag};
-use acl_text::{append_short, append_tag, permission_text};
+use acl_text::{append_decider, append_short, permission_text};
 use file_ops::{Answer, Denial, Refusal, Why};
 use script_text::push_number;
 use std::alloc::{AllocError, Global};
@@ -148,19 +147,5 @@ pub fn push_denial(text: &mut Vec<u8>, op: u8, denial: Denial) -> Result<(), All
     text.extend_from_slice(b" wants ")?;
     text.extend_from_slice(&permission_text(denial.wanted))?;
     text.extend_from_slice(b" by ")?;
-    push_decider(text, denial.decider)
-}
-
-fn push_decider(text: &mut Vec<u8>, decider: Decider) -> Result<(), AllocError>
-    ensures { OnOk result (text.new.items ≡ text.old.items ++ decider_text decider) }
-{
-    match decider {
-        Decider::UserObj => append_tag(text, Tag::UserObj),
-        Decider::User(id) => append_tag(text, Tag::User(id)),
-        Decider::GroupObj => append_tag(text, Tag::GroupObj),
-        Decider::Group(id) => append_tag(text, Tag::Group(id)),
-        Decider::Mask => append_tag(text, Tag::Mask),
-        Decider::Other => append_tag(text, Tag::Other),
-        Decider::OwnerRule => text.extend_from_slice(b"owner"),
-    }
+    append_decider(text, denial.decider)
 }

@@ -5,17 +5,17 @@ ghost use Rattle.std.specs.List.{list_any};
 ghost use Rattle.acl_text.specs.Layout.{is_white};
 ghost use Rattle.file_ops.specs.Steps.{found_or};
 ghost use Rattle.script_text.specs.Numbers.{number_up_to};
-ghost use Rattle.suite_script.specs.Words.{max_id, at_end, caller_in, caller_with};
+ghost use Rattle.suite_script.specs.Words.{max_id, at_end, caller_in};
 ghost use Rattle.suite_script.specs.Lists.{lists_in, init_in, is_mode, mode_of};
 ghost use Rattle.suite_script.specs.Operations.{bytes_in};
 ghost use Rattle.suite_script.specs.Readings.{Gives};
 
 use crate::fault::{LineError, LineFault};
-use acl_core::{Caller, Lists, MAX_GROUPS, Mode};
+use acl_core::{Caller, Lists, Mode};
 use acl_text::{Names, read_acl};
 use file_ops::Init;
 use hex::FromHexError;
-use script_text::{Numbers, Words, read_number};
+use script_text::{Words, read_number};
 use std::alloc::Global;
 use suite_content::FileBytes;
 
@@ -45,32 +45,11 @@ pub fn read_id(word: &[u8]) -> Result<u32, LineFault>
     Ok(number as u32)
 }
 
-/// The most numbers of a caller's groups: its own and the others.
-const MAX_NUMBERS: usize = 33;
-
 /// A caller of some user, with the numbers of its groups between commas, its own first.
 pub fn read_caller(uid: u32, word: &[u8]) -> Result<Caller, LineFault>
     ensures { result ≡ caller_in uid word.now }
 {
-    let mut numbers = [0; MAX_NUMBERS];
-    let mut count = 0;
-    for number in Numbers::new(word, b',', u32::MAX) {
-        if count == MAX_NUMBERS {
-            return Err(LineFault::Form);
-        }
-        numbers[count] = number.ok_or(LineFault::Form)?;
-        count += 1;
-    }
-    caller_with(uid, &numbers[..count])
-}
-
-fn caller_with(uid: u32, numbers: &[u32]) -> Result<Caller, LineFault>
-    ensures { result ≡ caller_with uid numbers.now }
-{
-    match numbers {
-        [gid, groups @ ..] => Caller::new(uid, *gid, groups).map_err(|_| LineFault::Form),
-        [] => Err(LineFault::Form),
-    }
+    acl_text::read_caller(uid, word).ok_or(LineFault::Form)
 }
 
 fn is_white(byte: u8) -> bool

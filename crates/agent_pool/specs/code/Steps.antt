@@ -23,7 +23,7 @@ use Rattle.agent_pool.specs.Transcripts.{Played, AreAsks, GoesOn, IsIdle, IsLong
 abbrev pub delivery_from : ℕ → Result (Stamped Reply) Miss → Option Delivery
 delivery_from server (Ok reply) = Some (record { entry = Asked server reply.stamp; response = Replied reply.value })
 delivery_from server (Err (Lack lack)) = Some (record { entry = AskedInVain server lack; response = NotServed lack })
-delivery_from server (Err Stale) = None
+delivery_from server (Err (Stale long)) = None
 
 -- how a job of an agent ended, as it is written down
 abbrev pub end_entry : ℕ → ℕ → ℕ → Ending → Entry

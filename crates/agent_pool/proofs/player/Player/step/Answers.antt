@@ -1,4 +1,5 @@
-use Rattle.std.proofs.Common.{rules, inl, inr, ◌≡◌, ◌∷◌, [], ap, sym, subst, ◌∙◌}
+use Rattle.std.proofs.Common.{rules, inl, inr, ◌≡◌, ℕ, ◌∷◌, [], Err, ap, sym, subst, ◌∙◌}
+use Rattle.server_lock.specs.declared.miss.Miss.TheVariants.{Stale}
 use Rattle.server_lock.specs.Passes.{Held}
 use Rattle.txn_core.specs.Agents.{next_of}
 use Rattle.txn_core.specs.Standing.{Standing}
@@ -23,7 +24,7 @@ pub returns-in_default-delivery_from : goal.returns-in_default-delivery_from
 returns-in_default-delivery_from g c =
     let answer = c.ask-pass.result.1 in
     did_stick _ _ _ _ _ _ (search rules) (search rules) (search rules)
-    (inr (stale_seen c.in-Some.server answer.before c.in-Some.request answer.reply c.args.pass _ (sym c.delivery_from.ensures ∙ c.in_default-delivery_from.is) c.ask-pass.ensures.stale (search rules)))
+    (inr (stale_seen c.in-Some.server answer.before c.in-Some.request answer.reply c.args.pass _ (sym c.delivery_from.ensures ∙ c.in_default-delivery_from.is) (λ long e. c.ask-pass.ensures.stale.0 (subst (λ (n : ℕ). answer.reply ≡ Err (Stale n)) (c.ask-pass.ensures.told.stale long e) e)) (search rules)))
 
 pub invariant_of-self-2 : goal.invariant_of-self-2
 invariant_of-self-2 g c =

@@ -1,5 +1,5 @@
 use Rattle.std.proofs.Common.{rules, ◌≡◌, ◌∙◌, ◌<◌, List, [], ◌∷◌, ◌++◌, length, cond, None, Some, sym, ap, subst, arith}
-use Rattle.rep_core.specs.Serving.{answer_of, is_full, served}
+use Rattle.rep_core.specs.Serving.{answer_of, served}
 use Rattle.rep_core.specs.State.{State}
 use Rattle.server_lock.specs.declared.item.Item.{Item}
 use Rattle.server_lock.specs.Histories.{given_to, item_of, max_items}
@@ -9,15 +9,16 @@ use Rattle.server_lock.proofs.locked.Locked.keep.Goals as goal
 
 pub invariant_of-self-2 : goal.invariant_of-self-2
 invariant_of-self-2 c =
-    let request = c.args.request in
+    let request = c.args.request.now in
     let history = c.self.inside.items.items in
     let server : State = c.self.inside.server.state in
     let reply = c.evaluate.new.reply in
     let full = never_full _ _ _ c.in_ok-step.ensures.full in
     let room : length history < max_items = omega (arith, c.self.inside.items.ok.0, c.len.ensures, c.if-len-ge-MAX_ITEMS.false) in
     let copied : c.in_ok-copy.copy ≡ reply.value = search rules in
-    let item : Item = record { stamp = reply.stamp; agent = c.args.agent; request = request; reply = c.in_ok-copy.copy } in
-    let same : item ≡ item_of c.args.agent request reply = λ i. record { stamp = reply.stamp; agent = c.args.agent; request = request; reply = copied i } in
+    let asked : c.in_ok-asked.asked ≡ request = search rules in
+    let item : Item = record { stamp = reply.stamp; agent = c.args.agent; request = c.in_ok-asked.asked; reply = c.in_ok-copy.copy } in
+    let same : item ≡ item_of c.args.agent request reply = λ i. record { stamp = reply.stamp; agent = c.args.agent; request = asked i; reply = copied i } in
     let items : c.push_reserved.new.self.items ≡ history ++ item_of c.args.agent request reply ∷ [] =
     c.push_reserved.ensures.items
     ∙ (ap (λ (xs : List Item). xs ++ item ∷ []) c.reserve.ensures.items
@@ -28,7 +29,7 @@ invariant_of-self-2 c =
 
 pub returns-clause-reply : goal.returns-clause-reply
 returns-clause-reply c =
-    let request = c.args.request in
+    let request = c.args.request.now in
     let server : State = c.self.inside.server.state in
     let reply = c.evaluate.new.reply in
     let full = never_full _ _ _ c.in_ok-step.ensures.full in

@@ -1,7 +1,7 @@
 -- The numbers of a caller's groups, read one after the other.
 use Rattle.std.proofs.Common.{◌≡◌, ℕ, ◌⊎◌, inl, inr, List, [], ◌∷◌, ◌++◌, map, Option, Some, None, option_map, refl, ◌∙◌, ap}
 use Rattle.script_text.specs.Numbers.{number_up_to}
-use Rattle.suite_script.specs.Words.{ids_in, max_id}
+use Rattle.acl_text.specs.Callers.{ids_in, max_id}
 
 -- the numbers, where each is one
 abbrev pub all_numbers : List (Option ℕ) → Option (List ℕ)

@@ -1,0 +1,12 @@
+use Rattle.std.proofs.Common.{◌≡◌, ◌≤◌, ℕ, length, take, eqb}
+use Rattle.std.specs.List.{slice_split}
+use Rattle.acl_text.specs.Callers.{ids_in}
+use Rattle.acl_text.proofs.Ids.{ids_after}
+use Rattle.acl_text.proofs.caller.read_caller.Given as goal
+
+abbrev pub invariant-loop-number : goal.invariant-loop-number
+invariant-loop-number l = record {
+  places : length l.numbers ≡ 33;
+  few : l.count ≤ 33;
+  read : ids_after (take l.count l.numbers) l.number-iterator ≡ ids_in (slice_split (λ (byte : ℕ). eqb byte 44) l.text);
+}
