@@ -15,32 +15,8 @@ import sys
 import tempfile
 
 TOP = os.path.realpath(os.path.join(os.path.dirname(os.path.abspath(__file__)), ".."))
-<<<<<<< HEAD
-WIDEST = 120
-# The files that are checked; those of a line together, since of two files with one name only one can be.
-TYPED = (
-    (
-        "tools",
-        "after build choose compare console explain explore faulty grammar guarded happened in_script looking scenario "
-        "shapes shown sources trial votes worded wrong_bodies wrong_bodies_page gate gate_times named proved_page",
-    ),
-    (
-        "tests",
-        "against-the-kernel checked-build damaged-copies damaged-scripts defaults-on-linux explained explored hints "
-        "played reading scratch typed voted votes-left wrapper",
-    ),
-    ("tests", "votes"),
-    (
-        "bench",
-        "acl cache certify copies hints lists locks measure names play serve server table transactions unproved",
-    ),
-)
-# A text of Markdown stands in it, whose lines are paragraphs.
-HAS_TEXT = "wrong_bodies_page.py"
-=======
 WIDEST, FEWEST = 120, 90
 FOLDERS = ("tools", "tools/machine", "tests", "bench")
->>>>>>> origin/next
 # What may be nothing is not told apart from what may not: a match that was looked for is taken to be there.
 CONFIG = """[mypy]
 strict_optional = False

@@ -106,14 +106,9 @@ def build(needs: dict[str, list[str]], teller: console.Teller) -> tuple[str, str
 
 
 def main() -> int:
-<<<<<<< HEAD
-    if len(sys.argv) > 1:
-        raise console.Stop("--prove takes no other word than trace, may or explore")
-=======
     read = console.words(__doc__)
-    read.usage = "./suites --prove [trace|may]"
+    read.usage = "./suites --prove [trace|may|explore]"
     read.parse_args()
->>>>>>> origin/next
     kit = sources.Kit()
     kit.wanted()
     sources.make_folder()

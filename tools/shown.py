@@ -106,12 +106,8 @@ def told_of_votes(block: list[bytes]) -> bytes | None:
 
 
 def main() -> int:
-<<<<<<< HEAD
-    known = [*rows(), *stories()]
-=======
     console.words(__doc__).parse_args()
-    known = rows()
->>>>>>> origin/next
+    known = [*rows(), *stories()]
     wrong = list(texts_of_help(known))
     inputs = {given for _, given, _ in known}
     for folder, _, names in sorted(os.walk(os.path.join(TOP, "examples"))):
