@@ -179,7 +179,7 @@ def with_brief(ways: Ways, words: str) -> str:
 
 def compare_kept(every: int) -> int:
     """Compares with the kept ways, and plays the scripts of ways."""
-    program, suites, tally = trace.program("explore"), played.program([]), Tally()
+    program, suites, tally = trace.program("explore"), played.program(None), Tally()
     for name, words, text in kept():
         with open(os.path.join(KEPT, f"{name}.ways"), encoding="utf-8") as file:
             wanted = file.read()
