@@ -1,2 +1,4 @@
 pub mod Places
 pub mod Joining
+pub mod Stepping
+pub mod Reading
