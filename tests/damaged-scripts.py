@@ -21,14 +21,11 @@ import typing
 import played
 
 import explain
+import forms
 import scenario
 
-FIRSTS = {
-    "play": ["begin", "sweep", "step", "run", "crash", "return", "forget", "audit"],
-    "serve": ["do", "sweep", "together"],
-    "table": ["do"],
-}
-VERBS = ["read", "write", "list", "file", "folder", "drop", "getacl", "setacl", "getvotes", "setvotes"]
+FIRSTS = {command: list(forms.lines_of(command, "own")) for command in forms.COMMANDS}
+VERBS = list(forms.OPERATIONS)
 BYTES = [
     "",
     " ",
@@ -56,25 +53,18 @@ NAMED_AT_LEAST = {"word dropped": 0.98, "word added": 0.98}
 # Of these kinds so many damages have a fault in that line at least; of the others nearly all. So a program that
 # takes faulty scripts as good ones is told.
 FAULTY_AT_LEAST = {"bytes changed": 0.8, "list changed": 0.9, "word dropped": 0.85}
-# The most of each number behind the first word of a line; -1 and -2 stand for the last server and the last agent.
-MOST = {
-    "begin": [-2, 4294967295, None, 15],
-    "sweep": [-2, -1],
-    "step": [-2, 1000000],
-    "run": [-2],
-    "crash": [-1],
-    "return": [-1],
-    "forget": [-2, 15],
-    "audit": [-1],
-    "servers": [32],
-    "agents": [64],
-    "root": [4294967295, 4294967295],
-    "cache": [268435456, 268435456, 4096],
-    "user": [None, 4294967295],
-    "group": [None, 4294967295],
-}
+
+
+def most_of(place: str) -> int | None:
+    """The most number of a place; -1 and -2 stand for the last server and the last agent."""
+    most = forms.PLACES[place.strip("[]")].most if place != "OPERATIONS" else "-"
+    return {"servers": -1, "agents": -2, "-": None}[most] if not most.isdigit() else int(most)
+
+
+# The most of each number behind the first word of a line of `play`.
+MOST = {word: [most_of(place) for place in line.places.split()] for word, line in forms.lines_of("play").items()}
 # Lines that only scripts of `play` have.
-OF_PLAY = ("agents", "step", "run", "crash", "return", "forget", "audit")
+OF_PLAY = tuple(word for word in forms.lines_of("play") if word not in {*forms.lines_of("serve"), "begin"})
 
 
 def script_of(command: str, seed: int) -> list[str]:
@@ -221,12 +211,12 @@ class Damage:
         self.put([line])
 
     def do_header_line_dropped(self) -> bool | None:
-        self.at = self.dice.randrange(5 if self.command == "play" else 4 if self.command == "serve" else 1)
+        self.at = self.dice.randrange(len(forms.lines_of(self.command, "header")))
         first = self.lines.pop(self.at).split()[0]
         self.wanted = [f"'{first} ", "is due here"]
 
     def do_header_line_twice(self) -> bool | None:
-        count = 5 if self.command == "play" else 4 if self.command == "serve" else 1
+        count = len(forms.lines_of(self.command, "header"))
         whole = self.dice.randrange(count)
         self.at = self.dice.randrange(count, len(self.lines))
         self.lines.insert(self.at, self.lines[whole])

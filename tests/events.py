@@ -9,6 +9,7 @@ has to be told in the objects too. Status 1 where something differs.
 import json
 import os
 import re
+import subprocess
 import sys
 from collections.abc import Iterator
 from typing import Any
@@ -198,6 +199,9 @@ def main() -> int:
         lines = trace.traced(script.encode())
         for own, told in zip([*lines_of(events), None], [*lines_in(lines), None]):
             judge.holds(own == told, name, "told otherwise", own, told)
+    for words in (["--json", "x"], ["--json", ""], ["x", "--json"]):
+        done = subprocess.run([trace.program(), *words], stdin=subprocess.DEVNULL, capture_output=True, check=False)
+        judge.holds((done.returncode, done.stdout) == (2, b"fault command line\n"), "words", words, done)
     for one in judge.wrong[:20]:
         print(one[:600])
     print(f"{judge.count} looked at, {len(judge.wrong)} differ")

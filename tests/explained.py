@@ -22,6 +22,7 @@ import played
 import console
 import after
 import explain
+import forms
 import grammar
 import happened
 import scenario
@@ -45,7 +46,7 @@ PUT = {
     "--servers N": "1,1,1/2/2 --servers 3",
 }
 # A constant of the sources, and where it is named: parts of the page with the words around it, and names in
-# tools/grammar.py.
+# tools/grammar.py or places of the table of forms.
 LIMITS: tuple[tuple[str, str, list[tuple[str, str]], str | None], ...] = (
     ("acl_core/src/acl.rt", "MAX_ENTRIES", [("A8", "more than {} entries")], "MAX_ENTRIES"),
     ("acl_text/src/names.rt", "MAX_NAME", [("N1", "1 to {} bytes")], "MAX_NAME"),
@@ -56,14 +57,14 @@ LIMITS: tuple[tuple[str, str, list[tuple[str, str]], str | None], ...] = (
     ("file_ops/src/operation.rt", "MAX_OPERATIONS", [("F10", "more than {} operations")], None),
     ("rep_core/src/store.rt", "MAX_SUITES", [("U6", "{} files and folders")], None),
     ("server_lock/src/locked.rt", "MAX_ITEMS", [("U6", "{} requests")], None),
-    ("suite_prefix/src/settings.rt", "MAX_AGENTS", [("G1", "1 to {} agents")], "MAX_AGENTS"),
-    ("suite_prefix/src/settings.rt", "MAX_CACHE", [("G3", "at most {} bytes")], "MAX_CACHE"),
-    ("suite_prefix/src/settings.rt", "MAX_SLOTS", [("G3", "{} entries")], "MAX_SLOTS"),
+    ("suite_prefix/src/settings.rt", "MAX_AGENTS", [("G1", "1 to {} agents")], "AGENTS"),
+    ("suite_prefix/src/settings.rt", "MAX_CACHE", [("G3", "at most {} bytes")], "BUDGET"),
+    ("suite_prefix/src/settings.rt", "MAX_SLOTS", [("G3", "{} entries")], "SLOTS"),
     ("suite_prefix/src/forms.rt", "OLD_ENTRIES", [("G4", "no more than {} entries")], "OLD_ENTRIES"),
     ("suite_prefix/src/forms.rt", "OLD_SERVERS", [], "OLD_SERVERS"),
-    ("vote_core/src/lib.rt", "MAX_SERVERS", [("G1", "1 to {} servers"), ("V2", "there are {} servers")], "MAX_SERVERS"),
-    ("suite_play/src/language.rt", "MAX_STEPS", [], "MAX_STEPS"),
-    ("suite_play/src/language.rt", "LAST_SITE", [], "LAST_SITE"),
+    ("vote_core/src/lib.rt", "MAX_SERVERS", [("G1", "1 to {} servers"), ("V2", "there are {} servers")], "SERVERS"),
+    ("suite_play/src/language.rt", "MAX_STEPS", [], "N"),
+    ("suite_play/src/language.rt", "LAST_SITE", [], "SITE"),
     ("suite_script/src/votes.rt", "MAX_COLLECTED", [], "MAX_COLLECTED"),
     ("suite_script/src/votes.rt", "MAX_VOTES", [], "MAX_VOTES"),
     ("suite_script/src/word.rt", "MAX_NUMBERS", [], "MAX_NUMBERS"),
@@ -443,8 +444,9 @@ def false_limits() -> typing.Iterator[str]:
         for code, words in told:
             if not any(re.search(rf"(?<![\d,]){re.escape(words.format(way))}", parts[code]) for way in ways):
                 yield f"{code} does not say \"{words.format(number)}\", the {name} of {path}"
-        if own and getattr(grammar, own) != number:
-            yield f"{own} of tools/grammar.py is not {number}, the {name} of {path}"
+        known = int(forms.PLACES[own].most) if own in forms.PLACES else getattr(grammar, own) if own else number
+        if known != number:
+            yield f"{own} of tools/grammar.py or crates/forms/stdout is not {number}, the {name} of {path}"
 
 
 def main() -> int:

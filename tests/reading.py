@@ -6,19 +6,13 @@ are cut.
 """
 import re
 
-HEADERS = {
-    "table": ["root"],
-    "play": ["servers", "agents", "votes", "root", "cache"],
-    "serve": ["servers", "votes", "root", "cache"],
-}
-EVENTS = {
-    "table": ["do"],
-    "play": ["begin", "sweep", "step", "run", "crash", "return", "forget", "audit"],
-    "serve": ["do", "sweep", "together"],
-}
+import played  # noqa: F401
+
+import forms
+
 NUMBER = re.compile(r"[0-9]+")
 KINDS = {"u": "u", "user": "u", "g": "g", "group": "g", "m": "m", "mask": "m", "o": "o", "other": "o"}
-MOST_ID, MOST_BYTES = 4294967295, 268435456
+MOST_ID, MOST_SERVERS = 4294967295, 32
 
 
 # The users and the groups that have names, by their letters.
@@ -129,125 +123,96 @@ def read_votes(word: str, servers: int) -> None:
 
 # ---- lines
 
-def read_operation(words: list[str], names: Names) -> None:
-    """Finds the first fault of an operation's words."""
-    if words[0] in ("read", "list", "drop", "getacl", "getvotes"):
-        need, most = 2, 2
-    elif words[0] in ("write", "setacl", "setvotes"):
-        need, most = 3, 3
-    elif words[0] in ("file", "folder"):
-        need, most = 3, 4
-    else:
-        raise Fault("S1")
-    if len(words) < need:
-        raise Fault("S1")
-    if words[0] == "write" and words[2] != "-" and not re.fullmatch("([0-9a-fA-F]{2})+", words[2]):
-        raise Fault("S1")
-    if words[0] in ("file", "folder", "setacl"):
-        initial(words[2], names)
-    if words[0] == "setvotes":
-        read_votes(words[2], 32)
-    if len(words) == 4 and most == 4:
-        read_votes(words[3], 32)
-    if len(words) > most:
-        raise Fault("S1")
+def read_groups(word: str) -> None:
+    for part in word.split(","):
+        number(part, MOST_ID)
 
 
-def read_transaction(words: list[str], names: Names, has_site: bool) -> None:
-    """Finds the first fault of what stands behind `do` or an agent."""
-    need = 3 if has_site else 2
-    for place, word in enumerate(words[:need]):
-        for part in word.split(",") if place == 1 else [word]:
-            number(part, 15 if place == 2 else MOST_ID)
-    rest = words[need:]
-    if len(words) <= need:
+def read_bytes(word: str) -> None:
+    if word != "-" and not re.fullmatch("([0-9a-fA-F]{2})+", word):
         raise Fault("S1")
-    while True:
-        end = rest.index(";") if ";" in rest else len(rest)
-        if end == 0:
-            raise Fault("S1")
-        read_operation(rest[:end], names)
-        if end == len(rest):
-            return
-        rest = rest[end + 1 :]
-        if not rest:
-            raise Fault("S1")
 
 
 class Script:
     """A script of a command, of which lines are read."""
 
     def __init__(self, command: str) -> None:
-        self.command, self.header = command, list(HEADERS[command])
-        self.words = {"user", "group", *self.header, *EVENTS[command]}
+        self.command, self.header = command, list(forms.lines_of(command, "header"))
         self.sizes, self.begun, self.parted = {"servers": 32, "agents": 64}, False, False
         self.names: Names = {"u": {}, "g": {}}
 
     def read(self, words: list[str]) -> None:
         """Finds the first fault of a line."""
-        if self.header:
-            if words[0] not in self.words:
-                raise Fault("S1")
-            if words[0] != self.header[0]:
-                raise Fault("S2")
-            self.read_header(words)
-            self.header.pop(0)
-        elif words[0] in ("user", "group"):
-            if self.begun:
-                raise Fault("S2")
-            self.read_name(words)
-        elif words[0] in HEADERS[self.command]:
+        line = forms.lines_of(self.command).get(words[0])
+        if not line:
+            raise Fault("S1")
+        if (self.header and words[0] != self.header[0]) or (not self.header and line.part == "header"):
             raise Fault("S2")
-        else:
-            self.begun = True
-            self.read_event(words)
-
-    def read_header(self, words: list[str]) -> None:
-        need = {"servers": 2, "agents": 2, "votes": 2, "root": 4, "cache": 4}[words[0]]
-        if len(words) < need:
+        if (self.begun and line.part in ("name", "option")) or (line.part == "option" and any(self.names.values())):
+            raise Fault("S2")
+        self.begun |= line.part == "own"
+        if not line.places and self.parted:
             raise Fault("S1")
-        if words[0] in ("servers", "agents"):
-            self.sizes[words[0]] = number(words[1])
-            if not 1 <= self.sizes[words[0]] <= {"servers": 32, "agents": 64}[words[0]]:
-                raise Fault("G1")
-        elif words[0] == "votes":
-            read_votes(words[1], self.sizes["servers"])
-        elif words[0] == "root":
-            for word in words[1:3]:
-                number(word, MOST_ID)
-            initial(words[3], self.names)
-        elif max(number(words[1]), number(words[2])) > MOST_BYTES or number(words[3]) > 4096:
-            raise Fault("G3")
-        if len(words) > need:
-            raise Fault("S1")
+        self.parted |= not line.places
+        self.read_words(line.places.split(), words[1:], line)
+        self.header = self.header[1:]
 
-    def read_name(self, words: list[str]) -> None:
-        if len(words) != 3:
-            raise Fault("S1")
-        if not re.fullmatch(r"[!-~]{1,64}", words[1]) or re.search(r"[:,#\\]", words[1]) or words[1].isdigit():
-            raise Fault("N1")
-        if words[1] in self.names[words[0][0]]:
-            raise Fault("N2")
-        self.names[words[0][0]][words[1]] = number(words[2], MOST_ID)
-
-    def read_event(self, words: list[str]) -> None:
-        servers, agents = self.sizes["servers"], self.sizes["agents"]
-        places = {"crash": [servers], "return": [servers], "audit": [servers], "run": [agents], "forget": [agents, 16],
-                  "step": [agents, 1000001], "sweep": [agents, servers] if self.command == "play" else [servers]}
-        if words[0] == ("begin" if self.command == "play" else "do"):
-            if self.command == "play":
-                number(words[1] if len(words) > 1 else "", agents - 1)
-            read_transaction(words[2:] if self.command == "play" else words[1:], self.names, self.command != "table")
-        elif words == ["together"] and self.command == "serve" and not self.parted:
-            self.parted = True
-        elif words[0] in places and (self.command == "play" or (words[0], self.command) == ("sweep", "serve")):
-            limits = places[words[0]]
-            if len(words) - 1 != len(limits) and not (words[0] == "step" and len(words) == 2):
+    def read_words(self, places: list[str], words: list[str], line: forms.Line) -> None:
+        """Finds the first fault of words that stand in these places."""
+        for at, place in enumerate(places):
+            if place == "OPERATIONS":
+                self.read_operations(words[at:], line)
+                return
+            if at < len(words):
+                self.read_word(place.strip("[]"), words[at], line)
+            elif not place.startswith("["):
                 raise Fault("S1")
-            for word, limit in zip(words[1:], limits):
-                number(word, limit - 1)
-        else:
+        if len(words) > len(places):
             raise Fault("S1")
+        if line.part == "name" and places == line.places.split():
+            self.names[line.word[0]][words[0]] = int(words[1])
+
+    def read_operations(self, words: list[str], line: forms.Line) -> None:
+        """Finds the first fault of operations, of which there is one at least."""
+        while True:
+            end = words.index(";") if ";" in words else len(words)
+            if end == 0 or words[0] not in forms.OPERATIONS:
+                raise Fault("S1")
+            self.read_words(forms.OPERATIONS[words[0]].places.split(), words[1:end], line)
+            if end == len(words):
+                return
+            words = words[end + 1 :]
+
+    def read_word(self, place: str, word: str, line: forms.Line) -> None:
+        """Finds the fault of a word in its place."""
+        told = forms.PLACES[place]
+        if told.most != "-":
+            most = self.sizes[told.most] - 1 if told.most in self.sizes else int(told.most)
+            if not int(told.least) <= number(word) <= most:
+                raise Fault(told.code)
+            if line.part == "header" and line.word in self.sizes:
+                self.sizes[line.word] = int(word)
+        elif place == "VOTES":
+            read_votes(word, self.sizes["servers"] if line.part == "header" else MOST_SERVERS)
+        elif place == "INIT":
+            initial(word, self.names)
+        elif place == "LIST":
+            read_list(word, self.names)
+        elif place == "NAME":
+            self.read_name(word, line.word[0])
+        elif place == "GIDS":
+            read_groups(word)
+        elif place == "HEX":
+            read_bytes(word)
+        elif place == "OLD":
+            for part in word.split(","):
+                number(part, self.sizes["servers"] - 1)
+
+    def read_name(self, word: str, kind: str) -> None:
+        if not re.fullmatch(r"[!-~]{1,64}", word) or re.search(r"[:,#\\]", word) or word.isdigit():
+            raise Fault("N1")
+        if word in self.names[kind]:
+            raise Fault("N2")
 
 
 def script_fault(command: str, text: str) -> str | None:

@@ -7,7 +7,8 @@ pictures of some pages in a folder. Status 1 where something differs.
 
 model    the world behind the last event, as the page's model comes to it (by `node`, where that is there), is the one
          that the program tells at the end: also of random scripts
-stories  each story of examples/play, at its end and at its beginning: servers, copies, locks, and what `play` prints
+stories  each story of examples/play, stepped by keys to its end: servers, copies, locks, what agents gathered and
+         keep, and what `play` prints
 hostile  what bytes hold, and names of users in a script, stays text
 hands    keys, clicks, what is explained to whoever points at it, a file through time, dark and light, and on paper
 many     five servers and 300 requests, and 2,000 events: each step takes no longer than a picture of a film (processor
@@ -33,19 +34,24 @@ STORIES = os.path.join(played.TOP, "examples", "play")
 HEADER = ["servers 3", "agents 2", "votes 1,1,1/2/2", "root 1000 100 777", "cache 4096 4096 16"]
 COPY = re.compile(r"    suite (\d+) \w+ prefix (\d+) content (\d+) votes")
 LOCK = re.compile(r"    t (\d+) suite (\d+) (shared|exclusive)( prepared)?$")
-# Stories that are gone through moment by moment, of the others three moments and the end: a key takes two frames.
-STEPPED = ("revocation.script", "swept-clean.script", "votes-moved.script")
 # The most bytes of the page of a story, and the most milliseconds of a step.
 MOST_BYTES, MOST_STEP = 250_000, 40
+# The stories of which pictures are left.
+SHOT = ("revocation.script", "swept-clean.script", "votes-moved.script")
 # So many steps are measured.
 STEPS = 60
-# What the page shows: of each server whether it is up, its copies and its locks; and the lines of `play` up to here.
+# What the page shows: of each server whether it is up, its copies and its locks; of each agent how far its job is, what
+# it gathered, and what its cache keeps; and the lines of `play` up to here.
 SEEN = """(() => ({
   servers: [...document.querySelectorAll('[data-server]')].map((card) => ({
     up: card.dataset.up === 'true',
     copies: [...card.querySelectorAll('[data-copy]')].map((one) =>
       [one.dataset.copy, one.dataset.prefix, one.dataset.content].map(Number)),
     locks: [...card.querySelectorAll('[data-lock]')].map((one) => one.dataset.lock) })),
+  agents: [...document.querySelectorAll('[data-agent]')].map((card) => ({
+    stage: card.dataset.stage,
+    gathered: [...card.querySelectorAll('[data-gathered]')].map((one) => one.dataset.gathered),
+    cache: [...card.querySelectorAll('[data-entry]')].map((one) => one.dataset.entry) })),
   told: [...document.querySelectorAll('#script .told:not(.later)')].map((one) => one.dataset.told),
   text: [...document.querySelectorAll('#script .told:not(.later)')].map((one) => one.textContent),
   here: Page.at(), last: Page.run.last }))()"""
@@ -67,11 +73,10 @@ last.servers.forEach((server, number) => {
 });
 last.agents.forEach((agent, number) => {
   const own = world.agents[number];
-  const sites = [...new Set(own.cache.map((entry) => entry.site))].sort((a, b) => a - b);
-  if (own.jobs !== agent.jobs) wrong.push(`jobs of ${number}`);
-  if (JSON.stringify(sites) !== JSON.stringify(agent.keeps))
-    wrong.push(`cache of ${number}: ${sites} for ${agent.keeps}`);
-  if ((own.job !== null) !== (agent.next !== undefined)) wrong.push(`job of ${number}`);
+  for (const part of ['jobs', 'stage', 'next', 'of', 'gathered', 'cache']) {
+    if (JSON.stringify(own[part]) !== JSON.stringify(agent[part])) wrong.push(`${part} of ${number}`);
+  }
+  if ((own.job !== null) !== (agent.stage !== 'idle')) wrong.push(`job of ${number}`);
 });
 console.log(JSON.stringify(wrong));
 """
@@ -136,6 +141,25 @@ def ended(lines: list[str]) -> list[dict]:
     return servers
 
 
+def agents_at(events: list[dict], place: int) -> list[dict]:
+    """What agents do and keep behind an event, as the page shows it, which puts a site's entries together."""
+    agents = [*events[0]["agents"]]
+    for event in events[1:place + 1]:
+        by = event.get("by")
+        if by:
+            agents[by["agent"]] = {**agents[by["agent"]], **by}
+    shown = []
+    for agent in agents:
+        sites = list(dict.fromkeys(one["site"] for one in agent["cache"]))
+        cache = sorted(agent["cache"], key=lambda one: sites.index(one["site"]))
+        shown.append({
+            "stage": agent["stage"],
+            "gathered": ["{suite} {mode} {newest} {held}".format(**one) for one in agent["gathered"]],
+            "cache": ["{site} {suite} {prefix} {content}".format(**one) for one in cache],
+        })
+    return shown
+
+
 def printed(lines: list[str]) -> list[str]:
     """The lines of a trace that are those of `play`."""
     return [line for line in lines if line[:1].isdigit() or line.startswith(("audit ", "t "))]
@@ -153,21 +177,23 @@ def models(judge: Judge) -> None:
         judge.holds(done.stdout.strip() == "[]", "model", name, done.stdout.strip() or done.stderr[-300:])
 
 
-def whole(judge: Judge, pages: Pages) -> None:
+def whole(judge: Judge, pages: Pages, shots: str | None) -> None:
     for name, script in stories().items():
         size = pages.open(script)
         judge.holds(size < MOST_BYTES, name, "bytes of the page", size)
         lines = trace.traced(script.encode())
         begun = pages.seen()
         judge.holds(begun["here"] == 0 and begun["told"] == [], name, "it begins", begun)
-        if name in STEPPED:
-            pages.driver.press("ArrowRight", begun["last"])
-        else:
-            pages.driver.press("ArrowRight", 3)
-            judge.holds(pages.seen()["here"] == 3, name, "a key leads a moment on")
-            pages.driver.press("End")
-        seen = pages.seen()
-        judge.holds(seen["here"] == seen["last"], name, "keys lead to the end")
+        events = [json.loads(line) for line in show.events_of(script.encode())]
+        # a third of the way each, then to the end, all by keys: what agents do is looked at where it is stopped
+        for place in (begun["last"] // 3, 2 * begun["last"] // 3, begun["last"]):
+            pages.driver.press("ArrowRight", place - pages.seen()["here"])
+            seen = pages.seen()
+            judge.holds(seen["here"] == place, name, "keys lead to", place, seen["here"])
+            if shots and name in SHOT:
+                pages.driver.shot(os.path.join(shots, f"{name}-{place}.png"))
+            told = agents_at(events, place)
+            judge.holds(seen["agents"] == told, name, "agents", place, seen["agents"], told)
         judge.holds(seen["servers"] == ended(lines), name, "servers", seen["servers"], ended(lines))
         judge.holds(seen["told"] == seen["text"] == printed(lines), name, "what play prints", seen["told"])
         pages.driver.press("ArrowLeft", 2)
@@ -273,7 +299,8 @@ def main() -> int:
         try:
             with tempfile.TemporaryDirectory() as folder:
                 pages = Pages(driver, folder)
-                for part in (whole, hostile, hands):
+                whole(judge, pages, given.shots)
+                for part in (hostile, hands):
                     part(judge, pages)
                 many(judge, pages, given.shots)
             judge.holds(not driver.faults, "the console has faults", driver.faults[:3])

@@ -58,6 +58,7 @@ NEAR = {
     "vote 1/1/1": "votes is near",
     "--hlep": "--help is near",
     "trace x": "./suites trace < x",
+    "trace --json x": "--json stands alone",
 }
 # Standard streams, and what is said with them where the program ends with status 6.
 SIX = {

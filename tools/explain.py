@@ -27,7 +27,7 @@ import typing
 
 import console
 import faulty
-import grammar
+import forms
 import happened
 import in_script
 import worded
@@ -231,7 +231,7 @@ def of_file(fault: re.Match[str], path: str, language: str | None) -> str:
 def asked(words: list[str]) -> argparse.Namespace:
     """The words of the command line: a command, and the text with what follows it."""
     read = argparse.ArgumentParser(prog="./suites explain", add_help=False)
-    read.add_argument("--of", choices=list(grammar.LANGUAGES))
+    read.add_argument("--of", choices=forms.COMMANDS)
     read.add_argument("-h", "--help", action="store_true")
     read.add_argument("text", nargs="*")
     return read.parse_args(words)

@@ -6,8 +6,10 @@ what is found first is told where its code is the program's; where it is another
 import re
 import typing
 
+import forms
 import grammar
-from grammar import ANY, HEADER, LANGUAGES, NAMES, OPERATIONS, either, nearest, plain, quoted
+from forms import COMMANDS, OPERATIONS
+from grammar import ANY, either, nearest, plain, quoted
 
 WORD = re.compile(r"[^ \t]+")
 # The word with which a line begins that says something.
@@ -45,8 +47,7 @@ def lines_of(text: str) -> list[str]:
 
 def known_of(language: str) -> list[str]:
     """The words with which lines of a command's scripts begin."""
-    lines = LANGUAGES[language]
-    return [*lines.due, *lines.may, *NAMES, *lines.own]
+    return list(forms.lines_of(language))
 
 
 class Script:
@@ -63,18 +64,25 @@ class Script:
                 self.keep(place, line, first[1])
 
     def keep(self, place: int, line: str, first: str) -> None:
-        if first in LANGUAGES[self.language].own:
+        part = self.part_of(first)
+        if part == "own":
             self.begun = self.begun or place
             self.together = self.together or (place if first == "together" else 0)
-        elif first in HEADER and not self.begun:
+        elif part in ("header", "option") and not self.begun:
             self.headers.setdefault(first, (place, WORD.findall(line)))
-        elif first in NAMES and len(WORD.findall(line)) == 3:
+        elif part == "name" and len(WORD.findall(line)) == 3:
             _, name, number = WORD.findall(line)
             self.names[first][name] = number, place
 
     def due(self) -> str | None:
         """The line of the header that is due, if one is."""
-        return next((first for first in LANGUAGES[self.language].due if first not in self.headers), None)
+        lines = forms.lines_of(self.language, "header")
+        return next((first for first in lines if first not in self.headers), None)
+
+    def part_of(self, first: str) -> str:
+        """In which part of a script the lines stand that begin so; nothing where none does."""
+        line = forms.lines_of(self.language).get(first)
+        return line.part if line else ""
 
     def count(self, first: str, most: int) -> int:
         """How many servers or agents there are; as many as there may be, where that is not known."""
@@ -124,7 +132,7 @@ def fault_of_first(script: Script, line: str, words: list[str]) -> Fault | None:
     """What is wrong with the word with which the line begins, or with the place of such a line."""
     if not words:
         return Fault("S1", 0, "the line has spaces or tabs alone; an empty line has nothing at all")
-    first, due, language = words[0], script.due(), LANGUAGES[script.language]
+    first, due, part = words[0], script.due(), script.part_of(words[0])
     if first not in known_of(script.language):
         return Fault("S1", 0, unknown(script, line, first) + (f"; {form_of(script, due)} is due here" if due else ""))
     if first == due:
@@ -132,7 +140,7 @@ def fault_of_first(script: Script, line: str, words: list[str]) -> Fault | None:
     if due:
         above = f"it stands above, in line {script.headers[first][0]}, and " if first in script.headers else ""
         return Fault("S2", 0, f"{above}{form_of(script, due)} is due here")
-    if first in language.own:
+    if part == "own":
         return (
             Fault("S1", 0, f"{quoted(first)} stands in line {script.together} already")
             if first == "together" and script.together
@@ -140,10 +148,11 @@ def fault_of_first(script: Script, line: str, words: list[str]) -> Fault | None:
         )
     if first in script.headers:
         return Fault("S2", 0, f"it stands above, in line {script.headers[first][0]}")
-    if first in NAMES and script.begun:
+    if part == "name" and script.begun:
         return Fault("S2", 0, f"names stand above the first {OWN[script.language]}, which is line {script.begun}")
-    if first in language.may and (script.begun or any(script.names.values())):
-        return Fault("S2", 0, f"{form_of(script, first)} stands right behind the line {quoted(language.due[-1])}")
+    if part == "option" and (script.begun or any(script.names.values())):
+        last = list(forms.lines_of(script.language, "header"))[-1]
+        return Fault("S2", 0, f"{form_of(script, first)} stands right behind the line {quoted(last)}")
     return None
 
 
@@ -154,7 +163,7 @@ def unknown(script: Script, line: str, first: str) -> str:
         return f"the file begins with {MARKS[mark]}, which an editor put there; save it as plain ASCII"
     if first.startswith("#"):
         return "a comment begins with '#' as the first byte of its line, and here a space or a tab stands before it"
-    others = [name for name in LANGUAGES if first in known_of(name)]
+    others = [name for name in COMMANDS if first in known_of(name)]
     if others:
         option = (
             ", whose option --agents says how many agents there are"
@@ -165,7 +174,7 @@ def unknown(script: Script, line: str, first: str) -> str:
     if re.fullmatch(r"[0-9./,-]+|/.*", first) or first in OPERATIONS:
         return f"the word with which the line begins is missing before {quoted(first)}"
     words = WORD.findall(line)
-    may = [script.due()] if script.due() else [*NAMES, *LANGUAGES[script.language].own]
+    may = [script.due()] if script.due() else list(forms.lines_of(script.language, "name", "own"))
     near = best(script, words, nearest(first, known_of(script.language)), 0, may)
     missing = [other for other in may if not walked(script, [other, *words])]
     if missing and not (near in may and not walked(script, [near, *words[1:]])):
@@ -185,8 +194,8 @@ def best(script: Script, words: list[str], near: list[str], at: int, may: typing
 
 def walked(script: Script, words: list[str]) -> Fault | None:
     """What is first found wrong with the words of a line whose first word stands in its place."""
-    form = {**HEADER, **NAMES, **LANGUAGES[script.language].own}.get(words[0], "")
-    return filled(script.where(words[0]), form.split(), words, 1, len(words))
+    line = forms.lines_of(script.language).get(words[0])
+    return filled(script.where(words[0]), line.places.split() if line else [], words, 1, len(words))
 
 
 def filled(where: grammar.Where, places: list[str], words: list[str], at: int, end: int) -> Fault | None:
@@ -234,8 +243,8 @@ def operation(where: grammar.Where, words: list[str], at: int, end: int) -> Faul
     verb = words[at]
     if verb not in OPERATIONS:
         return Fault("S1", at, "", True)
-    found = filled(where, OPERATIONS[verb].split(), words, at + 1, end)
-    return found and found._replace(form=f"{verb} {OPERATIONS[verb]}")
+    found = filled(where, OPERATIONS[verb].places.split(), words, at + 1, end)
+    return found and found._replace(form=OPERATIONS[verb].form())
 
 
 def fault_of_rest(script: Script, words: list[str]) -> Fault | None:
@@ -317,10 +326,10 @@ def likest(lines: list[str]) -> list[str]:
     def likeness(language: str) -> float:
         return (
             sum(is_of(language, words) for words in said)
-            + ([words[0] for words in said[:1]] == [LANGUAGES[language].due[0]]) / 2
+            + ([words[0] for words in said[:1]] == list(forms.lines_of(language, "header"))[:1]) / 2
         )
 
-    return sorted(LANGUAGES, key=likeness, reverse=True)
+    return sorted(COMMANDS, key=likeness, reverse=True)
 
 
 def is_first(name: str, lines: list[str], number: int) -> bool:

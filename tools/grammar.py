@@ -9,96 +9,26 @@ import difflib
 import re
 import typing
 
-# The lines of a header, of names, and of each command: their words behind the first. A place in brackets may be
-# missing.
-HEADER = {
-    "servers": "SERVERS",
-    "agents": "AGENTS",
-    "votes": "VOTES",
-    "root": "UID GID INIT",
-    "cache": "BUDGET QUOTA SLOTS",
-    "old": "OLD",
-}
-NAMES = {"user": "NAME UID", "group": "NAME GID"}
+import forms
 
-
-class Language(typing.NamedTuple):
-    """The lines of a command's scripts: those of its header in their order, the one that may follow, and its own."""
-
-    due: tuple[str, ...]
-    may: tuple[str, ...]
-    own: dict[str, str]
-
-
-LANGUAGES = {
-    "play": Language(
-        ("servers", "agents", "votes", "root", "cache"),
-        ("old",),
-        {
-            "begin": "A UID GIDS SITE OPERATIONS",
-            "sweep": "A S",
-            "step": "A [N]",
-            "run": "A",
-            "crash": "S",
-            "return": "S",
-            "forget": "A SITE",
-            "audit": "S",
-        },
-    ),
-    "serve": Language(
-        ("servers", "votes", "root", "cache"),
-        ("old",),
-        {"do": "UID GIDS SITE OPERATIONS", "sweep": "S", "together": ""},
-    ),
-    "table": Language(("root",), (), {"do": "UID GIDS OPERATIONS"}),
-}
-OPERATIONS = {
-    "read": "PATH", "write": "PATH HEX", "list": "PATH", "file": "PATH INIT [VOTES]", "folder": "PATH INIT [VOTES]",
-    "drop": "PATH", "getacl": "PATH", "setacl": "PATH LIST", "getvotes": "PATH", "setvotes": "PATH VOTES",
-}
-MAX_ID, MAX_SERVERS, MAX_AGENTS, MAX_CACHE, MAX_SLOTS, LAST_SITE, MAX_STEPS = (
-    4294967295,
-    32,
-    64,
-    268435456,
-    4096,
-    15,
-    1000000,
-)
+MAX_ID = 4294967295
 MAX_NUMBERS, MAX_VOTES, MAX_COLLECTED, MAX_NAME, MAX_ENTRIES, OLD_ENTRIES, OLD_SERVERS = 33, 255, 65535, 64, 128, 64, 16
-# Places that have a number: the least, the most, what the most is, and the code of a number beyond.
-NUMBERS = {
-    "SERVERS": (1, MAX_SERVERS, "the most servers", "G1"),
-    "AGENTS": (1, MAX_AGENTS, "the most agents", "G1"),
-    "BUDGET": (0, MAX_CACHE, "the most bytes of a cache", "G3"),
-    "QUOTA": (0, MAX_CACHE, "the most bytes of a site", "G3"),
-    "SLOTS": (0, MAX_SLOTS, "the most entries of a cache", "G3"),
-    "SITE": (0, LAST_SITE, "the last site", "S1"),
-    "N": (0, MAX_STEPS, "the most steps of a line", "S1"),
-    "UID": (0, MAX_ID, "the last user", "S1"),
-    "GID": (0, MAX_ID, "the last group", "S1"),
-}
-MEANT = {
-    "SERVERS": "how many servers there are",
-    "AGENTS": "how many agents there are",
+# What the most number of a place is.
+MOST = {
+    "SERVERS": "the most servers",
+    "AGENTS": "the most agents",
     "BUDGET": "the most bytes of a cache",
-    "QUOTA": "the most bytes of a site's part of it",
+    "QUOTA": "the most bytes of a site",
     "SLOTS": "the most entries of a cache",
-    "SITE": "a number from 0 to 15",
-    "N": "how many steps",
-    "UID": "the number of a user",
-    "GID": "the number of a group",
-    "A": "the number of an agent",
-    "S": "the number of a server",
-    "GIDS": "the numbers of the user's groups with commas between them",
-    "NAME": "a name",
-    "OLD": "numbers of servers with commas between them",
-    "VOTES": "votes such as 1,1,1/2/2",
-    "INIT": "three octal digits or a list",
-    "LIST": "a list",
-    "HEX": "hexadecimal digits, two a byte, or - for none",
-    "PATH": "a path",
+    "SITE": "the last site",
+    "N": "the most steps of a line",
+    "UID": "the last user",
+    "GID": "the last group",
+    "A": "the last agent",
+    "S": "the last server",
 }
+MEANT = {name: place.means for name, place in forms.PLACES.items()}
+MAX_SERVERS, MAX_AGENTS = (int(forms.PLACES[name].most) for name in ("SERVERS", "AGENTS"))
 KINDS = {
     "user": "user",
     "u": "user",
@@ -173,12 +103,9 @@ def nearest(word: str, known: typing.Iterable[str]) -> list[str]:
 
 def numbered(place: str, word: str, where: Where) -> Wrong | None:
     """What is wrong with a number in its place."""
-    ranges = {
-        "A": (0, where.agents - 1, "the last agent", "S1"),
-        "S": (0, where.servers - 1, "the last server", "S1"),
-        **NUMBERS,
-    }
-    least, most, what, code = ranges[place]
+    told = forms.PLACES[place]
+    last = {"agents": where.agents - 1, "servers": where.servers - 1}
+    least, most, code = int(told.least), last[told.most] if told.most in last else int(told.most), told.code
     if not re.fullmatch("[0-9]+", word):
         known = where.names.get({"UID": "user", "GID": "group"}.get(place), {})
         named = f" (the number of {quoted(word)} is {known[word][0]}; names are for lists)" if word in known else ""
@@ -186,7 +113,7 @@ def numbered(place: str, word: str, where: Where) -> Wrong | None:
     number = value(word)
     if number > most:
         # a number of more than 64 bits has no form at all
-        return Wrong(code if number < 2**64 else "S1", f"{short(word)} is above {most}, {what}", True)
+        return Wrong(code if number < 2**64 else "S1", f"{short(word)} is above {most}, {MOST[place]}", True)
     return Wrong(code, f"{short(word)} is below {least}", True) if number < least else None
 
 
@@ -455,6 +382,4 @@ def wrong_with(place: str, word: str, where: Where) -> Wrong | None:
 
 def form_of(first: str, language: str) -> str:
     """The words of a line that begins so, as they are written down."""
-    form = {**HEADER, **NAMES, **LANGUAGES[language].own}[first]
-    number = {"SERVERS": "N", "AGENTS": "N", "OLD": "S,S,..", "OPERATIONS": "OPERATION ; .."}
-    return " ".join([first, *(number.get(place, place) for place in form.split())])
+    return forms.lines_of(language)[first].form()

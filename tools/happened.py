@@ -10,6 +10,7 @@ import typing
 
 import console
 import faulty
+import forms
 import grammar
 import guarded
 import trace
@@ -70,7 +71,7 @@ class Played:
     """A run of a script: its jobs, when servers crashed and came back, and what was printed."""
 
     def __init__(self, script: str, lines: list[str]):
-        own = grammar.LANGUAGES["play"].own
+        own = forms.lines_of("play", "own")
         said = [(number, line) for number, line in enumerate(faulty.lines_of(script), 1)]
         events = iter([(number, line) for number, line in said if line.split()[:1] and line.split()[0] in own])
         self.servers = grammar.value(next(line for _, line in said if line.split()[:1] == ["servers"]).split()[1])

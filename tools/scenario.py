@@ -9,6 +9,8 @@ import argparse
 import random
 import sys
 
+import forms
+
 PATHS = ["/a", "/b", "/d", "/d/a", "/d/b", "/d/e", "/d/e/a", "/e", "/e/a"]
 FOLDERS = ["/", "/d", "/d/e", "/e"]
 # What there is at first, so that most of what is asked for is there.
@@ -26,6 +28,8 @@ LISTS = [
     "u::rwx,u:4000:rw,g::rwx,m::r,o::r",
     "u::rwx,g::rwx,o::rx,d:u::rwx,d:u:lisa:rwx,d:g::rx,d:m::rwx,d:o::-",
 ]
+# How often an operation is drawn; of one that is not named here SELDOM.
+OFTEN, SELDOM = {"read": 20, "write": 20, "list": 8, "file": 10, "folder": 5, "drop": 5, "setacl": 8, "getvotes": 3}, 6
 MODES = ["777", "755", "750", "700", "666", "644", "640", "600", "077"]
 ROOTS = ["777", "777", "755", "u::rwx,u:2000:rwx,g::rwx,m::rwx,o::rx"]
 
@@ -70,10 +74,7 @@ class Scenario:
         return f"{init} {self.votes()}" if self.dice.random() < 0.15 else init
 
     def operation(self) -> str:
-        kind = self.dice.choices(
-            ["read", "write", "list", "file", "folder", "drop", "getacl", "setacl", "getvotes", "setvotes"],
-            [20, 20, 8, 10, 5, 5, 6, 8, 3, 6],
-        )[0]
+        kind = self.dice.choices(list(forms.OPERATIONS), [OFTEN.get(kind, SELDOM) for kind in forms.OPERATIONS])[0]
         if self.dice.random() < 0.04:
             path = self.dice.choice(["/", "/d/e/x", "a", "/a/b"])
         elif kind in ("list", "folder"):
@@ -85,13 +86,13 @@ class Scenario:
         self.likely |= {path} if kind in ("file", "folder") else set()
         self.likely -= {path} if kind == "drop" and self.dice.random() < 0.5 else set()
         after = {
-            "write": self.bytes,
-            "file": self.initial,
-            "folder": self.initial,
-            "setacl": lambda: self.dice.choice(LISTS),
-            "setvotes": self.votes,
+            "HEX": self.bytes,
+            "INIT [VOTES]": self.initial,
+            "LIST": lambda: self.dice.choice(LISTS),
+            "VOTES": self.votes,
         }
-        return f"{kind} {path}" + (f" {after[kind]()}" if kind in after else "")
+        more = forms.OPERATIONS[kind].places.partition(" ")[2]
+        return f"{kind} {path}" + (f" {after[more]()}" if more else "")
 
     def begin(self, agent: int) -> None:
         uid, groups = self.dice.choice(USERS[: 1 if self.dice.random() < 0.4 else len(USERS)])

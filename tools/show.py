@@ -33,6 +33,16 @@ OWN = {
     " stored, or left by a decided transaction.",
     "exclusive": "A lock to write: it keeps all others out.",
     "shared": "A lock to read: others may have one too, but none to write.",
+    "gathering": "The agent asks for locks of a file or folder, until they have the votes of a quorum.",
+    "fetching": "The agent asks a server for a content, which its site's cache does not have.",
+    "widening": "A file or folder gets other votes: the agent asks for locks at the servers that get them.",
+    "preparing": "The agent asks each server that it locked to prepare: to take what is to be left there.",
+    "deciding": "The agent asks the home of the transaction to decide how it ends.",
+    "finishing": "The agent tells each server that it locked how the transaction ended.",
+    "listing": "A sweep asks a server which locks it has.",
+    "resolving": "A sweep asks the home of a transaction how it ended.",
+    "telling": "A sweep tells the server how a transaction ended.",
+    "breaking": "A sweep breaks a lock of which nothing was prepared.",
 }
 CODES = [*(f"F{number}" for number in range(1, 13)), *(f"U{number}" for number in range(1, 8))]
 

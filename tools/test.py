@@ -105,6 +105,7 @@ PARTS = (
     Part("texts of wrong bodies", tool("tools/wrong_bodies.py", "--check")),
     Part("page of wrong bodies", tool("tools/wrong_bodies_page.py", "--check")),
     Part("table of public functions", tool("tools/proved_page.py", "--check")),
+    Part("forms in README and help", tool("tools/forms_page.py", "--check")),
     Part("words that need no build", tool("tests/wrapper.py")),
     Part("type hints", tool("tests/hints.py")),
     Part("tests of runs", **tried("run_tests")),

@@ -478,7 +478,9 @@ def write_about(run: Run, out: BinaryIO, agent: int | None, suite: str | None) -
 
 
 def main() -> int:
-    if sys.argv[1:] == ["--json"]:
+    if "--json" in sys.argv[1:]:
+        if len(sys.argv) > 2:
+            raise console.Bad("--json stands alone: ./suites trace --json < SCRIPT")
         os.execve(program(), [program(), "--json"], ENV)
     given = asked(sys.argv[1:], __doc__)
     with Run(script(given.agent)) as run:

@@ -1,17 +1,16 @@
 """What a line of a script says, word by word, as its reader wrote it; and what the words of this service mean.
 
-The sentences are those of help/ and of the tables of README.md, so that each stands once.
+The sentences are those of the table of forms and of a table of README.md, so that each stands once.
 """
 import os
 import re
 import textwrap
 
 import faulty
+import forms
 import grammar
 
 TOP = os.path.dirname(os.path.dirname(os.path.abspath(__file__)))
-# A line of help that tells the form of a line: words, two spaces, and what it does.
-TOLD = re.compile(r"  ([a-z]+)((?: [^ ]+)*?)  +(\S.*)")
 ROW = re.compile(r"\| (.*) \| (.*) \|$")
 WIDE, INDENT = 100, 4
 
@@ -19,34 +18,6 @@ WIDE, INDENT = 100, 4
 def text_of(*path: str) -> str:
     with open(os.path.join(TOP, *path), encoding="utf-8") as file:
         return file.read()
-
-
-def does() -> dict[tuple[str, str], str]:
-    """What each line does, by its command and first word, as its help says; an indented rest goes on with it."""
-    found: dict[tuple[str, str], str] = {}
-    for language in grammar.LANGUAGES:
-        last = None
-        for line in text_of("help", f"{language}.txt").split("\n"):
-            told = TOLD.match(line)
-            if told and told[1] in faulty.known_of(language):
-                last = language, told[1]
-                found[last] = told[3]
-            elif last and line.startswith(" " * 20):
-                found[last] += f" {line.strip()}"
-            else:
-                last = None
-    return found
-
-
-def operations() -> dict[str, str]:
-    """What each operation does, as README.md says."""
-    found: dict[str, str] = {}
-    for line in text_of("README.md").split("\n"):
-        row = ROW.match(line)
-        for form in re.findall(r"`([a-z]+)[^`]*`", row[1]) if row else ():
-            if form in grammar.OPERATIONS and row:
-                found.setdefault(form, row[2])
-    return found
 
 
 def words() -> dict[str, str]:
@@ -100,12 +71,12 @@ def told_words(first: str, form: list[str], given: list[str]) -> list[tuple[str,
     """The words of a line behind its first one, with what each means."""
     plain = [place for place in form if place != "OPERATIONS"]
     rows = rows_of(plain, given[: len(plain)])
-    rest, told, count = given[len(plain) :], operations(), 1
+    rest, count = given[len(plain) :], 1
     while rest and len(plain) < len(form):
         end = rest.index(";") if ";" in rest else len(rest)
         verb = rest[0]
-        rows.append((verb, f"operation {count}: {told.get(verb, 'an operation')}"))
-        rows += rows_of(grammar.OPERATIONS[verb].split(), rest[1:end])
+        rows.append((verb, f"operation {count}: {forms.OPERATIONS[verb].does}"))
+        rows += rows_of(forms.OPERATIONS[verb].places.split(), rest[1:end])
         rows += [(";", "and in the same transaction")] if end < len(rest) else []
         rest, count = rest[end + 1 :], count + 1
     return rows
@@ -121,19 +92,13 @@ def fault_in(language: str, given: list[str]) -> faulty.Fault | None:
 def own_line(text: str) -> str | None:
     """A line of a script, or an operation of one, told word by word; nothing where the text is none."""
     given = text.split()
-    for language, lines in grammar.LANGUAGES.items():
-        form = {**grammar.HEADER, **grammar.NAMES, **lines.own}.get(given[0])
-        if (
-            given[0] in faulty.known_of(language)
-            and form is not None
-            and (len(given) > 1 or not form)
-            and not fault_in(language, given)
-        ):
-            head = f"A line of a script of `{language}`: {does().get((language, given[0]), '')}."
-            return shown(head, told_words(given[0], form.split(), given[1:]))
-    if given[0] in grammar.OPERATIONS and len(given) > 1 and given[1].startswith("/"):
-        line = ["do", "1", "1", *given]
-        if not fault_in("table", line):
+    for language in forms.COMMANDS:
+        line = forms.lines_of(language).get(given[0])
+        if line and (len(given) > 1 or not line.places) and not fault_in(language, given):
+            head = f"A line of a script of `{language}`: {line.does}."
+            return shown(head, told_words(given[0], line.places.split(), given[1:]))
+    if given[0] in forms.OPERATIONS and len(given) > 1 and given[1].startswith("/"):
+        if not fault_in("table", ["do", "1", "1", *given]):
             return shown("An operation of a transaction.", told_words("do", ["OPERATIONS"], given))
     return None
 
@@ -144,17 +109,16 @@ def one_word(word: str) -> str | None:
     meaning = words().get(word)
     if meaning:
         told.append(filled(f"{meaning[0].upper()}{meaning[1:]}."))
-    forms: dict[tuple[str, str], list[str]] = {}
-    for language in grammar.LANGUAGES:
-        if word in faulty.known_of(language):
-            said = does().get((language, word), "")
-            forms.setdefault((grammar.form_of(word, language), said), []).append(f"`{language}`")
+    lines: dict[tuple[str, str], list[str]] = {}
+    for line in forms.LINES:
+        if line.word == word:
+            lines.setdefault((line.form(), line.does), []).append(f"`{line.command}`")
     told += [
         filled(f"{form}: a line of a script of {grammar.either(of, 'and')}: {said}.")
-        for (form, said), of in forms.items()
+        for (form, said), of in lines.items()
     ]
-    if word in grammar.OPERATIONS:
-        told.append(filled(f"{word} {grammar.OPERATIONS[word]}: an operation: {operations().get(word, '')}."))
+    if word in forms.OPERATIONS:
+        told.append(filled(f"{forms.OPERATIONS[word].form()}: an operation: {forms.OPERATIONS[word].does}."))
     return "\n\n".join(told) or None
 
 

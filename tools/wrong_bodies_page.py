@@ -42,6 +42,29 @@ the proof of a crate above fails where it needs a clause that was weakened. Nobo
 clauses is needed above.
 """
 
+# The bodies that a reader of the service's rules asks for first, by their plain names, and of those that no clause can
+# refuse the test that does.
+ASKED = """
+    joined_groups mask_on_owner mask_on_other groups_after_user always_other decided_by_cache stale_content
+    evicts_newest chain_keeps_evicted own_prefix_cached votes_to_new_quorum_only write_quorums_apart
+    version_before_quorum polled_again invented_cause never_decides always_unavailable denial_without_decision
+    copies_changed_at_prepare prepared_lost_in_crash prepare_under_shared_lock second_decide_overwrites
+    job_run_whole_at_begin decode_accepts_disorder decode_accepts_rest fresh_server_each_time
+    answer_from_fresh_server another_request_served dropped_write opening_kept always_certified never_certified
+    decisions_by_finish lost_job doubled_job invented_ending
+""".split()
+BY_TESTS = {
+    "one_lock_for_all": "`a_list_overlaps_a_sweep` of `run_tests`: two servers are asked at one time",
+    "always_memory": "the rows of `crates/rows`, each of which has its status and its lines",
+}
+BY_NAME = """## By name
+
+The bodies that a reader of the service's rules asks for first. No clause can refuse the last two, so a test does.
+
+| Wrong body | Its edit |
+|---|---|
+"""
+
 
 def words_of(text: str) -> dict[str, str]:
     """What the lines `why: ..` and `refused by: ..` of an edit say."""
@@ -86,6 +109,21 @@ def rows(crate: str, in_gate: dict[str, dict[str, str]], faults: list[str]) -> t
             )
 
 
+def by_name(faults: list[str]) -> str:
+    """The table of the bodies that are asked for first. One without an edit is added to the faults."""
+    places: dict[str, list[str]] = {name: [] for name in ASKED}
+    for crate in crates():
+        for folder, place in PLACES:
+            for edit in wrong_bodies.edits(crate, folder):
+                name = wrong_bodies.name_of(edit)
+                if name in places:
+                    places[name].append(f"`{crate}` ({place})")
+    faults += [f"{name}: there is no such edit" for name, found in places.items() if not found]
+    lines = [f"| `{name}` | {', '.join(found)} |" for name, found in places.items()]
+    lines += [f"| `{name}` | {test} |" for name, test in BY_TESTS.items()]
+    return BY_NAME + "\n".join(lines) + "\n"
+
+
 def page() -> tuple[str, list[str]]:
     """The page, and what is wrong with the edits."""
     in_gate, parts, counts = words_in_gate(), [HEAD], {place: 0 for _, place in PLACES}
@@ -106,6 +144,7 @@ def page() -> tuple[str, list[str]]:
                     ]
                 )
             )
+    parts.append(by_name(faults))
     faults += [f"{name}: there is no such edit in the gate" for name in in_gate]
     parts.insert(1, f"There are {counts['gate']} in the gate and {counts['beside']} beside it.\n")
     return "\n".join(parts), faults

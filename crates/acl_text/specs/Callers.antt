@@ -3,11 +3,8 @@ use Rattle.std.specs.Prelude.{ℕ, ◌==◌, nat_le, if◌then◌else◌, List, 
 use Rattle.std.specs.List.{slice_split}
 use Rattle.std.specs.Option.{option_and_then}
 use Rattle.acl_core.specs.Identity.{Identity}
+use Rattle.acl_text.specs.Qualifiers.{max_id}
 use Rattle.script_text.specs.Numbers.{number_up_to}
-
--- the largest number of a user or a group
-abbrev pub max_id : ℕ
-max_id = 4294967295
 
 -- the numbers of some parts, where each is the number of a user or a group
 abbrev pub ids_in : List (List ℕ) → Option (List ℕ)

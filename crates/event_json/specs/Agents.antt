@@ -1,13 +1,13 @@
 -- What agents do, what they gathered of suites, and what their caches keep, as JSON has it.
-use Rattle.std.specs.Prelude.{ℕ, if◌then◌else◌, List, [], ◌∷◌, ◌++◌, codes, is_some, Option, Some, None}
+use Rattle.std.specs.Prelude.{ℕ, zero, suc, if◌then◌else◌, List, [], ◌∷◌, ◌++◌, codes, is_some, Option, Some, None}
 use Rattle.suite_prefix.specs.declared.copies.Prefix.{Prefix}
 use Rattle.suite_collect.specs.Telling.{newest}
-use Rattle.suite_script.specs.Texts.{votes_text}
 use Rattle.weak_cache.specs.Entries.{Cache, keys_of}
 use Rattle.weak_cache.specs.Cache.{hint, version}
 use Rattle.txn_core.specs.declared.stage.Stage.{Stage}
 use Rattle.txn_core.specs.declared.stage.Stage.TheVariants as stage
 use Rattle.txn_core.specs.Suites.{ReadPoint, Suite, Suites, holds_exclusively, holds_lock}
+use Rattle.event_json.specs.Copies.{votes_member}
 use Rattle.event_json.specs.Locks.{mode_text}
 use Rattle.event_json.specs.Strings.{listed, member, truth}
 
@@ -29,7 +29,7 @@ stage_word stage.Breaking = codes "breaking"
 
 -- the newest prefix that was shown: its version and its votes
 abbrev pub newest_text : Prefix → List ℕ
-newest_text prefix = member (codes ",\"newest\":") prefix.pver ++ codes ",\"votes\":\"" ++ votes_text prefix.votes ++ codes "\""
+newest_text prefix = member (codes ",\"newest\":") prefix.pver ++ votes_member prefix.votes
 
 -- which lock a server holds: x an exclusive one, s a shared one, - none
 abbrev pub held_letter : Suite → ℕ → List ℕ
@@ -73,15 +73,15 @@ hint_text None = []
 hint_text (Some prefix) = member (codes ",\"prefix\":") prefix.pver
 
 -- and that of a content
-abbrev pub version_text : Option ℕ → List ℕ
-version_text None = []
-version_text (Some dver) = member (codes ",\"content\":") dver
+abbrev pub kept_text : Option ℕ → List ℕ
+kept_text None = []
+kept_text (Some dver) = member (codes ",\"content\":") dver
 
 -- an entry, by its site and its suite
 abbrev pub entry_text : Cache → ℕ × ℕ → List ℕ
 entry_text cache key =
     member (codes "{\"site\":") key.0 ++ member (codes ",\"suite\":") key.1
-    ++ hint_text (hint cache key.0 key.1) ++ version_text (version cache key.0 key.1) ++ codes "}"
+    ++ hint_text (hint cache key.0 key.1) ++ kept_text (version cache key.0 key.1) ++ codes "}"
 
 abbrev pub cache_text : Cache → List ℕ
 cache_text cache = codes "[" ++ listed (entry_text cache) (keys_of cache) ++ codes "]"

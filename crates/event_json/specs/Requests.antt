@@ -1,12 +1,20 @@
 -- What is asked, as JSON has it.
-use Rattle.std.specs.Prelude.{ℕ, List, ◌++◌, codes}
+use Rattle.std.specs.Prelude.{ℕ, List, [], ◌++◌, codes}
+use Rattle.rep_core.specs.declared.reply.Verdict.{Verdict}
+use Rattle.rep_core.specs.declared.request.Decision.{Decision}
+use Rattle.rep_core.specs.declared.request.Part.{Part}
+use Rattle.rep_core.specs.declared.request.Take.{Take}
+use Rattle.rep_core.specs.declared.request.Take.TheVariants.{Keep, Whole}
+use Rattle.rep_core.specs.declared.request.Take.TheVariants as take
 use Rattle.rep_core.specs.declared.request.Request.{Request}
 use Rattle.rep_core.specs.declared.request.Request.TheVariants as request
-use Rattle.event_json.specs.Strings.{member}
-
--- what is asked, by which transaction, and of which suite
-abbrev pub about_text : List ℕ → ℕ → ℕ → List ℕ
-about_text what t suite = member what t ++ member (codes ",\"suite\":") suite
+use Rattle.suite_prefix.specs.declared.copies.Prefix.{Prefix}
+use Rattle.suite_prefix.specs.declared.copies.Replica.{Replica}
+use Rattle.suite_prefix.specs.declared.lock_mode.LockMode.{LockMode}
+use Rattle.event_json.specs.Copies.{prefix_text, replica_text}
+use Rattle.event_json.specs.Locks.{mode_text}
+use Rattle.event_json.specs.Replies.{decision_text, verdict_text}
+use Rattle.event_json.specs.Strings.{listed, member}
 
 -- what is asked, in a word
 abbrev pub asked_word : Request → List ℕ
@@ -21,3 +29,62 @@ asked_word (request.Break t suite) = codes "break"
 asked_word request.Locks = codes "locks"
 asked_word request.Crash = codes "crash"
 asked_word request.Return = codes "return"
+
+-- ---- what is left of a suite
+
+abbrev pub taken_prefix_text : Prefix → List ℕ
+taken_prefix_text prefix = codes ",\"takes\":\"prefix\"," ++ prefix_text prefix
+
+abbrev pub taken_whole_text : Replica → List ℕ
+taken_whole_text replica = codes ",\"takes\":\"whole\"," ++ replica_text replica
+
+abbrev pub take_text : Take → List ℕ
+take_text Keep = codes ",\"takes\":\"nothing\""
+take_text (take.Prefix prefix) = taken_prefix_text prefix
+take_text (Whole replica) = taken_whole_text replica
+
+-- a suite in a Prepare, with the lock on it
+abbrev pub part_text : Part → List ℕ
+part_text part = member (codes "{\"suite\":") part.suite ++ mode_text part.mode ++ take_text part.take ++ codes "}"
+
+abbrev pub parts_text : List Part → List ℕ
+parts_text parts = codes ",\"parts\":[" ++ listed part_text parts ++ codes "]"
+
+-- ---- requests
+
+-- by which transaction
+abbrev pub t_text : ℕ → List ℕ
+t_text t = member (codes ",\"t\":") t
+
+-- and of which suite
+abbrev pub of_text : ℕ → ℕ → List ℕ
+of_text t suite = t_text t ++ member (codes ",\"suite\":") suite
+
+abbrev pub poll_text : ℕ → ℕ → LockMode → List ℕ
+poll_text t suite mode = of_text t suite ++ mode_text mode
+
+abbrev pub prepare_text : ℕ → List Part → List ℕ
+prepare_text t parts = t_text t ++ parts_text parts
+
+abbrev pub decide_text : ℕ → Decision → List ℕ
+decide_text t decision = t_text t ++ codes ",\"decision\":" ++ decision_text decision
+
+abbrev pub finish_text : ℕ → Verdict → List ℕ
+finish_text t verdict = t_text t ++ codes ",\"verdict\":" ++ verdict_text verdict
+
+-- what stands behind the word
+abbrev pub about_text : Request → List ℕ
+about_text (request.Poll t suite mode) = poll_text t suite mode
+about_text (request.Upgrade t suite) = of_text t suite
+about_text (request.Fetch t suite) = of_text t suite
+about_text (request.Prepare t parts) = prepare_text t parts
+about_text (request.Decide t decision) = decide_text t decision
+about_text (request.Resolve t) = t_text t
+about_text (request.Finish t verdict) = finish_text t verdict
+about_text (request.Break t suite) = of_text t suite
+about_text request.Locks = []
+about_text request.Crash = []
+about_text request.Return = []
+
+abbrev pub request_text : Request → List ℕ
+request_text request = codes "{\"asks\":\"" ++ asked_word request ++ codes "\"" ++ about_text request ++ codes "}"

@@ -3,16 +3,16 @@
 ghost use Rattle.std.specs.Prelude.{◌≡◌, ◌++◌, OnOk, Some, codes};
 ghost use Rattle.std.specs.List.{flat_map};
 ghost use Rattle.std.specs.Option.{option_copied};
-ghost use Rattle.event_json.specs.Agents.{cache_text, entry_text, first_text, held_letter, held_letters, held_text, hint_text, known_text, newest_text, stage_word, suite_text, suites_text, told_text, version_text};
+ghost use Rattle.event_json.specs.Agents.{cache_text, entry_text, first_text, held_letter, held_letters, held_text, hint_text, known_text, newest_text, stage_word, suite_text, suites_text, told_text, kept_text};
 ghost use Rattle.event_json.specs.Strings.{listed};
 ghost use Rattle.weak_cache.specs.Entries.{keys_of};
 
+use crate::copies::push_votes_member;
 use crate::locks::mode_word;
 use crate::strings::{push_member, truth};
 use std::alloc::AllocError;
 use suite_collect::ReadPoint;
 use suite_prefix::SharedPrefix;
-use suite_script::push_votes;
 use txn_core::{Stage, Suite};
 use weak_cache::{Entries, WeakCache};
 
@@ -94,9 +94,7 @@ fn push_newest(text: &mut Vec<u8>, prefix: &SharedPrefix) -> Result<(), AllocErr
     ensures { OnOk result (text.new.items ≡ text.old.items ++ newest_text prefix.now) }
 {
     push_member(text, b",\"newest\":", prefix.pver)?;
-    text.extend_from_slice(b",\"votes\":\"")?;
-    push_votes(text, &prefix.votes)?;
-    text.extend_from_slice(b"\"")
+    push_votes_member(text, &prefix.votes)
 }
 
 /// Which locks servers hold.
@@ -142,7 +140,7 @@ fn push_known(text: &mut Vec<u8>, suite: &Suite) -> Result<(), AllocError>
 
 /// What a first quorum gave, where there was one.
 fn push_first(text: &mut Vec<u8>, first: Option<&ReadPoint>) -> Result<(), AllocError>
-    ensures { OnOk result (text.new.items ≡ text.old.items ++ first_text (option_copied first)) }
+    ensures { OnOk result (text.new.items ≡ text.old.items ++ first_text (option_copied first.entry)) }
 {
     match first {
         Some(point) => push_point(text, point),
@@ -199,13 +197,13 @@ fn push_entry(text: &mut Vec<u8>, cache: &WeakCache, site: u8, suite: u64) -> Re
     push_member(text, b"{\"site\":", u64::from(site))?;
     push_member(text, b",\"suite\":", suite)?;
     push_hint(text, cache.hint(site, suite))?;
-    push_version(text, cache.version(site, suite))?;
+    push_kept(text, cache.version(site, suite))?;
     text.extend_from_slice(b"}")
 }
 
 /// The version of a prefix, where there is one.
 fn push_hint(text: &mut Vec<u8>, prefix: Option<&SharedPrefix>) -> Result<(), AllocError>
-    ensures { OnOk result (text.new.items ≡ text.old.items ++ hint_text (option_copied prefix)) }
+    ensures { OnOk result (text.new.items ≡ text.old.items ++ hint_text (option_copied prefix.entry)) }
 {
     match prefix {
         Some(prefix) => push_member(text, b",\"prefix\":", prefix.pver),
@@ -214,8 +212,8 @@ fn push_hint(text: &mut Vec<u8>, prefix: Option<&SharedPrefix>) -> Result<(), Al
 }
 
 /// The version of a content, where there is one.
-fn push_version(text: &mut Vec<u8>, dver: Option<u64>) -> Result<(), AllocError>
-    ensures { OnOk result (text.new.items ≡ text.old.items ++ version_text dver) }
+fn push_kept(text: &mut Vec<u8>, dver: Option<u64>) -> Result<(), AllocError>
+    ensures { OnOk result (text.new.items ≡ text.old.items ++ kept_text dver) }
 {
     match dver {
         Some(dver) => push_member(text, b",\"content\":", dver),

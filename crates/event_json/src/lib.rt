@@ -1,12 +1,15 @@
-//! Requests and replies, copies, locks and denials as JSON. `docs/EVENTS.md` tells the form to whoever reads it.
+//! Requests and replies, copies, locks and denials, and what agents do and keep, as JSON. `docs/EVENTS.md` tells the
+//! form to whoever reads it.
 //!
-//! **Promises.** Strings, contents, lists of locks and of denials, verdicts and decisions are exactly what their
-//! definitions give (`specs/`). A number is written as it is, however large.
+//! **Promises.** Strings, copies, lists of locks and of denials, verdicts and decisions, requests and replies, what an
+//! agent gathered and what its cache keeps are exactly what their definitions give (`specs/`). A number is written as
+//! it is, however large. What changed at a server (`Before`), and all that a server has, is put together of these
+//! without a promise.
 //!
 //! **The caller owes** nothing.
 //!
-//! **Files**: `strings`, `copies`, `locks`, `requests`, `replies`, `servers`. **Definitions** (`specs/`):
-//! `Strings`, `Copies`, `Locks`, `Requests`, `Replies`, `Servers`.
+//! **Files**: `strings`, `copies`, `locks`, `requests`, `replies`, `servers`, `agents`. **Definitions** (`specs/`):
+//! `Strings`, `Copies`, `Locks`, `Requests`, `Replies`, `Servers`, `Agents`.
 #![tactic(auto)]
 
 mod agents;

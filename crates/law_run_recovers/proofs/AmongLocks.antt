@@ -1,6 +1,5 @@
--- Weaker premises than GoesUnmet, of which lemmas stand but no law: what is in the way of a transaction stays as it was; and it is told what it would have
--- been told as it began.
-use Rattle.std.specs.Prelude.{◌≡◌, ℕ, ◌==◌, Bool, true, false, ◌&&◌, ◌||◌, not, List, ◌∷◌, ◌++◌, Contains, Option, Some}
+-- A weaker premise than that its ways stay, of which lemmas stand but no law: a transaction is told what it would have been told as it began.
+use Rattle.std.specs.Prelude.{◌≡◌, ℕ, ◌==◌, Bool, true, false, ◌&&◌, ◌||◌, not, List, ◌∷◌, ◌++◌, Option, Some}
 use Rattle.std.specs.List.{list_any}
 use Rattle.acl_core.specs.Identity.{Identity}
 use Rattle.suite_prefix.specs.SettingsRules.{Opening}
@@ -21,7 +20,7 @@ use Rattle.run_core.specs.Runs.{run}
 use Rattle.law_headline.specs.Premises.{CanBe}
 use Rattle.law_run_alone.specs.Alone.{begins_job}
 use Rattle.law_run_recovers.specs.Standing.{is_up}
-use Rattle.law_run_recovers.specs.Near.{AreNear, asks_for, way_at, is_open_at}
+use Rattle.law_run_recovers.specs.Near.{way_at, is_open_at}
 use Rattle.law_run_recovers.specs.Unmet.{is_telling, world_after, is_running, of_up, robs, hinders_itself}
 
 -- or it goes down with an unprepared lock of it
@@ -33,11 +32,6 @@ drops t st other = false
 abbrev pub bereaves : Opening → ℕ → ℕ → World → Event → Bool
 bereaves given agent t world (Crash server) = not (is_telling world agent) && of_up (drops t) world (step (fixed_of given) world (Crash server)).done.served
 bereaves given agent t world other = false
-
--- they stand to it as they did
-pub record StandsStill (first world : World) (t : ℕ) (asked : List (ℕ × LockMode)) (near : ℕ → Bool) : Type 0 where
-  pub up : (server : ℕ) → near server ≡ true → is_up world server ≡ is_up first server
-  pub way : (server : ℕ) (one : ℕ × LockMode) → near server ≡ true → Contains asked one → way_at world t one.0 one.1 server ≡ way_at first t one.0 one.1 server
 
 -- ---- what it is told
 
@@ -62,18 +56,6 @@ told_as_first first world server other = Unit {0}
 module _ (given : Opening) (events later : List Event) (agent t : ℕ) (caller : Identity) (site : ℕ) (ops : List Op) where
   abbrev then : List Event → World
   then so_far = world_after given events agent caller site ops so_far
-
-  -- Met by nobody but locks that stay: what is in its way stays as it was.
-  pub record GoesAmongLocks (actor : Actor) : Type 0 where
-    pub can : CanBe given (events ++ Begin agent (Transaction caller site ops) ∷ later)
-    pub there : actor_at (run given events) agent ≡ Some actor
-    pub begins : begins_job given (run given events) (Begin agent (Transaction caller site ops)) ≡ Some (t, Transaction caller site ops)
-    pub near : ℕ → Bool
-    pub are_near : AreNear given events t caller site ops actor.agent.cache near
-    pub stays : (so_far rest : List Event) → later ≡ so_far ++ rest → is_running (then so_far) agent t ≡ true
-        → StandsStill (run given events) (then so_far) t (asks_for given events t caller ops) near
-    pub free_hand : (so_far rest : List Event) (event : Event) → later ≡ so_far ++ event ∷ rest → is_running (then so_far) agent t ≡ true
-        → (hinders_itself given agent (then so_far) event || robs given agent t (then so_far) event) ≡ false
 
   -- At a step of it before its end is fixed: the server that it asks is up just where it was at its begin, and tells it the same.
   pub record AsAtItsBegin (world : World) (server : ℕ) (asked : Request) : Type 0 where

@@ -46,6 +46,7 @@ use Rattle.law_run_recovers.specs.Demands.{locks_asked}
 use Rattle.law_run_recovers.specs.Laws.{GoesAlone, OneEnded, EndsInTime}
 use Rattle.law_run_recovers.proofs.Took.{OwnTook, own_took}
 use Rattle.law_run_recovers.proofs.Moments.{Takes, beside, takes, moment_first, first_all, first_here, first_runs, first_told}
+use Rattle.law_run_recovers.proofs.Plain.{seen}
 use Rattle.law_run_recovers.proofs.Stands.{Ground, locks_on}
 use Rattle.law_run_recovers.proofs.Knows.{among_numbers}
 use Rattle.law_run_recovers.proofs.Ends as ends
@@ -127,7 +128,7 @@ module _ (given : Opening) (events later : List Event) (agent t : ℕ) (caller :
   abbrev Was : ℕ → Prefix → Type 0
   Was z = WasPrefix (beginning z given) (machine_of given z events).log
 
-  abbrev ground : Ground fixed first (is_up first) actor.agent.cache site (locks_on table its) Was
+  abbrev ground : Ground fixed first (seen (is_up first) (locks_on table its)) actor.agent.cache site (locks_on table its) Was
   ground = ends.ground given events later agent t caller site ops actor goes
 
   abbrev Now : World → List Event → Type 0
@@ -182,7 +183,7 @@ module _ (given : Opening) (events later : List Event) (agent t : ℕ) (caller :
         of None is good = absurd (none-some tk.asked (sym (ap (next_in fixed) is) ∙ tk.next))
         of (Some (RunningSweep sweep_run)) is good = absurd good
         of (Some (Running txn_run)) is good =
-            names_for fixed first (is_up first) table its actor.agent.cache Was ground n.m.here.agent.cache txn_run.suites txn_run.phase good.1 tk.asked.0 tk.asked.1
+            names_for fixed first (seen (is_up first) (locks_on table its)) table its actor.agent.cache Was ground n.m.here.agent.cache txn_run.suites txn_run.phase good.1 tk.asked.0 tk.asked.1
             (subst (λ task. request_in fixed task txn_run.suites txn_run.phase ≡ Some (tk.asked.0, tk.asked.1)) good.0 (sym (ap (next_in fixed) is) ∙ tk.next))
 
     counted_on : (so_far : ℕ) → Counted n.m.told so_far → Counted tk.new.told (so_far + 1)

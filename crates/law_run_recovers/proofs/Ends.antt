@@ -22,7 +22,7 @@ use Rattle.file_ops.specs.declared.operation.Op.{Op}
 use Rattle.file_ops.specs.Rows as rows
 use Rattle.file_ops.specs.Rows.{PlainTable, row_of}
 use Rattle.file_exec.specs.Known.{AgreesWith}
-use Rattle.suite_collect.specs.Collecting.{Collector, request_for, mode_asked}
+use Rattle.suite_collect.specs.Collecting.{request_for, mode_asked}
 use Rattle.weak_cache.specs.Entries.{Cache}
 use Rattle.txn_core.specs.declared.ending.Ending.{Ending}
 use Rattle.txn_core.specs.declared.job.Job.{Job}
@@ -31,7 +31,7 @@ use Rattle.txn_core.specs.declared.response.Response.TheVariants.{Replied}
 use Rattle.txn_core.specs.Suites.{ReadPoint, Suite, Suites, suite_of, known_of}
 use Rattle.txn_core.specs.Writing.{parts_at}
 use Rattle.txn_core.specs.Doing.{Fixed, Task, Phase, Gathering, Fetching, Widening, Preparing, Deciding, Finishing, TransactionRun, Doing, Running, RunningSweep, After, GoesOn, Ends, home_of}
-use Rattle.txn_core.specs.Transactions.{Step as CourseStep, execute, asked_for, fetched_at, fetched_for, given_in, changes_of, decision_of, request_in, after_reply}
+use Rattle.txn_core.specs.Transactions.{Step as CourseStep, execute, fetched_at, fetched_for, given_in, changes_of, decision_of, request_in, after_reply}
 use Rattle.txn_core.specs.Agents.{Agent, Taken, fixed_of, is_idle, has_sense, max_jobs, begins, next_in, next_of, left, end_of, with_step, take_in, take, begin, started}
 use Rattle.txn_core.specs.Laws.{exchanges, is_decide}
 use Rattle.txn_core.proofs.Asks.{asks_same, asked_as, fetched_as}
@@ -71,7 +71,8 @@ use Rattle.law_run_recovers.specs.Laws.{GoesAlone, EndsByVotes, EndsAreByVotes, 
 use Rattle.law_run_recovers.proofs.Aside.{Aside, event_aside}
 use Rattle.law_run_recovers.proofs.Found.{all_answer}
 use Rattle.law_run_recovers.proofs.Led.{Rules, rules_of}
-use Rattle.law_run_recovers.proofs.Polled.{Answers, answers_so}
+use Rattle.law_run_recovers.proofs.Plain.{seen, answers_plainly, plain_ends}
+use Rattle.law_run_recovers.proofs.Polled.{Sight, Answers}
 use Rattle.law_run_recovers.proofs.Rows.{start_was}
 use Rattle.law_run_recovers.proofs.Took.{OwnTook, own_took}
 use Rattle.law_run_recovers.proofs.Still.{IsOpen, IsOpenPhase, open_before, open_undecided}
@@ -79,7 +80,7 @@ use Rattle.law_run_recovers.proofs.Moments.{Moment, mine, own_up, own_resolve, B
 use Rattle.law_run_recovers.proofs.OwnAsks.{own_asks, own_fetch, own_prepare, own_decide}
 use Rattle.law_run_recovers.proofs.Stands.{Ground, locks_on, EndsRight, PhaseStands, AfterStands, StepStands}
 use Rattle.law_run_recovers.proofs.Executes.{begin_stands}
-use Rattle.law_run_recovers.proofs.Heard.{RightFor, MayExecute, AsksFor, asks_for, reply_stands}
+use Rattle.law_run_recovers.proofs.Heard.{LockRight, RightFor, MayExecute, reply_stands}
 use Rattle.law_one_table.proofs.Logs.{no_task}
 use Rattle.law_run_recovers.proofs.Knew.{undecided_aside, undecided_own, stands_on, unrecorded_on, unanswered, knows_table}
 
@@ -160,6 +161,10 @@ module _ (given : Opening) (events later : List Event) (agent t : ℕ) (caller :
   abbrev pub task : Task
   task = record { t = 64 * actor.agent.count + actor.agent.index; caller = caller; site = site; ops = ops }
 
+  -- how servers stand to it: all answer that are up
+  abbrev pub sight : Sight
+  sight = seen (is_up first) (locks_on table task)
+
   abbrev Was : ℕ → Prefix → Type 0
   Was z = WasPrefix (beginning z given) (machine_of given z events).log
 
@@ -173,8 +178,9 @@ module _ (given : Opening) (events later : List Event) (agent t : ℕ) (caller :
       (all_answer given z (machine_of given z events) (run given events) (effects.inv given events (all_keep given events can) z) (effects.follows given events (all_keep given events can) z).shows (all_consistent given events) goes.free) start
       (start_was given events can z agent site actor start goes.there may)
 
-  pub ground : Ground (fixed_of given) (run given events) (is_up (run given events)) actor.agent.cache site (locks_on (table_of given events) task) (λ z. WasPrefix (beginning z given) (machine_of given z events).log)
+  pub ground : Ground (fixed_of given) (run given events) (seen (is_up (run given events)) (locks_on (table_of given events) task)) actor.agent.cache site (locks_on (table_of given events) task) (λ z. WasPrefix (beginning z given) (machine_of given z events).log)
   ground = record {
+    first = λ z. refl;
     rules = λ z start asked may. all_rules z start may;
     valid = λ z prefix was. subst (λ (p : Prefix). IsValid p.votes) was.1 ((effects.inv given events (all_keep given events can) z).logged.valid prefix.pver);
   }
@@ -189,35 +195,35 @@ module _ (given : Opening) (events later : List Event) (agent t : ℕ) (caller :
   number_is = ap (λ n. 64 * actor.agent.count + n) ((holds_of given goes.can.accepted events).agents.index agent actor.agent (ap agent_of goes.there)) ∙ begun.0
 
   abbrev pub Right : Ending → Type 0
-  Right ended = EndsRight fixed first (is_up first) table task cache ended
+  Right ended = EndsRight fixed first sight table task cache ended
 
   abbrev pub Good : CourseStep → Type 0
-  Good step = StepStands fixed first (is_up first) table task cache Was ground step
+  Good step = StepStands fixed first sight table task cache Was ground step
 
   -- how it stands
   abbrev pub StandsIn : Cache → Option Doing → Type 0
   StandsIn now None = Unit {0}
   StandsIn now (Some (RunningSweep sweep_run)) = ⊥
-  StandsIn now (Some (Running txn_run)) = (txn_run.task ≡ task) × PhaseStands fixed first (is_up first) table task cache Was ground txn_run.suites now txn_run.phase
+  StandsIn now (Some (Running txn_run)) = (txn_run.task ≡ task) × PhaseStands fixed first sight table task cache Was ground txn_run.suites now txn_run.phase
 
   stands_left : (step : CourseStep) → Good step → StandsIn step.cache (left Running step.after)
   stands_left step = of step.after
     where
-      of : (after : After TransactionRun) → AfterStands fixed first (is_up first) table task cache Was ground step.cache after → StandsIn step.cache (left Running after)
+      of : (after : After TransactionRun) → AfterStands fixed first sight table task cache Was ground step.cache after → StandsIn step.cache (left Running after)
       of (GoesOn txn_run) good = good
       of (Ends ended) good = tt
 
   right_end : (step : CourseStep) → Good step → (ended : Ending) → end_of step.after ≡ Some ended → Right ended
   right_end step = of step.after
     where
-      of : (after : After TransactionRun) → AfterStands fixed first (is_up first) table task cache Was ground step.cache after → (ended : Ending) → end_of after ≡ Some ended → Right ended
+      of : (after : After TransactionRun) → AfterStands fixed first sight table task cache Was ground step.cache after → (ended : Ending) → end_of after ≡ Some ended → Right ended
       of (GoesOn txn_run) good ended is = absurd (none-some ended is)
-      of (Ends other) good ended is = subst (EndsRight fixed first (is_up first) table task cache) (same_Some other ended is) good
+      of (Ends other) good ended is = subst (EndsRight fixed first sight table task cache) (same_Some other ended is) good
 
   pub first_stands : StandsIn (begin fixed actor.agent job).cache (begin fixed actor.agent job).doing
   first_stands =
       subst (λ b. StandsIn (begin_if b).cache (begin_if b).doing) (sym begun.1)
-      (stands_left (execute fixed task (record { suites = []; cache = actor.agent.cache })) (begin_stands fixed first (is_up first) table task cache Was ground same_service))
+      (stands_left (execute fixed task (record { suites = []; cache = actor.agent.cache })) (begin_stands fixed first sight table task cache Was ground same_service))
     where
       begin_if : Bool → Agent
       begin_if b = cond b (record (started (fixed_of given) actor.agent job) { count = actor.agent.count + 1 }) actor.agent
@@ -244,11 +250,12 @@ module _ (given : Opening) (events later : List Event) (agent t : ℕ) (caller :
 
       -- ---- it is answered rightly
 
-      asks_here : (z : ℕ) (c : Collector) → AsksFor task.t z c tk.asked.0 tk.asked.1 → Answers fixed first (is_up first) z tk.asked.0 said
-      asks_here z c asks =
-          let is : tk.asked.1 ≡ request_for t z asks.question = asks.asked_is ∙ ap (λ n. request_for n z asks.question) number_is in
-          let four = own_asks given first agent t actor.agent caller site ops w (event ∷ rest) m tk.asked.0 tk.st tk.at z asks.question (asks_so (request_for t z asks.question) is) in
-          subst (λ asked. Answers fixed first (is_up first) z tk.asked.0 (reply_of tk.st asked)) (sym is) (answers_so fixed first (is_up first) z tk.asked.0 t tk.st four.0 four.1 asks.question (λ up. four.2 up (mode_asked asks.question)) four.3)
+      asks_here : (z : ℕ) → LockRight fixed first sight task.t z tk.asked.0 tk.asked.1 said
+      asks_here z question asked =
+          let is : tk.asked.1 ≡ request_for t z question = asked ∙ ap (λ n. request_for n z question) number_is in
+          let four = own_asks given first agent t actor.agent caller site ops w (event ∷ rest) m tk.asked.0 tk.st tk.at z question (asks_so (request_for t z question) is) in
+          subst (λ asked. Answers fixed first sight z question tk.asked.0 (reply_of tk.st asked)) (sym is)
+          (answers_plainly fixed first (is_up first) (locks_on table task) z tk.asked.0 t tk.st question four.0 four.0 (λ up. four.2 up (mode_asked question)) four.1 four.3)
 
       fetches_here : (z : ℕ) → tk.asked.1 ≡ request.Fetch task.t z → is_some (given_in said) ≡ true
       fetches_here z asked =
@@ -262,12 +269,11 @@ module _ (given : Opening) (events later : List Event) (agent t : ℕ) (caller :
           of (Some old) at up = ap (λ asked. is_some (given_in (reply_of tk.st asked))) is
               ∙ ap (λ said. is_some (given_in said)) (own_fetch given first agent t actor.agent caller site ops w (event ∷ rest) m tk.asked.0 tk.st tk.at z old (asks_so (request.Fetch t z) is) at).1
 
-      pub right_for : (now : Cache) (suites : Suites) (phase : Phase) → PhaseStands fixed first (is_up first) table task cache Was ground suites now phase → request_in fixed task suites phase ≡ Some (tk.asked.0, tk.asked.1) → RightFor fixed first (is_up first) task phase tk.asked.0 said
-      right_for now suites (Gathering z) at asks =
-          let g = at.0 in asks_here z g.suite.collector (asks_for task z g.suite.collector tk.asked.0 tk.asked.1 (sym (ap (asked_for task z) g.there) ∙ asks))
+      pub right_for : (now : Cache) (suites : Suites) (phase : Phase) → PhaseStands fixed first sight table task cache Was ground suites now phase → request_in fixed task suites phase ≡ Some (tk.asked.0, tk.asked.1) → RightFor fixed first sight task phase tk.asked.0 tk.asked.1 said
+      right_for now suites (Gathering z) at asks = asks_here z
       right_for now suites (Fetching z) at asks = fetches_here z (fetch_is task z (suite_of suites z) tk.asked.0 tk.asked.1 asks)
       right_for now suites (Widening [] granted) at asks = tt
-      right_for now suites (Widening (z ∷ left) granted) at asks = asks_here z at.suite.collector (asks_for task z at.suite.collector tk.asked.0 tk.asked.1 (sym (ap (asked_for task z) at.there) ∙ asks))
+      right_for now suites (Widening (z ∷ left) granted) at asks = asks_here z
       right_for now suites (Preparing [] outcome) at asks = absurd (none-some (tk.asked.0, tk.asked.1) asks)
       right_for now suites (Preparing (server ∷ left) outcome) at asks =
           let parts = parts_at suites (changes_of outcome) server in
@@ -302,7 +308,7 @@ module _ (given : Opening) (events later : List Event) (agent t : ℕ) (caller :
 
       -- ---- of its course
 
-      module _ (txn_run : TransactionRun) (running : m.here.agent.doing ≡ Some (Running txn_run)) (good : (txn_run.task ≡ task) × PhaseStands fixed first (is_up first) table task cache Was ground txn_run.suites m.here.agent.cache txn_run.phase)
+      module _ (txn_run : TransactionRun) (running : m.here.agent.doing ≡ Some (Running txn_run)) (good : (txn_run.task ≡ task) × PhaseStands fixed first sight table task cache Was ground txn_run.suites m.here.agent.cache txn_run.phase)
           (none : IsOpen m.here.agent.doing → decisions given m.all ≡ decisions given events) where
         abbrev pub step_of : Task → CourseStep
         step_of task = after_reply fixed task m.here.agent.cache txn_run.suites txn_run.phase tk.asked.0 tk.asked.1 said
@@ -363,7 +369,7 @@ module _ (given : Opening) (events later : List Event) (agent t : ℕ) (caller :
         pub good_step : Good (step_of txn_run.task)
         good_step =
             subst (λ task. Good (step_of task)) (sym good.0)
-            (reply_stands fixed first (is_up first) table task cache Was ground same_service m.here.agent.cache txn_run.suites txn_run.phase good.1 tk.asked.0 tk.asked.1 request_is said
+            (reply_stands fixed first sight table task cache Was ground same_service m.here.agent.cache txn_run.suites txn_run.phase good.1 tk.asked.0 tk.asked.1 request_is said
             (right_for m.here.agent.cache txn_run.suites txn_run.phase good.1 request_is) (λ may more is z _. knows_on may more is z))
 
         pub course_on : StandsIn tk.new.here.agent.cache tk.new.here.agent.doing
@@ -454,7 +460,8 @@ module _ (given : Opening) (events later : List Event) (agent t : ℕ) (caller :
 
   by_votes : (one : EndedJob) → Contains (outcomes (dones fixed (step fixed first (Begin agent job)).world later)) one → one.agent ≡ agent → EndsByVotes given events t caller site ops actor.agent.cache one
   by_votes one there own =
-      let right = ends_in later (step fixed first (Begin agent job)).world first_now goes.alone one (has_from (outcomes (dones fixed (step fixed first (Begin agent job)).world later)) one there) own in
+      let right = plain_ends fixed first (is_up first) (locks_on table task) table task cache one.ending
+      (ends_in later (step fixed first (Begin agent job)).world first_now goes.alone one (has_from (outcomes (dones fixed (step fixed first (Begin agent job)).world later)) one there) own) in
       record {
         start = right.start;
         from = right.from;

@@ -1,9 +1,9 @@
--- A transaction that goes alone executes on what it gathered: what it needs next on the table is asked for, or all is known.
+-- A transaction executes on what it gathered: what it needs next on the table is asked for, or all is known.
 use Rattle.std.proofs.Common.{◌≡◌, inl, inr, ℕ, zero, suc, Bool, true, false, cond, List, [], ◌∷◌, length, Option, Some, None, is_some, Result, Ok, Err, refl, sym, ap, subst, ◌∙◌}
-use Rattle.std.specs.Prelude.{◌==◌, ◌&&◌, ◌||◌, not, map, filter, unwrap_or}
+use Rattle.std.specs.Prelude.{◌==◌, ◌&&◌, ◌||◌, not, map, filter, find, unwrap_or}
 use Rattle.std.specs.List.{list_any}
 use Rattle.std.specs.Ordering.{nat_cmp}
-use Rattle.std.proofs.lemmas.Bool.{false≢true, and_parts}
+use Rattle.std.proofs.lemmas.Bool.{false≢true, and_parts, and_from, false_from_ne_true}
 use Rattle.std.proofs.lemmas.Option.{none-some, same_Some}
 use Rattle.sorted_map.specs.SortedMap.{IsOrdered}
 use Rattle.vote_core.specs.Quorums.{Configuration}
@@ -43,10 +43,12 @@ use Rattle.txn_core.proofs.Gathers.{self, with_at, each_but, each_with, but_with
 use Rattle.txn_core.proofs.Locks.{are_nil}
 use Rattle.run_core.specs.Worlds.{World}
 use Rattle.law_run_recovers.specs.Demands.{is_met, MayStart, has_asked, not_asked, changes_on}
+use Rattle.law_run_recovers.specs.OpenDemands.{mode_or, first_mode}
 use Rattle.law_run_recovers.proofs.Asking.{onto, first_hold, first_new, none_left, held_in, held_if, held_is}
 use Rattle.law_run_recovers.proofs.Led.{reached_first, reached_raise}
 use Rattle.law_run_recovers.proofs.VotesSet.{as_set, sets, votes_of, same_votes, changes_ordered, IsSet, set_by}
-use Rattle.law_run_recovers.proofs.Stands.{Ground, asks_of, of_lock, needed_on, result_on, locks_on, answer_to, IsRight, starts, may_start, had_met, none_short, SameStart, asked_with, Hints, IsFound, found_right, IsWhole, IsReady, IsGathering, StepStands, prepare_stands}
+use Rattle.law_run_recovers.proofs.Polled.{Sight, serves_all}
+use Rattle.law_run_recovers.proofs.Stands.{Ground, asks_of, of_lock, demand_of, needed_on, result_on, locks_on, answer_to, IsRight, starts, may_start, had_met, none_short, SameStart, asked_with, Hints, IsFound, found_right, IsWhole, IsReady, IsGathering, StepStands, prepare_stands}
 use Rattle.law_run_recovers.proofs.Widens.{numbers, widen_stands}
 use Rattle.law_run_recovers.proofs.Gathered.{gather_by_stands}
 
@@ -98,25 +100,39 @@ weak_or_not Shared Shared is = absurd (false≢true (sym is))
 weak_or_not Exclusive Shared is = absurd (false≢true (sym is))
 weak_or_not mode Exclusive is = refl
 
-exclusive_serves : (mode : LockMode) → serves Exclusive mode ≡ true
-exclusive_serves Shared = refl
-exclusive_serves Exclusive = refl
+-- what is asked for first of a suite that was not asked for
+find_onto : {X : Type 0} (p : X → Bool) (so_far left : List X) → ((x : X) → Has so_far x → p x ≡ false) → find p (onto so_far left) ≡ find p left
+find_onto p [] left none = refl
+find_onto p (x ∷ so_far) left none = find_onto p so_far (x ∷ left) (λ y has. none y (inr has)) ∙ ap (λ b. cond b (Some x) (find p left)) (none x (inl refl))
 
-module _ (fixed : Fixed) (world : World) (answers : ℕ → Bool) (table : PlainTable) (task : Task) (cache : Cache) (Was : ℕ → Prefix → Type 0) (ground : Ground fixed world answers cache task.site (locks_on table task) Was) where
+serves_shared : (mode : LockMode) → serves mode Shared ≡ true
+serves_shared Shared = refl
+serves_shared Exclusive = refl
+
+first_asked : (asked left : List (ℕ × LockMode)) (number : ℕ) (mode : LockMode) → has_asked asked number Shared ≡ false → first_mode (onto asked ((number, mode) ∷ left)) number ≡ mode
+first_asked asked left number mode none =
+    ap (mode_or Shared) (find_onto (λ (one : ℕ × LockMode). one.0 == number) asked ((number, mode) ∷ left) not_it ∙ ap (λ b. cond b (Some (number, mode)) (find (λ (one : ℕ × LockMode). one.0 == number) left)) (self number))
+  where
+    not_it : (one : ℕ × LockMode) → Has asked one → (one.0 == number) ≡ false
+    not_it one has =
+        false_from_ne_true (one.0 == number)
+        (λ is. false≢true (sym none ∙ has_any (λ (one : ℕ × LockMode). (one.0 == number) && serves one.1 Shared) asked one has (and_from (one.0 == number) (serves one.1 Shared) is (serves_shared one.1))))
+
+module _ (fixed : Fixed) (world : World) (sight : Sight) (table : PlainTable) (task : Task) (cache : Cache) (Was : ℕ → Prefix → Type 0) (ground : Ground fixed world sight cache task.site (locks_on table task) Was) where
   abbrev Good : Step → Type 0
-  Good step = StepStands fixed world answers table task cache Was ground step
+  Good step = StepStands fixed world sight table task cache Was ground step
 
   abbrev Ready : Suites → Type 0
-  Ready suites = IsReady fixed world answers table task cache Was ground suites
+  Ready suites = IsReady fixed world sight table task cache Was ground suites
 
   abbrev Hinted : Suites → Cache → Type 0
-  Hinted suites now = Hints fixed world answers table task cache suites now
+  Hinted suites now = Hints fixed world sight table task cache suites now
 
   abbrev Right : ℕ → Suite → Type 0
-  Right z suite = IsRight fixed world answers table task cache z suite
+  Right z suite = IsRight fixed world sight table task cache z suite
 
   abbrev Whole : ℕ → Suite → Type 0
-  Whole z suite = IsWhole fixed world answers table task cache Was ground z suite
+  Whole z suite = IsWhole fixed world sight table task cache Was ground z suite
 
   pub hinted_with : (suites : Suites) (number : ℕ) (new : Suite) (now : Cache) → Hinted suites now → Hinted (with_suite number new suites) now
   hinted_with suites number new now hints z none = hints z (none_with suites number new z none).0
@@ -140,7 +156,7 @@ module _ (fixed : Fixed) (world : World) (answers : ℕ → Bool) (table : Plain
   pub content_ready : (suites : Suites) (number : ℕ) (suite : Suite) (content : Option Content) → Ready suites → suite_of suites number ≡ Some suite → Ready (with_suite number (record suite { content = content }) suites)
   content_ready suites number suite content ready there = record {
     asked = ready.asked;
-    asks = asked_with fixed world answers table task cache suites ready.asked number (record suite { content = content }) ready.asks
+    asks = asked_with fixed world sight table task cache suites ready.asked number (record suite { content = content }) ready.asks
         (record { may = (ready.asks.right number suite there).may; right = (ready.asks.right number suite there).right })
         (λ old is. ap (λ (suite : Suite). suite.collector.start) (same_Some suite old (sym there ∙ is)))
         (λ mode. held mode suite.first ∙ ap (held_in mode) (sym there));
@@ -153,10 +169,11 @@ module _ (fixed : Fixed) (world : World) (answers : ℕ → Bool) (table : Plain
 
       of : Whole number suite → Whole number (record suite { content = content })
       of w = record {
-        found = record { start = w.found.start; may = w.found.may; asked = w.found.asked; reached = w.found.reached; led = w.found.led };
+        found = record { start = w.found.start; may = w.found.may; asked = w.found.asked; reached = w.found.reached; led = w.found.led; version = w.found.version };
         had = w.had;
         mode_is = w.mode_is;
         lock = record { server = w.lock.server; is_one = w.lock.is_one; holds = w.lock.holds };
+        none_newer = w.none_newer;
       }
 
   pub record Opened (all more : Gathered) : Type 0 where
@@ -224,12 +241,12 @@ module _ (fixed : Fixed) (world : World) (answers : ℕ → Bool) (table : Plain
       is_new : has_asked ready.asked number mode ≡ false
       is_new = first_new (known_of suites) ready.asked modes_known (needed_on table task) number mode is
 
-      gathers : (new : Suite) → IsFound fixed world answers table task cache Was ground number new → new.collector.mode ≡ mode → SameStart fixed world answers table task cache suites number new
+      gathers : (new : Suite) → IsFound fixed world sight table task cache Was ground number new → new.collector.mode ≡ mode → SameStart fixed world sight table task cache suites number new
           → ((other : LockMode) → held_in other (Some new) ≡ held_in other (suite_of suites number)) → ((other : LockMode) → has_asked ready.asked number other ≡ true → serves mode other ≡ true)
-          → IsGathering fixed world answers table task cache Was ground (with_suite number new suites) number
+          → IsGathering fixed world sight table task cache Was ground (with_suite number new suites) number
       gathers new found mode_is same held weaker = record {
         asked = ready.asked;
-        asks = asked_with fixed world answers table task cache suites ready.asked number new ready.asks (found_right fixed world answers table task cache Was ground number new found) same held;
+        asks = asked_with fixed world sight table task cache suites ready.asked number new ready.asks (found_right fixed world sight table task cache Was ground number new found) same held;
         whole = but_with Whole number suites new (each_but Whole number suites ready.whole);
         suite = new;
         there = with_at number new suites number ∙ ap (λ b. cond b (Some new) (suite_of suites number)) (self number);
@@ -253,6 +270,13 @@ module _ (fixed : Fixed) (world : World) (answers : ℕ → Bool) (table : Plain
           of None found = inl refl
           of (Some prefix) found = inr (hints z none prefix found)
 
+      -- it is asked for in the mode in which it is first
+      first_of : suite_of suites number ≡ None → mode ≡ sight.first number
+      first_of none =
+          sym (ap (λ locks. first_mode locks number) (ready.asks.order ∙ ap (onto ready.asked) (first_hold (known_of suites) ready.asked modes_known (needed_on table task) number mode is))
+          ∙ first_asked ready.asked _ number mode (sym (ready.asks.modes number Shared) ∙ ap (held_in Shared) none))
+          ∙ sym (ground.first number)
+
       pub gather_stands : Good (gather task now suites number (raised_or_new fixed task now number mode (suite_of suites number)))
       unfolding gathers
       gather_stands = of (suite_of suites number) refl
@@ -262,10 +286,10 @@ module _ (fixed : Fixed) (world : World) (answers : ℕ → Bool) (table : Plain
               let start = start_from fixed task now number in
               let may = may_from number none in
               let new : Suite = record { collector = collect mode start; first = None; mode = Shared; content = None } in
-              let g = gathers new (record { start = start; may = may; asked = asked_for_it; reached = reached_first fixed world answers number (Was number) start (ground.rules number start asked_for_it may) mode; led = λ first had. absurd (none-some first had) }) refl
+              let g = gathers new (record { start = start; may = may; asked = asked_for_it; reached = reached_first fixed world sight number (Was number) start (ground.rules number start asked_for_it may) mode (first_of none); led = λ first had. absurd (none-some first had); version = λ first had. absurd (none-some first had) }) refl
               (λ old there. absurd (none-some old (sym none ∙ there))) (λ other. ap (held_in other) (sym none))
               (λ other had. absurd (false≢true (sym (ap (held_in other) none) ∙ ready.asks.modes number other ∙ had))) in
-              gather_by_stands fixed world answers table task cache Was ground (with_suite number new suites) number g now (hinted_with suites number new now hints)
+              gather_by_stands fixed world sight table task cache Was ground (with_suite number new suites) number g now (hinted_with suites number new now hints)
           of (Some suite) there =
               let whole = ready.whole number suite there in
               let found = whole.found in
@@ -273,12 +297,12 @@ module _ (fixed : Fixed) (world : World) (answers : ℕ → Bool) (table : Plain
               let raised_mode : new.collector.mode ≡ Exclusive = ap (λ (c : Collector). (raise c).mode) found.reached.is in
               let weak : serves suite.mode mode ≡ false = sym (by_first suite.first whole.had) ∙ ap (held_in mode) (sym there) ∙ ready.asks.modes number mode ∙ is_new in
               let exclusive : mode ≡ Exclusive = weak_or_not suite.mode mode weak in
-              let g = gathers new (record { start = found.start; may = found.may; asked = found.asked; reached = reached_raise fixed world answers number (Was number) found.start (ground.rules number found.start found.asked found.may) suite.collector found.reached; led = found.led })
+              let g = gathers new (record { start = found.start; may = found.may; asked = found.asked; reached = reached_raise fixed world sight number (Was number) found.start (ground.rules number found.start found.asked found.may) suite.collector found.reached whole.none_newer; led = found.led; version = found.version })
               (raised_mode ∙ sym exclusive)
               (λ old is. ap (λ (suite : Suite). suite.collector.start) (same_Some suite old (sym there ∙ is)))
               (λ other. held other suite.first ∙ ap (held_in other) (sym there))
-              (λ other had. ap (λ mode. serves mode other) exclusive ∙ exclusive_serves other) in
-              gather_by_stands fixed world answers table task cache Was ground (with_suite number new suites) number g now (hinted_with suites number new now hints)
+              (λ other had. ap (λ mode. serves mode other) exclusive ∙ serves_all other) in
+              gather_by_stands fixed world sight table task cache Was ground (with_suite number new suites) number g now (hinted_with suites number new now hints)
             where
               by_first : (first : Option ReadPoint) → is_some first ≡ true → held_if suite mode first ≡ serves suite.mode mode
               by_first (Some first) some = refl
@@ -294,16 +318,16 @@ module _ (fixed : Fixed) (world : World) (answers : ℕ → Bool) (table : Plain
       all_asked : locks_on table task ≡ onto ready.asked []
       all_asked = ready.asks.order ∙ ap (onto ready.asked) (none_left (known_of suites) ready.asked modes_known (needed_on table task) unmet)
 
-      all_had : (other : ℕ × LockMode) → Has ready.asked other → not (is_met (of_lock fixed world answers (starts fixed world answers table task cache suites) other)) ≡ false
-      all_had other has = had_met fixed world answers table task cache suites other (ready.asks.had other has)
+      all_had : (other : ℕ × LockMode) → Has ready.asked other → not (is_met (demand_of sight (of_lock fixed world sight (starts fixed world sight table task cache suites) other))) ≡ false
+      all_had other has = had_met fixed world sight table task cache suites other (ready.asks.had other has)
 
       refused_stands : (refusal : Refusal) → result_on table task ≡ Err refusal → Good (prepare task now suites (Err refusal) (locked_at suites))
       refused_stands refusal is =
-          let start = starts fixed world answers table task cache suites in
-          prepare_stands fixed world answers table task cache Was ground now suites (Err refusal) (locked_at suites) (record {
+          let start = starts fixed world sight table task cache suites in
+          prepare_stands fixed world sight table task cache Was ground now suites (Err refusal) (locked_at suites) (record {
             start = start;
-            from = may_start fixed world answers table task cache suites ready.asks.right;
-            none = none_short fixed world answers table task cache start ready.asked [] all_asked all_had (ap (λ result. votes_of (changes_on table.rows result)) is) (λ other has. absurd has);
+            from = may_start fixed world sight table task cache suites ready.asks.right;
+            none = none_short fixed world sight table task cache start ready.asked [] all_asked all_had (ap (λ result. votes_of (changes_on table.rows result)) is) (λ other has. absurd has);
             answer_is = sym (ap given_by is) ∙ answer_on_table table task;
           })
 
@@ -312,7 +336,7 @@ module _ (fixed : Fixed) (world : World) (answers : ℕ → Bool) (table : Plain
           → Good (proceed fixed task now suites (exec.Done ended.given (changes.changes_of (known_of suites) ended.edits)))
       granted_stands ended is agrees done =
           subst (λ left. Good (widen_all task now suites granted left)) (sym (numbers_are (filter sets made)))
-          (widen_stands fixed world answers table task cache Was ground (votes_of made) now suites [] granted (record {
+          (widen_stands fixed world sight table task cache Was ground (votes_of made) now suites [] granted (record {
             right = ready.asks.right;
             so_far = ready.asked;
             had = ready.asks.had;

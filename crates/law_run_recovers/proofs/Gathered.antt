@@ -1,5 +1,5 @@
--- A suite that a transaction gathers that goes alone: it falls short as its demand says, or had a Current.
-use Rattle.std.proofs.Common.{◌≡◌, inl, inr, ⊎_elim, ℕ, ◌+◌, ◌<◌, Bool, true, false, cond, List, [], ◌∷◌, Option, Some, None, is_some, refl, sym, ap, subst, ◌∙◌, arith}
+-- A suite that a transaction gathers: it falls short as its demand says, or had a Current.
+use Rattle.std.proofs.Common.{◌≡◌, inl, inr, ⊎_elim, ℕ, ◌+◌, ◌<◌, ◌≤◌, Bool, true, false, cond, List, [], ◌∷◌, Option, Some, None, is_some, refl, sym, ap, subst, ◌∙◌, arith}
 use Rattle.std.specs.Prelude.{◌==◌, ◌&&◌, ◌||◌, not, nat_lt, nat_le}
 use Rattle.std.proofs.lemmas.Bool.{eqb-true}
 use Rattle.std.proofs.lemmas.Bool.Decides.{nat_tests}
@@ -17,7 +17,7 @@ use Rattle.rep_core.proofs.Members.{Has, contains_from}
 use Rattle.rep_core.specs.declared.reply.Verdict.TheVariants as verdict
 use Rattle.file_ops.specs.Rows.{PlainTable}
 use Rattle.suite_collect.specs.Telling.{holds, newest}
-use Rattle.suite_collect.specs.Collecting.{Collector, all_told, needed, needed_of, got, Next, Current, Ask, Short, next}
+use Rattle.suite_collect.specs.Collecting.{Collector, all_told, first_members, version, needed, needed_of, got, Next, Current, Ask, Short, next}
 use Rattle.weak_cache.specs.Entries.{Cache}
 use Rattle.txn_core.specs.declared.ending.Ending.TheVariants.{Undecided}
 use Rattle.txn_core.specs.Suites.{ReadPoint, Suite, Suites, suite_of, with_suite, settled, first_or, source_of}
@@ -27,11 +27,10 @@ use Rattle.txn_core.proofs.Gathers.{self, with_at, each_but, each_with}
 use Rattle.run_core.specs.Worlds.{World}
 use Rattle.law_run_recovers.specs.Demands.{is_met, demand_by, led_to_by, has_asked}
 use Rattle.law_run_recovers.proofs.Asking.{onto, held_in, held_if}
-use Rattle.law_run_recovers.proofs.Led.{reached_short, reached_current}
-use Rattle.law_run_recovers.proofs.Polled.{gathering, nobody_busy, at_current}
-use Rattle.law_run_recovers.proofs.Widened.{short_busy}
+use Rattle.law_run_recovers.proofs.Led.{EndsShort, reached_short, reached_current, reached_settled}
+use Rattle.law_run_recovers.proofs.Polled.{Sight, finds_at, AllBelow, greatest_below, Refusing, gathering, at_current}
 use Rattle.law_run_recovers.proofs.Downs.{holds_shared}
-use Rattle.law_run_recovers.proofs.Stands.{Ground, locks_on, of_lock, EndsRight, ends_short, short_lock, IsRight, IsHad, start_of, starts, may_start, had_met, SameStart, had_with, Hints, IsFound, found_start, found_right, HasLock, IsWhole, IsReady, IsGathering, StepStands, told_stands}
+use Rattle.law_run_recovers.proofs.Stands.{Ground, locks_on, of_lock, unmet, EndsRight, ends_short, short_lock, IsRight, IsHad, start_of, starts, may_start, had_met, SameStart, had_with, Hints, IsFound, found_start, found_right, HasLock, IsWhole, IsReady, IsGathering, StepStands, told_stands}
 
 -- ---- voters
 
@@ -64,58 +63,58 @@ one_of true b so = refl
 one_of false true so = so refl
 one_of false false so = refl
 
-module _ (fixed : Fixed) (world : World) (answers : ℕ → Bool) (table : PlainTable) (task : Task) (cache : Cache) (Was : ℕ → Prefix → Type 0) (ground : Ground fixed world answers cache task.site (locks_on table task) Was) where
+module _ (fixed : Fixed) (world : World) (sight : Sight) (table : PlainTable) (task : Task) (cache : Cache) (Was : ℕ → Prefix → Type 0) (ground : Ground fixed world sight cache task.site (locks_on table task) Was) where
   abbrev Good : Step → Type 0
-  Good step = StepStands fixed world answers table task cache Was ground step
+  Good step = StepStands fixed world sight table task cache Was ground step
 
   abbrev Now : Suites → ℕ → Type 0
-  Now suites number = IsGathering fixed world answers table task cache Was ground suites number
+  Now suites number = IsGathering fixed world sight table task cache Was ground suites number
 
   abbrev Right : ℕ → Suite → Type 0
-  Right z suite = IsRight fixed world answers table task cache z suite
+  Right z suite = IsRight fixed world sight table task cache z suite
 
   abbrev Whole : ℕ → Suite → Type 0
-  Whole z suite = IsWhole fixed world answers table task cache Was ground z suite
+  Whole z suite = IsWhole fixed world sight table task cache Was ground z suite
 
   -- ---- it falls short
 
   module _ (suites : Suites) (number : ℕ) (g : Now suites number) where
     abbrev led : Prefix → Prefix
-    led from = led_to_by fixed world answers number from
+    led from = led_to_by fixed world (finds_at sight number) number from
 
-    same_start : starts fixed world answers table task cache suites number ≡ g.found.start
-    same_start = ap (start_of fixed world answers table task cache) g.there ∙ found_start fixed world answers table task cache Was ground number g.suite g.found
+    same_start : starts fixed world sight table task cache suites number ≡ g.found.start
+    same_start = ap (start_of fixed world sight table task cache) g.there ∙ found_start fixed world sight table task cache Was ground number g.suite g.found
 
-    pub gathering_short : (had wanting : ℕ) (busy : Option (ℕ × ℕ)) → next g.suite.collector ≡ Short had wanting busy → EndsRight fixed world answers table task cache (Undecided (short_cause number had wanting busy))
+    pub gathering_short : (had wanting : ℕ) (busy : Option (ℕ × ℕ)) → next g.suite.collector ≡ Short had wanting busy → EndsRight fixed world sight table task cache (Undecided (short_cause number had wanting busy))
     gathering_short had wanting busy is =
-        let start = starts fixed world answers table task cache suites in
-        let ends = reached_short fixed world answers number (Was number) g.found.start (ground.rules number g.found.start g.found.asked g.found.may) g.suite.collector g.found.reached had wanting busy is in
-        let not_busy : busy ≡ None = sym (short_busy g.suite.collector had wanting busy is) ∙ nobody_busy fixed world answers number (all_told g.suite.collector) (found_right fixed world answers table task cache Was ground number g.suite g.found).right in
-        let unmet : not (is_met (of_lock fixed world answers start (number, g.mode))) ≡ true =
-        ap (λ p. not (is_met (demand_by answers number g.mode (led p).votes))) same_start
-        ∙ ap (λ mode. not (is_met (demand_by answers number mode (led g.found.start).votes))) (sym g.mode_is) ∙ ap not ends.too_few in
-        subst (λ busy. EndsRight fixed world answers table task cache (Undecided (short_cause number had wanting busy))) (sym not_busy)
-        (ends_short fixed world answers table task cache start (may_start fixed world answers table task cache suites g.asks.right) (of_lock fixed world answers start (number, g.mode))
-        (short_lock fixed world answers table task cache start g.asked _ (number, g.mode) (g.asks.order ∙ ap (onto g.asked) g.next_is)
-        (λ other has. had_met fixed world answers table task cache suites other (g.asks.had other has)) unmet)
-        number had wanting refl
-        (ends.had_is ∙ sym (ap (λ p. votes_in (led p).votes.reps answers) same_start))
-        (ends.wanting_is ∙ ap (λ mode. needed_of mode (led g.found.start).votes) g.mode_is ∙ sym (ap (λ p. needed_of g.mode (led p).votes) same_start)))
+        let start = starts fixed world sight table task cache suites in
+        let rules = ground.rules number g.found.start g.found.asked g.found.may in
+        let ends = subst (λ mode. EndsShort fixed world sight number (Was number) g.found.start rules mode had wanting busy) g.mode_is
+        (reached_short fixed world sight number (Was number) g.found.start rules g.suite.collector g.found.reached had wanting busy is) in
+        let short : unmet sight (of_lock fixed world sight start (number, g.mode)) ≡ true =
+        ap (λ p. not (is_met (demand_by (sight.opens number g.mode) number g.mode (led p).votes))) same_start ∙ ap not ends.too_few in
+        ends_short fixed world sight table task cache start (may_start fixed world sight table task cache suites g.asks.right) (of_lock fixed world sight start (number, g.mode))
+        (short_lock fixed world sight table task cache start g.asked _ (number, g.mode) (g.asks.order ∙ ap (onto g.asked) g.next_is)
+        (λ other has. had_met fixed world sight table task cache suites other (g.asks.had other has)) short)
+        number had wanting busy refl
+        (ends.had_is ∙ sym (ap (λ p. votes_in (led p).votes.reps (sight.opens number g.mode)) same_start))
+        (ends.wanting_is ∙ sym (ap (λ p. needed_of g.mode (led p).votes) same_start))
+        (subst (λ p. Refusing fixed world sight number g.mode (led p).votes.reps busy) (sym same_start) ends.refuses)
 
     -- or asks on
-    pub gather_by_stands : (now : Cache) → Hints fixed world answers table task cache suites now → Good (gather_by task now suites number (next g.suite.collector))
+    pub gather_by_stands : (now : Cache) → Hints fixed world sight table task cache suites now → Good (gather_by task now suites number (next g.suite.collector))
     gather_by_stands now hints = of (next g.suite.collector) refl
       where
         of : (after : Next) → next g.suite.collector ≡ after → Good (gather_by task now suites number after)
         of (Short had wanting busy) is =
-            told_stands fixed world answers table task cache Was ground now suites verdict.Aborted (Undecided (short_cause number had wanting busy)) (locked_at suites) (gathering_short had wanting busy is)
+            told_stands fixed world sight table task cache Was ground now suites verdict.Aborted (Undecided (short_cause number had wanting busy)) (locked_at suites) (gathering_short had wanting busy is)
         of (Ask server asked) is = (refl, (g, hints))
         of (Current prefix dver members) is = (refl, (g, hints))
 
   -- ---- it had a Current
 
-  has_lock : (z : ℕ) (suite : Suite) → (found : IsFound fixed world answers table task cache Was ground z suite) → (prefix : Prefix) (dver : ℕ) (members : List ℕ) → next suite.collector ≡ Current prefix dver members
-      → (new : Suite) → new.collector ≡ suite.collector → HasLock fixed world answers table task cache Was ground new
+  has_lock : (z : ℕ) (suite : Suite) → (found : IsFound fixed world sight table task cache Was ground z suite) → (prefix : Prefix) (dver : ℕ) (members : List ℕ) → next suite.collector ≡ Current prefix dver members
+      → (new : Suite) → new.collector ≡ suite.collector → HasLock fixed world sight table task cache Was ground new
   has_lock z suite found prefix dver members is new same =
       let at = found.reached in
       let c : Collector = gathering found.start at.mode at.told in
@@ -130,23 +129,34 @@ module _ (fixed : Fixed) (world : World) (answers : ℕ → Bool) (table : Plain
         holds = ap (λ (c : Collector). holds Shared (all_told c) voter.rep.0) (same ∙ at.is) ∙ holds_shared at.mode at.told voter.rep.0 voter.holds;
       }
 
-  pub current_whole : (z : ℕ) (suite : Suite) → IsFound fixed world answers table task cache Was ground z suite → (prefix : Prefix) (dver : ℕ) (members : List ℕ) → next suite.collector ≡ Current prefix dver members → Whole z (settled prefix dver members suite)
+  pub current_whole : (z : ℕ) (suite : Suite) → IsFound fixed world sight table task cache Was ground z suite → (prefix : Prefix) (dver : ℕ) (members : List ℕ) → next suite.collector ≡ Current prefix dver members → Whole z (settled prefix dver members suite)
   current_whole z suite found prefix dver members is = record {
-    found = record { start = found.start; may = found.may; asked = found.asked; reached = found.reached; led = λ first. led_of suite.first refl first };
+    found = record { start = found.start; may = found.may; asked = found.asked; reached = found.reached; led = λ first. led_of suite.first refl first; version = λ first. version_of suite.first refl first };
     had = some suite.first _;
     mode_is = refl;
     lock = has_lock z suite found prefix dver members is (settled prefix dver members suite) refl;
+    none_newer = reached_settled fixed world sight z (Was z) found.start (ground.rules z found.start found.asked found.may) suite.collector found.reached prefix dver members is;
   }
     where
       some : (first : Option ReadPoint) (given : ReadPoint) → is_some (first_or first given) ≡ true
       some (Some first) given = refl
       some None given = refl
 
-      led_of : (old : Option ReadPoint) → suite.first ≡ old → (first : ReadPoint) → first_or old (record { prefix = prefix; dver = dver; source = source_of suite.collector dver members }) ≡ Some first → first.prefix ≡ led_to_by fixed world answers z found.start
+      led_of : (old : Option ReadPoint) → suite.first ≡ old → (first : ReadPoint) → first_or old (record { prefix = prefix; dver = dver; source = source_of suite.collector dver members }) ≡ Some first → first.prefix ≡ led_to_by fixed world (finds_at sight z) z found.start
       led_of (Some old) was first same = ap (λ (first : ReadPoint). first.prefix) (sym (same_Some old first same)) ∙ found.led old was
       led_of None was first same =
           ap (λ (first : ReadPoint). first.prefix) (sym (same_Some _ first same))
-          ∙ (reached_current fixed world answers z (Was z) found.start (ground.rules z found.start found.asked found.may) suite.collector found.reached prefix dver members is).prefix_is
+          ∙ (reached_current fixed world sight z (Was z) found.start (ground.rules z found.start found.asked found.may) suite.collector found.reached prefix dver members is).prefix_is
+
+      now_below : (n : ℕ) → AllBelow fixed world sight z n → dver ≤ n
+      now_below n all =
+          let at = found.reached in
+          let told = subst (λ (c : Collector). version c ≡ dver) at.is (at_current suite.collector prefix dver members is).version_is in
+          subst (λ d. d ≤ n) told (greatest_below fixed world sight z at.mode at.told at.going.right n all (first_members (gathering found.start at.mode at.told)))
+
+      version_of : (old : Option ReadPoint) → suite.first ≡ old → (first : ReadPoint) → first_or old (record { prefix = prefix; dver = dver; source = source_of suite.collector dver members }) ≡ Some first → (n : ℕ) → AllBelow fixed world sight z n → first.dver ≤ n
+      version_of (Some old) was first same n all = subst (λ (first : ReadPoint). first.dver ≤ n) (same_Some old first same) (found.version old was n all)
+      version_of None was first same n all = subst (λ (first : ReadPoint). first.dver ≤ n) (same_Some _ first same) (now_below n all)
 
   module _ (suites : Suites) (number : ℕ) (g : Now suites number) (prefix : Prefix) (dver : ℕ) (members : List ℕ) (is : next g.suite.collector ≡ Current prefix dver members) where
     abbrev new : Suite
@@ -155,13 +165,13 @@ module _ (fixed : Fixed) (world : World) (answers : ℕ → Bool) (table : Plain
     whole : Whole number new
     whole = current_whole number g.suite g.found prefix dver members is
 
-    met : is_met (demand_by answers number g.mode (led_to_by fixed world answers number g.suite.collector.start).votes) ≡ true
+    met : is_met (demand_by (sight.opens number g.mode) number g.mode (led_to_by fixed world (finds_at sight number) number g.suite.collector.start).votes) ≡ true
     met =
-        let ends = reached_current fixed world answers number (Was number) g.found.start (ground.rules number g.found.start g.found.asked g.found.may) g.suite.collector g.found.reached prefix dver members is in
-        ap (λ p. is_met (demand_by answers number g.mode (led_to_by fixed world answers number p).votes)) (found_start fixed world answers table task cache Was ground number g.suite g.found)
-        ∙ ap (λ mode. is_met (demand_by answers number mode (led_to_by fixed world answers number g.found.start).votes)) (sym g.mode_is) ∙ ends.enough
+        let ends = reached_current fixed world sight number (Was number) g.found.start (ground.rules number g.found.start g.found.asked g.found.may) g.suite.collector g.found.reached prefix dver members is in
+        ap (λ p. is_met (demand_by (sight.opens number g.mode) number g.mode (led_to_by fixed world (finds_at sight number) number p).votes)) (found_start fixed world sight table task cache Was ground number g.suite g.found)
+        ∙ ap (λ mode. is_met (demand_by (sight.opens number mode) number mode (led_to_by fixed world (finds_at sight number) number g.found.start).votes)) (sym g.mode_is) ∙ ends.enough
 
-    same_from : SameStart fixed world answers table task cache suites number new
+    same_from : SameStart fixed world sight table task cache suites number new
     same_from old there = ap (λ (suite : Suite). suite.collector.start) (same_Some g.suite old (sym g.there ∙ there))
 
     held_new : (mode : LockMode) → held_in mode (Some new) ≡ serves g.suite.collector.mode mode
@@ -179,16 +189,16 @@ module _ (fixed : Fixed) (world : World) (answers : ℕ → Bool) (table : Plain
     modes_on z mode false same = g.asks.modes z mode ∙ sym (ap (λ b. (b && serves g.mode mode) || has_asked g.asked z mode) same)
 
     -- then it has asked for this too
-    pub settled_ready : IsReady fixed world answers table task cache Was ground (with_suite number (settled prefix dver members g.suite) suites)
+    pub settled_ready : IsReady fixed world sight table task cache Was ground (with_suite number (settled prefix dver members g.suite) suites)
     settled_ready = record {
       asked = (number, g.mode) ∷ g.asked;
       asks = record {
         ordered = IsOrdered-insert nat_cmp_total suites number new g.asks.ordered;
-        right = each_with Right number suites new (each_but Right number suites g.asks.right) (found_right fixed world answers table task cache Was ground number new whole.found);
+        right = each_with Right number suites new (each_but Right number suites g.asks.right) (found_right fixed world sight table task cache Was ground number new whole.found);
         had = λ one has. ⊎_elim
-            (λ same. subst (IsHad fixed world answers table task cache (with_suite number new suites)) same
+            (λ same. subst (IsHad fixed world sight table task cache (with_suite number new suites)) same
             (record { suite = new; there = with_at number new suites number ∙ ap (λ b. cond b (Some new) (suite_of suites number)) (self number); met = met }))
-            (λ rest. had_with fixed world answers table task cache suites number new one same_from (g.asks.had one rest)) has;
+            (λ rest. had_with fixed world sight table task cache suites number new one same_from (g.asks.had one rest)) has;
         modes = λ z mode. ap (held_in mode) (with_at number new suites z) ∙ modes_on z mode (number == z) refl;
         order = g.asks.order ∙ ap (onto g.asked) g.next_is;
       };

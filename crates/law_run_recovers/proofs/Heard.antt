@@ -1,5 +1,5 @@
--- What a transaction that goes alone makes of a reply that is right: it stands as before, or ends as it should.
-use Rattle.std.proofs.Common.{◌≡◌, ◌⊎◌, ⊎_elim, ℕ, Bool, true, false, cond, List, [], ◌∷◌, Option, Some, None, is_some, Ok, Err, refl, sym, ap, subst, ◌∙◌}
+-- What a transaction makes of a reply that is right: it stands as before, or ends as it should.
+use Rattle.std.proofs.Common.{◌≡◌, ◌⊎◌, ⊎_elim, ℕ, true, false, cond, List, [], ◌∷◌, Option, Some, None, is_some, Ok, Err, refl, sym, ap, subst, ◌∙◌}
 use Rattle.std.specs.Prelude.{option_map}
 use Rattle.std.proofs.lemmas.Bool.{false≢true}
 use Rattle.std.proofs.lemmas.Cmp.{nat_cmp_total}
@@ -18,7 +18,7 @@ use Rattle.file_ops.specs.Rows.{PlainTable, row_of}
 use Rattle.file_exec.specs.Known as known
 use Rattle.file_exec.specs.Known.{IsSoAt}
 use Rattle.suite_collect.specs.declared.told.Told.{Told}
-use Rattle.suite_collect.specs.Collecting.{Collector, Widening, Asked, request_for, mode_of, mode_asked, all_told, tell, tell_at, told_by, Next, Current, Ask, Short, next}
+use Rattle.suite_collect.specs.Collecting.{Collector, Widening, Asked, request_for, mode_of, mode_asked, tell, tell_at, told_by, Next, Current, Ask, Short, next}
 use Rattle.weak_cache.specs.Entries.{Cache}
 use Rattle.weak_cache.specs.Cache.{put}
 use Rattle.txn_core.specs.declared.ending.Ending.TheVariants.{Undecided}
@@ -36,10 +36,10 @@ use Rattle.law_run_recovers.specs.Laws as laws
 use Rattle.law_run_recovers.specs.Laws.{ending_of}
 use Rattle.law_run_recovers.proofs.Asking.{held_in, held_if}
 use Rattle.law_run_recovers.proofs.Led.{reached_told}
-use Rattle.law_run_recovers.proofs.Polled.{Answers, AllRight}
-use Rattle.law_run_recovers.proofs.Widened.{WidenedShort, start_stays, same_said, same_mode, hears, right_more}
+use Rattle.law_run_recovers.proofs.Polled.{Sight, Answers, hears}
+use Rattle.law_run_recovers.proofs.Widened.{WidenedShort, start_stays, same_said, same_mode, right_more}
 use Rattle.law_run_recovers.proofs.Hinting.{hint_put}
-use Rattle.law_run_recovers.proofs.Stands.{Ground, asks_of, locks_on, of_votes, answer_to, EndsRight, IsRight, asked_with, Hints, HasAll, answer_in, Sets, IsWidening, IsFound, found_right, IsWhole, IsReady, IsGathering, PhaseStands, StepStands, told_stands, prepare_stands}
+use Rattle.law_run_recovers.proofs.Stands.{Ground, asks_of, locks_on, of_votes, demand_of, answer_to, EndsAs, EndsRight, IsRight, asked_with, Hints, HasAll, answer_in, Sets, IsWidening, IsFound, found_right, IsWhole, IsReady, IsGathering, PhaseStands, StepStands, told_stands, prepare_stands}
 use Rattle.law_run_recovers.proofs.Widens.{by_short, by_current, sets_with, sets_on, set_short, widen_stands}
 use Rattle.law_run_recovers.proofs.Gathered.{gathering_short, settled_ready}
 use Rattle.law_run_recovers.proofs.Executes.{none_with, hinted_with, content_ready, execute_stands}
@@ -47,17 +47,20 @@ use Rattle.law_run_recovers.proofs.Knows.{agreed}
 
 -- ---- replies
 
--- what is right for a transaction to be answered, by where it stands: servers say of a suite what they showed, or are down; a content is given, and
--- Prepare is done; and the home decides as it is asked, or is down
-abbrev pub RightFor : Fixed → World → (ℕ → Bool) → Task → Phase → ℕ → Reply → Type 0
-RightFor fixed world answers task (Gathering z) server said = Answers fixed world answers z server said
-RightFor fixed world answers task (Fetching z) server said = is_some (given_in said) ≡ true
-RightFor fixed world answers task (doing.Widening [] granted) server said = Unit {0}
-RightFor fixed world answers task (doing.Widening (z ∷ left) granted) server said = Answers fixed world answers z server said
-RightFor fixed world answers task (Preparing left outcome) server said = is_prepared said ≡ true
-RightFor fixed world answers task (Deciding outcome) server said =
+-- what is right for a transaction to be answered, by where it stands: servers say of a suite what they showed, or whose lock is in the way, or are down;
+-- a content is given, and Prepare is done; and the home decides as it is asked, or is down
+abbrev pub LockRight : Fixed → World → Sight → ℕ → ℕ → ℕ → Request → Reply → Type 0
+LockRight fixed world sight t z server asked said = (question : Asked) → asked ≡ request_for t z question → Answers fixed world sight z question server said
+
+abbrev pub RightFor : Fixed → World → Sight → Task → Phase → ℕ → Request → Reply → Type 0
+RightFor fixed world sight task (Gathering z) server asked said = LockRight fixed world sight task.t z server asked said
+RightFor fixed world sight task (Fetching z) server asked said = is_some (given_in said) ≡ true
+RightFor fixed world sight task (doing.Widening [] granted) server asked said = Unit {0}
+RightFor fixed world sight task (doing.Widening (z ∷ left) granted) server asked said = LockRight fixed world sight task.t z server asked said
+RightFor fixed world sight task (Preparing left outcome) server asked said = is_prepared said ≡ true
+RightFor fixed world sight task (Deciding outcome) server asked said =
     ((is_up world server ≡ true) × (said ≡ reply.Verdict (verdict_of (decision_of task outcome)))) ⊎ ((is_up world server ≡ false) × (said ≡ reply.Down))
-RightFor fixed world answers task (Finishing left v ended) server said = Unit {0}
+RightFor fixed world sight task (Finishing left v ended) server asked said = Unit {0}
 
 -- where a transaction stands that may execute next
 abbrev pub MayExecute : Phase → Type 0
@@ -98,11 +101,11 @@ record HeardOne (number : ℕ) (suite : Suite) (server : ℕ) (asked : Request) 
   is : (task : Task) (now : Cache) (suites : Suites) (phase : Phase) (go_on : Suite → Step) → hear task now suites phase number suite server asked (txn_run.said_to asked said) go_on
       ≡ collected task now suites phase number (record suite { collector = tell one suite.collector }) (next (tell one suite.collector)) go_on
 
-module _ (fixed : Fixed) (world : World) (answers : ℕ → Bool) (t number : ℕ) (suite : Suite) (server : ℕ) (asked : Request) (said : Reply) (right : AllRight fixed world answers number (all_told suite.collector)) (asks : AsksFor t number suite.collector server asked)
-    (so : Answers fixed world answers number server said) where
+module _ (fixed : Fixed) (world : World) (sight : Sight) (t number : ℕ) (suite : Suite) (server : ℕ) (asked : Request) (said : Reply) (asks : AsksFor t number suite.collector server asked)
+    (so : Answers fixed world sight number asks.question server said) where
   heard_one : HeardOne number suite server asked said
   heard_one =
-      let heard = hears fixed world answers number suite.collector right server asks.question asks.is said so in
+      let heard = hears fixed world sight number asks.question server said so in
       let one : Told = record { server = server; mode = mode_of asked; said = heard.0 } in
       let modes : mode_of asked ≡ mode_asked asks.question = ap mode_of asks.asked_is ∙ same_mode t number asks.question in
       record {
@@ -113,44 +116,44 @@ module _ (fixed : Fixed) (world : World) (answers : ℕ → Bool) (t number : �
         is = λ task now suites phase go_on. ap (λ found. hear task now suites phase number suite server asked found go_on) (ap (λ asked. txn_run.said_to asked said) asks.asked_is ∙ same_said t number asks.question said ∙ heard.1);
       }
 
-  answers_it : (who : ℕ) (question : Asked) → next suite.collector ≡ Ask who question → Answers fixed world answers number who said
-  answers_it who question is = subst (λ who. Answers fixed world answers number who said) (ap who_of (sym asks.is ∙ is)) so
+  answers_it : (who : ℕ) (question : Asked) → next suite.collector ≡ Ask who question → Answers fixed world sight number question who said
+  answers_it who question is = subst Right (sym asks.is ∙ is) so
     where
-      who_of : Next → ℕ
-      who_of (Ask who question) = who
-      who_of (Current prefix dver members) = 0
-      who_of (Short had wanting busy) = 0
+      Right : Next → Type 0
+      Right (Ask who question) = Answers fixed world sight number question who said
+      Right (Current prefix dver members) = Unit {0}
+      Right (Short had wanting busy) = Unit {0}
 
-module _ (fixed : Fixed) (world : World) (answers : ℕ → Bool) (table : PlainTable) (task : Task) (cache : Cache) (Was : ℕ → Prefix → Type 0) (ground : Ground fixed world answers cache task.site (locks_on table task) Was) (same_service : table.service ≡ fixed.service) where
+module _ (fixed : Fixed) (world : World) (sight : Sight) (table : PlainTable) (task : Task) (cache : Cache) (Was : ℕ → Prefix → Type 0) (ground : Ground fixed world sight cache task.site (locks_on table task) Was) (same_service : table.service ≡ fixed.service) where
   abbrev Good : Step → Type 0
-  Good step = StepStands fixed world answers table task cache Was ground step
+  Good step = StepStands fixed world sight table task cache Was ground step
 
   abbrev Hinted : Suites → Cache → Type 0
-  Hinted suites now = Hints fixed world answers table task cache suites now
+  Hinted suites now = Hints fixed world sight table task cache suites now
 
   abbrev Whole : ℕ → Suite → Type 0
-  Whole z suite = IsWhole fixed world answers table task cache Was ground z suite
+  Whole z suite = IsWhole fixed world sight table task cache Was ground z suite
 
   abbrev Now : Suites → ℕ → Type 0
-  Now suites number = IsGathering fixed world answers table task cache Was ground suites number
+  Now suites number = IsGathering fixed world sight table task cache Was ground suites number
 
   -- what it knows where it goes on, of the suites that it asks for, is so on the table
   abbrev pub KnowsSo : Step → Type 0
   KnowsSo step = (txn_run : TransactionRun) → step.after ≡ GoesOn txn_run → (z : ℕ) → asks_of (locks_on table task) z ≡ true → IsSoAt (known.known_of (known_of txn_run.suites) z) (row_of table.rows z)
 
   -- it executes on what it gathered
-  executes : (all : Gathered) → IsReady fixed world answers table task cache Was ground all.suites → Hinted all.suites all.cache → (number : ℕ) → is_some (suite_of all.suites number) ≡ true → KnowsSo (execute fixed task all) → Good (execute fixed task all)
+  executes : (all : Gathered) → IsReady fixed world sight table task cache Was ground all.suites → Hinted all.suites all.cache → (number : ℕ) → is_some (suite_of all.suites number) ≡ true → KnowsSo (execute fixed task all) → Good (execute fixed task all)
   executes all ready hints number some so =
-      execute_stands fixed world answers table task cache Was ground same_service all ready hints (agreed fixed world answers table task cache Was ground all ready hints number some so)
+      execute_stands fixed world sight table task cache Was ground same_service all ready hints (agreed fixed world sight table task cache Was ground all ready hints number some so)
 
   is_there : (suites : Suites) (number : ℕ) (new : Suite) → suite_of (with_suite number new suites) number ≡ Some new
   is_there suites number new = with_at number new suites number ∙ ap (λ b. cond b (Some new) (suite_of suites number)) (self number)
 
   -- ---- a suite is gathered
 
-  module _ (now : Cache) (suites : Suites) (number : ℕ) (g : Now suites number) (hints : Hinted suites now) (server : ℕ) (asked : Request) (said : Reply) (asks : AsksFor task.t number g.suite.collector server asked) (so : Answers fixed world answers number server said) where
+  module _ (now : Cache) (suites : Suites) (number : ℕ) (g : Now suites number) (hints : Hinted suites now) (server : ℕ) (asked : Request) (said : Reply) (asks : AsksFor task.t number g.suite.collector server asked) (so : Answers fixed world sight number asks.question server said) where
     heard_here : HeardOne number g.suite server asked said
-    heard_here = heard_one fixed world answers task.t number g.suite server asked said (found_right fixed world answers table task cache Was ground number g.suite g.found).right asks so
+    heard_here = heard_one fixed world sight task.t number g.suite server asked said asks so
 
     abbrev after_one : Told → Suite
     after_one one = record g.suite { collector = tell one g.suite.collector }
@@ -161,17 +164,18 @@ module _ (fixed : Fixed) (world : World) (answers : ℕ → Bool) (table : Plain
     gathering_on : (one : Told) → told_by (next g.suite.collector) said ≡ Some one → Now (with_suite number (after_one one) suites) number
     gathering_on one told =
         let new = after_one one in
-        let found : IsFound fixed world answers table task cache Was ground number new = record {
+        let found : IsFound fixed world sight table task cache Was ground number new = record {
           start = g.found.start;
           may = g.found.may;
           asked = g.found.asked;
-          reached = reached_told fixed world answers number (Was number) g.found.start (ground.rules number g.found.start g.found.asked g.found.may) g.suite.collector g.found.reached said one
-              (answers_it fixed world answers task.t number g.suite server asked said (found_right fixed world answers table task cache Was ground number g.suite g.found).right asks so) told;
+          reached = reached_told fixed world sight number (Was number) g.found.start (ground.rules number g.found.start g.found.asked g.found.may) g.suite.collector g.found.reached said one
+              (answers_it fixed world sight task.t number g.suite server asked said asks so) told;
           led = g.found.led;
+          version = g.found.version;
         } in
         record {
           asked = g.asked;
-          asks = asked_with fixed world answers table task cache suites g.asked number new g.asks (found_right fixed world answers table task cache Was ground number new found)
+          asks = asked_with fixed world sight table task cache suites g.asked number new g.asks (found_right fixed world sight table task cache Was ground number new found)
               (λ old there. start_stays g.suite.collector one ∙ ap (λ (suite : Suite). suite.collector.start) (same_Some g.suite old (sym g.there ∙ there)))
               (λ mode. held mode g.suite.first ∙ ap (held_in mode) (sym g.there));
           whole = but_with Whole number suites new g.whole;
@@ -190,16 +194,16 @@ module _ (fixed : Fixed) (world : World) (answers : ℕ → Bool) (table : Plain
 
     collected_stands : (one : Told) (g' : Now (with_suite number (after_one one) suites) number) → g'.suite ≡ after_one one → (after : Next) → next (tell one g.suite.collector) ≡ after
         → KnowsSo (collected task now suites (Gathering number) number (after_one one) after go_on) → Good (collected task now suites (Gathering number) number (after_one one) after go_on)
-    collected_stands one g' same (Ask who question) is knows = (refl, (g', hinted_with fixed world answers table task cache Was ground suites number (after_one one) now hints))
+    collected_stands one g' same (Ask who question) is knows = (refl, (g', hinted_with fixed world sight table task cache Was ground suites number (after_one one) now hints))
     collected_stands one g' same (Short had wanting busy) is knows =
-        told_stands fixed world answers table task cache Was ground now (with_suite number (after_one one) suites) verdict.Aborted (Undecided (short_cause number had wanting busy)) (locked_at (with_suite number (after_one one) suites))
-        (gathering_short fixed world answers table task cache Was ground (with_suite number (after_one one) suites) number g' had wanting busy (ap (λ (suite : Suite). next suite.collector) same ∙ is))
+        told_stands fixed world sight table task cache Was ground now (with_suite number (after_one one) suites) verdict.Aborted (Undecided (short_cause number had wanting busy)) (locked_at (with_suite number (after_one one) suites))
+        (gathering_short fixed world sight table task cache Was ground (with_suite number (after_one one) suites) number g' had wanting busy (ap (λ (suite : Suite). next suite.collector) same ∙ is))
     collected_stands one g' same (Current prefix dver members) is knows =
         let last = settled prefix dver members (after_one one) in
-        let ready : IsReady fixed world answers table task cache Was ground (with_suite number last suites) =
-        subst (IsReady fixed world answers table task cache Was ground) (ap (λ suite. with_suite number (settled prefix dver members suite) (with_suite number (after_one one) suites)) same ∙ insert-insert nat_cmp_total suites number (after_one one) last)
-        (settled_ready fixed world answers table task cache Was ground (with_suite number (after_one one) suites) number g' prefix dver members (ap (λ (suite : Suite). next suite.collector) same ∙ is)) in
-        executes (record { suites = with_suite number last suites; cache = now }) ready (hinted_with fixed world answers table task cache Was ground suites number last now hints) number (ap is_some (is_there suites number last)) knows
+        let ready : IsReady fixed world sight table task cache Was ground (with_suite number last suites) =
+        subst (IsReady fixed world sight table task cache Was ground) (ap (λ suite. with_suite number (settled prefix dver members suite) (with_suite number (after_one one) suites)) same ∙ insert-insert nat_cmp_total suites number (after_one one) last)
+        (settled_ready fixed world sight table task cache Was ground (with_suite number (after_one one) suites) number g' prefix dver members (ap (λ (suite : Suite). next suite.collector) same ∙ is)) in
+        executes (record { suites = with_suite number last suites; cache = now }) ready (hinted_with fixed world sight table task cache Was ground suites number last now hints) number (ap is_some (is_there suites number last)) knows
 
     gathers : KnowsSo (hear task now suites (Gathering number) number g.suite server asked (txn_run.said_to asked said) go_on) → Good (hear task now suites (Gathering number) number g.suite server asked (txn_run.said_to asked said) go_on)
     unfolding gathering_on
@@ -210,13 +214,13 @@ module _ (fixed : Fixed) (world : World) (answers : ℕ → Bool) (table : Plain
 
   -- ---- a suite is widened
 
-  module _ (now : Cache) (suites : Suites) (number : ℕ) (left : List ℕ) (granted : Granted) (w : IsWidening fixed world answers table task cache suites number left granted) (server : ℕ) (asked : Request) (said : Reply)
-      (asks : AsksFor task.t number w.suite.collector server asked) (so : Answers fixed world answers number server said) where
-    was : IsRight fixed world answers table task cache number w.suite
+  module _ (now : Cache) (suites : Suites) (number : ℕ) (left : List ℕ) (granted : Granted) (w : IsWidening fixed world sight table task cache suites number left granted) (server : ℕ) (asked : Request) (said : Reply)
+      (asks : AsksFor task.t number w.suite.collector server asked) (so : Answers fixed world sight number asks.question server said) where
+    was : IsRight fixed world sight table task cache number w.suite
     was = w.sets.right number w.suite w.there
 
     heard_now : HeardOne number w.suite server asked said
-    heard_now = heard_one fixed world answers task.t number w.suite server asked said was.right asks so
+    heard_now = heard_one fixed world sight task.t number w.suite server asked said asks so
 
     abbrev told_one : Told → Suite
     told_one one = record w.suite { collector = tell one w.suite.collector }
@@ -227,15 +231,15 @@ module _ (fixed : Fixed) (world : World) (answers : ℕ → Bool) (table : Plain
     more_widening : (one : Told) → (tell one w.suite.collector).widening ≡ Some (record w.widening { told = one ∷ w.widening.told })
     more_widening one = ap (λ found. (tell_at found one w.suite.collector).widening) w.widening_is
 
-    told_right : (one : Told) → told_by (next w.suite.collector) said ≡ Some one → IsRight fixed world answers table task cache number (told_one one)
+    told_right : (one : Told) → told_by (next w.suite.collector) said ≡ Some one → IsRight fixed world sight table task cache number (told_one one)
     told_right one told = record {
       may = subst (λ start. MayStart fixed cache task.site number start) (sym (start_stays w.suite.collector one)) was.may;
-      right = right_more fixed world answers number w.suite.collector was.right said one (answers_it fixed world answers task.t number w.suite server asked said was.right asks so) told;
+      right = right_more fixed world sight number w.suite.collector was.right said one (answers_it fixed world sight task.t number w.suite server asked said asks so) told;
     }
 
-    sets_now : (new : Suite) → new.collector.start ≡ w.suite.collector.start → IsRight fixed world answers table task cache number new → Sets fixed world answers table task cache (with_suite number new suites) w.done ((number, w.votes) ∷ w.later) granted
+    sets_now : (new : Suite) → new.collector.start ≡ w.suite.collector.start → IsRight fixed world sight table task cache number new → Sets fixed world sight table task cache (with_suite number new suites) w.done ((number, w.votes) ∷ w.later) granted
     sets_now new start right =
-        sets_with fixed world answers table task cache suites number new w.done ((number, w.votes) ∷ w.later) granted w.sets right (λ old there. start ∙ ap (λ (suite : Suite). suite.collector.start) (same_Some w.suite old (sym w.there ∙ there)))
+        sets_with fixed world sight table task cache suites number new w.done ((number, w.votes) ∷ w.later) granted w.sets right (λ old there. start ∙ ap (λ (suite : Suite). suite.collector.start) (same_Some w.suite old (sym w.there ∙ there)))
 
     abbrev phase : Phase
     phase = doing.Widening (number ∷ left) granted
@@ -258,24 +262,24 @@ module _ (fixed : Fixed) (world : World) (answers : ℕ → Bool) (table : Plain
     )
     widened_stands one told (Short had wanting busy) is =
         let more = with_suite number (told_one one) suites in
-        told_stands fixed world answers table task cache Was ground now more verdict.Aborted (Undecided (short_cause number had wanting busy)) (locked_at more)
-        (set_short fixed world answers table task cache more w.done w.later (number, w.votes) granted (sets_now (told_one one) (start_stays w.suite.collector one) (told_right one told)) had wanting busy
-        (subst (λ votes. WidenedShort fixed world answers number votes had wanting busy) w.votes_are (by_short fixed world answers number (tell one w.suite.collector) (record w.widening { told = one ∷ w.widening.told }) (more_widening one) (told_right one told).right had wanting busy is)))
+        told_stands fixed world sight table task cache Was ground now more verdict.Aborted (Undecided (short_cause number had wanting busy)) (locked_at more)
+        (set_short fixed world sight table task cache more w.done w.later (number, w.votes) granted (sets_now (told_one one) (start_stays w.suite.collector one) (told_right one told)) had wanting busy
+        (subst (λ votes. WidenedShort fixed world sight number votes had wanting busy) w.votes_are (by_short fixed world sight number (tell one w.suite.collector) (record w.widening { told = one ∷ w.widening.told }) (more_widening one) (told_right one told).right had wanting busy is)))
     widened_stands one told (Current prefix dver members) is =
         let last = settled prefix dver members (told_one one) in
         let right = told_right one told in
-        let met : is_met (of_votes answers (number, w.votes)) ≡ true =
-        subst (λ votes. is_met (of_votes answers (number, votes)) ≡ true) w.votes_are (by_current fixed world answers number (tell one w.suite.collector) (record w.widening { told = one ∷ w.widening.told }) (more_widening one) right.right prefix dver members is) in
+        let met : is_met (demand_of sight (of_votes (number, w.votes))) ≡ true =
+        subst (λ votes. is_met (demand_of sight (of_votes (number, votes))) ≡ true) w.votes_are (by_current fixed world sight number (tell one w.suite.collector) (record w.widening { told = one ∷ w.widening.told }) (more_widening one) right.right prefix dver members is) in
         subst (λ left. Good (widen_all task now (with_suite number last suites) granted left)) w.left_is
-        (widen_stands fixed world answers table task cache Was ground w.later now (with_suite number last suites) ((number, w.votes) ∷ w.done) granted
-        (sets_on fixed world answers table task cache (with_suite number last suites) w.done w.later (number, w.votes) granted (sets_now last (start_stays w.suite.collector one) (record { may = right.may; right = right.right })) met))
+        (widen_stands fixed world sight table task cache Was ground w.later now (with_suite number last suites) ((number, w.votes) ∷ w.done) granted
+        (sets_on fixed world sight table task cache (with_suite number last suites) w.done w.later (number, w.votes) granted (sets_now last (start_stays w.suite.collector one) (record { may = right.may; right = right.right })) met))
 
     widens : Good (hear task now suites phase number w.suite server asked (txn_run.said_to asked said) widen_on)
     widens = subst Good (sym (heard_now.is task now suites phase widen_on)) (widened_stands heard_now.one heard_now.told (next (tell heard_now.one w.suite.collector)) refl)
 
   -- ---- a content is fetched
 
-  fetches : (now : Cache) (suites : Suites) (number : ℕ) → IsReady fixed world answers table task cache Was ground suites → Hinted suites now → (server : ℕ) (asked : Request) → fetched_for task number (suite_of suites number) ≡ Some (server, asked)
+  fetches : (now : Cache) (suites : Suites) (number : ℕ) → IsReady fixed world sight table task cache Was ground suites → Hinted suites now → (server : ℕ) (asked : Request) → fetched_for task number (suite_of suites number) ≡ Some (server, asked)
       → (given : Option Content) → is_some given ≡ true → KnowsSo (fetched fixed task now suites number (suite_of suites number) server given) → Good (fetched fixed task now suites number (suite_of suites number) server given)
   fetches now suites number ready hints server asked request given some = of (suite_of suites number) refl request given some
     where
@@ -288,7 +292,7 @@ module _ (fixed : Fixed) (world : World) (answers : ℕ → Bool) (table : Plain
             suites = with_suite number new suites;
             cache = put fixed.limits (record { site = task.site; suite = number; prefix = first.prefix; dver = first.dver; content = content }) now;
           })
-          (content_ready fixed world answers table task cache Was ground suites number suite (Some content) ready there)
+          (content_ready fixed world sight table task cache Was ground suites number suite (Some content) ready there)
           (λ z none prefix hinted.
           let both = none_with suites number new z none in
           hints z both.0 prefix (hint_put task.site z number both.1 fixed.limits (record { site = task.site; suite = number; prefix = first.prefix; dver = first.dver; content = content }) refl refl now prefix hinted))
@@ -302,21 +306,21 @@ module _ (fixed : Fixed) (world : World) (answers : ℕ → Bool) (table : Plain
 
   -- ---- the home says how it ended
 
-  decides : (outcome : doing.Proposal) → HasAll fixed world answers table task cache (answer_in fixed world answers table task cache outcome) → (server : ℕ) → server ≡ home_of fixed.service task.t → (said : Reply)
+  decides : (outcome : doing.Proposal) → HasAll fixed world sight table task cache (answer_in fixed world sight table task cache outcome) → (server : ℕ) → server ≡ home_of fixed.service task.t → (said : Reply)
       → ((is_up world server ≡ true) × (said ≡ reply.Verdict (verdict_of (decision_of task outcome)))) ⊎ ((is_up world server ≡ false) × (said ≡ reply.Down))
-      → EndsRight fixed world answers table task cache (txn_run.ending_by (verdict_in said verdict.Aborted) (cause_of_abort said))
+      → EndsRight fixed world sight table task cache (txn_run.ending_by (verdict_in said verdict.Aborted) (cause_of_abort said))
   decides outcome all server home said right = record {
     start = all.start;
     from = all.from;
-    ends = ⊎_elim
+    ends = subst (EndsAs fixed world sight table task cache (txn_run.ending_by (verdict_in said verdict.Aborted) (cause_of_abort said))) (sym all.none) (⊎_elim
         (λ up. ap (λ said. txn_run.ending_by (verdict_in said verdict.Aborted) (cause_of_abort said)) up.1 ∙ answered outcome all.answer_is
-        ∙ sym (ap (λ found. laws.ending_by found (is_up world (home_of fixed.service task.t)) (answer_to table task)) all.none ∙ ap (λ up. laws.ending_by None up (answer_to table task)) (ap (is_up world) (sym home) ∙ up.0)))
+        ∙ sym (ap (λ up. laws.ending_by None up (answer_to table task)) (ap (is_up world) (sym home) ∙ up.0)))
         (λ down. ap (λ said. txn_run.ending_by (verdict_in said verdict.Aborted) (cause_of_abort said)) down.1
-        ∙ sym (ap (λ found. laws.ending_by found (is_up world (home_of fixed.service task.t)) (answer_to table task)) all.none ∙ ap (λ up. laws.ending_by None up (answer_to table task)) (ap (is_up world) (sym home) ∙ down.0)))
-        right;
+        ∙ sym (ap (λ up. laws.ending_by None up (answer_to table task)) (ap (is_up world) (sym home) ∙ down.0)))
+        right);
   }
     where
-      answered : (outcome : doing.Proposal) → answer_in fixed world answers table task cache outcome ≡ answer_to table task
+      answered : (outcome : doing.Proposal) → answer_in fixed world sight table task cache outcome ≡ answer_to table task
           → txn_run.ending_by (verdict_of (decision_of task outcome)) (cause_of_abort (reply.Verdict (verdict_of (decision_of task outcome)))) ≡ ending_of (answer_to table task)
       answered (Ok granted) is = ap ending_of is
       answered (Err refusal) is = ap ending_of is
@@ -326,23 +330,25 @@ module _ (fixed : Fixed) (world : World) (answers : ℕ → Bool) (table : Plain
   asked_of : (number : ℕ) (suites : Suites) (suite : Suite) (server : ℕ) (asked : Request) → suite_of suites number ≡ Some suite → asked_for task number (suite_of suites number) ≡ Some (server, asked) → AsksFor task.t number suite.collector server asked
   asked_of number suites suite server asked there request = asks_for task number suite.collector server asked (sym (ap (asked_for task number) there) ∙ request)
 
-  pub reply_stands : (now : Cache) (suites : Suites) (phase : Phase) → PhaseStands fixed world answers table task cache Was ground suites now phase → (server : ℕ) (asked : Request) → request_in fixed task suites phase ≡ Some (server, asked)
-      → (said : Reply) → RightFor fixed world answers task phase server said → (MayExecute phase → KnowsSo (after_reply fixed task now suites phase server asked said)) → Good (after_reply fixed task now suites phase server asked said)
+  pub reply_stands : (now : Cache) (suites : Suites) (phase : Phase) → PhaseStands fixed world sight table task cache Was ground suites now phase → (server : ℕ) (asked : Request) → request_in fixed task suites phase ≡ Some (server, asked)
+      → (said : Reply) → RightFor fixed world sight task phase server asked said → (MayExecute phase → KnowsSo (after_reply fixed task now suites phase server asked said)) → Good (after_reply fixed task now suites phase server asked said)
   reply_stands now suites (Gathering number) at server asked request said right knows =
       let g = at.0 in
       let step : Option Suite → Step = λ found. heard_of task now suites (Gathering number) number found server asked said (λ suites. execute fixed task (record { suites = suites; cache = now })) in
       subst (λ found. Good (step found)) (sym g.there)
-      (gathers now suites number g at.1 server asked said (asked_of number suites g.suite server asked g.there request) right (subst (λ found. KnowsSo (step found)) g.there (knows tt)))
+      (gathers now suites number g at.1 server asked said (asked_of number suites g.suite server asked g.there request)
+      (right (asked_of number suites g.suite server asked g.there request).question (asked_of number suites g.suite server asked g.there request).asked_is) (subst (λ found. KnowsSo (step found)) g.there (knows tt)))
   reply_stands now suites (Fetching number) at server asked request said right knows = fetches now suites number at.0 at.1 server asked request (given_in said) right (knows tt)
   reply_stands now suites (doing.Widening [] granted) at server asked request said right knows = absurd at
   reply_stands now suites (doing.Widening (number ∷ left) granted) w server asked request said right knows =
       let step : Option Suite → Step = λ found. heard_of task now suites (doing.Widening (number ∷ left) granted) number found server asked said (λ suites. widen_all task now suites granted left) in
-      subst (λ found. Good (step found)) (sym w.there) (widens now suites number left granted w server asked said (asked_of number suites w.suite server asked w.there request) right)
+      subst (λ found. Good (step found)) (sym w.there) (widens now suites number left granted w server asked said (asked_of number suites w.suite server asked w.there request)
+      (right (asked_of number suites w.suite server asked w.there request).question (asked_of number suites w.suite server asked w.there request).asked_is))
   reply_stands now suites (Preparing [] outcome) all server asked request said right knows = absurd (none-some (server, asked) request)
   reply_stands now suites (Preparing (first ∷ left) outcome) all server asked request said right knows =
-      subst (λ b. Good (cond b (prepare task now suites outcome left) (give_up task now suites (Lost server)))) (sym right) (prepare_stands fixed world answers table task cache Was ground now suites outcome left all)
+      subst (λ b. Good (cond b (prepare task now suites outcome left) (give_up task now suites (Lost server)))) (sym right) (prepare_stands fixed world sight table task cache Was ground now suites outcome left all)
   reply_stands now suites (Deciding outcome) all server asked request said right knows =
-      told_stands fixed world answers table task cache Was ground now suites (verdict_in said verdict.Aborted) (txn_run.ending_by (verdict_in said verdict.Aborted) (cause_of_abort said)) (locked_at suites)
+      told_stands fixed world sight table task cache Was ground now suites (verdict_in said verdict.Aborted) (txn_run.ending_by (verdict_in said verdict.Aborted) (cause_of_abort said)) (locked_at suites)
       (decides outcome all server (sym (ap (λ (asked : ℕ × Request). asked.0) (same_Some _ (server, asked) request))) said right)
   reply_stands now suites (Finishing [] v ended) ends server asked request said right knows = ends
-  reply_stands now suites (Finishing (first ∷ left) v ended) ends server asked request said right knows = told_stands fixed world answers table task cache Was ground now suites v ended left ends
+  reply_stands now suites (Finishing (first ∷ left) v ended) ends server asked request said right knows = told_stands fixed world sight table task cache Was ground now suites v ended left ends

@@ -32,6 +32,7 @@ use Rattle.run_core.specs.Worlds.{World}
 use Rattle.law_run_recovers.specs.Standing.{is_up}
 use Rattle.law_run_recovers.proofs.Hinting.{hint_put, hint_put_here}
 use Rattle.law_run_recovers.proofs.SameDemands.{LeadsFrom, HintsLed}
+use Rattle.law_run_recovers.proofs.Plain.{seen}
 use Rattle.law_run_recovers.proofs.Stands.{Ground, locks_on, IsReady, PhaseStands}
 use Rattle.law_run_recovers.proofs.Executes.{hint_after}
 
@@ -76,7 +77,7 @@ proceed_cache fixed task now suites (exec.Need (Know number)) = refl
 proceed_cache fixed task now suites (exec.Done answers changes) = widen_cache task now (record { answers = answers; changes = changes }) (to_widen changes) suites
 proceed_cache fixed task now suites (exec.Refused refusal) = prepare_cache task now suites (Err refusal) (locked_at suites)
 
-module _ (fixed : Fixed) (world : World) (table : PlainTable) (task : Task) (cache : Cache) (Was : ℕ → Prefix → Type 0) (ground : Ground fixed world (is_up world) cache task.site (locks_on table task) Was) where
+module _ (fixed : Fixed) (world : World) (table : PlainTable) (task : Task) (cache : Cache) (Was : ℕ → Prefix → Type 0) (ground : Ground fixed world (seen (is_up world) (locks_on table task)) cache task.site (locks_on table task) Was) where
   abbrev Led : Cache → Type 0
   Led now = HintsLed fixed world cache task.site now
 
@@ -88,7 +89,7 @@ module _ (fixed : Fixed) (world : World) (table : PlainTable) (task : Task) (cac
 
     with_hint : (number : ℕ) (suite : Suite) (first : ReadPoint) (found : Option Content) (more : Gathered) → opened_with task all number suite first found ≡ Some more → SameHint more
     with_hint number suite first None more is = absurd (none-some more is)
-    with_hint number suite first (Some content) more is = subst SameHint (same_Some _ more is) (hint_after fixed world (is_up world) table task cache Was ground all.cache number first z)
+    with_hint number suite first (Some content) more is = subst SameHint (same_Some _ more is) (hint_after fixed world (seen (is_up world) (locks_on table task)) table task cache Was ground all.cache number first z)
 
     first_hint : (number : ℕ) (suite : Suite) (first : Option ReadPoint) (more : Gathered) → open_first task all number suite first ≡ Some more → SameHint more
     first_hint number suite None more is = absurd (none-some more is)
@@ -142,7 +143,7 @@ module _ (fixed : Fixed) (world : World) (table : PlainTable) (task : Task) (cac
             let one : Told = record { server = server; mode = mode_of asked; said = heard } in
             by (record suite { collector = tell one suite.collector }) (next (tell one suite.collector))
 
-    fetched_hints : (suites : Suites) (number : ℕ) → IsReady fixed world (is_up world) table task cache Was ground suites → (given : Option Content) → Led (fetched fixed task now suites number (suite_of suites number) server given).cache
+    fetched_hints : (suites : Suites) (number : ℕ) → IsReady fixed world (seen (is_up world) (locks_on table task)) table task cache Was ground suites → (given : Option Content) → Led (fetched fixed task now suites number (suite_of suites number) server given).cache
     fetched_hints suites number ready given = of (suite_of suites number) refl given
       where
         by : (suite : Suite) → suite_of suites number ≡ Some suite → (content : Content) (first : Option ReadPoint) → suite.first ≡ first → Led (keep_content fixed task now suites number suite content first server).cache
@@ -170,7 +171,7 @@ module _ (fixed : Fixed) (world : World) (table : PlainTable) (task : Task) (cac
     prepared_hints suites outcome left true = as_now (prepare task now suites outcome left) (prepare_cache task now suites outcome left)
     prepared_hints suites outcome left false = as_now (give_up task now suites (Lost server)) (up_cache task now suites (Lost server))
 
-    pub reply_hints : (suites : Suites) (phase : Phase) → PhaseStands fixed world (is_up world) table task cache Was ground suites now phase → Led (after_reply fixed task now suites phase server asked said).cache
+    pub reply_hints : (suites : Suites) (phase : Phase) → PhaseStands fixed world (seen (is_up world) (locks_on table task)) table task cache Was ground suites now phase → Led (after_reply fixed task now suites phase server asked said).cache
     reply_hints suites (Gathering number) at =
         heard_hints suites (Gathering number) number (suite_of suites number) (λ suites. execute fixed task (record { suites = suites; cache = now })) (λ suites. execute_hints (record { suites = suites; cache = now }) led)
     reply_hints suites (Fetching number) at = fetched_hints suites number at.0 (given_in said)

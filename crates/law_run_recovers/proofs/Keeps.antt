@@ -43,7 +43,8 @@ use Rattle.law_run_alone.specs.Alone.{begins_job}
 use Rattle.law_run_alone.proofs.Unhindered.{all_consistent}
 use Rattle.law_run_recovers.specs.Near.{asks_for, is_open_way, way_in, is_open_at}
 use Rattle.law_run_recovers.specs.Unmet.{runs, running_in, is_running, is_told, tells, telling_in, is_telling, world_after, takes, up_and, of_up, robs, hinders_itself}
-use Rattle.law_run_recovers.proofs.AmongLocks.{shows_same, SameWay, told_as_first, AsAtItsBegin, GoesAmongLocks}
+use Rattle.law_run_recovers.specs.Among.{GoesAmongLocks}
+use Rattle.law_run_recovers.proofs.AmongLocks.{shows_same, SameWay, told_as_first, AsAtItsBegin}
 use Rattle.law_run_recovers.proofs.Serves.{Serves}
 use Rattle.law_run_recovers.proofs.Still.{IsOpen, IsOpenPhase, open_before, open_next}
 use Rattle.law_run_recovers.proofs.Open.{begun_there, begun_servers, its_begin}

@@ -33,6 +33,7 @@ use Rattle.txn_core.specs.Transactions.{Step, Gathered, numbers_from, locked_at,
 use Rattle.txn_core.proofs.Gathers.{with_at}
 use Rattle.run_core.specs.Worlds.{World}
 use Rattle.law_run_recovers.proofs.Asking.{known_in, known_if_first, known_is}
+use Rattle.law_run_recovers.proofs.Polled.{Sight}
 use Rattle.law_run_recovers.proofs.Stands.{Ground, asks_of, locks_on, Hints, IsReady}
 use Rattle.law_run_recovers.proofs.Executes.{Opened, opened_stands}
 
@@ -186,8 +187,8 @@ module _ (task : Task) (now : Cache) (suites : Suites) where
 
 -- ---- so what is known once it went on was known as it executed
 
-module _ (fixed : Fixed) (world : World) (answers : ℕ → Bool) (table : PlainTable) (task : Task) (cache : Cache) (Was : ℕ → Prefix → Type 0) (ground : Ground fixed world answers cache task.site (locks_on table task) Was) where
-  pub agreed : (all : Gathered) → IsReady fixed world answers table task cache Was ground all.suites → Hints fixed world answers table task cache all.suites all.cache → (number : ℕ) → is_some (suite_of all.suites number) ≡ true
+module _ (fixed : Fixed) (world : World) (sight : Sight) (table : PlainTable) (task : Task) (cache : Cache) (Was : ℕ → Prefix → Type 0) (ground : Ground fixed world sight cache task.site (locks_on table task) Was) where
+  pub agreed : (all : Gathered) → IsReady fixed world sight table task cache Was ground all.suites → Hints fixed world sight table task cache all.suites all.cache → (number : ℕ) → is_some (suite_of all.suites number) ≡ true
       → ((txn_run : TransactionRun) → (execute fixed task all).after ≡ GoesOn txn_run → (z : ℕ) → asks_of (locks_on table task) z ≡ true → IsSoAt (known.known_of (known_of txn_run.suites) z) (row_of table.rows z))
       → AgreesWith (known_of (opened (length all.suites) fixed task all).suites) (row_of table.rows)
   agreed all ready hints number some so z = of (suite_of (opened (length all.suites) fixed task all).suites z) refl
@@ -195,8 +196,8 @@ module _ (fixed : Fixed) (world : World) (answers : ℕ → Bool) (table : Plain
       more : Gathered
       more = opened (length all.suites) fixed task all
 
-      now : Opened fixed world answers table task cache Was ground all (opened (length all.suites) fixed task all)
-      now = opened_stands fixed world answers table task cache Was ground (length all.suites) all ready hints
+      now : Opened fixed world sight table task cache Was ground all (opened (length all.suites) fixed task all)
+      now = opened_stands fixed world sight table task cache Was ground (length all.suites) all ready hints
 
       some_in : (found : Option Suite) → suite_of (opened (length all.suites) fixed task all).suites number ≡ found → is_some found ≡ true → HasSome (opened (length all.suites) fixed task all).suites
       some_in None there is = absurd (false≢true is)

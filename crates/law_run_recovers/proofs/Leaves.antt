@@ -66,7 +66,8 @@ use Rattle.law_run_recovers.proofs.Took.{OwnTook, own_took}
 use Rattle.law_run_recovers.proofs.Aside.{Aside}
 use Rattle.law_run_recovers.proofs.Still.{IsOpen, IsOpenPhase, open_next}
 use Rattle.law_run_recovers.proofs.Moments.{Moment, Stored, Beside, Takes, beside, takes}
-use Rattle.law_run_recovers.proofs.Stands.{EndsRight, PhaseStands, AfterStands, StepStands}
+use Rattle.law_run_recovers.proofs.Plain.{seen, plain_ends}
+use Rattle.law_run_recovers.proofs.Stands.{locks_on, EndsRight, PhaseStands, AfterStands, StepStands}
 use Rattle.law_run_recovers.proofs.SameDemands.{HintsLed}
 use Rattle.law_run_recovers.proofs.Hinted.{reply_hints}
 use Rattle.law_run_recovers.proofs.NotHome.{is_home, told_in as told_by, ended_in, IsBefore, reply_not}
@@ -119,8 +120,9 @@ module _ (given : Opening) (events later : List Event) (agent t : ℕ) (caller :
   number_so = ends.number_is given events later agent t caller site ops actor goes
 
   -- it ends for want of its home alone
-  pub home_only : (ended : Ending) → EndsRight fixed first (is_up first) table its cache ended → ended ≡ Undecided HomeDown
-  home_only ended right =
+  pub home_only : (ended : Ending) → EndsRight fixed first (seen (is_up first) (locks_on table its)) table its cache ended → ended ≡ Undecided HomeDown
+  home_only ended all =
+      let right = plain_ends fixed first (is_up first) (locks_on table its) table its cache ended all in
       right.ends
       ∙ ap (λ n. laws.ending_by (first_short (demands fixed first table n caller ops right.start)) (is_up first (home_of fixed.service n)) (answer_on table n caller ops)) number_so
       ∙ ap (λ found. laws.ending_by found (is_up first (home_of fixed.service t)) (answer_on table t caller ops)) (none_of (demands fixed first table t caller ops right.start) (met right.start right.from))
@@ -163,12 +165,12 @@ module _ (given : Opening) (events later : List Event) (agent t : ℕ) (caller :
   tell_left w task now suites v ended [] un all = all
   tell_left w task now suites v ended (server ∷ servers) un all = (un, all)
 
-  pub before_left : (w : World) (now : Cache) (after : After TransactionRun) → AfterStands fixed first (is_up first) table its cache Was (ends.ground given events later agent t caller site ops actor goes) now after
+  pub before_left : (w : World) (now : Cache) (after : After TransactionRun) → AfterStands fixed first (seen (is_up first) (locks_on table its)) table its cache Was (ends.ground given events later agent t caller site ops actor goes) now after
       → ((ended : Ending) → ended_in after ≡ Some ended → is_home ended ≡ false) → LeftBy w (left Running after)
   before_left w now (Ends ended) right not = absurd (false≢true (sym (not ended refl) ∙ ap is_home (home_only ended right)))
   before_left w now (GoesOn txn_run) right not = of txn_run.phase right.1 not
     where
-      of : (phase : Phase) → PhaseStands fixed first (is_up first) table its cache Was (ends.ground given events later agent t caller site ops actor goes) txn_run.suites now phase → ((ended : Ending) → told_by phase ≡ Some ended → is_home ended ≡ false) → LeftIn w phase
+      of : (phase : Phase) → PhaseStands fixed first (seen (is_up first) (locks_on table its)) table its cache Was (ends.ground given events later agent t caller site ops actor goes) txn_run.suites now phase → ((ended : Ending) → told_by phase ≡ Some ended → is_home ended ≡ false) → LeftIn w phase
       of (Gathering z) at not = tt
       of (Fetching z) at not = tt
       of (doing.Widening left granted) at not = tt
@@ -277,15 +279,15 @@ module _ (given : Opening) (events later : List Event) (agent t : ℕ) (caller :
 
     -- ---- of its course
 
-    module _ (txn_run : TransactionRun) (running : m.here.agent.doing ≡ Some (Running txn_run)) (good : (txn_run.task ≡ its) × PhaseStands fixed first (is_up first) table its cache Was (ends.ground given events later agent t caller site ops actor goes) txn_run.suites m.here.agent.cache txn_run.phase) where
+    module _ (txn_run : TransactionRun) (running : m.here.agent.doing ≡ Some (Running txn_run)) (good : (txn_run.task ≡ its) × PhaseStands fixed first (seen (is_up first) (locks_on table its)) table its cache Was (ends.ground given events later agent t caller site ops actor goes) txn_run.suites m.here.agent.cache txn_run.phase) where
       abbrev step_of : Task → CourseStep
       step_of task = after_reply fixed task m.here.agent.cache txn_run.suites txn_run.phase tk.asked.0 tk.asked.1 said
 
       request_is : request_in fixed its txn_run.suites txn_run.phase ≡ Some (tk.asked.0, tk.asked.1)
       request_is = ends.request_is given events later agent t caller site ops actor goes w event rest m calm own took tk txn_run running good (λ _. s.none)
 
-      good_step : StepStands fixed first (is_up first) table its cache Was (ends.ground given events later agent t caller site ops actor goes) (step_of its)
-      good_step = subst (λ task. StepStands fixed first (is_up first) table its cache Was (ends.ground given events later agent t caller site ops actor goes) (step_of task)) good.0
+      good_step : StepStands fixed first (seen (is_up first) (locks_on table its)) table its cache Was (ends.ground given events later agent t caller site ops actor goes) (step_of its)
+      good_step = subst (λ task. StepStands fixed first (seen (is_up first) (locks_on table its)) table its cache Was (ends.ground given events later agent t caller site ops actor goes) (step_of task)) good.0
           (ends.good_step given events later agent t caller site ops actor goes w event rest m calm own took tk txn_run running good (λ _. s.none))
 
       left_here : LeftIn w txn_run.phase
@@ -295,7 +297,7 @@ module _ (given : Opening) (events later : List Event) (agent t : ℕ) (caller :
       home_said : (outcome : doing.Proposal) → txn_run.phase ≡ Deciding outcome → said ≡ reply.Down
       home_said outcome is =
           let asks : request_in fixed its txn_run.suites (Deciding outcome) ≡ Some (tk.asked.0, tk.asked.1) = subst (λ phase. request_in fixed its txn_run.suites phase ≡ Some (tk.asked.0, tk.asked.1)) is request_is in
-          let at = subst (PhaseStands fixed first (is_up first) table its cache Was (ends.ground given events later agent t caller site ops actor goes) txn_run.suites m.here.agent.cache) is good.1 in
+          let at = subst (PhaseStands fixed first (seen (is_up first) (locks_on table its)) table its cache Was (ends.ground given events later agent t caller site ops actor goes) txn_run.suites m.here.agent.cache) is good.1 in
           let home : home_of fixed.service t ≡ tk.asked.0 = ap (home_of fixed.service) (sym number_so) ∙ ap (λ (asked : ℕ × Request). asked.0) (same_Some _ (tk.asked.0, tk.asked.1) asks) in
           ⊎_elim
           (λ up. absurd (false≢true (sym down ∙ ap (is_up first) home ∙ up.0)))
@@ -345,7 +347,7 @@ module _ (given : Opening) (events later : List Event) (agent t : ℕ) (caller :
       before_for : (phase : Phase) → txn_run.phase ≡ phase → IsBefore phase → LeftBy next_world (left Running (step_in phase).after)
       before_for phase is before =
           before_left next_world (step_in phase).cache (step_in phase).after
-          (subst (λ phase. StepStands fixed first (is_up first) table its cache Was (ends.ground given events later agent t caller site ops actor goes) (step_in phase)) is good_step)
+          (subst (λ phase. StepStands fixed first (seen (is_up first) (locks_on table its)) table its cache Was (ends.ground given events later agent t caller site ops actor goes) (step_in phase)) is good_step)
           (reply_not fixed its m.here.agent.cache tk.asked.0 tk.asked.1 said txn_run.suites phase before)
 
       left_for : (phase : Phase) → txn_run.phase ≡ phase → LeftBy next_world (left Running (step_in phase).after)

@@ -1,5 +1,5 @@
 -- Which suites the requests of a transaction name, and how many requests it may make.
-use Rattle.std.proofs.Common.{◌≡◌, inl, ℕ, zero, suc, ◌+◌, ◌≤◌, Bool, true, List, [], ◌∷◌, length, Option, Some, None, refl, sym, ap, subst, ◌∙◌, arith}
+use Rattle.std.proofs.Common.{◌≡◌, inl, ℕ, zero, suc, ◌+◌, ◌≤◌, true, List, [], ◌∷◌, length, Option, Some, None, refl, sym, ap, subst, ◌∙◌, arith}
 use Rattle.std.specs.Prelude.{◌*◌, ◌==◌, ◌&&◌, map}
 use Rattle.std.specs.List.{list_any}
 use Rattle.std.proofs.lemmas.Bool.{and_parts, eqb-true}
@@ -37,6 +37,7 @@ use Rattle.law_run_recovers.proofs.Asked.{onto_left, onto_so_far}
 use Rattle.law_run_recovers.proofs.Asking.{onto, held_in, held_if}
 use Rattle.law_run_recovers.proofs.Ends.{fetch_is}
 use Rattle.law_run_recovers.proofs.Heard.{asks_for}
+use Rattle.law_run_recovers.proofs.Polled.{Sight}
 use Rattle.law_run_recovers.proofs.Stands.{Ground, locks_on, PhaseStands}
 
 pub itself : (n : ℕ) → (n == n) ≡ true
@@ -52,7 +53,7 @@ names_lock numbers t z Upgrade = refl
 abbrev pub suites_named : PlainTable → Task → List ℕ
 suites_named table task = map (λ (one : ℕ × LockMode). one.0) (locks_on table task)
 
-module _ (fixed : Fixed) (world : World) (answers : ℕ → Bool) (table : PlainTable) (task : Task) (cache : Cache) (Was : ℕ → Prefix → Type 0) (ground : Ground fixed world answers cache task.site (locks_on table task) Was) where
+module _ (fixed : Fixed) (world : World) (sight : Sight) (table : PlainTable) (task : Task) (cache : Cache) (Was : ℕ → Prefix → Type 0) (ground : Ground fixed world sight cache task.site (locks_on table task) Was) where
   -- the suites that it names are those that it locks
   lock_named : (one : ℕ × LockMode) → Has (locks_on table task) one → among (suites_named table task) one.0 ≡ true
   lock_named one has = has_any (λ n. n == one.0) (suites_named table task) one.0 (map_has (λ (one : ℕ × LockMode). one.0) (locks_on table task) one has) (itself one.0)
@@ -79,7 +80,7 @@ module _ (fixed : Fixed) (world : World) (answers : ℕ → Bool) (table : Plain
       let found = any_has (λ (lock : ℕ × LockMode). (lock.0 == z) && serves lock.1 Shared) asked is in
       has_any (λ (lock : ℕ × LockMode). lock.0 == z) asked found.0 found.1 (and_parts (found.0.0 == z) (serves found.0.1 Shared) found.2).0
 
-  pub names_for : (now : Cache) (suites : Suites) (phase : Phase) → PhaseStands fixed world answers table task cache Was ground suites now phase → (server : ℕ) (asked : Request) → request_in fixed task suites phase ≡ Some (server, asked)
+  pub names_for : (now : Cache) (suites : Suites) (phase : Phase) → PhaseStands fixed world sight table task cache Was ground suites now phase → (server : ℕ) (asked : Request) → request_in fixed task suites phase ≡ Some (server, asked)
       → names_of (suites_named table task) asked ≡ true
   names_for now suites (Gathering z) at server asked is =
       let g = at.0 in

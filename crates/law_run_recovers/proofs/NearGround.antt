@@ -1,21 +1,27 @@
--- What a transaction stands on that nobody meets: near servers answer what is in effect, and prefixes that are found name near servers.
-use Rattle.std.proofs.Common.{◌≡◌, ℕ, Bool, true, List, ◌∷◌, subst, ◌∙◌}
+-- What a transaction stands on that goes among locks that stay: near servers that are open to it answer what is in effect, and prefixes that are found name
+-- near servers.
+use Rattle.std.proofs.Common.{◌≡◌, ℕ, Bool, true, false, List, [], ◌∷◌, Option, Some, None, refl, sym, ap, subst}
 use Rattle.std.specs.Prelude.{◌*◌, ◌+◌, ◌==◌, ◌&&◌, Contains}
-use Rattle.std.proofs.lemmas.Bool.{and_parts, eqb-true}
+use Rattle.std.specs.List.{list_any}
+use Rattle.std.proofs.lemmas.Bool.{and_parts, and_from, eqb-true}
 use Rattle.acl_core.specs.Identity.{Identity}
 use Rattle.vote_core.specs.Validity.{IsValid}
 use Rattle.suite_prefix.specs.SettingsRules.{Opening}
 use Rattle.suite_prefix.specs.declared.copies.Prefix.{Prefix}
 use Rattle.suite_prefix.specs.declared.lock_mode.LockMode.{LockMode}
+use Rattle.suite_prefix.specs.declared.lock_mode.LockMode.TheVariants.{Shared, Exclusive}
 use Rattle.file_ops.specs.declared.operation.Op.{Op}
-use Rattle.rep_core.proofs.Members.{Has, any_has, contains_from}
+use Rattle.file_ops.specs.Rows.{row_of}
+use Rattle.file_exec.specs.Following.{needs}
+use Rattle.file_exec.specs.Operations.{transaction}
+use Rattle.rep_core.proofs.Members.{Has, any_has, has_from, contains_from}
 use Rattle.txn_core.specs.declared.job.Job.TheVariants.{Transaction}
 use Rattle.txn_core.specs.Writing.{has_vote}
 use Rattle.txn_core.specs.Doing.{Task}
 use Rattle.txn_core.specs.Agents.{fixed_of}
 use Rattle.run_core.specs.declared.event.Event.{Event}
 use Rattle.run_core.specs.declared.event.Event.TheVariants.{Begin}
-use Rattle.run_core.specs.Worlds.{Actor}
+use Rattle.run_core.specs.Worlds.{Actor, server_at}
 use Rattle.run_core.specs.Runs.{run}
 use Rattle.run_core.specs.TableOfRun.{table_of}
 use Rattle.law_suite_machine.specs.Registers.{WasPrefix}
@@ -29,26 +35,59 @@ use Rattle.law_run_alone.proofs.Reached.{can_front}
 use Rattle.law_run_alone.proofs.Unhindered.{all_consistent}
 use Rattle.law_run_recovers.specs.Standing.{is_up}
 use Rattle.law_run_recovers.specs.Demands.{locks_asked, MayStart}
-use Rattle.law_run_recovers.specs.Near.{asks_for, is_open_at}
-use Rattle.law_run_recovers.specs.Unmet.{GoesUnmet}
+use Rattle.law_run_recovers.specs.Near.{asks_for, way_at, is_open_at}
+use Rattle.law_run_recovers.specs.Among.{GoesAmongLocks}
+use Rattle.law_run_recovers.specs.OpenDemands.{first_mode}
 use Rattle.law_run_recovers.proofs.Found.{Answering}
 use Rattle.law_run_recovers.proofs.Led.{Rules, rules_of}
-use Rattle.law_run_recovers.proofs.NearRows.{open_is_up, start_near}
-use Rattle.law_run_recovers.proofs.Open.{number_is, open_first}
-use Rattle.law_run_recovers.proofs.OpenRows.{open_answer}
+use Rattle.law_run_recovers.proofs.NearRows.{first_in, start_near}
+use Rattle.law_run_recovers.proofs.Open.{number_is}
+use Rattle.law_run_recovers.proofs.OpenRows.{open_answer, open_wider, up_of, weaker_first}
+use Rattle.law_run_recovers.proofs.Polled.{Sight, finds_at}
 use Rattle.law_run_recovers.proofs.Rows.{start_was}
 use Rattle.law_run_recovers.proofs.Stands.{Ground, asks_of, locks_on}
 
-module _ (given : Opening) (events later : List Event) (agent t : ℕ) (caller : Identity) (site : ℕ) (ops : List Op) (actor : Actor) (goes : GoesUnmet given events later agent t caller site ops actor) where
+module _ (given : Opening) (events later : List Event) (agent t : ℕ) (caller : Identity) (site : ℕ) (ops : List Op) (actor : Actor) (goes : GoesAmongLocks given events later agent t caller site ops actor) where
   abbrev pub its : Task
   its = record { t = 64 * actor.agent.count + actor.agent.index; caller = caller; site = site; ops = ops }
 
   abbrev asked : List (ℕ × LockMode)
   asked = asks_for given events t caller ops
 
-  -- who answers it: near servers that are up
+  -- who may answer it: near servers that are up
   abbrev pub answers : ℕ → Bool
   answers server = goes.near server && is_up (run given events) server
+
+  -- those that are open to it
+  abbrev pub opens : ℕ → LockMode → ℕ → Bool
+  opens z mode server = goes.near server && is_open_at (run given events) t z mode server
+
+  abbrev pub first_asked : ℕ → LockMode
+  first_asked z = first_mode asked z
+
+  abbrev pub is_holder : ℕ → Option (Option ℕ) → Bool
+  is_holder holder (Some (Some other)) = other == holder
+  is_holder holder (Some None) = false
+  is_holder holder None = false
+
+  -- whose lock is in its way there, in some mode in which it asks
+  abbrev pub met_by : ℕ → ℕ → ℕ → Bool
+  met_by z server holder = goes.near server && list_any (λ (one : ℕ × LockMode). (one.0 == z) && is_holder holder (way_at (run given events) t one.0 one.1 server)) asked
+
+  pub opens_weaker : (z server : ℕ) → opens z Exclusive server ≡ true → opens z Shared server ≡ true
+  opens_weaker z server is =
+      let parts = and_parts (goes.near server) (is_open_at (run given events) t z Exclusive server) is in
+      and_from (goes.near server) (is_open_at (run given events) t z Shared server) parts.0 (open_wider (run given events) t z Exclusive Shared refl server parts.1)
+
+  -- so servers stand to it
+  abbrev pub sight : Sight
+  sight = record { opens = opens; first = first_asked; met = met_by; weaker = opens_weaker }
+
+  -- who is open is up
+  pub opens_up : (z : ℕ) (mode : LockMode) (server : ℕ) → opens z mode server ≡ true → answers server ≡ true
+  opens_up z mode server is =
+      let parts = and_parts (goes.near server) (is_open_at (run given events) t z mode server) is in
+      and_from (goes.near server) (is_up (run given events) server) parts.0 (up_of t z mode (server_at (run given events) server) parts.1)
 
   -- a prefix that the suite had, and that names near servers
   abbrev pub Known : ℕ → Prefix → Type 0
@@ -66,36 +105,45 @@ module _ (given : Opening) (events later : List Event) (agent t : ℕ) (caller :
       let some = any_has (λ (one : ℕ × LockMode). one.0 == z) asked (subst (λ n. asks_of (locks_asked (table_of given events) n caller ops) z ≡ true) number is) in
       (some.0.1, contains_from asked (z, some.0.1) (subst (λ z. Has asked (z, some.0.1)) (eqb-true some.0.0 z some.2) some.1))
 
-  pub near_open : (z : ℕ) (mode : LockMode) → Contains asked (z, mode) → (server : ℕ) → answers server ≡ true → is_open_at (run given events) t z mode server ≡ true
-  near_open z mode has server is =
-      let parts = and_parts (goes.near server) (is_up (run given events) server) is in
-      open_is_up given events t caller site ops actor goes.near goes.are_near (λ one server has near. open_first given events later agent t caller site ops actor goes server one near has) (z, mode) has server parts.0 ∙ parts.1
+  -- and so in its first mode
+  pub first_there : (z : ℕ) (mode : LockMode) → Contains asked (z, mode) → Contains asked (z, first_asked z)
+  first_there z mode has = contains_from asked (z, first_asked z) (first_in asked (z, mode) (has_from asked (z, mode) has))
 
-  pub answering : (z : ℕ) (mode : LockMode) → Contains asked (z, mode) → Answering (fixed_of given) (run given events) z (machine_of given z events) answers
-  answering z mode has =
+  pub opens_first : (z : ℕ) (mode : LockMode) → Contains asked (z, mode) → (server : ℕ) → opens z mode server ≡ true → opens z (first_asked z) server ≡ true
+  opens_first z mode has server is =
+      let parts = and_parts (goes.near server) (is_open_at (run given events) t z mode server) is in
+      and_from (goes.near server) (is_open_at (run given events) t z (first_asked z) server) parts.0
+      (open_wider (run given events) t z mode (first_asked z) (weaker_first [] (needs (row_of (table_of given events).rows) [] (transaction (table_of given events).service t caller ops)) (z, mode) (has_from asked (z, mode) has)) server parts.1)
+
+  pub answering : (z : ℕ) → Answering (fixed_of given) (run given events) z (machine_of given z events) (finds_at sight z)
+  answering z =
       let open' = open_answer given z (machine_of given z events) (run given events) (effects.follows given events (all_keep given events can_first) z).shows (all_consistent given events) t
-      (no_lock given goes.can.accepted events agent t (Transaction caller site ops) goes.begins) mode in
-      record { up = λ i is. (and_parts (goes.near i) (is_up (run given events) i) is).1; stored = λ i is. open'.stored i (near_open z mode has i is) }
+      (no_lock given goes.can.accepted events agent t (Transaction caller site ops) goes.begins) (first_asked z) in
+      record { up = λ i is. open'.up i (opens_of z i is); stored = λ i is. open'.stored i (opens_of z i is) }
+    where
+      opens_of : (z i : ℕ) → finds_at sight z i ≡ true → is_open_at (run given events) t z (first_asked z) i ≡ true
+      opens_of z i is = (and_parts (goes.near i) (is_open_at (run given events) t z (first_asked z) i) is).1
 
-  rules : (z : ℕ) (start : Prefix) → asks_of (locks_on (table_of given events) its) z ≡ true → MayStart (fixed_of given) actor.agent.cache site z start → Rules (fixed_of given) (run given events) answers z (Known z) start
+  rules : (z : ℕ) (start : Prefix) → asks_of (locks_on (table_of given events) its) z ≡ true → MayStart (fixed_of given) actor.agent.cache site z start → Rules (fixed_of given) (run given events) (finds_at sight z) z (Known z) start
   rules z start is may =
       let one = asked_in z is in
-      let base = rules_of given z (machine_of given z events) (run given events) (effects.inv given events (all_keep given events can_first) z) answers (answering z one.0 one.1) start
+      let base = rules_of given z (machine_of given z events) (run given events) (effects.inv given events (all_keep given events can_first) z) (finds_at sight z) (answering z) start
       (start_was given events can_first z agent site actor start goes.there may) in
       record {
-        begins = (base.begins, start_near given events t caller site ops actor goes.near goes.are_near (λ one server has near. open_first given events later agent t caller site ops actor goes server one near has) (z, one.0) one.1 start may);
-        goes = λ server up. (
-          base.goes server up,
+        begins = (base.begins, start_near given events t caller site ops actor goes.near goes.are_near (z, one.0) one.1 start may);
+        goes = λ server open'. (
+          base.goes server open',
           λ x vote.
-              let parts = and_parts (goes.near server) (is_up (run given events) server) up in
+              let parts = and_parts (goes.near server) (is_up (run given events) server) (opens_up z (first_asked z) server open') in
               goes.are_near.shown (z, one.0) server x one.1 parts.0 parts.1 vote,
         );
         settled = λ mode prefix held known. base.settled mode prefix held known.0;
         last = base.last;
       }
 
-  pub ground : Ground (fixed_of given) (run given events) answers actor.agent.cache site (locks_on (table_of given events) its) Known
+  pub ground : Ground (fixed_of given) (run given events) sight actor.agent.cache site (locks_on (table_of given events) its) Known
   ground = record {
+    first = λ z. ap (λ n. first_mode (locks_asked (table_of given events) n caller ops) z) (sym number);
     rules = rules;
     valid = λ z prefix known. subst (λ (p : Prefix). IsValid p.votes) known.0.1 ((effects.inv given events (all_keep given events can_first) z).logged.valid prefix.pver);
   }

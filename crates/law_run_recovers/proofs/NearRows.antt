@@ -39,7 +39,7 @@ use Rattle.law_run_recovers.proofs.OpenRows.{open_row, weaker_first, up_of, up_t
 use Rattle.law_run_recovers.proofs.Picks.{votes_alike}
 
 -- a suite that is asked for is asked for in its first mode
-first_in : (asked : List (ℕ × LockMode)) (one : ℕ × LockMode) → Has asked one → Has asked (one.0, first_mode asked one.0)
+pub first_in : (asked : List (ℕ × LockMode)) (one : ℕ × LockMode) → Has asked one → Has asked (one.0, first_mode asked one.0)
 first_in asked one has = of (find (λ (other : ℕ × LockMode). other.0 == one.0) asked) refl
   where
     of : (found : Option (ℕ × LockMode)) → find (λ (other : ℕ × LockMode). other.0 == one.0) asked ≡ found → Has asked (one.0, mode_or Shared found)
@@ -56,94 +56,103 @@ alike_find : (f g : Representative → Bool) (xs : List Representative) → ((x 
 alike_find f g [] same = refl
 alike_find f g (x ∷ xs) same = ap (λ b. cond b (Some x) (find f xs)) (same x (inl refl)) ∙ ap (λ found. cond (g x) (Some x) found) (alike_find f g xs (λ y has. same y (inr has)))
 
-module _ (given : Opening) (events : List Event) (t : ℕ) (caller : Identity) (site : ℕ) (ops : List Op) (actor : Actor) (near : ℕ → Bool) (are : AreNear given events t caller site ops actor.agent.cache near)
-    (clear : (one : ℕ × LockMode) (server : ℕ) → Contains (asks_for given events t caller ops) one → near server ≡ true → in_its_way (run given events) t one.0 one.1 server ≡ false) where
+-- whoever may be asked first is near
+pub start_near : (given : Opening) (events : List Event) (t : ℕ) (caller : Identity) (site : ℕ) (ops : List Op) (actor : Actor) (near : ℕ → Bool) → AreNear given events t caller site ops actor.agent.cache near
+    → (one : ℕ × LockMode) → Contains (asks_for given events t caller ops) one → (start : Prefix) → MayStart (fixed_of given) actor.agent.cache site one.0 start → (server : ℕ) → has_vote start.votes server ≡ true → near server ≡ true
+start_near given events t caller site ops actor near are one has start (inl absent) server vote = are.first server (ap (λ (prefix : Prefix). has_vote prefix.votes server) (sym absent) ∙ vote)
+start_near given events t caller site ops actor near are one has start (inr hinted) server vote = are.hints one start server has hinted vote
+
+module _ (given : Opening) (events : List Event) (t : ℕ) (caller : Identity) (site : ℕ) (ops : List Op) (actor : Actor) (near : ℕ → Bool) (are : AreNear given events t caller site ops actor.agent.cache near) where
   abbrev world : World
   world = run given events
 
   abbrev AllNear : Prefix → Type 0
   AllNear prefix = (server : ℕ) → has_vote prefix.votes server ≡ true → near server ≡ true
 
+  votes_near : (prefix : Prefix) → AllNear prefix → (rep : Representative) → Has prefix.votes.reps rep → nat_lt 0 rep.1 ≡ true → near rep.0 ≡ true
+  votes_near prefix all rep has some = all rep.0 (has_any (λ (other : Representative). (other.0 == rep.0) && nat_lt 0 other.1) prefix.votes.reps rep has (ap (λ b. b && nat_lt 0 rep.1) (eq-eqb rep.0 rep.0 refl) ∙ some))
+
+  -- by any servers that are among those that are up, and by others that are the same near ones
+  module _ (one : ℕ × LockMode) (has : Contains (asks_for given events t caller ops) one) (ups opens : ℕ → Bool)
+      (within : (server : ℕ) → ups server ≡ true → is_up (run given events) server ≡ true) (agree : (server : ℕ) → near server ≡ true → opens server ≡ ups server) where
+    same_newer : (prefix : Prefix) → AllNear prefix → newer_by (fixed_of given) world ups one.0 prefix ≡ newer_by (fixed_of given) world opens one.0 prefix
+    same_newer prefix all =
+        ap (option_map (λ (rep : Representative). shown_at (fixed_of given) world one.0 rep.0))
+        (alike_find (shows_newer_by (fixed_of given) world ups one.0 prefix) (shows_newer_by (fixed_of given) world opens one.0 prefix) prefix.votes.reps (λ rep there. of rep there (nat_lt 0 rep.1) refl))
+      where
+        of : (rep : Representative) → Has prefix.votes.reps rep → (b : Bool) → nat_lt 0 rep.1 ≡ b
+            → (b && ups rep.0 && nat_lt prefix.pver (shown_at (fixed_of given) world one.0 rep.0).pver) ≡ (b && opens rep.0 && nat_lt prefix.pver (shown_at (fixed_of given) world one.0 rep.0).pver)
+        of rep there true some = ap (λ b. true && b && nat_lt prefix.pver (shown_at (fixed_of given) world one.0 rep.0).pver) (sym (agree rep.0 (votes_near prefix all rep there some)))
+        of rep there false some = refl
+
+    near_newer : (prefix next : Prefix) → AllNear prefix → newer_by (fixed_of given) world ups one.0 prefix ≡ Some next → AllNear next
+    near_newer prefix next all = of (find (shows_newer_by (fixed_of given) world ups one.0 prefix) prefix.votes.reps) refl
+      where
+        of : (found : Option Representative) → find (shows_newer_by (fixed_of given) world ups one.0 prefix) prefix.votes.reps ≡ found → option_map (λ (rep : Representative). shown_at (fixed_of given) world one.0 rep.0) found ≡ Some next → AllNear next
+        of None found is = absurd (none-some next is)
+        of (Some rep) found is =
+            let there = find_some (shows_newer_by (fixed_of given) world ups one.0 prefix) prefix.votes.reps rep found in
+            let parts = and_parts (nat_lt 0 rep.1) (ups rep.0) (and_parts (nat_lt 0 rep.1 && ups rep.0) (nat_lt prefix.pver (shown_at (fixed_of given) world one.0 rep.0).pver) there.1).0 in
+            subst AllNear (same_Some (shown_at (fixed_of given) world one.0 rep.0) next is) (λ server vote. are.shown one rep.0 server has (votes_near prefix all rep there.0 parts.0) (within rep.0 parts.1) vote)
+
+    pub same_so_far : (n : ℕ) (prefix : Prefix) → AllNear prefix
+        → (led_so_far_by n (fixed_of given) world ups one.0 prefix ≡ led_so_far_by n (fixed_of given) world opens one.0 prefix) × AllNear (led_so_far_by n (fixed_of given) world ups one.0 prefix)
+    same_so_far zero prefix all = (refl, all)
+    same_so_far (suc n) prefix all = of (newer_by (fixed_of given) world ups one.0 prefix) refl (same_so_far n)
+      where
+        of : (found : Option Prefix) → newer_by (fixed_of given) world ups one.0 prefix ≡ found
+            → ((prefix : Prefix) → AllNear prefix → (led_so_far_by n (fixed_of given) world ups one.0 prefix ≡ led_so_far_by n (fixed_of given) world opens one.0 prefix) × AllNear (led_so_far_by n (fixed_of given) world ups one.0 prefix))
+            → (led_on prefix (newer_by (fixed_of given) world ups one.0 prefix) (λ newer. led_so_far_by n (fixed_of given) world ups one.0 newer)
+            ≡ led_on prefix (newer_by (fixed_of given) world opens one.0 prefix) (λ newer. led_so_far_by n (fixed_of given) world opens one.0 newer))
+            × AllNear (led_on prefix (newer_by (fixed_of given) world ups one.0 prefix) (λ newer. led_so_far_by n (fixed_of given) world ups one.0 newer))
+        of None is go = (
+          ap (λ found. led_on prefix found (λ newer. led_so_far_by n (fixed_of given) world ups one.0 newer)) is
+              ∙ sym (ap (λ found. led_on prefix found (λ newer. led_so_far_by n (fixed_of given) world opens one.0 newer)) (sym (same_newer prefix all) ∙ is)),
+          subst (λ found. AllNear (led_on prefix found (λ newer. led_so_far_by n (fixed_of given) world ups one.0 newer))) (sym is) all,
+        )
+        of (Some next) is go =
+            let rest = go next (near_newer prefix next all is) in (
+              ap (λ found. led_on prefix found (λ newer. led_so_far_by n (fixed_of given) world ups one.0 newer)) is ∙ rest.0
+                  ∙ sym (ap (λ found. led_on prefix found (λ newer. led_so_far_by n (fixed_of given) world opens one.0 newer)) (sym (same_newer prefix all) ∙ is)),
+              subst (λ found. AllNear (led_on prefix found (λ newer. led_so_far_by n (fixed_of given) world ups one.0 newer))) (sym is) rest.1,
+            )
+
+    -- by votes of near servers, these have the same
+    pub same_got : (prefix : Prefix) → AllNear prefix → votes_in prefix.votes.reps ups ≡ votes_in prefix.votes.reps opens
+    same_got prefix all = votes_alike prefix.votes.reps ups opens (λ rep there some. sym (agree rep.0 (votes_near prefix all rep there some)))
+
+-- where nothing is in the way at near servers
+
+module _ (given : Opening) (events : List Event) (t : ℕ) (caller : Identity) (site : ℕ) (ops : List Op) (actor : Actor) (near : ℕ → Bool) (are : AreNear given events t caller site ops actor.agent.cache near)
+    (clear : (one : ℕ × LockMode) (server : ℕ) → Contains (asks_for given events t caller ops) one → near server ≡ true → in_its_way (run given events) t one.0 one.1 server ≡ false) where
+  abbrev world_now : World
+  world_now = run given events
+
   -- a near server is open where it is up
-  pub open_is_up : (one : ℕ × LockMode) → Contains (asks_for given events t caller ops) one → (server : ℕ) → near server ≡ true → is_open_at world t one.0 one.1 server ≡ is_up world server
-  open_is_up one has server is = ap is_open_way (plain_way t one.0 one.1 (server_at world server) (clear one server has is)) ∙ of (up_in (server_at world server))
+  pub open_is_up : (one : ℕ × LockMode) → Contains (asks_for given events t caller ops) one → (server : ℕ) → near server ≡ true → is_open_at (run given events) t one.0 one.1 server ≡ is_up (run given events) server
+  open_is_up one has server is = ap is_open_way (plain_way t one.0 one.1 (server_at (run given events) server) (clear one server has is)) ∙ of (up_in (server_at (run given events) server))
     where
       of : (b : Bool) → is_open_way (cond b (Some None) None) ≡ b
       of true = refl
       of false = refl
 
-  votes_near : (prefix : Prefix) → AllNear prefix → (rep : Representative) → Has prefix.votes.reps rep → nat_lt 0 rep.1 ≡ true → near rep.0 ≡ true
-  votes_near prefix all rep has some = all rep.0 (has_any (λ (other : Representative). (other.0 == rep.0) && nat_lt 0 other.1) prefix.votes.reps rep has (ap (λ b. b && nat_lt 0 rep.1) (eq-eqb rep.0 rep.0 refl) ∙ some))
-
-  -- by any servers that are the near ones that are up, or more that are not near
-  module _ (one : ℕ × LockMode) (has : Contains (asks_for given events t caller ops) one) (opens : ℕ → Bool) (agree : (server : ℕ) → near server ≡ true → opens server ≡ is_up (run given events) server) where
-    same_newer : (prefix : Prefix) → AllNear prefix → newer_by (fixed_of given) world (is_up world) one.0 prefix ≡ newer_by (fixed_of given) world opens one.0 prefix
-    same_newer prefix all =
-        ap (option_map (λ (rep : Representative). shown_at (fixed_of given) world one.0 rep.0))
-        (alike_find (shows_newer_by (fixed_of given) world (is_up world) one.0 prefix) (shows_newer_by (fixed_of given) world opens one.0 prefix) prefix.votes.reps (λ rep there. of rep there (nat_lt 0 rep.1) refl))
-      where
-        of : (rep : Representative) → Has prefix.votes.reps rep → (b : Bool) → nat_lt 0 rep.1 ≡ b
-            → (b && is_up world rep.0 && nat_lt prefix.pver (shown_at (fixed_of given) world one.0 rep.0).pver) ≡ (b && opens rep.0 && nat_lt prefix.pver (shown_at (fixed_of given) world one.0 rep.0).pver)
-        of rep there true some = ap (λ b. true && b && nat_lt prefix.pver (shown_at (fixed_of given) world one.0 rep.0).pver) (sym (agree rep.0 (votes_near prefix all rep there some)))
-        of rep there false some = refl
-
-    near_newer : (prefix next : Prefix) → AllNear prefix → newer_by (fixed_of given) world (is_up world) one.0 prefix ≡ Some next → AllNear next
-    near_newer prefix next all = of (find (shows_newer_by (fixed_of given) world (is_up world) one.0 prefix) prefix.votes.reps) refl
-      where
-        of : (found : Option Representative) → find (shows_newer_by (fixed_of given) world (is_up world) one.0 prefix) prefix.votes.reps ≡ found → option_map (λ (rep : Representative). shown_at (fixed_of given) world one.0 rep.0) found ≡ Some next → AllNear next
-        of None found is = absurd (none-some next is)
-        of (Some rep) found is =
-            let there = find_some (shows_newer_by (fixed_of given) world (is_up world) one.0 prefix) prefix.votes.reps rep found in
-            let parts = and_parts (nat_lt 0 rep.1) (is_up world rep.0) (and_parts (nat_lt 0 rep.1 && is_up world rep.0) (nat_lt prefix.pver (shown_at (fixed_of given) world one.0 rep.0).pver) there.1).0 in
-            subst AllNear (same_Some (shown_at (fixed_of given) world one.0 rep.0) next is) (λ server vote. are.shown one rep.0 server has (votes_near prefix all rep there.0 parts.0) parts.1 vote)
-
-    pub same_so_far : (n : ℕ) (prefix : Prefix) → AllNear prefix
-        → (led_so_far_by n (fixed_of given) world (is_up world) one.0 prefix ≡ led_so_far_by n (fixed_of given) world opens one.0 prefix) × AllNear (led_so_far_by n (fixed_of given) world (is_up world) one.0 prefix)
-    same_so_far zero prefix all = (refl, all)
-    same_so_far (suc n) prefix all = of (newer_by (fixed_of given) world (is_up world) one.0 prefix) refl (same_so_far n)
-      where
-        of : (found : Option Prefix) → newer_by (fixed_of given) world (is_up world) one.0 prefix ≡ found
-            → ((prefix : Prefix) → AllNear prefix → (led_so_far_by n (fixed_of given) world (is_up world) one.0 prefix ≡ led_so_far_by n (fixed_of given) world opens one.0 prefix) × AllNear (led_so_far_by n (fixed_of given) world (is_up world) one.0 prefix))
-            → (led_on prefix (newer_by (fixed_of given) world (is_up world) one.0 prefix) (λ newer. led_so_far_by n (fixed_of given) world (is_up world) one.0 newer)
-            ≡ led_on prefix (newer_by (fixed_of given) world opens one.0 prefix) (λ newer. led_so_far_by n (fixed_of given) world opens one.0 newer))
-            × AllNear (led_on prefix (newer_by (fixed_of given) world (is_up world) one.0 prefix) (λ newer. led_so_far_by n (fixed_of given) world (is_up world) one.0 newer))
-        of None is go = (
-          ap (λ found. led_on prefix found (λ newer. led_so_far_by n (fixed_of given) world (is_up world) one.0 newer)) is
-              ∙ sym (ap (λ found. led_on prefix found (λ newer. led_so_far_by n (fixed_of given) world opens one.0 newer)) (sym (same_newer prefix all) ∙ is)),
-          subst (λ found. AllNear (led_on prefix found (λ newer. led_so_far_by n (fixed_of given) world (is_up world) one.0 newer))) (sym is) all,
-        )
-        of (Some next) is go =
-            let rest = go next (near_newer prefix next all is) in (
-              ap (λ found. led_on prefix found (λ newer. led_so_far_by n (fixed_of given) world (is_up world) one.0 newer)) is ∙ rest.0
-                  ∙ sym (ap (λ found. led_on prefix found (λ newer. led_so_far_by n (fixed_of given) world opens one.0 newer)) (sym (same_newer prefix all) ∙ is)),
-              subst (λ found. AllNear (led_on prefix found (λ newer. led_so_far_by n (fixed_of given) world (is_up world) one.0 newer))) (sym is) rest.1,
-            )
-
-    -- by votes of near servers, those that are open are those that are up
-    pub same_got : (prefix : Prefix) → AllNear prefix → votes_in prefix.votes.reps (is_up world) ≡ votes_in prefix.votes.reps opens
-    same_got prefix all = votes_alike prefix.votes.reps (is_up world) opens (λ rep there some. sym (agree rep.0 (votes_near prefix all rep there some)))
-
-  pub start_near : (one : ℕ × LockMode) → Contains (asks_for given events t caller ops) one → (start : Prefix) → MayStart (fixed_of given) actor.agent.cache site one.0 start → AllNear start
-  start_near one has start (inl absent) server vote = are.first server (ap (λ (prefix : Prefix). has_vote prefix.votes server) (sym absent) ∙ vote)
-  start_near one has start (inr hinted) server vote = are.hints one start server has hinted vote
-
   module _ (can : CanBe given events) (agent : ℕ) (there : actor_at (run given events) agent ≡ Some actor) (begins : begins_job given (run given events) (Begin agent (Transaction caller site ops)) ≡ Some (t, Transaction caller site ops)) where
     pub met_near : (one : ℕ × LockMode) → Has (asks_for given events t caller ops) one → (start : Prefix) → MayStart (fixed_of given) actor.agent.cache site one.0 start
-        → is_met (demand world one.0 one.1 (led_to (fixed_of given) world one.0 start).votes) ≡ true
-        → is_met (demand world one.0 one.1 (votes_of_row (fixed_of given) (row_of (table_of given events).rows one.0))) ≡ true
+        → is_met (demand (run given events) one.0 one.1 (led_to (fixed_of given) (run given events) one.0 start).votes) ≡ true
+        → is_met (demand (run given events) one.0 one.1 (votes_of_row (fixed_of given) (row_of (table_of given events).rows one.0))) ≡ true
     met_near one has start may met =
         let asked : List (ℕ × LockMode) = asks_for given events t caller ops in
         let first : LockMode = first_mode asked one.0 in
         let contains = contains_from asked (one.0, first) (first_in asked one has) in
-        let led = same_so_far (one.0, first) contains (is_open_at (run given events) t one.0 first) (open_is_up (one.0, first) contains) (length world.servers) start (start_near (one.0, first) contains start may) in
+        let led = same_so_far given events t caller site ops actor near are (one.0, first) contains (is_up (run given events)) (is_open_at (run given events) t one.0 first) (λ server up. up) (open_is_up (one.0, first) contains) (length (run given events).servers) start (start_near given events t caller site ops actor near are (one.0, first) contains start may) in
         let here = contains_from asked one has in
-        let met' : nat_le (needed_of one.1 (led_to (fixed_of given) world one.0 start).votes) (votes_in (led_to (fixed_of given) world one.0 start).votes.reps (is_open_at world t one.0 one.1)) ≡ true =
-        ap (nat_le (needed_of one.1 (led_to (fixed_of given) world one.0 start).votes)) (sym (same_got one here (is_open_at (run given events) t one.0 one.1) (open_is_up one here) (led_to (fixed_of given) world one.0 start) led.1)) ∙ met in
+        let met' : nat_le (needed_of one.1 (led_to (fixed_of given) (run given events) one.0 start).votes) (votes_in (led_to (fixed_of given) (run given events) one.0 start).votes.reps (is_open_at (run given events) t one.0 one.1)) ≡ true =
+        ap (nat_le (needed_of one.1 (led_to (fixed_of given) (run given events) one.0 start).votes)) (sym (same_got given events t caller site ops actor near are one here (is_up (run given events)) (is_open_at (run given events) t one.0 one.1) (λ server up. up) (open_is_up one here) (led_to (fixed_of given) (run given events) one.0 start) led.1)) ∙ met in
         let row = votes_of_row (fixed_of given) (row_of (table_of given events).rows one.0) in
-        up_to (needed_of one.1 row) (votes_in row.reps (is_open_at world t one.0 one.1)) (votes_in row.reps (is_up world))
+        up_to (needed_of one.1 row) (votes_in row.reps (is_open_at (run given events) t one.0 one.1)) (votes_in row.reps (is_up (run given events)))
         (open_row given events can agent t caller site ops actor there begins one.0 start may one.1 first (weaker_first [] (needs (row_of (table_of given events).rows) [] (transaction (table_of given events).service t caller ops)) one has)
-        (subst (λ (prefix : Prefix). nat_le (needed_of one.1 prefix.votes) (votes_in prefix.votes.reps (is_open_at world t one.0 one.1)) ≡ true) led.0 met'))
-        (votes_in-wider row.reps (is_open_at world t one.0 one.1) (is_up world) (λ server is. up_of t one.0 one.1 (server_at world server) is))
+        (subst (λ (prefix : Prefix). nat_le (needed_of one.1 prefix.votes) (votes_in prefix.votes.reps (is_open_at (run given events) t one.0 one.1)) ≡ true) led.0 met'))
+        (votes_in-wider row.reps (is_open_at (run given events) t one.0 one.1) (is_up (run given events)) (λ server is. up_of t one.0 one.1 (server_at (run given events) server) is))
 
 -- tests that hold of one image of members hold of another
 all_alike : (p : Demand → Bool) (f g : ℕ × LockMode → Demand) (xs : List (ℕ × LockMode)) → ((x : ℕ × LockMode) → Has xs x → p (f x) ≡ true → p (g x) ≡ true) → list_all p (map f xs) ≡ true → list_all p (map g xs) ≡ true

@@ -41,7 +41,7 @@ use Rattle.law_run_recovers.specs.Alone.{hinders, unhindered_from}
 use Rattle.law_run_recovers.specs.Laws.{GoesAlone}
 use Rattle.law_run_recovers.specs.Near.{asks_for, way_in, is_way_met, in_its_way}
 use Rattle.law_run_recovers.specs.Unmet.{runs, running_in, is_running, is_telling, begun_world, world_after, takes, of_up, robs, hinders_itself, StandsOpen, GoesUnmet}
-use Rattle.law_run_recovers.proofs.AmongLocks.{StandsStill, GoesAmongLocks}
+use Rattle.law_run_recovers.specs.Among.{StandsStill, GoesAmongLocks}
 use Rattle.law_run_recovers.proofs.Serves.{Serves, event_serves}
 use Rattle.law_run_recovers.proofs.Moments.{is_calm, moment_first}
 
@@ -282,6 +282,10 @@ module _ (given : Opening) (events later : List Event) (agent t : ℕ) (caller :
   pub near_among : (server : ℕ) → goes.near server ≡ true → unmet_is_among_locks.near server ≡ true
   unfolding unmet_is_among_locks
   near_among server near = near
+
+  pub near_back : (server : ℕ) → unmet_is_among_locks.near server ≡ true → goes.near server ≡ true
+  unfolding unmet_is_among_locks
+  near_back server near = near
 
 -- so who goes alone is among locks that stay
 pub alone_is_among_locks : (given : Opening) (events later : List Event) (agent t : ℕ) (caller : Identity) (site : ℕ) (ops : List Op) (actor : Actor)

@@ -19,7 +19,7 @@ use Rattle.rep_core.specs.State.{State}
 use Rattle.rep_core.specs.Service.{reply_of, reply_up, reply_down, given, stands_prepared, can_prepare, recorded, verdict_of}
 use Rattle.suite_collect.specs.Collecting.{Asked, Poll, Upgrade, request_for}
 use Rattle.txn_core.specs.Doing.{Fixed, home_of}
-use Rattle.txn_core.specs.Undecided.{is_finish}
+use Rattle.txn_core.specs.Undecided.{is_finish, stands_on_locks}
 use Rattle.txn_core.specs.Agents.{Agent, fixed_of, next_in, next_of}
 use Rattle.run_core.specs.declared.event.Event.{Event}
 use Rattle.run_core.specs.Worlds.{World, server_at}
@@ -27,6 +27,7 @@ use Rattle.law_run_alone.proofs.Own.{IsOwnAt, up_as, nothing_in_the_way, replies
 use Rattle.law_run_alone.proofs.Requests.{Finds}
 use Rattle.law_run_recovers.specs.Standing.{up_in, is_up, shown_in, shown_at}
 use Rattle.law_run_recovers.proofs.Moments.{Moment, own_course, own_server, own_finds, own_up, own_home}
+use Rattle.law_run_recovers.proofs.Polled.{dver_in, dver_at}
 use Rattle.law_run_recovers.proofs.Still.{IsOpen, open_where}
 
 either : (a b : Bool) → b ≡ true → (a || b) ≡ true
@@ -63,25 +64,29 @@ module _ (opening : Opening) (first : World) (agent t : ℕ) (before : Agent) (c
 
   -- a lock that it asks for
   module _ (suite : ℕ) (question : Asked) (next : next_of fixed m.here.agent ≡ Some (server, request_for t suite question)) where
-    shows : is_up first server ≡ true → (copy_of st.store suite).prefix ≡ shown_at fixed first suite server
+    shows : is_up first server ≡ true → ((copy_of st.store suite).prefix ≡ shown_at fixed first suite server) × ((copy_of st.store suite).dver ≡ dver_at first suite server)
     shows = of (server_at first server) refl
       where
-        of : (found : Option State) → server_at first server ≡ found → up_in found ≡ true → (copy_of st.store suite).prefix ≡ shown_in fixed found suite
+        of : (found : Option State) → server_at first server ≡ found → up_in found ≡ true → ((copy_of st.store suite).prefix ≡ shown_in fixed found suite) × ((copy_of st.store suite).dver ≡ dver_in found suite)
         of None was up = absurd (false≢true up)
-        of (Some old) was up = ap (λ (copy : Replica). copy.prefix) (m.still (own_open (request_for t suite question) next (finishes_none t suite question)) server st old at was suite)
+        of (Some old) was up = let same = m.still (own_open (request_for t suite question) next (finishes_none t suite question)) server st old at was suite in (ap (λ (copy : Replica). copy.prefix) same, ap (λ (copy : Replica). copy.dver) same)
 
     locked : question ≡ Upgrade → has_lock t suite st.locks ≡ true
     locked is = subst (λ question. Finds st (request_for t suite question)) is (its_finds (request_for t suite question) next)
 
     pub own_asks : (st.up ≡ is_up first server)
-        × (is_up first server ≡ true → (copy_of st.store suite).prefix ≡ shown_at fixed first suite server)
+        × (is_up first server ≡ true → ((copy_of st.store suite).prefix ≡ shown_at fixed first suite server) × ((copy_of st.store suite).dver ≡ dver_at first suite server))
         × (is_up first server ≡ true → (mode : LockMode) → in_the_way t suite mode st.locks ≡ None)
-        × (question ≡ Upgrade → is_up first server ≡ true → has_lock t suite st.locks ≡ true)
+        × (question ≡ Upgrade → (st.up ≡ true) × (has_lock t suite st.locks ≡ true))
     own_asks = (
       up_now (request_for t suite question) next,
       shows,
       λ up mode. free_at (is_up first server) t suite mode st (own (request_for t suite question) next) up,
-      λ is up. locked is,
+      λ is. (
+        up_now (request_for t suite question) next
+            ∙ own_up opening first agent t before caller site ops w later m (server, request_for t suite question) st next at (ap (λ question. stands_on_locks (request_for t suite question)) is),
+        locked is,
+      ),
     )
 
   -- what a server that is up replies

@@ -14,12 +14,14 @@ use Rattle.law_run_alone.proofs.Endings.{endings_are_the_tables}
 use Rattle.law_run_alone.proofs.Same.{endings_are_one}
 use Rattle.law_run_recovers.specs.Promises.{IsAvailable, Lends}
 use Rattle.law_run_recovers.proofs.Again.{one_of_them_is_decided}
+use Rattle.law_run_recovers.proofs.AmongLaws.{among_locks_end_by_votes, among_locks_are_decided_where_votes_are}
 use Rattle.law_run_recovers.proofs.Counts.{they_end_in_time}
 use Rattle.law_run_recovers.proofs.Blocking.{blocked_by_doubts, some_server_blocks, one_crash_blocks}
 use Rattle.law_run_recovers.proofs.Calm.{sweeps_keep_effects}
 use Rattle.law_run_recovers.proofs.Ends.{ends_are_by_votes}
 use Rattle.law_run_recovers.proofs.Free.{no_lock_is_left}
 use Rattle.law_run_recovers.proofs.HadVotes.{decided_had_votes_up}
+use Rattle.law_run_recovers.proofs.Histories.{finished_before_at_server, changes_are_met_at_server}
 use Rattle.law_run_recovers.proofs.Homes.{homes_go_round}
 use Rattle.law_run_recovers.proofs.InTime.{runs_end_by_the_bounds}
 use Rattle.law_run_recovers.proofs.Rounds.{only_doubts_are_left}
@@ -27,9 +29,9 @@ use Rattle.law_run_recovers.proofs.Rows.{met_demands_are_rows}
 use Rattle.law_run_recovers.proofs.Stored.{all_is_stored}
 use Rattle.law_run_recovers.proofs.Swept.{sweeps_leave_doubts}
 use Rattle.law_run_recovers.proofs.Taken.{taken_away_are_never_decided}
-use Rattle.law_run_recovers.proofs.UnmetDecided.{unmet_had_votes_up}
+use Rattle.law_run_recovers.proofs.AmongDecided.{among_locks_had_votes_open, unmet_had_votes_up}
 use Rattle.law_run_recovers.proofs.UnmetLaws.{unmet_end_by_votes, unmet_are_decided_where_votes_are}
-use Rattle.law_run_recovers.proofs.UnmetTime.{unmet_end_in_time}
+use Rattle.law_run_recovers.proofs.AmongTime.{among_locks_end_in_time, unmet_end_in_time}
 use Rattle.law_run_recovers.proofs.Unmoved.{decided_where_votes_are}
 
 pub available : RunsKeepToSites → (given : Opening) (events : List Event) → CanBe given events → IsAvailable given events
@@ -43,6 +45,12 @@ available sites given events can = record {
   unmet_in_time = unmet_end_in_time given events;
   unmet_had_votes = unmet_had_votes_up given events;
   unmet_where_votes = unmet_are_decided_where_votes_are given events;
+  among_ends = among_locks_end_by_votes given events;
+  among_in_time = among_locks_end_in_time given events;
+  among_had_votes = among_locks_had_votes_open given events;
+  among_where_votes = among_locks_are_decided_where_votes_are given events;
+  finished = finished_before_at_server given events can;
+  changes_met = changes_are_met_at_server given events can;
   homes = homes_go_round given;
   again = one_of_them_is_decided given events;
   sweep = sweeps_leave_doubts given events;

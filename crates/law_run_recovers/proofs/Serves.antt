@@ -44,11 +44,18 @@ pub record IsTold (t : ℕ) (asked : Request) (said : Reply) : Type 0 where
   pub poll : asked ≡ request.Poll t suite mode
   pub reply : said ≡ held copy
 
-abbrev Grows : State → Request → List Lock → Type 0
-Grows st asked new = (lock : Lock) → Has new lock → Was st.locks lock.t ⊎ IsTold lock.t asked (reply_of st asked)
+-- one on the same suite was
+pub record On (locks : List Lock) (t z : ℕ) : Type 0 where
+  pub lock : Lock
+  pub has : Has locks lock
+  pub of_it : lock.t ≡ t
+  pub on_it : lock.suite ≡ z
 
-was_here : (locks : List Lock) (lock : Lock) → Has locks lock → Was locks lock.t
-was_here locks lock has = record { lock = lock; has = has; of_it = refl }
+abbrev Grows : State → Request → List Lock → Type 0
+Grows st asked new = (lock : Lock) → Has new lock → On st.locks lock.t lock.suite ⊎ ((told : IsTold lock.t asked (reply_of st asked)) × (told.suite ≡ lock.suite))
+
+was_here : (locks : List Lock) (lock : Lock) → Has locks lock → On locks lock.t lock.suite
+was_here locks lock has = record { lock = lock; has = has; of_it = refl; on_it = refl }
 
 same_grows : (st : State) (asked : Request) (new : List Lock) → new ≡ st.locks → Grows st asked new
 same_grows st asked new same lock has = inl (was_here st.locks lock (subst (λ locks. Has locks lock) same has))
@@ -56,8 +63,8 @@ same_grows st asked new same lock has = inl (was_here st.locks lock (subst (λ l
 filter_grows : (st : State) (asked : Request) (p : Lock → Bool) → Grows st asked (filter p st.locks)
 filter_grows st asked p lock has = inl (was_here st.locks lock (has_filter p st.locks lock has).0)
 
-map_grows : (st : State) (asked : Request) (f : Lock → Lock) → ((lock : Lock) → (f lock).t ≡ lock.t) → Grows st asked (map f st.locks)
-map_grows st asked f same lock has = let was = has_map f st.locks lock has in inl (record { lock = was.0; has = was.1; of_it = sym (same was.0) ∙ ap (λ (lock : Lock). lock.t) was.2 })
+map_grows : (st : State) (asked : Request) (f : Lock → Lock) → ((lock : Lock) → ((f lock).t ≡ lock.t) × ((f lock).suite ≡ lock.suite)) → Grows st asked (map f st.locks)
+map_grows st asked f same lock has = let was = has_map f st.locks lock has in inl (record { lock = was.0; has = was.1; of_it = sym (same was.0).0 ∙ ap (λ (lock : Lock). lock.t) was.2; on_it = sym (same was.0).1 ∙ ap (λ (lock : Lock). lock.suite) was.2 })
 
 record_same : (old : Option Verdict) (t : ℕ) (v : Verdict) (item : Option AuditItem) (st : State) → (after_record old t v item st).locks ≡ st.locks
 record_same None t v item st = refl
@@ -67,16 +74,19 @@ poll_grows : (st : State) (t suite : ℕ) (mode : LockMode) → st.up ≡ true �
 poll_grows st t suite mode up (Some other) is = same_grows st (request.Poll t suite mode) st.locks refl
 poll_grows st t suite mode up None is =
     elim (has_lock t suite st.locks) as (λ b. Grows st (request.Poll t suite mode) (cond b (raised t suite mode st.locks) (with_lock (record { t = t; suite = suite; mode = mode; prepared = false }) st.locks))) [
-      | true ↦ map_grows st (request.Poll t suite mode) (raised_lock t suite mode) (λ lock. refl)
+      | true ↦ map_grows st (request.Poll t suite mode) (raised_lock t suite mode) (λ lock. (refl, refl))
       | false ↦ λ lock has. ⊎_elim
           (λ old. inl (was_here st.locks lock old))
-          (λ new. inr (record {
-            suite = suite;
-            mode = mode;
-            copy = copy_of st.store suite;
-            poll = ap (λ t. request.Poll t suite mode) (ap (λ (lock : Lock). lock.t) new);
-            reply = ap (λ b. cond b (reply_up st (request.Poll t suite mode)) (reply_down (request.Poll t suite mode))) up ∙ ap (λ other. locking_reply other (copy_of st.store suite)) is;
-          }))
+          (λ new. inr (
+            record {
+              suite = suite;
+              mode = mode;
+              copy = copy_of st.store suite;
+              poll = ap (λ t. request.Poll t suite mode) (ap (λ (lock : Lock). lock.t) new);
+              reply = ap (λ b. cond b (reply_up st (request.Poll t suite mode)) (reply_down (request.Poll t suite mode))) up ∙ ap (λ other. locking_reply other (copy_of st.store suite)) is;
+            },
+            ap (λ (lock : Lock). lock.suite) new,
+          ))
           (has_between (λ other. before other (record { t = t; suite = suite; mode = mode; prepared = false })) st.locks (record { t = t; suite = suite; mode = mode; prepared = false }) lock has)
     ]
 
@@ -84,7 +94,7 @@ upgrade_grows : (st : State) (t suite : ℕ) → has_lock t suite st.locks ≡ t
 upgrade_grows st t suite has (Some other) = same_grows st (request.Upgrade t suite) st.locks refl
 upgrade_grows st t suite has None =
     subst (λ b. Grows st (request.Upgrade t suite) (cond b (raised t suite Exclusive st.locks) (with_lock (record { t = t; suite = suite; mode = Exclusive; prepared = false }) st.locks))) (sym has)
-    (map_grows st (request.Upgrade t suite) (raised_lock t suite Exclusive) (λ lock. refl))
+    (map_grows st (request.Upgrade t suite) (raised_lock t suite Exclusive) (λ lock. (refl, refl)))
 
 up_grows : (st : State) (asked : Request) → st.up ≡ true → Grows st asked (after_up st asked).locks
 up_grows st (request.Poll t suite mode) up = poll_grows st t suite mode up (in_the_way t suite mode st.locks) refl
@@ -96,7 +106,7 @@ up_grows st (request.Upgrade t suite) up =
 up_grows st (request.Fetch t suite) up = same_grows st (request.Fetch t suite) st.locks refl
 up_grows st (request.Prepare t parts) up =
     elim (prepares st t parts) as (λ b. Grows st (request.Prepare t parts) (cond b (record st { store = intended t parts st.store; locks = map (prepared_lock t parts) st.locks }) st).locks) [
-      | true ↦ map_grows st (request.Prepare t parts) (prepared_lock t parts) (λ lock. refl)
+      | true ↦ map_grows st (request.Prepare t parts) (prepared_lock t parts) (λ lock. (refl, refl))
       | false ↦ same_grows st (request.Prepare t parts) st.locks refl
     ]
 up_grows st (request.Decide t decision) up = same_grows st (request.Decide t decision) _ (record_same (record_of st t) t _ _ st)
@@ -210,26 +220,35 @@ module _ (fixed : Fixed) (w : World) where
       ap (λ servers. locks_in (slice_get servers server)) serves.servers
       ∙ ap locks_in ((puts_in w.servers serves.target serves.st (served serves.st serves.asked) serves.at).apart server apart)
 
-  told_here : (event : Event) (server t : ℕ) (serves : Serves w (step fixed w event)) → server ≡ serves.target → (was : Was (locks_at (step fixed w event).world server) t)
-      → Was serves.st.locks was.lock.t ⊎ IsTold was.lock.t serves.asked.value (reply_of serves.st serves.asked.value) → Was (locks_at w server) t ⊎ Told event t server
-  told_here event server t serves here was (inl old) =
-      inl (record { lock = old.lock; has = subst (λ locks. Has locks old.lock) (sym (ap (locks_at w) here ∙ ap locks_in serves.at)) old.has; of_it = old.of_it ∙ was.of_it })
-  told_here event server t serves here was (inr told) =
-      inr (record {
-        what = record { server = serves.target; request = serves.asked; reply = answer_of serves.st serves.asked };
-        served = serves.done;
-        at = sym here;
-        told = subst (λ t. IsTold t serves.asked.value (reply_of serves.st serves.asked.value)) was.of_it told;
-      })
+  told_here : (event : Event) (server t z : ℕ) (serves : Serves w (step fixed w event)) → server ≡ serves.target → (on : On (locks_at (step fixed w event).world server) t z)
+      → On serves.st.locks on.lock.t on.lock.suite ⊎ ((told : IsTold on.lock.t serves.asked.value (reply_of serves.st serves.asked.value)) × (told.suite ≡ on.lock.suite)) → On (locks_at w server) t z ⊎ ((told : Told event t server) × (told.told.suite ≡ z))
+  told_here event server t z serves here on (inl old) =
+      inl (record { lock = old.lock; has = subst (λ locks. Has locks old.lock) (sym (ap (locks_at w) here ∙ ap locks_in serves.at)) old.has; of_it = old.of_it ∙ on.of_it; on_it = old.on_it ∙ on.on_it })
+  told_here event server t z serves here on (inr told) =
+      inr (
+        record {
+          what = record { server = serves.target; request = serves.asked; reply = answer_of serves.st serves.asked };
+          served = serves.done;
+          at = sym here;
+          told = record { suite = told.0.suite; mode = told.0.mode; copy = told.0.copy; poll = told.0.poll ∙ ap (λ t. request.Poll t told.0.suite told.0.mode) on.of_it; reply = told.0.reply };
+        },
+        told.1 ∙ on.on_it,
+      )
 
-  served_told : (event : Event) (server t : ℕ) (serves : Serves w (step fixed w event)) → Was (locks_at (step fixed w event).world server) t → Was (locks_at w server) t ⊎ Told event t server
-  served_told event server t serves was = ⊎_elim
-      (λ here. told_here event server t serves here was (after_grows serves.st serves.asked.value was.lock (subst (λ locks. Has locks was.lock) (served_locks (step fixed w event) serves server here) was.has)))
-      (λ apart. inl (subst (λ locks. Was locks t) (other_locks (step fixed w event) serves server apart) was))
+  served_told : (event : Event) (server t z : ℕ) (serves : Serves w (step fixed w event)) → On (locks_at (step fixed w event).world server) t z → On (locks_at w server) t z ⊎ ((told : Told event t server) × (told.told.suite ≡ z))
+  served_told event server t z serves on = ⊎_elim
+      (λ here. told_here event server t z serves here on (after_grows serves.st serves.asked.value on.lock (subst (λ locks. Has locks on.lock) (served_locks (step fixed w event) serves server here) on.has)))
+      (λ apart. inl (subst (λ locks. On locks t z) (other_locks (step fixed w event) serves server apart) on))
       (same_or server serves.target)
+
+  pub told_on : (event : Event) (server t z : ℕ) → On (locks_at (step fixed w event).world server) t z → On (locks_at w server) t z ⊎ ((told : Told event t server) × (told.told.suite ≡ z))
+  told_on event server t z on = ⊎_elim
+      (λ same. inl (subst (λ servers. On (locks_in (slice_get servers server)) t z) same on))
+      (λ serves. served_told event server t z serves on)
+      (event_serves event)
 
   pub lock_told : (event : Event) (server t : ℕ) → Was (locks_at (step fixed w event).world server) t → Was (locks_at w server) t ⊎ Told event t server
   lock_told event server t was = ⊎_elim
-      (λ same. inl (subst (λ servers. Was (locks_in (slice_get servers server)) t) same was))
-      (λ serves. served_told event server t serves was)
-      (event_serves event)
+      (λ old. inl (record { lock = old.lock; has = old.has; of_it = old.of_it }))
+      (λ told. inr told.0)
+      (told_on event server t was.lock.suite (record { lock = was.lock; has = was.has; of_it = was.of_it; on_it = refl }))

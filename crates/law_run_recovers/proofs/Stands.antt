@@ -1,5 +1,5 @@
--- How a transaction stands that goes alone: what it has asked for so far and how that was found, and how it ends.
-use Rattle.std.proofs.Common.{◌≡◌, inl, ℕ, Bool, true, false, cond, List, [], ◌∷◌, ◌++◌, append-nil, Option, Some, None, is_some, Result, Ok, Err, refl, sym, ap, subst, ◌∙◌}
+-- How a transaction stands to which servers stand as a sight says: what it has asked for so far and how that was found, and how it ends.
+use Rattle.std.proofs.Common.{◌≡◌, ◌⊎◌, inl, inr, ℕ, ◌≤◌, Bool, true, false, cond, List, [], ◌∷◌, ◌++◌, append-nil, Option, Some, None, is_some, Result, Ok, Err, refl, sym, ap, subst, ◌∙◌}
 use Rattle.std.specs.Prelude.{◌==◌, not, nat_lt, find, map}
 use Rattle.std.specs.List.{list_any}
 use Rattle.std.specs.Ordering.{nat_cmp}
@@ -8,7 +8,7 @@ use Rattle.std.proofs.lemmas.Cmp.{nat_cmp_total}
 use Rattle.sorted_map.specs.SortedMap.{IsOrdered}
 use Rattle.sorted_map.specs.Laws.{IsOrdered-insert}
 use Rattle.acl_core.specs.Identity.{Identity}
-use Rattle.vote_core.specs.Quorums.{Configuration, votes_in}
+use Rattle.vote_core.specs.Quorums.{Representative, Configuration}
 use Rattle.vote_core.specs.Validity.{IsValid, max_servers}
 use Rattle.suite_prefix.specs.Absent.{absent_prefix}
 use Rattle.suite_prefix.specs.declared.copies.Prefix.{Prefix}
@@ -24,25 +24,26 @@ use Rattle.file_ops.specs.Rows.{PlainTable, row_of}
 use Rattle.file_exec.specs.declared.need.Need.{Need}
 use Rattle.file_exec.specs.Following.{Ended, needs, ending}
 use Rattle.file_exec.specs.Operations.{transaction}
-use Rattle.suite_collect.specs.Telling.{holds}
+use Rattle.suite_collect.specs.Telling.{newest, holds}
 use Rattle.suite_collect.specs.Collecting.{Collector, Widening, all_told}
 use Rattle.weak_cache.specs.Entries.{Cache}
 use Rattle.weak_cache.specs.Cache.{hint}
 use Rattle.txn_core.specs.declared.ending.Ending.{Ending}
 use Rattle.txn_core.specs.declared.ending.Ending.TheVariants.{Undecided}
-use Rattle.txn_core.specs.declared.ending.Cause.TheVariants.{Unavailable}
+use Rattle.txn_core.specs.declared.ending.Cause.TheVariants.{Busy, Unavailable}
 use Rattle.txn_core.specs.Suites.{ReadPoint, Suite, Suites, suite_of, with_suite}
 use Rattle.txn_core.specs.Doing as doing
 use Rattle.txn_core.specs.Doing.{Fixed, Task, Granted, Phase, Gathering, Fetching, Preparing, Deciding, Finishing, TransactionRun, After, GoesOn, Ends, home_of}
-use Rattle.txn_core.specs.Transactions.{Step, tell_end, prepare}
+use Rattle.txn_core.specs.Transactions.{Step, short_cause, tell_end, prepare}
 use Rattle.txn_core.proofs.Gathers.{Each, EachBut, with_at, each_but, each_with}
 use Rattle.run_core.specs.Worlds.{World}
 use Rattle.law_run_recovers.specs.Standing.{is_up}
-use Rattle.law_run_recovers.specs.Demands.{Demand, demand_by, is_met, first_short, led_to_by, has_asked, not_asked, locks_asked, votes_set, MayStart, MayStartAll}
+use Rattle.law_run_recovers.specs.Demands.{Demand, demand_by, is_met, newer_by, led_to_by, has_asked, not_asked, locks_asked, votes_set, MayStart, MayStartAll}
 use Rattle.law_run_recovers.specs.Laws.{ending_by, answer_on}
+use Rattle.law_run_recovers.specs.OpenDemands.{Want, first_mode}
 use Rattle.law_run_recovers.proofs.Asking.{onto, find_past, held_in}
 use Rattle.law_run_recovers.proofs.Led.{Rules, Reached}
-use Rattle.law_run_recovers.proofs.Polled.{AllRight}
+use Rattle.law_run_recovers.proofs.Polled.{Sight, finds_at, serves_all, AllRight, all_wider, AllBelow, Refusing}
 use Rattle.law_run_recovers.proofs.VotesSet.{IsSet}
 
 -- ---- what it stands on
@@ -52,8 +53,9 @@ abbrev pub asks_of : List (ℕ × LockMode) → ℕ → Bool
 asks_of asked z = list_any (λ (one : ℕ × LockMode). one.0 == z) asked
 
 -- of each suite that is asked for, what a prefix from which it is looked for leads to; Was says what a prefix is said to be, as that the suite had it
-pub record Ground (fixed : Fixed) (world : World) (answers : ℕ → Bool) (cache : Cache) (site : ℕ) (asked : List (ℕ × LockMode)) (Was : ℕ → Prefix → Type 0) : Type 0 where
-  pub rules : (z : ℕ) (start : Prefix) → asks_of asked z ≡ true → MayStart fixed cache site z start → Rules fixed world answers z (Was z) start
+pub record Ground (fixed : Fixed) (world : World) (sight : Sight) (cache : Cache) (site : ℕ) (asked : List (ℕ × LockMode)) (Was : ℕ → Prefix → Type 0) : Type 0 where
+  pub first : (z : ℕ) → sight.first z ≡ first_mode asked z
+  pub rules : (z : ℕ) (start : Prefix) → asks_of asked z ≡ true → MayStart fixed cache site z start → Rules fixed world (finds_at sight z) z (Was z) start
   pub valid : (z : ℕ) (prefix : Prefix) → Was z prefix → IsValid prefix.votes
 
 -- what a transaction needs on a table, and what its operations come to there
@@ -72,72 +74,87 @@ sets_on table task = votes_set table task.t task.caller task.ops
 abbrev pub answer_to : PlainTable → Task → Result (List Answer) Refusal
 answer_to table task = answer_on table task.t task.caller task.ops
 
--- what is demanded of one
-abbrev pub of_lock : Fixed → World → (ℕ → Bool) → (ℕ → Prefix) → ℕ × LockMode → Demand
-of_lock fixed world answers start one = demand_by answers one.0 one.1 (led_to_by fixed world answers one.0 (start one.0)).votes
+-- what it wants for one: a lock, by the votes that it finds; and to set votes
+abbrev pub of_lock : Fixed → World → Sight → (ℕ → Prefix) → ℕ × LockMode → Want
+of_lock fixed world sight start one = record { suite = one.0; mode = one.1; votes = (led_to_by fixed world (finds_at sight one.0) one.0 (start one.0)).votes }
 
-abbrev pub of_votes : (ℕ → Bool) → ℕ × Configuration → Demand
-of_votes answers one = record { suite = one.0; got = votes_in one.1.reps answers; needed = one.1.w }
+abbrev pub of_votes : ℕ × Configuration → Want
+of_votes one = record { suite = one.0; mode = Exclusive; votes = one.1 }
 
--- all that is demanded, as demands has it, by the votes of servers that answer
-abbrev pub demands_by : Fixed → World → (ℕ → Bool) → PlainTable → ℕ → Identity → List Op → (ℕ → Prefix) → List Demand
-demands_by fixed world answers table t caller ops start =
-    map (of_lock fixed world answers start) (locks_asked table t caller ops) ++ map (of_votes answers) (votes_set table t caller ops)
+-- the votes that are open to it
+abbrev pub demand_of : Sight → Want → Demand
+demand_of sight want = demand_by (sight.opens want.suite want.mode) want.suite want.mode want.votes
 
-abbrev unmet : Demand → Bool
-unmet one = not (is_met one)
+abbrev pub unmet : Sight → Want → Bool
+unmet sight want = not (is_met (demand_of sight want))
+
+-- all that it wants, in its order
+abbrev pub wants_of : Fixed → World → Sight → PlainTable → ℕ → Identity → List Op → (ℕ → Prefix) → List Want
+wants_of fixed world sight table t caller ops start = map (of_lock fixed world sight start) (locks_asked table t caller ops) ++ map of_votes (votes_set table t caller ops)
 
 -- ---- how it ends
 
-module _ (fixed : Fixed) (world : World) (answers : ℕ → Bool) (table : PlainTable) (task : Task) (cache : Cache) where
+module _ (fixed : Fixed) (world : World) (sight : Sight) (table : PlainTable) (task : Task) (cache : Cache) where
+  -- Where a want is not met, the first such: with its numbers where each voting member is open or down, or with a lock that may be in its way. Else, where the
+  -- home is down, with that; else as the table answers it.
+  abbrev pub EndsAs : Ending → Option Want → Type 0
+  EndsAs ended (Some want) =
+      ((ended ≡ Undecided (Unavailable want.suite (demand_of sight want).got (demand_of sight want).needed))
+      × ((rep : Representative) → Has want.votes.reps rep → nat_lt 0 rep.1 ≡ true → (sight.opens want.suite want.mode rep.0 ≡ true) ⊎ (is_up world rep.0 ≡ false)))
+      ⊎ ((at : ℕ × ℕ) × (ended ≡ Undecided (Busy at.0 at.1)) × (sight.met want.suite at.0 at.1 ≡ true))
+  EndsAs ended None = ended ≡ ending_by None (is_up world (home_of fixed.service task.t)) (answer_to table task)
+
   pub record EndsRight (ended : Ending) : Type 0 where
     pub start : ℕ → Prefix
     pub from : MayStartAll fixed cache task.site start
-    pub ends : ended ≡ ending_by (first_short (demands_by fixed world answers table task.t task.caller task.ops start)) (is_up world (home_of fixed.service task.t)) (answer_to table task)
+    pub ends : EndsAs ended (find (unmet sight) (wants_of fixed world sight table task.t task.caller task.ops start))
 
-  pub ends_short : (start : ℕ → Prefix) → MayStartAll fixed cache task.site start → (short : Demand) → first_short (demands_by fixed world answers table task.t task.caller task.ops start) ≡ Some short
-      → (number got wanting : ℕ) → number ≡ short.suite → got ≡ short.got → wanting ≡ short.needed → EndsRight (Undecided (Unavailable number got wanting))
-  ends_short start from short is number got wanting a b c = record {
-    start = start;
-    from = from;
-    ends = ap (λ n. Undecided (Unavailable n got wanting)) a ∙ ap (λ n. Undecided (Unavailable short.suite n wanting)) b ∙ ap (λ n. Undecided (Unavailable short.suite short.got n)) c
-        ∙ sym (ap (λ found. ending_by found (is_up world (home_of fixed.service task.t)) (answer_to table task)) is);
-  }
+  pub ends_short : (start : ℕ → Prefix) → MayStartAll fixed cache task.site start → (want : Want) → find (unmet sight) (wants_of fixed world sight table task.t task.caller task.ops start) ≡ Some want
+      → (number had wanting : ℕ) (busy : Option (ℕ × ℕ)) → number ≡ want.suite → had ≡ (demand_of sight want).got → wanting ≡ (demand_of sight want).needed → Refusing fixed world sight want.suite want.mode want.votes.reps busy
+      → EndsRight (Undecided (short_cause number had wanting busy))
+  ends_short start from want is number had wanting busy a b c refuses = record { start = start; from = from; ends = subst (EndsAs (Undecided (short_cause number had wanting busy))) (sym is) (of busy refl) }
+    where
+      of : (found : Option (ℕ × ℕ)) → busy ≡ found → EndsAs (Undecided (short_cause number had wanting found)) (Some want)
+      of None none = inl (
+        ap (λ n. Undecided (Unavailable n had wanting)) a ∙ ap (λ n. Undecided (Unavailable want.suite n wanting)) b ∙ ap (λ n. Undecided (Unavailable want.suite (demand_of sight want).got n)) c,
+        refuses.free none,
+      )
+      of (Some at) some = inr (at, refl, refuses.met at.0 at.1 some)
 
   -- a lock that it asks for is not to be had, and all before were
   pub short_lock : (start : ℕ → Prefix) (so_far left : List (ℕ × LockMode)) (one : ℕ × LockMode) → locks_on table task ≡ onto so_far (one ∷ left)
-      → ((other : ℕ × LockMode) → Has so_far other → unmet (of_lock fixed world answers start other) ≡ false) → unmet (of_lock fixed world answers start one) ≡ true
-      → first_short (demands_by fixed world answers table task.t task.caller task.ops start) ≡ Some (of_lock fixed world answers start one)
+      → ((other : ℕ × LockMode) → Has so_far other → unmet sight (of_lock fixed world sight start other) ≡ false) → unmet sight (of_lock fixed world sight start one) ≡ true
+      → find (unmet sight) (wants_of fixed world sight table task.t task.caller task.ops start) ≡ Some (of_lock fixed world sight start one)
   short_lock start so_far left one are met short =
-      ap (λ locks. find unmet (map (of_lock fixed world answers start) locks ++ map (of_votes answers) (sets_on table task))) are
-      ∙ find_past (of_lock fixed world answers start) unmet so_far (one ∷ left) (map (of_votes answers) (sets_on table task)) met
-      ∙ ap (λ b. cond b (Some (of_lock fixed world answers start one)) (find unmet (map (of_lock fixed world answers start) left ++ map (of_votes answers) (sets_on table task)))) short
+      ap (λ locks. find (unmet sight) (map (of_lock fixed world sight start) locks ++ map of_votes (sets_on table task))) are
+      ∙ find_past (of_lock fixed world sight start) (unmet sight) so_far (one ∷ left) (map of_votes (sets_on table task)) met
+      ∙ ap (λ b. cond b (Some (of_lock fixed world sight start one)) (find (unmet sight) (map (of_lock fixed world sight start) left ++ map of_votes (sets_on table task)))) short
 
   -- all locks are had
-  past_locks : (start : ℕ → Prefix) (so_far : List (ℕ × LockMode)) → locks_on table task ≡ onto so_far [] → ((other : ℕ × LockMode) → Has so_far other → unmet (of_lock fixed world answers start other) ≡ false)
-      → first_short (demands_by fixed world answers table task.t task.caller task.ops start) ≡ find unmet (map (of_votes answers) (sets_on table task))
+  past_locks : (start : ℕ → Prefix) (so_far : List (ℕ × LockMode)) → locks_on table task ≡ onto so_far [] → ((other : ℕ × LockMode) → Has so_far other → unmet sight (of_lock fixed world sight start other) ≡ false)
+      → find (unmet sight) (wants_of fixed world sight table task.t task.caller task.ops start) ≡ find (unmet sight) (map of_votes (sets_on table task))
   past_locks start so_far are met =
-      ap (λ locks. find unmet (map (of_lock fixed world answers start) locks ++ map (of_votes answers) (sets_on table task))) are
-      ∙ find_past (of_lock fixed world answers start) unmet so_far [] (map (of_votes answers) (sets_on table task)) met
+      ap (λ locks. find (unmet sight) (map (of_lock fixed world sight start) locks ++ map of_votes (sets_on table task))) are
+      ∙ find_past (of_lock fixed world sight start) (unmet sight) so_far [] (map of_votes (sets_on table task)) met
 
-  past_sets : (done left : List (ℕ × Configuration)) → sets_on table task ≡ onto done left → ((other : ℕ × Configuration) → Has done other → unmet (of_votes answers other) ≡ false)
-      → find unmet (map (of_votes answers) (sets_on table task)) ≡ find unmet (map (of_votes answers) left)
+  past_sets : (done left : List (ℕ × Configuration)) → sets_on table task ≡ onto done left → ((other : ℕ × Configuration) → Has done other → unmet sight (of_votes other) ≡ false)
+      → find (unmet sight) (map of_votes (sets_on table task)) ≡ find (unmet sight) (map of_votes left)
   past_sets done left are met =
-      ap (λ sets. find unmet (map (of_votes answers) sets)) are
-      ∙ ap (find unmet) (sym (append-nil (map (of_votes answers) (onto done left))))
-      ∙ find_past (of_votes answers) unmet done left [] met
-      ∙ ap (find unmet) (append-nil (map (of_votes answers) left))
+      ap (λ sets. find (unmet sight) (map of_votes sets)) are
+      ∙ ap (find (unmet sight)) (sym (append-nil (map of_votes (onto done left))))
+      ∙ find_past of_votes (unmet sight) done left [] met
+      ∙ ap (find (unmet sight)) (append-nil (map of_votes left))
 
   pub short_votes : (start : ℕ → Prefix) (so_far : List (ℕ × LockMode)) (done left : List (ℕ × Configuration)) (one : ℕ × Configuration) → locks_on table task ≡ onto so_far []
-      → ((other : ℕ × LockMode) → Has so_far other → unmet (of_lock fixed world answers start other) ≡ false) → sets_on table task ≡ onto done (one ∷ left)
-      → ((other : ℕ × Configuration) → Has done other → unmet (of_votes answers other) ≡ false) → unmet (of_votes answers one) ≡ true
-      → first_short (demands_by fixed world answers table task.t task.caller task.ops start) ≡ Some (of_votes answers one)
+      → ((other : ℕ × LockMode) → Has so_far other → unmet sight (of_lock fixed world sight start other) ≡ false) → sets_on table task ≡ onto done (one ∷ left)
+      → ((other : ℕ × Configuration) → Has done other → unmet sight (of_votes other) ≡ false) → unmet sight (of_votes one) ≡ true
+      → find (unmet sight) (wants_of fixed world sight table task.t task.caller task.ops start) ≡ Some (of_votes one)
   short_votes start so_far done left one are met sets sets_met short =
-      past_locks start so_far are met ∙ past_sets done (one ∷ left) sets sets_met ∙ ap (λ b. cond b (Some (of_votes answers one)) (find unmet (map (of_votes answers) left))) short
+      past_locks start so_far are met ∙ past_sets done (one ∷ left) sets sets_met ∙ ap (λ b. cond b (Some (of_votes one)) (find (unmet sight) (map of_votes left))) short
 
   pub none_short : (start : ℕ → Prefix) (so_far : List (ℕ × LockMode)) (done : List (ℕ × Configuration)) → locks_on table task ≡ onto so_far []
-      → ((other : ℕ × LockMode) → Has so_far other → unmet (of_lock fixed world answers start other) ≡ false) → sets_on table task ≡ onto done []
-      → ((other : ℕ × Configuration) → Has done other → unmet (of_votes answers other) ≡ false) → first_short (demands_by fixed world answers table task.t task.caller task.ops start) ≡ None
+      → ((other : ℕ × LockMode) → Has so_far other → unmet sight (of_lock fixed world sight start other) ≡ false) → sets_on table task ≡ onto done []
+      → ((other : ℕ × Configuration) → Has done other → unmet sight (of_votes other) ≡ false) → find (unmet sight) (wants_of fixed world sight table task.t task.caller task.ops start) ≡ None
   none_short start so_far done are met sets sets_met = past_locks start so_far are met ∙ past_sets done [] sets sets_met
 
   -- ---- the suites that it gathered
@@ -145,13 +162,13 @@ module _ (fixed : Fixed) (world : World) (answers : ℕ → Bool) (table : Plain
   -- a suite is looked for from where it may be, and what was told of it is right
   pub record IsRight (z : ℕ) (suite : Suite) : Type 0 where
     pub may : MayStart fixed cache task.site z suite.collector.start
-    pub right : AllRight fixed world answers z (all_told suite.collector)
+    pub right : AllRight fixed world sight z Exclusive (all_told suite.collector)
 
   -- a lock that was had
   pub record IsHad (suites : Suites) (one : ℕ × LockMode) : Type 0 where
     pub suite : Suite
     pub there : suite_of suites one.0 ≡ Some suite
-    pub met : is_met (demand_by answers one.0 one.1 (led_to_by fixed world answers one.0 suite.collector.start).votes) ≡ true
+    pub met : is_met (demand_by (sight.opens one.0 one.1) one.0 one.1 (led_to_by fixed world (finds_at sight one.0) one.0 suite.collector.start).votes) ≡ true
 
   abbrev pub start_of : Option Suite → Prefix
   start_of (Some suite) = suite.collector.start
@@ -167,8 +184,8 @@ module _ (fixed : Fixed) (world : World) (answers : ℕ → Bool) (table : Plain
       of None is = inl refl
       of (Some suite) is = (right z suite is).may
 
-  pub had_met : (suites : Suites) (one : ℕ × LockMode) → IsHad suites one → unmet (of_lock fixed world answers (starts suites) one) ≡ false
-  had_met suites one had = ap (λ found. unmet (demand_by answers one.0 one.1 (led_to_by fixed world answers one.0 (start_of found)).votes)) had.there ∙ ap not had.met
+  pub had_met : (suites : Suites) (one : ℕ × LockMode) → IsHad suites one → unmet sight (of_lock fixed world sight (starts suites) one) ≡ false
+  had_met suites one had = ap (λ found. not (is_met (demand_by (sight.opens one.0 one.1) one.0 one.1 (led_to_by fixed world (finds_at sight one.0) one.0 (start_of found)).votes))) had.there ∙ ap not had.met
 
   -- another suite in its place that is looked for from the same prefix
   abbrev pub SameStart : Suites → ℕ → Suite → Type 0
@@ -181,7 +198,7 @@ module _ (fixed : Fixed) (world : World) (answers : ℕ → Bool) (table : Plain
       of true is = record {
         suite = new;
         there = with_at number new suites one.0 ∙ ap (λ b. cond b (Some new) (suite_of suites one.0)) is;
-        met = subst (λ prefix. is_met (demand_by answers one.0 one.1 (led_to_by fixed world answers one.0 prefix).votes) ≡ true) (sym (same had.suite (ap (suite_of suites) (eqb-true number one.0 is) ∙ had.there))) had.met;
+        met = subst (λ prefix. is_met (demand_by (sight.opens one.0 one.1) one.0 one.1 (led_to_by fixed world (finds_at sight one.0) one.0 prefix).votes) ≡ true) (sym (same had.suite (ap (suite_of suites) (eqb-true number one.0 is) ∙ had.there))) had.met;
       }
       of false is = record { suite = had.suite; there = with_at number new suites one.0 ∙ ap (λ b. cond b (Some new) (suite_of suites one.0)) is ∙ had.there; met = had.met }
 
@@ -217,7 +234,7 @@ module _ (fixed : Fixed) (world : World) (answers : ℕ → Bool) (table : Plain
   pub record HasAll (answer : Result (List Answer) Refusal) : Type 0 where
     pub start : ℕ → Prefix
     pub from : MayStartAll fixed cache task.site start
-    pub none : first_short (demands_by fixed world answers table task.t task.caller task.ops start) ≡ None
+    pub none : find (unmet sight) (wants_of fixed world sight table task.t task.caller task.ops start) ≡ None
     pub answer_is : answer ≡ answer_to table task
 
   abbrev pub answer_in : doing.Proposal → Result (List Answer) Refusal
@@ -232,7 +249,7 @@ module _ (fixed : Fixed) (world : World) (answers : ℕ → Bool) (table : Plain
     pub all : locks_on table task ≡ onto so_far []
     pub answer_is : Ok granted.answers ≡ answer_to table task
     pub sets : sets_on table task ≡ onto done left
-    pub met : (one : ℕ × Configuration) → Has done one → is_met (of_votes answers one) ≡ true
+    pub met : (one : ℕ × Configuration) → Has done one → is_met (demand_of sight (of_votes one)) ≡ true
     pub are_set : (one : ℕ × Configuration) → Has left one → IsSet granted.changes one
     pub there : (one : ℕ × Configuration) → Has left one → is_some (suite_of suites one.0) ≡ true
     pub locked : (one : ℕ × Configuration) → Has left one → list_any (λ (lock : ℕ × LockMode). lock.0 == one.0) so_far ≡ true
@@ -253,14 +270,15 @@ module _ (fixed : Fixed) (world : World) (answers : ℕ → Bool) (table : Plain
 
   -- ---- the phases before
 
-  module _ (Was : ℕ → Prefix → Type 0) (ground : Ground fixed world answers cache task.site (locks_on table task) Was) where
+  module _ (Was : ℕ → Prefix → Type 0) (ground : Ground fixed world sight cache task.site (locks_on table task) Was) where
     -- a suite whose collector goes alone
     pub record IsFound (z : ℕ) (suite : Suite) : Type 0 where
       pub start : Prefix
       pub may : MayStart fixed cache task.site z start
       pub asked : asks_of (locks_on table task) z ≡ true
-      pub reached : Reached fixed world answers z (Was z) start (ground.rules z start asked may) suite.collector
-      pub led : (first : ReadPoint) → suite.first ≡ Some first → first.prefix ≡ led_to_by fixed world answers z start
+      pub reached : Reached fixed world sight z (Was z) start (ground.rules z start asked may) suite.collector
+      pub led : (first : ReadPoint) → suite.first ≡ Some first → first.prefix ≡ led_to_by fixed world (finds_at sight z) z start
+      pub version : (first : ReadPoint) → suite.first ≡ Some first → (n : ℕ) → AllBelow fixed world sight z n → first.dver ≤ n
 
     pub found_start : (z : ℕ) (suite : Suite) (found : IsFound z suite) → suite.collector.start ≡ found.start
     found_start z suite found = ap (λ (c : Collector). c.start) found.reached.is
@@ -268,7 +286,8 @@ module _ (fixed : Fixed) (world : World) (answers : ℕ → Bool) (table : Plain
     pub found_right : (z : ℕ) (suite : Suite) → IsFound z suite → IsRight z suite
     found_right z suite found = record {
       may = subst (MayStart fixed cache task.site z) (sym (found_start z suite found)) found.may;
-      right = subst (AllRight fixed world answers z) (sym (ap all_told found.reached.is)) found.reached.going.right;
+      right = subst (AllRight fixed world sight z Exclusive) (sym (ap all_told found.reached.is))
+          (all_wider fixed world sight z found.reached.mode Exclusive found.reached.told (serves_all found.reached.mode) found.reached.going.right);
     }
 
     -- and that had a Current: some server holds a lock on it
@@ -282,6 +301,7 @@ module _ (fixed : Fixed) (world : World) (answers : ℕ → Bool) (table : Plain
       pub had : is_some suite.first ≡ true
       pub mode_is : suite.mode ≡ suite.collector.mode
       pub lock : HasLock suite
+      pub none_newer : newer_by fixed world (finds_at sight z) z (newest suite.collector.start suite.collector.told) ≡ None
 
     -- each suite had a Current
     pub record IsReady (suites : Suites) : Type 0 where

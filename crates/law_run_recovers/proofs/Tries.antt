@@ -45,6 +45,7 @@ use Rattle.law_run_recovers.specs.Laws as laws
 use Rattle.law_run_recovers.specs.Laws.{GoesAlone, EndsByVotes, ending_of, answer_on, OneIsDecided}
 use Rattle.law_run_alone.proofs.Clear.{at_has}
 use Rattle.law_run_recovers.proofs.Moments.{moment_first, first_all, first_here}
+use Rattle.law_run_recovers.proofs.Plain.{seen, plain_ends}
 use Rattle.law_run_recovers.proofs.Stands.{Ground, locks_on, EndsRight}
 use Rattle.law_run_recovers.proofs.SameDemands.{HintsLed, still_up}
 use Rattle.law_run_recovers.proofs.Executes.{begin_stands}
@@ -138,14 +139,15 @@ module _ (given : Opening) (events later : List Event) (agent t : ℕ) (caller :
   number = ends.number_is given events later agent t caller site ops actor goes
 
   -- where its votes are up it ends as its home and the table say
-  met_end : (ended : Ending) → EndsRight fixed first (is_up first) table its actor.agent.cache ended → ended ≡ laws.ending_by None (is_up first (home_of fixed.service t)) (answer_on table t caller ops)
-  met_end ended right =
+  met_end : (ended : Ending) → EndsRight fixed first (seen (is_up first) (locks_on table its)) table its actor.agent.cache ended → ended ≡ laws.ending_by None (is_up first (home_of fixed.service t)) (answer_on table t caller ops)
+  met_end ended all =
+      let right = plain_ends fixed first (is_up first) (locks_on table its) table its actor.agent.cache ended all in
       right.ends
       ∙ ap (λ n. laws.ending_by (first_short (demands fixed first table n caller ops right.start)) (is_up first (home_of fixed.service n)) (answer_on table n caller ops)) number
       ∙ ap (λ found. laws.ending_by found (is_up first (home_of fixed.service t)) (answer_on table t caller ops)) (none_of (demands fixed first table t caller ops right.start) (met right.start right.from))
 
   -- it goes on from its begin
-  abbrev ground : Ground fixed first (is_up first) actor.agent.cache site (locks_on table its) Was
+  abbrev ground : Ground fixed first (seen (is_up first) (locks_on table its)) actor.agent.cache site (locks_on table its) Was
   ground = ends.ground given events later agent t caller site ops actor goes
 
   begin_is : begin fixed actor.agent job ≡ record (started fixed actor.agent job) { count = actor.agent.count + 1 }
@@ -187,7 +189,7 @@ module _ (given : Opening) (events later : List Event) (agent t : ℕ) (caller :
         left = subst (leaves.LeftBy given events later agent t caller site ops actor goes down met begun_world)
             (sym (ap (λ (agent : Agent). agent.doing) (first_here given events later agent t caller site ops actor goes) ∙ ap (λ (agent : Agent). agent.doing) begin_is))
             (leaves.before_left given events later agent t caller site ops actor goes down met begun_world begins.cache begins.after
-            (begin_stands fixed first (is_up first) table its actor.agent.cache Was ground (ends.same_service given events later agent t caller site ops actor goes)) (execute_not fixed its (record { suites = []; cache = actor.agent.cache })));
+            (begin_stands fixed first (seen (is_up first) (locks_on table its)) table its actor.agent.cache Was ground (ends.same_service given events later agent t caller site ops actor goes)) (execute_not fixed its (record { suites = []; cache = actor.agent.cache })));
         stored = λ i st old at was z. ap (λ (st : State). copy_of st.store z) (same_Some st old (sym at ∙ servers_begun i ∙ was));
         none = counts.decisions_begun given events later agent t caller site ops actor goes;
         led = subst (λ (agent : Agent). HintsLed fixed first actor.agent.cache site agent.cache) (sym (first_here given events later agent t caller site ops actor goes ∙ begin_is))

@@ -1,47 +1,104 @@
--- What is promised to a transaction that nobody meets, by servers that are up.
-use Rattle.std.proofs.Common.{◌≡◌, inl, inr, ℕ, true, List, [], ◌∷◌, ◌++◌, append-nil, length, Option, Some, None, refl, sym, ap, subst, ◌∙◌}
-use Rattle.std.specs.Prelude.{◌==◌, ◌&&◌, nat_lt, map, Contains}
-use Rattle.std.proofs.lemmas.Bool.{and_parts, eq-eqb}
+-- What is promised to a transaction that nobody meets, by servers that are up: it goes among locks none of which is in its way, so who is up is open to it.
+use Rattle.std.proofs.Common.{◌≡◌, inl, inr, ℕ, Bool, true, false, cond, List, [], ◌∷◌, ◌++◌, length, Option, Some, None, refl, sym, ap, subst, ◌∙◌}
+use Rattle.std.specs.Prelude.{◌&&◌, not, nat_lt, map, option_map, Contains}
+use Rattle.std.proofs.lemmas.Bool.{false≢true, and_parts}
+use Rattle.std.proofs.lemmas.Option.{none-some, same_Some}
 use Rattle.acl_core.specs.Identity.{Identity}
 use Rattle.vote_core.specs.Quorums.{Representative, Configuration, votes_in}
+use Rattle.vote_core.proofs.QuorumLemmas.{votes_in-wider}
 use Rattle.suite_prefix.specs.SettingsRules.{Opening}
 use Rattle.suite_prefix.specs.declared.copies.Prefix.{Prefix}
 use Rattle.suite_prefix.specs.declared.lock_mode.LockMode.{LockMode}
 use Rattle.file_ops.specs.declared.operation.Op.{Op}
-use Rattle.file_ops.specs.Rows.{Row, row_of}
-use Rattle.rep_core.proofs.Members.{Has, has_any, contains_from}
+use Rattle.file_ops.specs.Rows.{row_of}
+use Rattle.rep_core.proofs.Members.{Has, contains_from}
 use Rattle.suite_collect.specs.Collecting.{needed_of}
-use Rattle.txn_core.specs.Writing.{has_vote}
 use Rattle.txn_core.specs.Doing.{home_of}
 use Rattle.txn_core.specs.Agents.{fixed_of}
 use Rattle.run_core.specs.declared.event.Event.{Event}
 use Rattle.run_core.specs.declared.done.EndedJob.{EndedJob}
-use Rattle.run_core.specs.Worlds.{Actor, World}
+use Rattle.run_core.specs.Worlds.{Actor, World, server_at}
 use Rattle.run_core.specs.Runs.{run}
 use Rattle.run_core.specs.TableOfRun.{table_of}
-use Rattle.law_run_machine.specs.Machines.{machine_of}
-use Rattle.law_one_table.proofs.Effects as effects
-use Rattle.law_headline.proofs.Keeping.{all_keep}
 use Rattle.law_run_alone.specs.Undisturbed.{is_decided}
 use Rattle.law_run_recovers.specs.Standing.{is_up}
-use Rattle.law_run_recovers.specs.Demands.{Demand, demand, demand_by, demands, demands_of_rows, all_met, first_short, led_to, led_to_by, votes_set, votes_of_row, MayStart, MayStartAll}
-use Rattle.law_run_recovers.specs.Laws.{EndsByVotes, HasFirstVotes, ending_by, answer_on}
-use Rattle.law_run_recovers.specs.Near.{asks_for}
+use Rattle.law_run_recovers.specs.Demands.{Demand, demand, is_met, all_met, demands, demands_of_rows, first_short, led_to, votes_set, votes_of_row, MayStart, MayStartAll}
+use Rattle.law_run_recovers.specs.Laws.{EndsByVotes, ending_by, answer_on}
+use Rattle.law_run_recovers.specs.Near.{asks_for, is_open_way, is_way_met, way_at, is_open_at, in_its_way}
 use Rattle.law_run_recovers.specs.Unmet.{GoesUnmet}
+use Rattle.law_run_recovers.specs.Among.{GoesAmongLocks, EndsOpenly, first_wanting, has_votes_open, UnmetAreAmongLocks}
+use Rattle.law_run_recovers.specs.OpenDemands.{Want, open_demand, open_demands, first_mode, wants, wants_of_rows}
 use Rattle.law_run_recovers.specs.Local.{EndsThen, VotesNeverMovedOf, UnmetEndByVotes, UnmetAreDecidedWhereVotesAre}
-use Rattle.law_run_recovers.proofs.Leading.{led}
-use Rattle.law_run_recovers.proofs.NearGround.{answers, answering, can_first, number}
-use Rattle.law_run_recovers.proofs.NearRows.{start_near, same_so_far, same_got, near_votes_are_rows}
-use Rattle.law_run_recovers.proofs.Open.{open_first}
+use Rattle.law_run_recovers.proofs.AmongLaws.{map_members, among_by_votes, found_by, led_first, row_first}
+use Rattle.law_run_recovers.proofs.NearRows.{first_in, start_near, same_so_far, open_is_up}
+use Rattle.law_run_recovers.proofs.Open.{open_first, unmet_is_among_locks, near_back, plain_way}
+use Rattle.law_run_recovers.proofs.OpenRows.{up_of, up_to}
 use Rattle.law_run_recovers.proofs.Picks.{votes_alike}
-use Rattle.law_run_recovers.proofs.Rows.{start_was}
-use Rattle.law_run_recovers.proofs.Stands.{of_lock, of_votes, demands_by}
-use Rattle.law_run_recovers.proofs.UnmetEnds.{unmet_ends}
-use Rattle.law_run_recovers.proofs.Unmoved.{decided_by, first_votes_at}
+use Rattle.law_run_recovers.proofs.Stands.{of_votes}
+use Rattle.law_run_recovers.proofs.Unmoved.{decided_by}
 
-map_members : {X Y : Type 0} (f g : X → Y) (xs : List X) → ((x : X) → Has xs x → f x ≡ g x) → map f xs ≡ map g xs
-map_members f g [] same = refl
-map_members f g (x ∷ xs) same = ap (λ y. y ∷ map f xs) (same x (inl refl)) ∙ ap (λ ys. g x ∷ ys) (map_members f g xs (λ y has. same y (inr has)))
+-- ---- by the votes that are up
+
+abbrev pub up_demand : World → Want → Demand
+up_demand world want = demand world want.suite want.mode want.votes
+
+-- what is had of open servers is of servers that are up
+open_up : (world : World) (t : ℕ) (want : Want) → is_met (open_demand world t want) ≡ true → is_met (up_demand world want) ≡ true
+open_up world t want met =
+    up_to (needed_of want.mode want.votes) (votes_in want.votes.reps (is_open_at world t want.suite want.mode)) (votes_in want.votes.reps (is_up world)) met
+    (votes_in-wider want.votes.reps (is_open_at world t want.suite want.mode) (is_up world) (λ server is. up_of t want.suite want.mode (server_at world server) is))
+
+all_up : (world : World) (t : ℕ) (all : List Want) → all_met (open_demands world t all) ≡ true → all_met (map (up_demand world) all) ≡ true
+all_up world t [] met = refl
+all_up world t (want ∷ all) met =
+    let parts = and_parts (is_met (open_demand world t want)) (all_met (open_demands world t all)) met in
+    ap (λ b. b && all_met (map (up_demand world) all)) (open_up world t want parts.0) ∙ all_up world t all parts.1
+
+-- the first that is short by open servers is short by those that are up, where they have the same votes of it
+first_up : (world : World) (t : ℕ) (all : List Want) (found : Option Want) → first_wanting world t all ≡ found → ((want : Want) → found ≡ Some want → open_demand world t want ≡ up_demand world want)
+    → first_short (map (up_demand world) all) ≡ option_map (open_demand world t) found
+first_up world t [] found is same = ap (option_map (open_demand world t)) is
+first_up world t (want ∷ all) found is same = of (is_met (open_demand world t want)) refl is (first_up world t all found)
+  where
+    of : (b : Bool) → is_met (open_demand world t want) ≡ b → cond (not b) (Some want) (first_wanting world t all) ≡ found
+        → (first_wanting world t all ≡ found → ((want : Want) → found ≡ Some want → open_demand world t want ≡ up_demand world want) → first_short (map (up_demand world) all) ≡ option_map (open_demand world t) found)
+        → first_short (map (up_demand world) (want ∷ all)) ≡ option_map (open_demand world t) found
+    of true met is go = ap (λ b. cond (not b) (Some (up_demand world want)) (first_short (map (up_demand world) all))) (open_up world t want met) ∙ go is same
+    of false short is go =
+        let here = same want (sym is) in
+        ap (λ b. cond (not b) (Some (up_demand world want)) (first_short (map (up_demand world) all))) (ap is_met (sym here) ∙ short)
+        ∙ ap (λ one. Some one) (sym here) ∙ ap (option_map (open_demand world t)) is
+
+-- what is demanded of wants
+fronts_of : {X : Type 0} (d : Want → Demand) (f : X → Want) (g : X → Demand) (xs : List X) (later : List Want) (others : List Demand) → ((x : X) → Has xs x → d (f x) ≡ g x) → map d later ≡ others → map d (map f xs ++ later) ≡ map g xs ++ others
+fronts_of d f g [] later others same rest = rest
+fronts_of d f g (x ∷ xs) later others same rest = ap (λ y. y ∷ map d (map f xs ++ later)) (same x (inl refl)) ∙ ap (λ ys. g x ∷ ys) (fronts_of d f g xs later others (λ y has. same y (inr has)) rest)
+
+maps_of : {X : Type 0} (d : Want → Demand) (f : X → Want) (g : X → Demand) (xs : List X) → ((x : X) → d (f x) ≡ g x) → map d (map f xs) ≡ map g xs
+maps_of d f g [] same = refl
+maps_of d f g (x ∷ xs) same = ap (λ y. y ∷ map d (map f xs)) (same x) ∙ ap (λ ys. g x ∷ ys) (maps_of d f g xs same)
+
+-- nothing is in the way there, so it is open where it is up
+open_where_free : (way : Option (Option ℕ)) (up : Bool) → (is_way_met way ≡ false → way ≡ cond up (Some None) None) → is_way_met way ≡ false → is_open_way way ≡ up
+open_where_free way true so free = ap is_open_way (so free)
+open_where_free way false so free = ap is_open_way (so free)
+
+-- has_votes_open is more than that the votes are up
+pub open_is_more : (given : Opening) (events : List Event) (t : ℕ) (caller : Identity) (ops : List Op) → has_votes_open given events t caller ops ≡ true
+    → (all_met (demands_of_rows (fixed_of given) (run given events) (table_of given events) t caller ops) && is_up (run given events) (home_of (fixed_of given).service t)) ≡ true
+open_is_more given events t caller ops has =
+    let world = run given events in
+    let table = table_of given events in
+    let up = is_up world (home_of (fixed_of given).service t) in
+    let rows = wants_of_rows (fixed_of given) table t caller ops in
+    let parts = and_parts (all_met (open_demands world t rows)) up has in
+    let set : List (ℕ × Configuration) = votes_set table t caller ops in
+    let same : map (up_demand world) rows ≡ demands_of_rows (fixed_of given) world table t caller ops =
+    fronts_of (up_demand world) (λ (one : ℕ × LockMode). record { suite = one.0; mode = one.1; votes = votes_of_row (fixed_of given) (row_of table.rows one.0) })
+    (λ (one : ℕ × LockMode). demand world one.0 one.1 (votes_of_row (fixed_of given) (row_of table.rows one.0))) (asks_for given events t caller ops) (map of_votes set)
+    (map (λ (one : ℕ × Configuration). record { suite = one.0; got = votes_in one.1.reps (is_up world); needed = one.1.w }) set) (λ one has. refl)
+    (maps_of (up_demand world) of_votes (λ (one : ℕ × Configuration). record { suite = one.0; got = votes_in one.1.reps (is_up world); needed = one.1.w }) set (λ one. refl)) in
+    ap (λ b. b && up) (sym (ap all_met same) ∙ all_up world t rows parts.0) ∙ parts.1
 
 module _ (given : Opening) (events later : List Event) (agent t : ℕ) (caller : Identity) (site : ℕ) (ops : List Op) (actor : Actor) (goes : GoesUnmet given events later agent t caller site ops actor) where
   abbrev world : World
@@ -50,99 +107,81 @@ module _ (given : Opening) (events later : List Event) (agent t : ℕ) (caller :
   abbrev asked : List (ℕ × LockMode)
   asked = asks_for given events t caller ops
 
-  -- a near server answers where it is up
-  agrees : (server : ℕ) → goes.near server ≡ true → answers given events later agent t caller site ops actor goes server ≡ is_up (run given events) server
-  agrees server near = ap (λ b. b && is_up (run given events) server) near
+  abbrev among : GoesAmongLocks given events later agent t caller site ops actor
+  among = unmet_is_among_locks given events later agent t caller site ops actor goes
 
-  -- ---- by near servers it finds what it finds by all
+  clear : (one : ℕ × LockMode) (server : ℕ) → Contains (asks_for given events t caller ops) one → goes.near server ≡ true → in_its_way (run given events) t one.0 one.1 server ≡ false
+  clear one server has near = open_first given events later agent t caller site ops actor goes server one near has
 
-  module _ (one : ℕ × LockMode) (has : Contains (asks_for given events t caller ops) one) (start : Prefix) (may : MayStart (fixed_of given) actor.agent.cache site one.0 start) where
-    found_near : (led_to (fixed_of given) (run given events) one.0 start ≡ led_to_by (fixed_of given) (run given events) (answers given events later agent t caller site ops actor goes) one.0 start)
-        × ((server : ℕ) → has_vote (led_to (fixed_of given) (run given events) one.0 start).votes server ≡ true → goes.near server ≡ true)
-    found_near =
-        same_so_far given events t caller site ops actor goes.near goes.are_near (λ one server has near. open_first given events later agent t caller site ops actor goes server one near has) one has (answers given events later agent t caller site ops actor goes) agrees (length (run given events).servers) start
-        (start_near given events t caller site ops actor goes.near goes.are_near (λ one server has near. open_first given events later agent t caller site ops actor goes server one near has) one has start may)
+  -- it finds the same by all that are up
+  led_same : (one : ℕ × LockMode) → Has asked one → (start : Prefix) → MayStart (fixed_of given) actor.agent.cache site one.0 start
+      → found_by given events later agent t caller site ops actor among one start ≡ led_to (fixed_of given) (run given events) one.0 start
+  led_same one has start may =
+      let first : ℕ × LockMode = (one.0, first_mode asked one.0) in
+      let there = contains_from asked first (first_in asked one has) in
+      sym (same_so_far given events t caller site ops actor goes.near goes.are_near first there (is_up (run given events)) (is_open_at (run given events) t one.0 (first_mode asked one.0)) (λ server up. up)
+      (λ server near. open_is_up given events t caller site ops actor goes.near goes.are_near clear first there server near)
+      (length (run given events).servers) start (start_near given events t caller site ops actor goes.near goes.are_near first there start may)).0
 
-    votes_near : votes_in (led_to (fixed_of given) (run given events) one.0 start).votes.reps (is_up (run given events)) ≡ votes_in (led_to (fixed_of given) (run given events) one.0 start).votes.reps (answers given events later agent t caller site ops actor goes)
-    votes_near =
-        same_got given events t caller site ops actor goes.near goes.are_near (λ one server has near. open_first given events later agent t caller site ops actor goes server one near has) one has (answers given events later agent t caller site ops actor goes) agrees (led_to (fixed_of given) (run given events) one.0 start) found_near.1
+  demands_are : (start : ℕ → Prefix) → MayStartAll (fixed_of given) actor.agent.cache site start
+      → map (up_demand (run given events)) (wants (fixed_of given) (run given events) (table_of given events) t caller ops start) ≡ demands (fixed_of given) (run given events) (table_of given events) t caller ops start
+  demands_are start may =
+      fronts_of (up_demand (run given events)) (λ (one : ℕ × LockMode). record { suite = one.0; mode = one.1; votes = (found_by given events later agent t caller site ops actor among one (start one.0)).votes })
+      (λ (one : ℕ × LockMode). demand (run given events) one.0 one.1 (led_to (fixed_of given) (run given events) one.0 (start one.0)).votes) asked (map of_votes (votes_set (table_of given events) t caller ops))
+      (map (λ (one : ℕ × Configuration). record { suite = one.0; got = votes_in one.1.reps (is_up (run given events)); needed = one.1.w }) (votes_set (table_of given events) t caller ops))
+      (λ one has. ap (λ (prefix : Prefix). demand (run given events) one.0 one.1 prefix.votes) (led_same one has (start one.0) (may one.0)))
+      (maps_of (up_demand (run given events)) of_votes (λ (one : ℕ × Configuration). record { suite = one.0; got = votes_in one.1.reps (is_up (run given events)); needed = one.1.w }) (votes_set (table_of given events) t caller ops) (λ one. refl))
 
-  abbrev up_lock : (ℕ → Prefix) → ℕ × LockMode → Demand
-  up_lock start one = demand world one.0 one.1 (led_to (fixed_of given) world one.0 (start one.0)).votes
+  the : Demand → Demand
+  the one = one
 
-  abbrev up_votes : ℕ × Configuration → Demand
-  up_votes one = record { suite = one.0; got = votes_in one.1.reps (is_up world); needed = one.1.w }
+  -- it ends as these say
+  short_up : (want : Want) → ((rep : Representative) → Contains want.votes.reps rep → nat_lt 0 rep.1 ≡ true → in_its_way (run given events) t want.suite want.mode rep.0 ≡ false)
+      → open_demand (run given events) t want ≡ up_demand (run given events) want
+  unfolding the
+  short_up want free =
+      ap (λ n. the (record { suite = want.suite; got = n; needed = needed_of want.mode want.votes }))
+      (votes_alike want.votes.reps (is_open_at (run given events) t want.suite want.mode) (is_up (run given events))
+      (λ rep has some. open_where_free (way_at (run given events) t want.suite want.mode rep.0) (is_up (run given events) rep.0) (plain_way t want.suite want.mode (server_at (run given events) rep.0)) (free rep (contains_from want.votes.reps rep has) some)))
 
-  pub demands_same : (start : ℕ → Prefix) → MayStartAll (fixed_of given) actor.agent.cache site start
-      → demands_by (fixed_of given) (run given events) (answers given events later agent t caller site ops actor goes) (table_of given events) t caller ops start ≡ demands (fixed_of given) (run given events) (table_of given events) t caller ops start
-  demands_same start may =
-      ap (λ front. front ++ map (of_votes (answers given events later agent t caller site ops actor goes)) (votes_set (table_of given events) t caller ops))
-      (map_members (of_lock (fixed_of given) (run given events) (answers given events later agent t caller site ops actor goes) start) (up_lock start) asked (λ one has. lock_same one (contains_from asked one has)))
-      ∙ ap (λ back. map (up_lock start) asked ++ back)
-      (map_members (of_votes (answers given events later agent t caller site ops actor goes)) up_votes (votes_set (table_of given events) t caller ops) (λ one has. votes_same one (contains_from (votes_set (table_of given events) t caller ops) one has)))
-    where
-      the : Demand → Demand
-      the one = one
-
-      lock_same : (one : ℕ × LockMode) → Contains (asks_for given events t caller ops) one → of_lock (fixed_of given) (run given events) (answers given events later agent t caller site ops actor goes) start one ≡ up_lock start one
-      lock_same one has =
-          let found = found_near one has (start one.0) (may one.0) in
-          ap (λ (prefix : Prefix). demand_by (answers given events later agent t caller site ops actor goes) one.0 one.1 prefix.votes) (sym found.0)
-          ∙ ap (λ n. the (record { suite = one.0; got = n; needed = needed_of one.1 (led_to (fixed_of given) (run given events) one.0 (start one.0)).votes })) (sym (votes_near one has (start one.0) (may one.0)))
-
-      votes_same : (one : ℕ × Configuration) → Contains (votes_set (table_of given events) t caller ops) one → of_votes (answers given events later agent t caller site ops actor goes) one ≡ up_votes one
-      votes_same one has =
-          ap (λ n. the (record { suite = one.0; got = n; needed = one.1.w }))
-          (votes_alike one.1.reps (answers given events later agent t caller site ops actor goes) (is_up (run given events)) (λ rep there some. agrees rep.0 (goes.are_near.set one rep.0 has
-          (has_any (λ (other : Representative). (other.0 == rep.0) && nat_lt 0 other.1) one.1.reps rep there (ap (λ b. b && nat_lt 0 rep.1) (eq-eqb rep.0 rep.0 refl) ∙ some)))))
+  ending_of_first : (start : ℕ → Prefix) (job : EndedJob) (found : Option Want) → first_wanting (run given events) t (wants (fixed_of given) (run given events) (table_of given events) t caller ops start) ≡ found
+      → EndsOpenly given events t caller ops among.near job.ending found
+      → job.ending ≡ ending_by (first_short (map (up_demand (run given events)) (wants (fixed_of given) (run given events) (table_of given events) t caller ops start))) (is_up (run given events) (home_of (fixed_of given).service t)) (answer_on (table_of given events) t caller ops)
+  ending_of_first start job None first is =
+      is ∙ sym (ap (λ found. ending_by found (is_up (run given events) (home_of (fixed_of given).service t)) (answer_on (table_of given events) t caller ops))
+      (first_up (run given events) t (wants (fixed_of given) (run given events) (table_of given events) t caller ops start) None first (λ want none. absurd (none-some want none))))
+  ending_of_first start job (Some want) first (inl short) =
+      short.is ∙ sym (ap (λ found. ending_by found (is_up (run given events) (home_of (fixed_of given).service t)) (answer_on (table_of given events) t caller ops))
+      (first_up (run given events) t (wants (fixed_of given) (run given events) (table_of given events) t caller ops start) (Some want) first
+      (λ other same. subst (λ other. open_demand (run given events) t other ≡ up_demand (run given events) other) (same_Some want other same) (short_up want short.free))))
+  ending_of_first start job (Some want) first (inr holder) =
+      absurd (false≢true (sym (clear (want.suite, holder.mode) holder.server holder.asks (near_back given events later agent t caller site ops actor goes holder.server holder.is_near)) ∙ ap is_way_met holder.way))
 
   pub unmet_by_votes : (job : EndedJob) → EndsThen given events later agent t caller site ops job → EndsByVotes given events t caller site ops actor.agent.cache job
   unmet_by_votes job ends =
-      let right = unmet_ends given events later agent t caller site ops actor goes job ends.there ends.of_it in
+      let by = among_by_votes given events later agent t caller site ops actor among job ends in
       record {
-        start = right.start;
-        from = right.from;
-        ends = subst (λ n. job.ending ≡ ending_by (first_short (demands_by (fixed_of given) (run given events) (answers given events later agent t caller site ops actor goes) (table_of given events) n caller ops right.start))
-            (is_up (run given events) (home_of (fixed_of given).service n)) (answer_on (table_of given events) n caller ops)) (number given events later agent t caller site ops actor goes) right.ends
-            ∙ ap (λ all. ending_by (first_short all) (is_up (run given events) (home_of (fixed_of given).service t)) (answer_on (table_of given events) t caller ops)) (demands_same right.start right.from);
+        start = by.start;
+        from = by.from;
+        ends = ending_of_first by.start job (first_wanting (run given events) t (wants (fixed_of given) (run given events) (table_of given events) t caller ops by.start)) refl by.ends
+            ∙ ap (λ all. ending_by (first_short all) (is_up (run given events) (home_of (fixed_of given).service t)) (answer_on (table_of given events) t caller ops)) (demands_are by.start by.from);
       }
-
-  -- ---- what is decided had its votes
-
-  pub unmet_had : (job : EndedJob) → EndsThen given events later agent t caller site ops job → is_decided job.ending ≡ true
-      → (all_met (demands_of_rows (fixed_of given) (run given events) (table_of given events) t caller ops) && is_up (run given events) (home_of (fixed_of given).service t)) ≡ true
-  unmet_had job ends decided =
-      let by = unmet_by_votes job ends in
-      let up = is_up (run given events) (home_of (fixed_of given).service t) in
-      let all = demands (fixed_of given) (run given events) (table_of given events) t caller ops by.start in
-      let both = and_parts (all_met all) up (sym (ap is_decided by.ends ∙ decided_by all up (answer_on (table_of given events) t caller ops)) ∙ decided) in
-      ap (λ b. b && up) (near_votes_are_rows given events (can_first given events later agent t caller site ops actor goes) agent t caller site ops actor by.start goes.near goes.there goes.begins goes.are_near
-      (λ one server has near. open_first given events later agent t caller site ops actor goes server one near has) by.from both.0) ∙ both.1
 
   -- ---- where votes were never moved
 
   module _ (unmoved : VotesNeverMovedOf given events (asks_for given events t caller ops)) where
-    row_first : (one : ℕ × LockMode) → Contains (asks_for given events t caller ops) one → votes_of_row (fixed_of given) (row_of (table_of given events).rows one.0) ≡ given.c0
-    row_first one has = of (row_of (table_of given events).rows one.0) (unmoved events [] one (sym (append-nil events)) has)
-      where
-        of : (found : Option Row) → HasFirstVotes given.c0 found → votes_of_row (fixed_of given) found ≡ given.c0
-        of (Some row) first = first
-        of None first = refl
-
-    led_first : (one : ℕ × LockMode) → Contains (asks_for given events t caller ops) one → (start : Prefix) → MayStart (fixed_of given) actor.agent.cache site one.0 start → (led_to (fixed_of given) (run given events) one.0 start).votes ≡ given.c0
-    led_first one has start may =
-        let can = can_first given events later agent t caller site ops actor goes in
-        let end = led given one.0 (machine_of given one.0 events) (run given events) (effects.inv given events (all_keep given events can) one.0) (answers given events later agent t caller site ops actor goes) (answering given events later agent t caller site ops actor goes one.0 one.1 has) start
-        (start_was given events can one.0 agent site actor start goes.there may) in
-        ap (λ (prefix : Prefix). prefix.votes) (found_near one has start may).0
-        ∙ first_votes_at given events can one.0 (λ before later' parts. unmoved before later' one parts has) (led_to_by (fixed_of given) (run given events) (answers given events later agent t caller site ops actor goes) one.0 start) end.was
-
     rows_same : (start : ℕ → Prefix) → MayStartAll (fixed_of given) actor.agent.cache site start
         → demands (fixed_of given) (run given events) (table_of given events) t caller ops start ≡ demands_of_rows (fixed_of given) (run given events) (table_of given events) t caller ops
     rows_same start may =
-        ap (λ front. front ++ map up_votes (votes_set (table_of given events) t caller ops))
-        (map_members (up_lock start) (λ (one : ℕ × LockMode). demand world one.0 one.1 (votes_of_row (fixed_of given) (row_of (table_of given events).rows one.0))) asked
-        (λ one has. let there = contains_from asked one has in ap (demand world one.0 one.1) (led_first one there (start one.0) (may one.0) ∙ sym (row_first one there))))
+        ap (λ front. front ++ map (λ (one : ℕ × Configuration). record { suite = one.0; got = votes_in one.1.reps (is_up (run given events)); needed = one.1.w }) (votes_set (table_of given events) t caller ops))
+        (map_members (λ (one : ℕ × LockMode). demand (run given events) one.0 one.1 (led_to (fixed_of given) (run given events) one.0 (start one.0)).votes)
+        (λ (one : ℕ × LockMode). demand (run given events) one.0 one.1 (votes_of_row (fixed_of given) (row_of (table_of given events).rows one.0))) asked
+        (λ one has.
+        let there = contains_from asked one has in
+        ap (demand (run given events) one.0 one.1)
+        (ap (λ (prefix : Prefix). prefix.votes) (sym (led_same one has (start one.0) (may one.0)))
+        ∙ led_first given events later agent t caller site ops actor among unmoved one there (start one.0) (may one.0)
+        ∙ sym (row_first given events later agent t caller site ops actor among unmoved one there))))
 
     pub unmet_where_votes : (job : EndedJob) → EndsThen given events later agent t caller site ops job
         → is_decided job.ending ≡ (all_met (demands_of_rows (fixed_of given) (run given events) (table_of given events) t caller ops) && is_up (run given events) (home_of (fixed_of given).service t))
@@ -157,3 +196,6 @@ unmet_end_by_votes given events later agent t caller site ops actor goes job end
 
 pub unmet_are_decided_where_votes_are : UnmetAreDecidedWhereVotesAre
 unmet_are_decided_where_votes_are given events later agent t caller site ops actor goes unmoved job ends = unmet_where_votes given events later agent t caller site ops actor goes unmoved job ends
+
+pub unmet_are_among_locks : UnmetAreAmongLocks
+unmet_are_among_locks given events later agent t caller site ops actor goes = unmet_is_among_locks given events later agent t caller site ops actor goes

@@ -1,9 +1,10 @@
--- A transaction that goes alone and sets votes: one suite after the other is widened to them.
+-- A transaction that sets votes: one suite after the other is widened to them.
 use Rattle.std.proofs.Common.{◌≡◌, inl, inr, ⊎_elim, ℕ, Bool, true, false, cond, List, [], ◌∷◌, ◌++◌, Option, Some, None, is_some, Ok, refl, sym, ap, subst, ◌∙◌}
 use Rattle.std.specs.Prelude.{◌==◌, not, map}
 use Rattle.std.proofs.lemmas.Bool.{false≢true}
 use Rattle.vote_core.specs.Quorums.{Configuration}
 use Rattle.suite_prefix.specs.declared.copies.Prefix.{Prefix}
+use Rattle.suite_prefix.specs.declared.lock_mode.LockMode.TheVariants.{Exclusive}
 use Rattle.rep_core.specs.declared.reply.Verdict.TheVariants as verdict
 use Rattle.file_ops.specs.Rows.{PlainTable}
 use Rattle.file_exec.specs.declared.changes.Change.{Change}
@@ -17,38 +18,38 @@ use Rattle.txn_core.specs.Transactions.{Step, short_cause, votes_then, widened, 
 use Rattle.txn_core.proofs.Gathers.{self, with_at, each_but, each_with}
 use Rattle.run_core.specs.Worlds.{World}
 use Rattle.law_run_recovers.specs.Demands.{is_met}
-use Rattle.law_run_recovers.proofs.Polled.{AllRight}
+use Rattle.law_run_recovers.proofs.Polled.{Sight, AllRight}
 use Rattle.law_run_recovers.proofs.Widened.{WidenedShort, widened_short, widened_current}
 use Rattle.law_run_recovers.proofs.VotesSet.{IsSet}
-use Rattle.law_run_recovers.proofs.Stands.{Ground, locks_on, of_votes, EndsRight, ends_short, short_votes, none_short, IsRight, had_met, starts, may_start, SameStart, had_with, HasAll, Sets, StepStands, told_stands, prepare_stands}
+use Rattle.law_run_recovers.proofs.Stands.{Ground, locks_on, of_votes, demand_of, EndsRight, ends_short, short_votes, none_short, IsRight, had_met, starts, may_start, SameStart, had_with, HasAll, Sets, StepStands, told_stands, prepare_stands}
 
 -- ---- a collector that is widened
 
-module _ (fixed : Fixed) (world : World) (answers : ℕ → Bool) (z : ℕ) (c : Collector) (w : Widening) (is : c.widening ≡ Some w) (right : AllRight fixed world answers z (all_told c)) where
-  right_since : AllRight fixed world answers z (w.told ++ c.told)
-  right_since = subst (λ o. AllRight fixed world answers z (told_since o ++ c.told)) is right
+module _ (fixed : Fixed) (world : World) (sight : Sight) (z : ℕ) (c : Collector) (w : Widening) (is : c.widening ≡ Some w) (right : AllRight fixed world sight z Exclusive (all_told c)) where
+  right_since : AllRight fixed world sight z Exclusive (w.told ++ c.told)
+  right_since = subst (λ o. AllRight fixed world sight z Exclusive (told_since o ++ c.told)) is right
 
-  pub by_short : (had wanting : ℕ) (busy : Option (ℕ × ℕ)) → next c ≡ Short had wanting busy → WidenedShort fixed world answers z w.votes had wanting busy
-  by_short had wanting busy short = widened_short fixed world answers z c w.votes w.told right_since had wanting busy (sym (ap (λ o. next (record c { widening = o })) is) ∙ short)
+  pub by_short : (had wanting : ℕ) (busy : Option (ℕ × ℕ)) → next c ≡ Short had wanting busy → WidenedShort fixed world sight z w.votes had wanting busy
+  by_short had wanting busy short = widened_short fixed world sight z c w.votes w.told right_since had wanting busy (sym (ap (λ o. next (record c { widening = o })) is) ∙ short)
 
-  pub by_current : (prefix : Prefix) (dver : ℕ) (members : List ℕ) → next c ≡ Current prefix dver members → is_met (of_votes answers (z, w.votes)) ≡ true
-  by_current prefix dver members current = widened_current fixed world answers z c w.votes w.told right_since prefix dver members (sym (ap (λ o. next (record c { widening = o })) is) ∙ current)
+  pub by_current : (prefix : Prefix) (dver : ℕ) (members : List ℕ) → next c ≡ Current prefix dver members → is_met (demand_of sight (of_votes (z, w.votes))) ≡ true
+  by_current prefix dver members current = widened_current fixed world sight z c w.votes w.told right_since prefix dver members (sym (ap (λ o. next (record c { widening = o })) is) ∙ current)
 
 -- ---- one suite after the other
 
 abbrev pub numbers : List (ℕ × Configuration) → List ℕ
 numbers sets = map (λ (one : ℕ × Configuration). one.0) sets
 
-module _ (fixed : Fixed) (world : World) (answers : ℕ → Bool) (table : PlainTable) (task : Task) (cache : Cache) where
+module _ (fixed : Fixed) (world : World) (sight : Sight) (table : PlainTable) (task : Task) (cache : Cache) where
   abbrev Setting : Suites → List (ℕ × Configuration) → List (ℕ × Configuration) → Granted → Type 0
-  Setting suites done left granted = Sets fixed world answers table task cache suites done left granted
+  Setting suites done left granted = Sets fixed world sight table task cache suites done left granted
 
-  pub sets_with : (suites : Suites) (number : ℕ) (new : Suite) (done left : List (ℕ × Configuration)) (granted : Granted) → Setting suites done left granted → IsRight fixed world answers table task cache number new
-      → SameStart fixed world answers table task cache suites number new → Setting (with_suite number new suites) done left granted
+  pub sets_with : (suites : Suites) (number : ℕ) (new : Suite) (done left : List (ℕ × Configuration)) (granted : Granted) → Setting suites done left granted → IsRight fixed world sight table task cache number new
+      → SameStart fixed world sight table task cache suites number new → Setting (with_suite number new suites) done left granted
   sets_with suites number new done left granted s right same = record {
-    right = each_with (IsRight fixed world answers table task cache) number suites new (each_but (IsRight fixed world answers table task cache) number suites s.right) right;
+    right = each_with (IsRight fixed world sight table task cache) number suites new (each_but (IsRight fixed world sight table task cache) number suites s.right) right;
     so_far = s.so_far;
-    had = λ one has. had_with fixed world answers table task cache suites number new one same (s.had one has);
+    had = λ one has. had_with fixed world sight table task cache suites number new one same (s.had one has);
     all = s.all;
     answer_is = s.answer_is;
     sets = s.sets;
@@ -64,7 +65,7 @@ module _ (fixed : Fixed) (world : World) (answers : ℕ → Bool) (table : Plain
       of one false some = some
 
   -- one more is met
-  pub sets_on : (suites : Suites) (done left : List (ℕ × Configuration)) (one : ℕ × Configuration) (granted : Granted) → Setting suites done (one ∷ left) granted → is_met (of_votes answers one) ≡ true → Setting suites (one ∷ done) left granted
+  pub sets_on : (suites : Suites) (done left : List (ℕ × Configuration)) (one : ℕ × Configuration) (granted : Granted) → Setting suites done (one ∷ left) granted → is_met (demand_of sight (of_votes one)) ≡ true → Setting suites (one ∷ done) left granted
   sets_on suites done left one granted s met = record {
     right = s.right;
     so_far = s.so_far;
@@ -72,7 +73,7 @@ module _ (fixed : Fixed) (world : World) (answers : ℕ → Bool) (table : Plain
     all = s.all;
     answer_is = s.answer_is;
     sets = s.sets;
-    met = λ other has. ⊎_elim (λ same. subst (λ one. is_met (of_votes answers one) ≡ true) same met) (s.met other) has;
+    met = λ other has. ⊎_elim (λ same. subst (λ one. is_met (demand_of sight (of_votes one)) ≡ true) same met) (s.met other) has;
     are_set = λ other has. s.are_set other (inr has);
     there = λ other has. s.there other (inr has);
     locked = λ other has. s.locked other (inr has);
@@ -80,30 +81,29 @@ module _ (fixed : Fixed) (world : World) (answers : ℕ → Bool) (table : Plain
   }
 
   -- all are
-  pub all_set : (suites : Suites) (done : List (ℕ × Configuration)) (granted : Granted) → Setting suites done [] granted → HasAll fixed world answers table task cache (Ok granted.answers)
+  pub all_set : (suites : Suites) (done : List (ℕ × Configuration)) (granted : Granted) → Setting suites done [] granted → HasAll fixed world sight table task cache (Ok granted.answers)
   all_set suites done granted s = record {
-    start = starts fixed world answers table task cache suites;
-    from = may_start fixed world answers table task cache suites s.right;
-    none = none_short fixed world answers table task cache (starts fixed world answers table task cache suites) s.so_far done s.all (λ other has. had_met fixed world answers table task cache suites other (s.had other has)) s.sets (λ other has. ap not (s.met other has));
+    start = starts fixed world sight table task cache suites;
+    from = may_start fixed world sight table task cache suites s.right;
+    none = none_short fixed world sight table task cache (starts fixed world sight table task cache suites) s.so_far done s.all (λ other has. had_met fixed world sight table task cache suites other (s.had other has)) s.sets (λ other has. ap not (s.met other has));
     answer_is = s.answer_is;
   }
 
   -- one is not
   pub set_short : (suites : Suites) (done left : List (ℕ × Configuration)) (one : ℕ × Configuration) (granted : Granted) → Setting suites done (one ∷ left) granted
-      → (had wanting : ℕ) (busy : Option (ℕ × ℕ)) → WidenedShort fixed world answers one.0 one.1 had wanting busy → EndsRight fixed world answers table task cache (Undecided (short_cause one.0 had wanting busy))
+      → (had wanting : ℕ) (busy : Option (ℕ × ℕ)) → WidenedShort fixed world sight one.0 one.1 had wanting busy → EndsRight fixed world sight table task cache (Undecided (short_cause one.0 had wanting busy))
   set_short suites done left one granted s had wanting busy short =
-      let start = starts fixed world answers table task cache suites in
-      subst (λ busy. EndsRight fixed world answers table task cache (Undecided (short_cause one.0 had wanting busy))) (sym short.not_busy)
-      (ends_short fixed world answers table task cache start (may_start fixed world answers table task cache suites s.right) (of_votes answers one)
-      (short_votes fixed world answers table task cache start s.so_far done left one s.all (λ other has. had_met fixed world answers table task cache suites other (s.had other has)) s.sets (λ other has. ap not (s.met other has)) (ap not short.too_few))
-      one.0 had wanting refl short.had_is short.wanting_is)
+      let start = starts fixed world sight table task cache suites in
+      ends_short fixed world sight table task cache start (may_start fixed world sight table task cache suites s.right) (of_votes one)
+      (short_votes fixed world sight table task cache start s.so_far done left one s.all (λ other has. had_met fixed world sight table task cache suites other (s.had other has)) s.sets (λ other has. ap not (s.met other has)) (ap not short.too_few))
+      one.0 had wanting busy refl short.had_is short.wanting_is short.refuses
 
-  module _ (Was : ℕ → Prefix → Type 0) (ground : Ground fixed world answers cache task.site (locks_on table task) Was) where
+  module _ (Was : ℕ → Prefix → Type 0) (ground : Ground fixed world sight cache task.site (locks_on table task) Was) where
     abbrev Good : Step → Type 0
-    Good step = StepStands fixed world answers table task cache Was ground step
+    Good step = StepStands fixed world sight table task cache Was ground step
 
     pub widen_stands : (later : List (ℕ × Configuration)) (now : Cache) (suites : Suites) (done : List (ℕ × Configuration)) (granted : Granted) → Setting suites done later granted → Good (widen_all task now suites granted (numbers later))
-    widen_stands [] now suites done granted s = prepare_stands fixed world answers table task cache Was ground now suites (Ok granted) (locked_at suites) (all_set suites done granted s)
+    widen_stands [] now suites done granted s = prepare_stands fixed world sight table task cache Was ground now suites (Ok granted) (locked_at suites) (all_set suites done granted s)
     widen_stands (one ∷ later) now suites done granted s = of (suite_of suites one.0) refl (s.there one (inl refl)) (λ suites s. widen_stands later now suites (one ∷ done) granted s)
       where
         go_on : Suites → Step
@@ -125,10 +125,10 @@ module _ (fixed : Fixed) (world : World) (answers : ℕ → Bool) (table : Plain
             is_by : (widened granted.changes one.0 suite).collector.widening ≡ Some (record { votes = one.1; told = told_since suite.collector.widening })
             is_by = ap (λ (found : Option Change). (widen (votes_then found suite.first suite.collector.start.votes) suite.collector).widening) set.is ∙ ap (λ votes. (widen votes suite.collector).widening) set.votes
 
-            right : IsRight fixed world answers table task cache one.0 (widened granted.changes one.0 suite)
+            right : IsRight fixed world sight table task cache one.0 (widened granted.changes one.0 suite)
             right = let was = s.right one.0 suite is in record { may = was.may; right = was.right }
 
-            same : SameStart fixed world answers table task cache suites one.0 (widened granted.changes one.0 suite)
+            same : SameStart fixed world sight table task cache suites one.0 (widened granted.changes one.0 suite)
             same old there = ap (λ (found : Option Suite). start_in found) (sym is ∙ there)
               where
                 start_in : Option Suite → Prefix
@@ -144,7 +144,7 @@ module _ (fixed : Fixed) (world : World) (answers : ℕ → Bool) (table : Plain
             by : (after : Next) → next (widened granted.changes one.0 suite).collector ≡ after → Good (widen_by task now more phase one.0 after go_on)
             by (Current prefix dver members) now' =
                 go more (sets_on more done later one granted sets
-                (by_current fixed world answers one.0 (widened granted.changes one.0 suite).collector (record { votes = one.1; told = told_since suite.collector.widening }) is_by right.right prefix dver members now'))
+                (by_current fixed world sight one.0 (widened granted.changes one.0 suite).collector (record { votes = one.1; told = told_since suite.collector.widening }) is_by right.right prefix dver members now'))
             by (Ask server asked) now' = (
               refl,
               record {
@@ -161,6 +161,6 @@ module _ (fixed : Fixed) (world : World) (answers : ℕ → Bool) (table : Plain
               },
             )
             by (Short had wanting busy) now' =
-                told_stands fixed world answers table task cache Was ground now more verdict.Aborted (Undecided (short_cause one.0 had wanting busy)) (locked_at more)
+                told_stands fixed world sight table task cache Was ground now more verdict.Aborted (Undecided (short_cause one.0 had wanting busy)) (locked_at more)
                 (set_short more done later one granted sets had wanting busy
-                (by_short fixed world answers one.0 (widened granted.changes one.0 suite).collector (record { votes = one.1; told = told_since suite.collector.widening }) is_by right.right had wanting busy now'))
+                (by_short fixed world sight one.0 (widened granted.changes one.0 suite).collector (record { votes = one.1; told = told_since suite.collector.widening }) is_by right.right had wanting busy now'))

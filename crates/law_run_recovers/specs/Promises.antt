@@ -5,6 +5,7 @@ use Rattle.run_core.specs.declared.event.Event.{Event}
 use Rattle.run_core.specs.Opened.{Opened}
 use Rattle.law_agents.specs.Sites.{RunsKeepToSites}
 use Rattle.law_agents.specs.Steps.{JobsEnd}
+use Rattle.law_headline.specs.Premises.{CanBe}
 use Rattle.law_headline.specs.Promises.{IsRunOf}
 use Rattle.law_run_alone.specs.Alone.{one_at_a_time}
 use Rattle.law_run_alone.specs.Endings.{EndAsTheTable, EndingsAreOne, UndisturbedEndingsAreOne}
@@ -12,6 +13,8 @@ use Rattle.law_run_alone.specs.Undisturbed.{NothingIsInTheWayAt, UndisturbedAreD
 use Rattle.law_run_recovers.specs.Laws.{EndsAreByVotesAt, EndsInTimeAt, MetDemandsAreRowsAt, DecidedWhereVotesAreAt, HomesGoRoundOf, OneOfThemIsDecidedAt, DecidedHadVotesUpAt}
 use Rattle.law_run_recovers.specs.InTime.{RunsEndByTheBoundsAt}
 use Rattle.law_run_recovers.specs.Local.{UnmetEndByVotesAt, UnmetEndInTimeAt, UnmetHadVotesUpAt, UnmetAreDecidedWhereVotesAreAt}
+use Rattle.law_run_recovers.specs.Among.{AmongLocksEndByVotesAt, AmongLocksEndInTimeAt, AmongLocksHadVotesOpenAt, AmongLocksAreDecidedWhereVotesAreAt}
+use Rattle.law_run_recovers.specs.Histories.{FinishedBeforeAtServerAt, ChangesAreMetAtServerAt}
 use Rattle.law_run_recovers.specs.Blocking.{BlockedByDoubtsAt, SomeServerBlocksAt, OneCrashBlocksAt}
 use Rattle.law_run_recovers.specs.Sweeping.{SweepsLeaveDoubtsAt, SweepsKeepEffectsAt, OnlyDoubtsAreLeftAt, NoLockIsLeftAt, AllIsStoredAt, TakenAwayAreNeverDecidedAt}
 
@@ -33,6 +36,15 @@ pub record IsAvailable (given : Opening) (events : List Event) : Type 0 where
   pub unmet_in_time : UnmetEndInTimeAt given events
   pub unmet_had_votes : UnmetHadVotesUpAt given events
   pub unmet_where_votes : UnmetAreDecidedWhereVotesAreAt given events
+  -- and one in whose way nothing comes or goes, by the votes that are open to it, whatever locks others left
+  pub among_ends : AmongLocksEndByVotesAt given events
+  pub among_in_time : AmongLocksEndInTimeAt given events
+  pub among_had_votes : AmongLocksHadVotesOpenAt given events
+  pub among_where_votes : AmongLocksAreDecidedWhereVotesAreAt given events
+  -- where a server served the Finish of one transaction before a request of another that is none, the first was decided before the second; so a change whose
+  -- Finish says that it was answered is met
+  pub finished : FinishedBeforeAtServerAt given events
+  pub changes_met : ChangesAreMetAtServerAt given events
   -- of as many jobs in a row of one agent as there are servers, each server is the home of one
   pub homes : HomesGoRoundOf given
   -- so one of as many tries of a transaction is decided, where some server is up and enough votes are, from wherever suites may be looked for
@@ -71,6 +83,10 @@ pub record IsAvailable (given : Opening) (events : List Event) : Type 0 where
   pub bounds : RunsEndByTheBoundsAt given events
   -- nothing is kept for sites that are not there, and events without sense change nothing
   pub sites : RunsKeepToSites
+
+-- After any events that there can be it is so.
+abbrev pub WhatCanBeIsAvailable : Type 0
+WhatCanBeIsAvailable = (given : Opening) (events : List Event) → CanBe given events → IsAvailable given events
 
 -- A world lends this of every list of events that made it, at each moment: after those of them that came before some later ones.
 abbrev pub Lends : Opened → Type 0

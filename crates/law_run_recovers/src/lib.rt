@@ -12,37 +12,46 @@
 //! - One that nobody meets so ends too, whatever others do elsewhere (`unmet_end_by_votes`,
 //!   `unmet_end_in_time`, `unmet_had_votes_up`, `unmet_are_decided_where_votes_are`); what goes alone is one
 //!   (`alone_are_unmet`). Its votes are those of the rows (`near_votes_are_rows`, `open_votes_are_rows`).
+//! - So does one among locks that others left, where what is in its way stays: by the votes that are open to it
+//!   (`among_locks_end_by_votes`, `among_locks_end_in_time`, `among_locks_had_votes_open`,
+//!   `among_locks_are_decided_where_votes_are`); what nobody meets is one (`unmet_are_among_locks`).
 //! - Homes go round. So where the votes are up, of as many tries as there are servers one is decided
 //!   (`homes_go_round`, `one_of_them_is_decided`).
 //! - Sweeps leave only locks in doubt, change no copy in effect, and with all servers up leave none
 //!   (`sweeps_leave_doubts`, `sweeps_keep_effects`, `only_doubts_are_left`, `no_lock_is_left`, `all_is_stored`).
 //! - After sweeps a suite is blocked by servers that are down and by locks in doubt, and by nothing else
 //!   (`blocked_by_doubts`, `some_server_blocks`, `one_crash_blocks`).
+//! - What one server served first was decided first: the Finish of one transaction, then a request of another
+//!   (`finished_before_at_server`, `changes_are_met_at_server`).
 //! - Each job that ended in a run took steps within its bound, with no premise (`runs_end_by_the_bounds`).
 //! - A transaction whose lock was taken away is never decided (`taken_away_are_never_decided`).
-//! - `promise` lends all this of a world. In `some_runs_recover` it says something.
+//! - `promise` lends all this of a world, and `what_can_be_is_available` of any events that there can be. In
+//!   `some_runs_recover` it says something.
 //! - Not promised: that of transactions that meet one is decided (`some_runs_starve`).
 //!
 //! **The caller owes** to `promise` a world that some events made of accepted settings (`IsOfRun`).
 //!
 //! **Files**: `lib`, `promises`. **Definitions** (`specs/`): `Standing`, `Alone`, `Demands`, `InTime`, `Laws`,
-//! `Sweeping`, `Promises`, `Worked`, `Near`, `Unmet`, `OpenDemands`, `Local`, `Blocking`, `Contending`. The
-//! proofs follow a transaction over its agent's steps (`proofs/Ends.antt`, `Stands.antt`, `Asking.antt`; where
-//! others go on `UnmetCourse.antt`, `UnmetEnds.antt`) and a sweep by its list (`Sweeps.antt`, `Swept.antt`,
-//! `Rounds.antt`).
+//! `Sweeping`, `Promises`, `Worked`, `Near`, `Unmet`, `OpenDemands`, `Local`, `Among`, `Histories`, `Blocking`,
+//! `Contending`.
+//! The proofs follow a transaction over its agent's steps (`proofs/Ends.antt`, `Stands.antt`, `Asking.antt`; where
+//! others go on `AmongCourse.antt`, `AmongStep.antt`, `AmongEnds.antt`) and a sweep by its list (`Sweeps.antt`,
+//! `Swept.antt`, `Rounds.antt`).
 #![tactic(auto)]
 
 mod promises;
 
 ghost use Rattle.law_run_recovers.specs.Laws.{EndsAreByVotes, EndsInTime, MetDemandsAreRows, DecidedWhereVotesAre, HomesGoRound, OneOfThemIsDecided, DecidedHadVotesUp};
 ghost use Rattle.law_run_recovers.specs.Local.{AloneAreUnmet, NearVotesAreRows, OpenVotesAreRows, UnmetAreDecidedWhereVotesAre, UnmetEndByVotes, UnmetEndInTime, UnmetHadVotesUp};
+ghost use Rattle.law_run_recovers.specs.Among.{UnmetAreAmongLocks, AmongLocksEndByVotes, AmongLocksEndInTime, AmongLocksHadVotesOpen, AmongLocksAreDecidedWhereVotesAre};
+ghost use Rattle.law_run_recovers.specs.Histories.{FinishedBeforeAtServer, ChangesAreMetAtServer};
 ghost use Rattle.law_run_recovers.specs.InTime.{RunsEndByTheBounds};
 ghost use Rattle.law_run_recovers.specs.Sweeping.{SweepsLeaveDoubts, SweepsKeepEffects, OnlyDoubtsAreLeft, NoLockIsLeft, AllIsStored, TakenAwayAreNeverDecided};
 ghost use Rattle.law_run_recovers.specs.Worked.{SomeRunsRecover};
 ghost use Rattle.law_run_recovers.specs.Blocking.{BlockedByDoubts, SomeServerBlocks, OneCrashBlocks};
 ghost use Rattle.law_run_recovers.specs.Contending.{SomeRunsStarve};
 
-pub use promises::promise;
+pub use promises::{promise, what_can_be_is_available};
 
 /// A law: a transaction that begins where no server that is up has a lock, and that nobody hinders, ends as the votes say
 /// that are up: where a suite has too few of them, with the first such and its numbers; else, where its home is down, with
@@ -119,10 +128,53 @@ pub fn unmet_are_decided_where_votes_are()
     ensures { UnmetAreDecidedWhereVotesAre }
 {}
 
+/// A law: a transaction that nobody meets goes among locks none of which is in its way: what is promised to one that goes
+/// among locks that stay is promised to it. It does nothing.
+pub fn unmet_are_among_locks()
+    ensures { UnmetAreAmongLocks }
+{}
+
+/// A law: a transaction in whose way nothing comes or goes at servers that it may ask ends as the votes say that are open to
+/// it when it begins: where too few are, with their numbers where no voting member has a lock in its way, or with one that
+/// has; else as its home and the table say. It does nothing.
+pub fn among_locks_end_by_votes()
+    ensures { AmongLocksEndByVotes }
+{}
+
+/// A law: and it ends, within so many steps of its agent as its locks and the servers bound. It does nothing.
+pub fn among_locks_end_in_time()
+    ensures { AmongLocksEndInTime }
+{}
+
+/// A law: and it is decided only where its home was up as it began, and the votes of the rows of all that it locks and sets
+/// were open to it. It does nothing.
+pub fn among_locks_had_votes_open()
+    ensures { AmongLocksHadVotesOpen }
+{}
+
+/// A law: and where the votes of what it asks for were never moved, it is decided exactly where its home is up and the votes
+/// of the rows are open to it. It does nothing.
+pub fn among_locks_are_decided_where_votes_are()
+    ensures { AmongLocksAreDecidedWhereVotesAre }
+{}
+
 /// A law: where votes were never moved, such a transaction is decided exactly where its home and the votes of the rows are
 /// up. It does nothing.
 pub fn decided_where_votes_are()
     ensures { DecidedWhereVotesAre }
+{}
+
+/// A law: where one server served the Finish of a transaction before a request of another that is none, as its Decide, the
+/// first was decided before the second. With a lock round each request of a server, before is so by the clock. It does
+/// nothing.
+pub fn finished_before_at_server()
+    ensures { FinishedBeforeAtServer }
+{}
+
+/// A law: so a change whose Finish a server served, which says that it was answered, is met by each transaction that asks
+/// that server something later. It does nothing.
+pub fn changes_are_met_at_server()
+    ensures { ChangesAreMetAtServer }
 {}
 
 /// A law: of as many jobs of an agent in a row as there are servers one has each server as its home. It does nothing.

@@ -1,7 +1,7 @@
 //! What a world lends of what is available.
 
 ghost use Rattle.law_headline.specs.Promises.{IsOfRun};
-ghost use Rattle.law_run_recovers.specs.Promises.{Lends};
+ghost use Rattle.law_run_recovers.specs.Promises.{Lends, WhatCanBeIsAvailable};
 
 use law_agents::runs_keep_to_sites;
 use run_core::World;
@@ -11,6 +11,13 @@ use run_core::World;
 pub fn promise(world: &World)
     requires { IsOfRun world.now }
     ensures { Lends world.now }
+{
+    runs_keep_to_sites();
+}
+
+/// A law: all that `promise` lends of a world is so after any events that there can be, whoever made them. It does nothing.
+pub fn what_can_be_is_available()
+    ensures { WhatCanBeIsAvailable }
 {
     runs_keep_to_sites();
 }

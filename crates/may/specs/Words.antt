@@ -7,8 +7,8 @@ use Rattle.acl_core.specs.Permissions.{digit_of}
 use Rattle.acl_core.specs.declared.entry.Entry.{Entry}
 use Rattle.acl_core.specs.declared.entry.Tag.TheVariants.{Other}
 use Rattle.acl_core.specs.declared.perms.Perms.{Perms}
-use Rattle.acl_text.specs.Callers.{max_id}
 use Rattle.acl_text.specs.Callers as callers
+use Rattle.acl_text.specs.Qualifiers.{max_id}
 use Rattle.acl_text.specs.Sides.{lists_of}
 use Rattle.acl_text.specs.Tables.{Tables}
 use Rattle.acl_text.specs.Texts.{fault, said_in}

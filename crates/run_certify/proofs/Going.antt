@@ -1,5 +1,5 @@
 -- One item after another, one entry after another, to the end.
-use Rattle.std.proofs.Common.{◌≡◌, ◌≢◌, ◌⊎◌, ⊎_elim, inl, inr, ℕ, zero, suc, ◌+◌, ◌<◌, ◌≤◌, false, true≢false, List, [], ◌∷◌, ◌++◌, length, slice_set, subst, refl, ap, ◌∙◌, sym, arith}
+use Rattle.std.proofs.Common.{◌≡◌, ◌≢◌, ◌⊎◌, ⊎_elim, inl, inr, ℕ, zero, suc, ◌+◌, ◌<◌, ◌≤◌, true, false, true≢false, List, [], ◌∷◌, ◌++◌, length, slice_set, subst, refl, ap, ◌∙◌, sym, arith}
 use Rattle.std.specs.Prelude.{slice_index_or, Option, Some, None, Result, Err}
 use Rattle.suite_prefix.specs.SettingsRules.{Opening, IsAccepted}
 use Rattle.txn_core.specs.Doing.{Fixed}
@@ -15,6 +15,7 @@ use Rattle.run_certify.specs.declared.entry.Entry.{Entry}
 use Rattle.run_certify.specs.declared.entry.Entry.TheVariants.{Asked, Begun, Ended, Forgot, Lacked}
 use Rattle.run_certify.specs.Certified.{IsCertified, IsCertifiedAs}
 use Rattle.run_certify.specs.Deciding.{AreCounted, IsPlayed}
+use Rattle.run_certify.specs.Fulls.{can_all_be_told}
 use Rattle.run_certify.specs.Merges.{ItemAt, IsMerge}
 use Rattle.run_certify.specs.Shown.{item_by, served_as}
 use Rattle.run_certify.specs.Weaves.{transcript_of, weave}
@@ -240,17 +241,17 @@ module _ (given : Opening) (histories : List (List Item)) (transcripts : List (L
         left = to_start ds (record { items = certified.items; merge = certified.merge; run = certified.run; is = refl });
       }
 
-  certified_by : (total : List Decided) → IsOfRun start [] total → IsCertifiedAs given histories transcripts total
-  certified_by total run =
+  certified_by : (total : List Decided) → can_all_be_told histories transcripts ≡ true → IsOfRun start [] total → IsCertifiedAs given histories transcripts total
+  certified_by total full run =
       let left = from_start run.later run.left in
       record {
-        certified = record { items = left.items; merge = left.merge; run = left.run };
+        certified = record { items = left.items; merge = left.merge; run = left.run; full = full };
         decided = run.parts ∙ ap (λ made. made ++ run.later) is.made ∙ left.is;
       }
 
-  pub walked_to_end : (mid end : Walked) → IsAccepted given → Goes start [] mid [] → Goes mid [] end [] → AreAllPlayed end.histories → ((agent : ℕ) → transcript_of end.unused agent ≡ []) → IsCertifiedAs given histories transcripts end.made
-  walked_to_end mid end accepted one two played used =
-      certified_by end.made ((goes_further start mid end [] [] [] one two).back (start_sound accepted) end.made (nothing_left end played used))
+  pub walked_to_end : (mid end : Walked) → can_all_be_told histories transcripts ≡ true → IsAccepted given → Goes start [] mid [] → Goes mid [] end [] → AreAllPlayed end.histories → ((agent : ℕ) → transcript_of end.unused agent ≡ []) → IsCertifiedAs given histories transcripts end.made
+  walked_to_end mid end full accepted one two played used =
+      certified_by end.made full ((goes_further start mid end [] [] [] one two).back (start_sound accepted) end.made (nothing_left end played used))
 
   pub walked_no_further : IsAccepted given → Fails start [] → ¬ (IsCertified given histories transcripts)
   walked_no_further accepted fails certified = fails (start_sound accepted) (decisions given (weave certified.items transcripts)) (of_run certified)

@@ -12,6 +12,7 @@ pub mod Deciding
 pub mod Lengths
 pub mod Promised
 pub mod Facts
+pub mod Fullness
 pub mod Counted
 pub mod Equal
 pub mod Operating

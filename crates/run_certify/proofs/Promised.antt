@@ -5,7 +5,7 @@ use Rattle.suite_prefix.specs.SettingsRules.{IsAccepted, Opening}
 use Rattle.rep_core.specs.declared.request.Request.{Request}
 use Rattle.rep_core.specs.declared.request.Request.TheVariants as request
 use Rattle.server_lock.specs.declared.item.Item.{Item}
-use Rattle.law_headline.specs.Premises.{VotesAreValid}
+use Rattle.law_headline.specs.Premises.{CanBe, VotesAreValid}
 use Rattle.law_headline.proofs.Promised.{both, front, promised}
 use Rattle.run_certify.specs.declared.entry.Entry.{Entry}
 use Rattle.run_certify.specs.declared.entry.Entry.TheVariants.{Asked, Begun, Ended, Forgot, Lacked}
@@ -80,4 +80,5 @@ weave_valid (one ∷ items) unused valid =
 
 pub certified_is_promised : (given : Opening) → IsAccepted given → IsValid given.c0 → (histories : List (List Item)) (transcripts : List (List Entry)) → AllBegunAreValid transcripts → CertifiedIsPromised given histories transcripts
 certified_is_promised given accepted c0 histories transcripts valid certified before later is =
-    promised given before (front given before later (record { accepted = accepted; c0 = c0; votes = subst VotesAreValid is (weave_valid certified.items transcripts valid) }))
+    let can : CanBe given before = front given before later (record { accepted = accepted; c0 = c0; votes = subst VotesAreValid is (weave_valid certified.items transcripts valid) }) in
+    (can, promised given before can)

@@ -4,3 +4,4 @@ pub mod Uses
 pub mod Turns
 pub mod ValidVotes
 pub mod Walks
+pub mod Lacking

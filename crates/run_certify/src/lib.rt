@@ -8,7 +8,8 @@
 //! and then by servers, each server's in its own order (`Merges`). A history whose stamps fall has none. The
 //! **weave** makes events of the merge and the transcripts; no request, reply or outcome is in them (`Weaves`).
 //! **What a run shows** is the way back: which items are served, and what each agent puts down (`Shown`). Certified
-//! is where the woven events have sense and show just these items and transcripts (`IsCertified`).
+//! is where the woven events have sense and show just these items and transcripts, and where a server that was told to
+//! be full can have been (`Fulls`, `IsCertified`).
 //!
 //! **The caller owes** nothing: what is no run is refused.
 //!
@@ -16,10 +17,10 @@
 //! next item, the least of at most 32 heads. It compares what the world serves with that item, and the ends of jobs
 //! with the entries. Nothing is sorted, and no event is gathered.
 //!
-//! **Files**: `entry` (transcripts), `decided`, `fault`, `heads`, `unused`, `operator`, `sense`, `votes`, `same`,
-//! `begun`, `verdicts`, `walk`, `judging`.
+//! **Files**: `entry` (transcripts), `decided`, `fault`, `fulls`, `heads`, `unused`, `operator`, `sense`, `votes`,
+//! `same`, `begun`, `verdicts`, `walk`, `judging`.
 //!
-//! **Definitions** (`specs/`): `Merges`, `Weaves`, `Shown`, `Certified`, `Deciding`, `Promised`.
+//! **Definitions** (`specs/`): `Merges`, `Weaves`, `Shown`, `Fulls`, `Certified`, `Deciding`, `Promised`.
 //! `docs/HEADLINE.md`, "The certified run", has what a reader must believe.
 #![tactic(auto)]
 
@@ -27,6 +28,7 @@ mod begun;
 mod decided;
 mod entry;
 mod fault;
+mod fulls;
 mod heads;
 mod judging;
 mod operator;

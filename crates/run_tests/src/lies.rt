@@ -282,3 +282,22 @@ fn other_lies(rt: HostRuntime) {
         found_out(&rt, &settings, test_cluster, about);
     }
 }
+
+/// A list that was told, before its last step, that a server lacked something, and ended so.
+fn lacked(rt: &(impl Abort + AllocGlobal), settings: &Settings, what: &str) -> TestCluster {
+    let mut test_cluster = opened(rt, settings);
+    play(rt, &mut test_cluster, "begin 0 list /,step 0");
+    play(rt, &mut test_cluster, what);
+    play(rt, &mut test_cluster, "run 0");
+    test_cluster
+}
+
+/// Memory may have run out at any time. But no server is full that was asked for so little.
+#[test]
+fn a_server_was_not_full(rt: HostRuntime) {
+    let settings = settings(&rt, 2);
+    let test_cluster = lacked(&rt, &settings, "lack 0");
+    same(&rt, &judged(&rt, &settings, test_cluster), "", "no memory");
+    let test_cluster = lacked(&rt, &settings, "full 0");
+    found_out(&rt, &settings, test_cluster, "a full server");
+}

@@ -14,7 +14,7 @@ use Rattle.run_core.specs.declared.done.EndedJob.{EndedJob}
 use Rattle.run_core.specs.Worlds.{World, step}
 use Rattle.run_core.specs.Runs.{after, dones, outcomes}
 use Rattle.run_core.proofs.Appending.{dones-append, outcomes-append}
-use Rattle.law_headline.specs.Premises.{VotesAreValid}
+use Rattle.law_headline.specs.Premises.{CanBe, VotesAreValid}
 use Rattle.law_headline.specs.Promises.{IsPromised}
 use Rattle.law_headline.proofs.Promised.{front, promised}
 use Rattle.suite_script.specs.declared.fault.ScriptFault.{ScriptFault}
@@ -113,5 +113,5 @@ play_promised text given rest read accepted c0 script is before later events =
     let left = owns (language given) rest in
     let so : scripted given left ≡ Ok script = sym (ap (script_of language) read) ∙ is in
     let valid = subst (λ (left : Result (List Command) ScriptFault). IfOk left (λ lines. VotesAreValid (events_of lines))) (lines_are given left script so) (valid_lines given rest) in
-    subst (λ (given : Opening). IsPromised given before) (header_is given left script so)
-    (promised given before (front given before later (record { accepted = accepted; c0 = c0; votes = subst VotesAreValid events valid })))
+    let can : CanBe given before = front given before later (record { accepted = accepted; c0 = c0; votes = subst VotesAreValid events valid }) in
+    subst (λ (given : Opening). CanBe given before × IsPromised given before) (header_is given left script so) (can, promised given before can)

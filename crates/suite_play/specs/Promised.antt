@@ -7,6 +7,7 @@ use Rattle.run_core.specs.declared.event.Event as happening
 use Rattle.run_core.specs.declared.event.Event.TheVariants.{Step}
 use Rattle.run_core.specs.Worlds.{World, audit_of}
 use Rattle.run_core.specs.Runs.{after, dones, outcomes}
+use Rattle.law_headline.specs.Premises.{CanBe}
 use Rattle.law_headline.specs.Promises.{IsPromised}
 use Rattle.suite_script.specs.Scripts.{Script}
 use Rattle.suite_play.specs.declared.command.Command.{Command}
@@ -47,8 +48,9 @@ pub record LinesAreEvents : Type 0 where
   pub lines : (fixed : Fixed) (world : World) (lines : List Command) → list_all (λ line. not (is_audit line)) lines ≡ true
       → all_lines fixed world lines ≡ flat_map outcome_line (outcomes (dones fixed world (events_of lines)))
 
--- What is played is promised, of a script as it reads: at each moment of the run of its events.
+-- What is played is promised, of a script as it reads: at each moment of the run of its events. That is a run that there can be, of which each law of
+-- the runs that there can be speaks.
 abbrev pub PlayIsPromised : List ℕ → Type 0
 PlayIsPromised text =
     (script : Script Opening Command) → script_in text ≡ Ok script
-    → (before later : List happening.Event) → events_of script.owns ≡ before ++ later → IsPromised script.header before
+    → (before later : List happening.Event) → events_of script.owns ≡ before ++ later → CanBe script.header before × IsPromised script.header before

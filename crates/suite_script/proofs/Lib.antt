@@ -7,3 +7,4 @@ pub mod Playing
 pub mod Seen
 pub mod ValidVotes
 pub mod ValidOperations
+pub mod Agreeing

@@ -1,7 +1,7 @@
 -- A script that is played line by line: nothing is written until it is known to have no fault, and then in pieces.
 use Rattle.std.proofs.Common.{◌≡◌, ◌+◌, ℕ, Bool, true, false, List, [], ◌++◌, Option, Result, Ok, Err, refl, ◌∙◌, ap, sym, subst}
 use Rattle.std.proofs.lemmas.Bool.{false≢true}
-use Rattle.byte_streams.specs.Streams.{Adds, one_more}
+use Rattle.byte_streams.specs.Streams.{Adds}
 use Rattle.suite_script.proofs.Gathering.{broke_off, prints_on, stops, wrote_all, wrote_nothing}
 use Rattle.suite_script.proofs.Playing.{ends, found_left, goes_on, headless, left_lines, moved_on, still_done}
 use Rattle.suite_script.specs.Gathering.{Plays, Prints, Wrote, WroteSoFar, comes_to}

@@ -18,8 +18,8 @@ use Rattle.suite_script.specs.Votes.{votes_in}
 use Rattle.suite_script.specs.Words.{Taken, Word, at_end, word}
 use Rattle.suite_script.specs.declared.fault.LineFault.{LineFault}
 use Rattle.suite_script.specs.declared.fault.LineFault.TheVariants.{Form}
-use Rattle.suite_script.specs.declared.operation.Verb.{Verb}
-use Rattle.suite_script.specs.declared.operation.Verb.TheVariants as verb
+use Rattle.suite_script.specs.declared.verb.Verb.{Verb}
+use Rattle.suite_script.specs.declared.verb.Verb.TheVariants as verb
 
 -- ---- one reading after another
 

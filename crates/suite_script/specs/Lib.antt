@@ -11,3 +11,5 @@ pub mod Outputs
 pub mod Gathering
 pub mod code
 pub mod Playing
+pub mod Forms
+pub mod Misfits

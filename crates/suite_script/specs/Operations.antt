@@ -20,8 +20,8 @@ use Rattle.file_ops.specs.Transactions.{max_operations, transaction}
 use Rattle.acl_core.specs.Identity.{Identity}
 use Rattle.suite_script.specs.declared.fault.LineFault.{LineFault}
 use Rattle.suite_script.specs.declared.fault.LineFault.TheVariants.{Form}
-use Rattle.suite_script.specs.declared.operation.Verb.{Verb}
-use Rattle.suite_script.specs.declared.operation.Verb.TheVariants as verb
+use Rattle.suite_script.specs.declared.verb.Verb.{Verb}
+use Rattle.suite_script.specs.declared.verb.Verb.TheVariants as verb
 use Rattle.suite_script.specs.Words.{Word, Taken, word, at_end}
 use Rattle.suite_script.specs.Lists.{acl, init}
 use Rattle.suite_script.specs.Votes.{votes_in}

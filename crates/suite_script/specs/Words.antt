@@ -2,6 +2,7 @@
 use Rattle.std.specs.Prelude.{ℕ, List, [], ◌∷◌, Result, Ok, Err}
 use Rattle.acl_core.specs.Identity.{Identity}
 use Rattle.acl_text.specs.Callers as callers
+use Rattle.acl_text.specs.Qualifiers as qualifiers
 use Rattle.script_text.specs.Numbers.{number_up_to}
 use Rattle.file_ops.specs.Steps.{◌>>=◌, found_or}
 use Rattle.suite_script.specs.declared.fault.LineFault.{LineFault}
@@ -34,7 +35,7 @@ number limit words = do
 
 -- the number of a user or a group
 abbrev pub max_id : ℕ
-max_id = callers.max_id
+max_id = qualifiers.max_id
 
 abbrev pub id : List Word → Result (Taken ℕ) LineFault
 id words = number max_id words

@@ -30,7 +30,8 @@ fn push_fault(text: &mut Vec<u8>, fault: ScriptFault) -> Result<(), AllocError>
     text.extend_from_slice(b"\n")
 }
 
-fn push_line_code(text: &mut Vec<u8>, fault: LineFault) -> Result<(), AllocError>
+/// Adds the code of what is wrong with a line.
+pub fn push_line_code(text: &mut Vec<u8>, fault: LineFault) -> Result<(), AllocError>
     ensures { OnOk result (text.new.items ≡ text.old.items ++ code_of fault) }
 {
     match fault {

@@ -4,11 +4,12 @@ ghost use Rattle.std.specs.Prelude.{◌≡◌, ◌+◌, ◌≤◌, ◌∷◌, �
 ghost use Rattle.file_ops.specs.Steps.{ok_map};
 ghost use Rattle.file_ops.specs.Transactions.{max_operations};
 ghost use Rattle.std.specs.Result.{result_map_both};
-ghost use Rattle.suite_script.specs.Operations.{FirstAreEnough, act, make, operation, operations, verb_in};
+ghost use Rattle.suite_script.specs.Operations.{FirstAreEnough, act, make, operation, operations};
 ghost use Rattle.suite_script.specs.Readings.{Gives, Reads};
 ghost use Rattle.suite_script.specs.code.Kept.{kept};
 
 use crate::fault::{LineError, LineFault};
+use crate::verb::Verb;
 use crate::votes::read_votes;
 use crate::word::{read_bytes, read_init, read_lists};
 use acl_text::Names;
@@ -17,41 +18,6 @@ use script_text::{Phrases, Words};
 use std::alloc::{AllocError, Global};
 use suite_content::Kind;
 use vote_core::MAX_SERVERS;
-
-/// The words that begin an operation.
-#[derive(Clone, Copy, PartialEq, Eq, Debug)]
-pub(crate) enum Verb {
-    Read,
-    Write,
-    List,
-    File,
-    Folder,
-    Drop,
-    GetAcl,
-    SetAcl,
-    GetVotes,
-    SetVotes,
-}
-
-impl Verb {
-    fn of(word: &[u8]) -> Option<Verb>
-        ensures { result ≡ verb_in word.now }
-    {
-        match word {
-            b"read" => Some(Verb::Read),
-            b"write" => Some(Verb::Write),
-            b"list" => Some(Verb::List),
-            b"file" => Some(Verb::File),
-            b"folder" => Some(Verb::Folder),
-            b"drop" => Some(Verb::Drop),
-            b"getacl" => Some(Verb::GetAcl),
-            b"setacl" => Some(Verb::SetAcl),
-            b"getvotes" => Some(Verb::GetVotes),
-            b"setvotes" => Some(Verb::SetVotes),
-            _ => None,
-        }
-    }
-}
 
 /// The operations of the words that are left, with a semicolon between each two. Only the first are kept, one more
 /// than a transaction may have, which make the same transaction as all; all are read for their faults.

@@ -1,10 +1,11 @@
-use Rattle.std.proofs.Common.{◌≡◌, List, [], sym, subst}
+use Rattle.std.proofs.Common.{rules, ◌≡◌, true, List, [], sym, subst}
 use Rattle.std.proofs.lemmas.Result.{err_from_is_err_and}
 use Rattle.run_core.specs.Decisions.{Decided}
 use Rattle.server_lock.specs.declared.item.Item.{Item}
 use Rattle.run_certify.specs.declared.entry.Entry.{Entry}
 use Rattle.run_certify.specs.declared.fault.CertifyFault.TheVariants.{Mismatch}
 use Rattle.run_certify.specs.Certified.{IsCertifiedAs}
+use Rattle.run_certify.specs.Fulls.{can_all_be_told}
 use Rattle.run_certify.specs.code.Firsts.{AreAllPlayed}
 use Rattle.run_certify.specs.code.ValidVotes.{AllBegunAreValid}
 use Rattle.run_certify.specs.code.Walks.{IsStart, Walked}
@@ -22,7 +23,7 @@ returns-in_err-items-clause-mismatch c =
     let s = c.args.settings.now in
     let hs = c.args.histories.now in
     let ts = c.args.transcripts.now in
-    let start = started s c.as_slice-2.result.now hs c.as_slice-3.result.now ts c.in_ok-walk.walk c.as_slice-2.ensures c.as_slice-3.ensures c.in_ok-walk.ensures in
+    let start = started s c.as_slice-histories.result.now hs c.as_slice-transcripts.result.now ts c.in_ok-walk.walk c.as_slice-histories.ensures c.as_slice-transcripts.ensures c.in_ok-walk.ensures in
     let p = err_from_is_err_and c.from_residual-in_err-items.result c.from_residual-in_err-items.ensures.1 in
     rw (p.1, p.2) (λ is. walked_no_further s hs ts c.in_ok-walk.walk start c.fits.ensures.accepted (c.in_err-items.ensures.mismatch (told_on c.in_err-items.field-0.0 Mismatch is)))
 
@@ -31,7 +32,7 @@ returns-in_err-rest-clause-mismatch c =
     let s = c.args.settings.now in
     let hs = c.args.histories.now in
     let ts = c.args.transcripts.now in
-    let start = started s c.as_slice-2.result.now hs c.as_slice-3.result.now ts c.in_ok-walk.walk c.as_slice-2.ensures c.as_slice-3.ensures c.in_ok-walk.ensures in
+    let start = started s c.as_slice-histories.result.now hs c.as_slice-transcripts.result.now ts c.in_ok-walk.walk c.as_slice-histories.ensures c.as_slice-transcripts.ensures c.in_ok-walk.ensures in
     let p = err_from_is_err_and c.from_residual-in_err-rest.result c.from_residual-in_err-rest.ensures.1 in
     rw (p.1, p.2) (λ is. walked_no_further s hs ts c.in_ok-walk.walk start c.fits.ensures.accepted (fails_further c.in_ok-walk.walk c.items.new.self [] [] c.in_ok-items.ensures.ok (c.in_err-rest.ensures.mismatch (told_on c.in_err-rest.field-0.0 Mismatch is))))
 
@@ -40,11 +41,12 @@ returns-clause-certified c =
     let s = c.args.settings.now in
     let hs = c.args.histories.now in
     let ts = c.args.transcripts.now in
-    let start = started s c.as_slice-2.result.now hs c.as_slice-3.result.now ts c.in_ok-walk.walk c.as_slice-2.ensures c.as_slice-3.ensures c.in_ok-walk.ensures in
+    let start = started s c.as_slice-histories.result.now hs c.as_slice-transcripts.result.now ts c.in_ok-walk.walk c.as_slice-histories.ensures c.as_slice-transcripts.ensures c.in_ok-walk.ensures in
+    let full : can_all_be_told hs ts ≡ true = search rules in
     subst (λ (ds : List Decided). IsCertifiedAs s hs ts ds) (sym c.into_decided.ensures)
-    (walked_to_end s hs ts c.in_ok-walk.walk start c.items.new.self c.rest.new.self c.fits.ensures.accepted c.in_ok-items.ensures.ok c.in_ok-rest.ensures.ok
+    (walked_to_end s hs ts c.in_ok-walk.walk start c.items.new.self c.rest.new.self full c.fits.ensures.accepted c.in_ok-items.ensures.ok c.in_ok-rest.ensures.ok
     (subst AreAllPlayed (sym c.in_ok-rest.ensures.histories) c.in_ok-items.ensures.played) c.in_ok-rest.ensures.used)
 
 pub returns-clause-promised : goal.returns-clause-promised
 returns-clause-promised c =
-    certified_is_promised c.args.settings.now c.fits.ensures.accepted c.fits.ensures.root.votes c.args.histories.now c.args.transcripts.now (subst AllBegunAreValid c.as_slice.ensures c.begun_are_valid.ensures)
+    certified_is_promised c.args.settings.now c.fits.ensures.accepted c.fits.ensures.root.votes c.args.histories.now c.args.transcripts.now (subst AllBegunAreValid c.as_slice-transcripts.ensures c.begun_are_valid.ensures)

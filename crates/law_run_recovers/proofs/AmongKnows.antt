@@ -1,4 +1,4 @@
--- What a transaction that nobody meets knows after a step of it is so on the table of its begin, whatever others have decided since.
+-- What a transaction that goes among locks that stay knows after a step of it is so on the table of its begin, whatever others have decided since.
 use Rattle.std.proofs.Common.{◌≡◌, ◌≢◌, ℕ, Bool, true, false, List, [], ◌∷◌, ◌++◌, append_assoc, Option, Some, None, refl, sym, ap, subst, ◌∙◌}
 use Rattle.std.specs.Prelude.{◌==◌, unwrap_or, Contains}
 use Rattle.std.specs.Ordering.{nat_cmp}
@@ -47,23 +47,24 @@ use Rattle.law_run_alone.proofs.Named.{no_record}
 use Rattle.law_run_alone.proofs.Standing.{Stands}
 use Rattle.law_run_alone.proofs.Unhindered.{all_consistent}
 use Rattle.law_run_alone.proofs.Unswept.{is_resolve}
-use Rattle.law_run_recovers.specs.Standing.{up_in, is_up, locks_in, locks_at}
-use Rattle.law_run_recovers.specs.Near.{asks_for, is_way_met, way_in}
-use Rattle.law_run_recovers.specs.Unmet.{runs, running_in, is_running, begun_world, world_after, GoesUnmet}
+use Rattle.law_run_recovers.specs.Standing.{locks_in, locks_at}
+use Rattle.law_run_recovers.specs.Near.{asks_for, is_open_way, is_open_at, way_in}
+use Rattle.law_run_recovers.specs.Unmet.{runs, running_in, is_running, begun_world, world_after}
+use Rattle.law_run_recovers.specs.Among.{GoesAmongLocks}
 use Rattle.law_run_recovers.proofs.AsBegun.{row_same, stored_effect}
 use Rattle.law_run_recovers.proofs.Asking.{known_if_first, known_in, known_is}
 use Rattle.law_run_recovers.proofs.AtWork.{locks_stand, stands_next}
 use Rattle.law_run_recovers.proofs.Keeps.{IsAtWork, after_append, run_at, open_stands, same_next}
 use Rattle.law_run_recovers.proofs.Knew.{unrecorded_on, unanswered, knows_registers, knows_table}
-use Rattle.law_run_recovers.proofs.NearGround.{its, answers, can_first, asked_in, near_open}
-use Rattle.law_run_recovers.proofs.Open.{open_first, unmet_is_among_locks, near_among}
-use Rattle.law_run_recovers.proofs.Serves.{Was}
+use Rattle.law_run_recovers.proofs.NearGround.{its, opens, first_asked, can_first, asked_in, first_there}
+use Rattle.law_run_recovers.proofs.Serves.{On}
+use Rattle.law_run_recovers.proofs.Stand.{free_where}
 use Rattle.law_run_recovers.proofs.Stands.{asks_of, locks_on}
 use Rattle.law_run_recovers.proofs.Took.{OwnTook}
-use Rattle.law_run_recovers.proofs.UnmetAt.{clear_lock, IsSpared, HasWhereAnswered, can_so_far}
+use Rattle.law_run_recovers.proofs.AmongAt.{IsSpared, HasWhereOpen, can_so_far}
 use Rattle.law_run_recovers.proofs.Unrobbed.{unrecorded_at}
 
-module _ (given : Opening) (events later : List Event) (agent t : ℕ) (caller : Identity) (site : ℕ) (ops : List Op) (actor : Actor) (goes : GoesUnmet given events later agent t caller site ops actor) (so_far rest : List Event)
+module _ (given : Opening) (events later : List Event) (agent t : ℕ) (caller : Identity) (site : ℕ) (ops : List Op) (actor : Actor) (goes : GoesAmongLocks given events later agent t caller site ops actor) (so_far rest : List Event)
     (split : later ≡ so_far ++ Step agent ∷ rest) (work : IsAtWork (world_after given events agent caller site ops so_far) agent t) (spared : IsSpared given events later agent t caller site ops actor goes (so_far ++ Step agent ∷ []))
     (here : Actor) (there : actor_at (world_after given events agent caller site ops so_far) agent ≡ Some here)
     (took : OwnTook (fixed_of given) (world_after given events agent caller site ops so_far) agent here there (step (fixed_of given) (world_after given events agent caller site ops so_far) (Step agent)))
@@ -109,7 +110,7 @@ module _ (given : Opening) (events later : List Event) (agent t : ℕ) (caller :
       of i st at None is = is
       of i st at (Some v) is = absurd (no_record given goes.can.accepted events agent t (Transaction caller site ops) goes.begins i st at v is)
 
-  module _ (locks : HasWhereAnswered given events later agent t caller site ops actor goes (world_after given events agent caller site ops (so_far ++ Step agent ∷ []))) (new : Actor) (more : TransactionRun)
+  module _ (locks : HasWhereOpen given events later agent t caller site ops actor goes (world_after given events agent caller site ops (so_far ++ Step agent ∷ []))) (new : Actor) (more : TransactionRun)
       (there_new : actor_at (world_after given events agent caller site ops (so_far ++ Step agent ∷ [])) agent ≡ Some new) (running : new.agent.doing ≡ Some (Running more)) (number : more.task.t ≡ t) (ordered : IsOrdered nat_cmp more.suites) where
     runs_on : is_running (world_at next) agent t ≡ true
     runs_on = ap (running_in t) there_new ∙ ap (runs t) running ∙ eq-eqb more.task.t t number
@@ -126,35 +127,35 @@ module _ (given : Opening) (events later : List Event) (agent t : ℕ) (caller :
     at_moment : AgreesWith (known_of more.suites) (row_of (table_of given all).rows)
     at_moment = knows_table given all can agent new more there_run running ordered stands_its none_its
 
-    module _ (z : ℕ) (mode : LockMode) (has : Contains (asks_for given events t caller ops) (z, mode)) where
-      -- at a server that answers it the same is in effect
-      effect_same : (i : ℕ) → answers given events later agent t caller site ops actor goes i ≡ true → effect (machine_of given z all) i ≡ effect (machine_of given z events) i
+    module _ (z : ℕ) (has : Contains (asks_for given events t caller ops) (z, first_asked given events later agent t caller site ops actor goes z)) where
+      abbrev mode : LockMode
+      mode = first_asked given events later agent t caller site ops actor goes z
+
+      -- at a server that is open to it the same is in effect
+      effect_same : (i : ℕ) → opens given events later agent t caller site ops actor goes z (first_asked given events later agent t caller site ops actor goes z) i ≡ true → effect (machine_of given z all) i ≡ effect (machine_of given z events) i
       effect_same i is = of (server_at (world_at next) i) refl (server_at (run given events) i) refl
         where
           near : goes.near i ≡ true
-          near = (and_parts (goes.near i) (is_up (run given events) i) is).0
+          near = (and_parts (goes.near i) (is_open_at (run given events) t z (first_asked given events later agent t caller site ops actor goes z) i) is).0
 
-          up : is_up (run given events) i ≡ true
-          up = (and_parts (goes.near i) (is_up (run given events) i) is).1
+          was_open : is_open_at (run given events) t z (first_asked given events later agent t caller site ops actor goes z) i ≡ true
+          was_open = (and_parts (goes.near i) (is_open_at (run given events) t z (first_asked given events later agent t caller site ops actor goes z) i) is).1
 
-          still_up : is_up (world_after given events agent caller site ops (so_far ++ Step agent ∷ [])) i ≡ true
-          still_up = (goes.unmet (so_far ++ Step agent ∷ []) rest split_on runs_on).up i near ∙ up
+          still_open : is_open_at (world_after given events agent caller site ops (so_far ++ Step agent ∷ [])) t z (first_asked given events later agent t caller site ops actor goes z) i ≡ true
+          still_open = ap is_open_way ((goes.stays (so_far ++ Step agent ∷ []) rest split_on runs_on).way i (z, first_asked given events later agent t caller site ops actor goes z) near has) ∙ was_open
 
           of : (found : Option State) → server_at (world_after given events agent caller site ops (so_far ++ Step agent ∷ [])) i ≡ found → (was : Option State) → server_at (run given events) i ≡ was
               → effect (machine_of given z (events ++ Begin agent (Transaction caller site ops) ∷ (so_far ++ Step agent ∷ []))) i ≡ effect (machine_of given z events) i
-          of None at was before = absurd (false≢true (sym (ap up_in at) ∙ still_up))
-          of (Some st) at None before = absurd (false≢true (sym (ap up_in before) ∙ up))
+          of None at was before = absurd (false≢true (ap (λ found. is_open_way (way_in t z (first_asked given events later agent t caller site ops actor goes z) found)) (sym at) ∙ still_open))
+          of (Some st) at None before = absurd (false≢true (ap (λ found. is_open_way (way_in t z (first_asked given events later agent t caller site ops actor goes z) found)) (sym before) ∙ was_open))
           of (Some st) at (Some old) before =
-              stored_effect given z (machine_of given z all) (run given all) (effects.follows given all (all_keep given all can) z).shows (all_consistent given all) t mode (none_then z) i st (ap (λ w. server_at w i) (sym is_run) ∙ at)
-              (clear_lock t z mode st (ap (λ found. is_way_met (way_in t z mode found)) (sym at) ∙ (goes.unmet (so_far ++ Step agent ∷ []) rest split_on runs_on).way i (z, mode) near has) (ap up_in (sym at) ∙ still_up))
-              ∙ same_next given events later agent t caller site ops actor (unmet_is_among_locks given events later agent t caller site ops actor goes) i (z, mode) (near_among given events later agent t caller site ops actor goes i near) has
-              (near_open given events later agent t caller site ops actor goes z mode has i is) so_far rest (Step agent) split work
-              (open_stands given events later agent t caller site ops actor (unmet_is_among_locks given events later agent t caller site ops actor goes) i (z, mode) (near_among given events later agent t caller site ops actor goes i near) has
-              (near_open given events later agent t caller site ops actor goes z mode has i is) so_far (Step agent ∷ rest) split work)
+              stored_effect given z (machine_of given z all) (run given all) (effects.follows given all (all_keep given all can) z).shows (all_consistent given all) t (first_asked given events later agent t caller site ops actor goes z) (none_then z) i st (ap (λ w. server_at w i) (sym is_run) ∙ at)
+              (free_where t z (first_asked given events later agent t caller site ops actor goes z) st (ap (λ found. is_open_way (way_in t z (first_asked given events later agent t caller site ops actor goes z) found)) (sym at) ∙ still_open))
+              ∙ same_next given events later agent t caller site ops actor goes i (z, first_asked given events later agent t caller site ops actor goes z) near has was_open so_far rest (Step agent) split work
+              (open_stands given events later agent t caller site ops actor goes i (z, first_asked given events later agent t caller site ops actor goes z) near has was_open so_far (Step agent ∷ rest) split work)
               st old (ap (λ w. server_at w i) (sym stepped_is) ∙ at) before
-              ∙ sym (stored_effect given z (machine_of given z events) (run given events) (effects.follows given events (all_keep given events (can_first given events later agent t caller site ops actor goes)) z).shows (all_consistent given events) t mode
-              (none_first z) i old before
-              (clear_lock t z mode old (ap (λ found. is_way_met (way_in t z mode found)) (sym before) ∙ open_first given events later agent t caller site ops actor goes i (z, mode) near has) (ap up_in (sym before) ∙ up)))
+              ∙ sym (stored_effect given z (machine_of given z events) (run given events) (effects.follows given events (all_keep given events (can_first given events later agent t caller site ops actor goes)) z).shows (all_consistent given events) t (first_asked given events later agent t caller site ops actor goes z)
+              (none_first z) i old before (free_where t z (first_asked given events later agent t caller site ops actor goes z) old (ap (λ found. is_open_way (way_in t z (first_asked given events later agent t caller site ops actor goes z) found)) (sym before) ∙ was_open)))
 
       module _ (suite : Suite) (first : ReadPoint) (found : suite_of more.suites z ≡ Some suite) (had : suite.first ≡ Some first) where
         owes : OwesKnown (beginning z given) (machine_of given z all) more.task.t (known_by first suite)
@@ -166,22 +167,22 @@ module _ (given : Opening) (events later : List Event) (agent t : ℕ) (caller :
         abbrev shown : ℕ → Bool
         shown = showed_to (machine_of given z all) more.task.t (known_by first suite)
 
-        -- who told it of the suite has its lock there still, and so answers it
-        answers_it : (i : ℕ) → showed_to (machine_of given z all) more.task.t (known_by first suite) i ≡ true → answers given events later agent t caller site ops actor goes i ≡ true
-        answers_it i is = of ((machine_of given z all).told i more.task.t) refl is
+        -- who told it of the suite has its lock there still, and so was open to it
+        open_it : (i : ℕ) → showed_to (machine_of given z all) more.task.t (known_by first suite) i ≡ true → opens given events later agent t caller site ops actor goes z (first_asked given events later agent t caller site ops actor goes z) i ≡ true
+        open_it i is = of ((machine_of given z all).told i more.task.t) refl is
           where
-            there_lock : (at : Option State) → server_at (run given all) i ≡ at → (lock : Lock) → Has (unwrap_or at (state.opening i given)).locks lock → lock.t ≡ t → Was (locks_at (world_at next) i) t
-            there_lock None at lock has of_it = absurd has
-            there_lock (Some st) at lock has of_it = record { lock = lock; has = subst (λ locks. Has locks lock) (sym (ap (λ w. locks_at w i) is_run ∙ ap locks_in at)) has; of_it = of_it }
+            there_lock : (at : Option State) → server_at (run given all) i ≡ at → (lock : Lock) → Has (unwrap_or at (state.opening i given)).locks lock → lock.t ≡ t → lock.suite ≡ z → On (locks_at (world_at next) i) t z
+            there_lock None at lock has of_it on_it = absurd has
+            there_lock (Some st) at lock has of_it on_it = record { lock = lock; has = subst (λ locks. Has locks lock) (sym (ap (λ w. locks_at w i) is_run ∙ ap locks_in at)) has; of_it = of_it; on_it = on_it }
 
-            by_lock : (one : Option Lock) → lock_at more.task.t z (servers_of given (run given all) i).locks ≡ one → (hold : Hold) → hold_of one ≡ Some hold → answers given events later agent t caller site ops actor goes i ≡ true
+            by_lock : (one : Option Lock) → lock_at more.task.t z (servers_of given (run given all) i).locks ≡ one → (hold : Hold) → hold_of one ≡ Some hold → opens given events later agent t caller site ops actor goes z (first_asked given events later agent t caller site ops actor goes z) i ≡ true
             by_lock None at hold some = absurd (none-some hold some)
             by_lock (Some lock) at hold some =
                 let there' = find_some (is_own more.task.t z) (servers_of given (run given all) i).locks lock at in
                 let own = and_parts (lock.t == more.task.t) (lock.suite == z) there'.1 in
-                locks i (there_lock (server_at (run given all) i) refl lock there'.0 (eqb-true lock.t more.task.t own.0 ∙ number))
+                locks i z (there_lock (server_at (run given all) i) refl lock there'.0 (eqb-true lock.t more.task.t own.0 ∙ number) (eqb-true lock.suite z own.1))
 
-            of : (told : Option Told) → (machine_of given z all).told i more.task.t ≡ told → showed (known_by first suite) told ≡ true → answers given events later agent t caller site ops actor goes i ≡ true
+            of : (told : Option Told) → (machine_of given z all).told i more.task.t ≡ told → showed (known_by first suite) told ≡ true → opens given events later agent t caller site ops actor goes z (first_asked given events later agent t caller site ops actor goes z) i ≡ true
             of None at is = absurd (false≢true is)
             of (Some told) at is =
                 let stood = stands_its z i told at in
@@ -196,7 +197,7 @@ module _ (given : Opening) (events later : List Event) (agent t : ℕ) (caller :
             sym (all_shown given all (all_keep given all can) z).shows
             ∙ ap row_shown (row_same (beginning z given) (machine_of given z events) (machine_of given z all) (effects.inv given events (all_keep given events can0) z) (effects.inv given all (all_keep given all can) z)
             (effects.goes_on given events (Begin agent (Transaction caller site ops) ∷ (so_far ++ Step agent ∷ [])) (all_keep given all can) z) (showed_to (machine_of given z all) more.task.t (known_by first suite)) quorum
-            (λ i is. effect_same i (answers_it i is)))
+            (λ i is. effect_same i (open_it i is)))
             ∙ (all_shown given events (all_keep given events can0) z).shows
 
     -- ---- so it is on the table of its begin
@@ -210,7 +211,7 @@ module _ (given : Opening) (events later : List Event) (agent t : ℕ) (caller :
         by : (suite : Suite) → suite_of more.suites z ≡ Some suite → (first : Option ReadPoint) → suite.first ≡ first → IsSoAt (known.known_of (known_of more.suites) z) (row_of (table_of given events).rows z)
         by suite found None had =
             subst (λ found. IsSoAt found (row_of (table_of given events).rows z)) (sym (known_is more.suites ordered z ∙ ap known_in found ∙ ap (known_if_first suite) had)) tt
-        by suite found (Some first) had = subst (IsSoAt (known.known_of (known_of more.suites) z)) (rows_same z one.0 one.1 suite first found had) (at_moment z)
+        by suite found (Some first) had = subst (IsSoAt (known.known_of (known_of more.suites) z)) (rows_same z (first_there given events later agent t caller site ops actor goes z one.0 one.1) suite first found had) (at_moment z)
 
         of : (found : Option Suite) → suite_of more.suites z ≡ found → IsSoAt (known.known_of (known_of more.suites) z) (row_of (table_of given events).rows z)
         of None found = subst (λ found. IsSoAt found (row_of (table_of given events).rows z)) (sym (known_is more.suites ordered z ∙ ap known_in found)) tt

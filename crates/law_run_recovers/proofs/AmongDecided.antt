@@ -1,6 +1,6 @@
--- What was decided of a transaction that nobody meets had its home and its votes up, whether or not its agent went on to the end.
-use Rattle.std.proofs.Common.{◌≡◌, ◌⊎◌, inl, inr, ⊎_elim, ℕ, ◌<◌, true, false, cond, List, [], ◌∷◌, ◌++◌, append_assoc, Option, Some, None, is_some, refl, sym, ap, subst, ◌∙◌, arith}
-use Rattle.std.specs.Prelude.{◌==◌, ◌&&◌, not}
+-- What was decided of a transaction that goes among locks that stay had its home up and its votes open, whether or not its agent went on to the end.
+use Rattle.std.proofs.Common.{◌≡◌, ◌⊎◌, inl, inr, ⊎_elim, ℕ, ◌<◌, true, List, [], ◌∷◌, ◌++◌, append_assoc, Option, Some, None, is_some, refl, sym, ap, subst, ◌∙◌, arith}
+use Rattle.std.specs.Prelude.{◌==◌, ◌&&◌, find}
 use Rattle.std.specs.List.{list_any, cons_option}
 use Rattle.std.proofs.lemmas.Bool.{false≢true, eqb-true, or_cases}
 use Rattle.std.proofs.lemmas.Option.{none-some, same_Some}
@@ -25,32 +25,25 @@ use Rattle.law_runs.proofs.Answering.{answers_follow_knowledge}
 use Rattle.law_runs.proofs.Conclusions.{holds_of}
 use Rattle.law_runs.proofs.Worlds.{agent_of, agent_at}
 use Rattle.law_run_recovers.specs.Standing.{is_up}
-use Rattle.law_run_recovers.specs.Demands.{Demand, demands, demands_of_rows, first_short, is_met, all_met}
-use Rattle.law_run_recovers.specs.Unmet.{world_after, GoesUnmet}
+use Rattle.law_run_recovers.specs.Unmet.{world_after}
+use Rattle.law_run_recovers.specs.Among.{GoesAmongLocks, first_wanting, has_votes_open, AmongLocksHadVotesOpen}
+use Rattle.law_run_recovers.specs.OpenDemands.{wants}
 use Rattle.law_run_recovers.specs.Local.{UnmetHadVotesUp}
+use Rattle.law_run_recovers.proofs.AmongLaws.{none_in, all_is, first_same, rows_met, among_had}
 use Rattle.law_run_recovers.proofs.Apart.{event_apart}
 use Rattle.law_run_recovers.proofs.AtDecision.{decides_up}
 use Rattle.law_run_recovers.proofs.HadVotes.{decided_since}
 use Rattle.law_run_recovers.proofs.Keeps.{run_at}
-use Rattle.law_run_recovers.proofs.NearGround.{answers, can_first, number}
-use Rattle.law_run_recovers.proofs.NearRows.{near_votes_are_rows}
-use Rattle.law_run_recovers.proofs.Open.{its_begin, open_first}
-use Rattle.law_run_recovers.proofs.Stands.{demands_by}
+use Rattle.law_run_recovers.proofs.NearGround.{sight, number}
+use Rattle.law_run_recovers.proofs.Open.{its_begin, unmet_is_among_locks}
+use Rattle.law_run_recovers.proofs.Stands.{unmet, wants_of}
 use Rattle.law_run_recovers.proofs.Took.{own_took}
-use Rattle.law_run_recovers.proofs.UnmetCourse.{Course, StandsIn, PhaseIn, runs_it, next_is, unhindered, running_now, apart_on}
-use Rattle.law_run_recovers.proofs.UnmetEnds.{Over, first_course, small_at, own_on, over_on, over_now}
-use Rattle.law_run_recovers.proofs.UnmetLaws.{demands_same, unmet_had}
+use Rattle.law_run_recovers.proofs.AmongCourse.{Course, StandsIn, PhaseIn, runs_it, next_is, unhindered, running_now, apart_on}
+use Rattle.law_run_recovers.proofs.AmongEnds.{Over, small_at, over_on, over_now}
+use Rattle.law_run_recovers.proofs.AmongStep.{first_course, own_on}
+use Rattle.law_run_recovers.proofs.UnmetLaws.{open_is_more}
 
--- where none is short all are met
-met_of : (all : List Demand) → first_short all ≡ None → all_met all ≡ true
-met_of [] none = refl
-met_of (one ∷ all) none =
-    elim (is_met one) as (λ b. cond (not b) (Some one) (first_short all) ≡ None → (b && all_met all) ≡ true) [
-      | true ↦ λ none. met_of all none
-      | false ↦ λ none. absurd (none-some one (sym none))
-    ] none
-
-module _ (given : Opening) (events later : List Event) (agent t : ℕ) (caller : Identity) (site : ℕ) (ops : List Op) (actor : Actor) (goes : GoesUnmet given events later agent t caller site ops actor) where
+module _ (given : Opening) (events later : List Event) (agent t : ℕ) (caller : Identity) (site : ℕ) (ops : List Op) (actor : Actor) (goes : GoesAmongLocks given events later agent t caller site ops actor) where
   abbrev world_at : List Event → World
   world_at so_far = world_after given events agent caller site ops so_far
 
@@ -58,7 +51,7 @@ module _ (given : Opening) (events later : List Event) (agent t : ℕ) (caller :
   State so_far = Course given events later agent t caller site ops actor goes so_far ⊎ Over given events later agent t caller site ops actor goes so_far
 
   abbrev HadAll : Type 0
-  HadAll = (all_met (demands_of_rows (fixed_of given) (run given events) (table_of given events) t caller ops) && is_up (run given events) (home_of (fixed_of given).service t)) ≡ true
+  HadAll = has_votes_open given events t caller ops ≡ true
 
   -- it goes on, or has ended
   state_on : (so_far rest : List Event) (event : Event) → later ≡ so_far ++ event ∷ rest → State so_far → State (so_far ++ event ∷ [])
@@ -131,13 +124,11 @@ module _ (given : Opening) (events later : List Event) (agent t : ℕ) (caller :
         let stands : StandsIn given events later agent t caller site ops actor goes c.here.agent.cache (Some (Running so.txn_run)) =
         subst (StandsIn given events later agent t caller site ops actor goes c.here.agent.cache) (ap (λ (a : Actor). a.agent.doing) same ∙ so.running) c.stands in
         let has = subst (PhaseIn given events later agent t caller site ops actor goes so.txn_run.suites c.here.agent.cache) so.deciding stands.1 in
-        let none = subst (λ n. first_short (demands_by (fixed_of given) (run given events) (answers given events later agent t caller site ops actor goes) (table_of given events) n caller ops has.start) ≡ None)
-        (number given events later agent t caller site ops actor goes) has.none in
-        let met = met_of (demands (fixed_of given) (run given events) (table_of given events) t caller ops has.start)
-        (sym (ap first_short (demands_same given events later agent t caller site ops actor goes has.start has.from)) ∙ none) in
-        let rows = near_votes_are_rows given events (can_first given events later agent t caller site ops actor goes) agent t caller site ops actor has.start goes.near goes.there goes.begins goes.are_near
-        (λ one server has near. open_first given events later agent t caller site ops actor goes server one near has) has.from met in
-        let up = (goes.unmet so_far (event ∷ rest) split (running_now given events later agent t caller site ops actor goes so_far rest event split c)).up (home_of (fixed_of given).service t) goes.are_near.home in
+        let none : first_wanting (run given events) t (wants (fixed_of given) (run given events) (table_of given events) t caller ops has.start) ≡ None =
+        sym (first_same given events later agent t caller site ops actor goes has.start has.from)
+        ∙ subst (λ n. find (unmet (sight given events later agent t caller site ops actor goes)) (wants_of (fixed_of given) (run given events) (sight given events later agent t caller site ops actor goes) (table_of given events) n caller ops has.start) ≡ None) (number given events later agent t caller site ops actor goes) has.none in
+        let rows = rows_met given events later agent t caller site ops actor goes has.start has.from (all_is (run given events) t (wants (fixed_of given) (run given events) (table_of given events) t caller ops has.start) ∙ ap none_in none) in
+        let up = (goes.stays so_far (event ∷ rest) split (running_now given events later agent t caller site ops actor goes so_far rest event split c)).up (home_of (fixed_of given).service t) goes.are_near.home in
         ap (λ b. b && is_up (run given events) (home_of (fixed_of given).service t)) rows ∙ sym up ∙ home_now
 
     -- it is not after its end
@@ -180,8 +171,13 @@ module _ (given : Opening) (events later : List Event) (agent t : ℕ) (caller :
       decided_in later [] refl (inl (first_course given events later agent t caller site ops actor goes))
       (decided_since given events later agent t caller site ops actor goes.can goes.there (its_begin given events later agent t caller site ops actor goes.can goes.there goes.begins).0 some)
 
-pub unmet_had_votes_up : UnmetHadVotesUp
-unmet_had_votes_up given events later agent t caller site ops actor goes was = ⊎_elim
+pub among_locks_had_votes_open : AmongLocksHadVotesOpen
+among_locks_had_votes_open given events later agent t caller site ops actor goes was = ⊎_elim
     (λ some. stood_had given events later agent t caller site ops actor goes some)
-    (λ it. unmet_had given events later agent t caller site ops actor goes it.0 it.1 it.2)
+    (λ it. among_had given events later agent t caller site ops actor goes it.0 it.1 it.2)
     was
+
+pub unmet_had_votes_up : UnmetHadVotesUp
+unmet_had_votes_up given events later agent t caller site ops actor goes was =
+    open_is_more given events t caller ops
+    (among_locks_had_votes_open given events later agent t caller site ops actor (unmet_is_among_locks given events later agent t caller site ops actor goes) was)

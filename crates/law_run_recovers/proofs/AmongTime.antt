@@ -1,4 +1,4 @@
--- A transaction that nobody meets ends within a number of its own steps that its table tells.
+-- A transaction that goes among locks that stay ends within a number of its own steps that its table tells.
 use Rattle.std.proofs.Common.{◌≡◌, ◌⊎◌, inl, inr, ⊎_elim, ℕ, ◌+◌, ◌<◌, ◌≤◌, Bool, true, false, cond, List, [], ◌∷◌, ◌++◌, append_assoc, length, Some, is_some, refl, sym, ap, subst, ◌∙◌, arith}
 use Rattle.std.specs.Prelude.{◌==◌}
 use Rattle.std.specs.List.{cons_option}
@@ -26,19 +26,21 @@ use Rattle.run_core.specs.TableOfRun.{table_of}
 use Rattle.law_runs.specs.Numbers.{number_of}
 use Rattle.law_runs.proofs.Lengths.{so_many}
 use Rattle.law_run_recovers.specs.Alone.{its_step, own_steps}
+use Rattle.law_run_recovers.specs.Among.{GoesAmongLocks, AmongLocksEndInTime}
 use Rattle.law_run_recovers.specs.Local.{Ended, UnmetEndInTime, few_steps}
-use Rattle.law_run_recovers.specs.Unmet.{begun_world, world_after, GoesUnmet}
+use Rattle.law_run_recovers.specs.Unmet.{begun_world, world_after}
 use Rattle.law_run_recovers.proofs.Apart.{event_apart}
 use Rattle.law_run_recovers.proofs.Counts.{one_longer, and_one, has_after, step_of}
 use Rattle.law_run_recovers.proofs.Keeps.{run_at}
 use Rattle.law_run_recovers.proofs.Knows.{among_numbers}
 use Rattle.law_run_recovers.proofs.Names.{itself, suites_named, names_for, CountedOf, few_enough}
-use Rattle.law_run_recovers.proofs.NearGround.{its, answers, Known, ground, number}
+use Rattle.law_run_recovers.proofs.NearGround.{its, Known, ground, number, sight}
 use Rattle.law_run_recovers.proofs.Took.{OwnTook, own_took}
-use Rattle.law_run_recovers.proofs.UnmetCourse.{Course, RunsIt, runs_it, next_is, unhindered, apart_on}
-use Rattle.law_run_recovers.proofs.UnmetEnds.{idle_before, first_course, first_told, own_on}
+use Rattle.law_run_recovers.proofs.Open.{unmet_is_among_locks}
+use Rattle.law_run_recovers.proofs.AmongCourse.{Course, RunsIt, runs_it, next_is, unhindered, apart_on}
+use Rattle.law_run_recovers.proofs.AmongStep.{idle_before, first_course, first_told, own_on}
 
-module _ (given : Opening) (events later : List Event) (agent t : ℕ) (caller : Identity) (site : ℕ) (ops : List Op) (actor : Actor) (goes : GoesUnmet given events later agent t caller site ops actor) where
+module _ (given : Opening) (events later : List Event) (agent t : ℕ) (caller : Identity) (site : ℕ) (ops : List Op) (actor : Actor) (goes : GoesAmongLocks given events later agent t caller site ops actor) where
   abbrev begun : Agent
   begun = begin (fixed_of given) actor.agent (Transaction caller site ops)
 
@@ -87,7 +89,7 @@ module _ (given : Opening) (events later : List Event) (agent t : ℕ) (caller :
 
     named : names_of suites took.asked.1 ≡ true
     named =
-        names_for (fixed_of given) (run given events) (answers given events later agent t caller site ops actor goes) (table_of given events) (its given events later agent t caller site ops actor goes) actor.agent.cache (Known given events later agent t caller site ops actor goes) (ground given events later agent t caller site ops actor goes) c.here.agent.cache r.txn_run.suites r.txn_run.phase r.at.1 took.asked.0 took.asked.1
+        names_for (fixed_of given) (run given events) (sight given events later agent t caller site ops actor goes) (table_of given events) (its given events later agent t caller site ops actor goes) actor.agent.cache (Known given events later agent t caller site ops actor goes) (ground given events later agent t caller site ops actor goes) c.here.agent.cache r.txn_run.suites r.txn_run.phase r.at.1 took.asked.0 took.asked.1
         (subst (λ task. request_in (fixed_of given) task r.txn_run.suites r.txn_run.phase ≡ Some (took.asked.0, took.asked.1)) r.at.0 (sym (ap (next_in (fixed_of given)) r.running) ∙ took.next))
 
     counted_on : (k : ℕ) → Counted c.told k → Counted (c.told ++ agents.Take (Replied (reply_of took.st took.asked.1)) ∷ []) (k + 1)
@@ -171,8 +173,8 @@ module _ (given : Opening) (events later : List Event) (agent t : ℕ) (caller :
 
   -- ---- the law
 
-  pub unmet_in_time : few_steps given events t caller ops < own_steps agent later → Ended given events later agent t caller site ops
-  unmet_in_time more =
+  pub in_time : few_steps given events t caller ops < own_steps agent later → Ended given events later agent t caller site ops
+  in_time more =
       of (lasts later [] refl (first_course given events later agent t caller site ops actor goes) 0 (subst (λ told. Counted told 0) (sym (first_told given events later agent t caller site ops actor goes)) (record { asks = refl; names = refl; many = refl })))
     where
       over : (b n : ℕ) → b < n → 0 + n ≤ b → ⊥
@@ -184,5 +186,9 @@ module _ (given : Opening) (events later : List Event) (agent t : ℕ) (caller :
           absurd (over (few_steps given events t caller ops) (own_steps agent later) more
           (few_enough given events actor.agent t caller site ops (number given events later agent t caller site ops actor goes) (idle_before given events later agent t caller site ops actor goes) (0 + own_steps agent later) runs.told runs.counted))
 
+pub among_locks_end_in_time : AmongLocksEndInTime
+among_locks_end_in_time given events later agent t caller site ops actor goes more = in_time given events later agent t caller site ops actor goes more
+
 pub unmet_end_in_time : UnmetEndInTime
-unmet_end_in_time given events later agent t caller site ops actor goes more = unmet_in_time given events later agent t caller site ops actor goes more
+unmet_end_in_time given events later agent t caller site ops actor goes more =
+    in_time given events later agent t caller site ops actor (unmet_is_among_locks given events later agent t caller site ops actor goes) more

@@ -1,4 +1,4 @@
--- How a transaction stands that nobody meets, at each moment at which it runs; and what an event that is not its own leaves of that.
+-- How a transaction stands that goes among locks that stay, at each moment at which it runs; and what an event that is not its own leaves of that.
 use Rattle.std.proofs.Common.{◌≡◌, ◌⊎◌, inl, inr, ⊎_elim, ℕ, ◌<◌, Bool, true, false, cond, List, [], ◌∷◌, ◌++◌, append_assoc, Option, Some, None, refl, sym, ap, subst, ◌∙◌, arith}
 use Rattle.std.specs.Prelude.{◌+◌, ◌==◌, ◌&&◌, ◌||◌, not}
 use Rattle.std.proofs.lemmas.Bool.{false≢true, and_parts, eqb-true, eq-eqb}
@@ -43,15 +43,17 @@ use Rattle.law_runs.proofs.Conclusions.{holds_of}
 use Rattle.law_runs.proofs.Table.{service_stays}
 use Rattle.law_runs.proofs.Worlds.{agent_of, agent_at, puts_in}
 use Rattle.law_run_recovers.specs.Standing.{up_in, is_up, locks_in, locks_at}
-use Rattle.law_run_recovers.specs.Unmet.{runs, running_in, is_running, is_telling, begun_world, world_after, up_and, of_up, robs, hinders_itself, GoesUnmet}
+use Rattle.law_run_recovers.specs.Unmet.{runs, running_in, is_running, is_telling, begun_world, world_after, up_and, of_up, robs, hinders_itself}
+use Rattle.law_run_recovers.specs.Among.{GoesAmongLocks}
 use Rattle.law_run_recovers.proofs.AmongLocks.{drops, bereaves}
 use Rattle.law_run_recovers.proofs.Apart.{Apart, hint_forgotten, event_apart}
 use Rattle.law_run_recovers.proofs.Keeps.{after_append, run_at, step_asks, operates_it, becomes_none, lacks_none}
-use Rattle.law_run_recovers.proofs.NearGround.{its, answers, Known, ground, number}
+use Rattle.law_run_recovers.proofs.NearGround.{its, answers, opens, first_asked, opens_up, Known, ground, number, sight}
 use Rattle.law_run_recovers.proofs.Open.{its_begin}
-use Rattle.law_run_recovers.proofs.Serves.{Was, Told, lock_told}
+use Rattle.law_run_recovers.proofs.Polled.{Sight}
+use Rattle.law_run_recovers.proofs.Serves.{On, Told, told_on}
 use Rattle.law_run_recovers.proofs.Stands.{EndsRight, PhaseStands}
-use Rattle.law_run_recovers.proofs.UnmetAt.{IsCalm, IsSpared, HasWhereAnswered}
+use Rattle.law_run_recovers.proofs.AmongAt.{IsCalm, IsSpared, HasWhereOpen}
 
 -- ---- lists
 
@@ -111,7 +113,7 @@ both_so a b c one two = grind (arith, nat_tests)
 
 -- ---- at each moment
 
-module _ (given : Opening) (events later : List Event) (agent t : ℕ) (caller : Identity) (site : ℕ) (ops : List Op) (actor : Actor) (goes : GoesUnmet given events later agent t caller site ops actor) where
+module _ (given : Opening) (events later : List Event) (agent t : ℕ) (caller : Identity) (site : ℕ) (ops : List Op) (actor : Actor) (goes : GoesAmongLocks given events later agent t caller site ops actor) where
   abbrev pub fixed : Fixed
   fixed = fixed_of given
 
@@ -127,8 +129,8 @@ module _ (given : Opening) (events later : List Event) (agent t : ℕ) (caller :
   abbrev pub task : Task
   task = its given events later agent t caller site ops actor goes
 
-  abbrev pub answering : ℕ → Bool
-  answering = answers given events later agent t caller site ops actor goes
+  abbrev pub its_sight : Sight
+  its_sight = sight given events later agent t caller site ops actor goes
 
   abbrev pub Was' : ℕ → Prefix → Type 0
   Was' = Known given events later agent t caller site ops actor goes
@@ -140,10 +142,10 @@ module _ (given : Opening) (events later : List Event) (agent t : ℕ) (caller :
   same_service = service_stays (rows.opening given) (decisions given events)
 
   abbrev pub Right : Ending → Type 0
-  Right ended = EndsRight fixed first answering table task actor.agent.cache ended
+  Right ended = EndsRight fixed first its_sight table task actor.agent.cache ended
 
   abbrev pub PhaseIn : Suites → Cache → Phase → Type 0
-  PhaseIn suites now phase = PhaseStands fixed first answering table task actor.agent.cache Was' (ground given events later agent t caller site ops actor goes) suites now phase
+  PhaseIn suites now phase = PhaseStands fixed first its_sight table task actor.agent.cache Was' (ground given events later agent t caller site ops actor goes) suites now phase
 
   -- what it does
   abbrev pub StandsIn : Cache → Option Doing → Type 0
@@ -159,7 +161,7 @@ module _ (given : Opening) (events later : List Event) (agent t : ℕ) (caller :
     pub told : List agents.Event
     pub is : here.agent ≡ after_all (fixed_of given) (begin (fixed_of given) actor.agent (Transaction caller site ops)) told
     pub count : here.agent.count ≡ actor.agent.count + 1
-    pub locks : HasWhereAnswered given events later agent t caller site ops actor goes (world_after given events agent caller site ops so_far)
+    pub locks : HasWhereOpen given events later agent t caller site ops actor goes (world_after given events agent caller site ops so_far)
     pub spared : IsSpared given events later agent t caller site ops actor goes so_far
 
   -- so it runs the transaction
@@ -179,9 +181,9 @@ module _ (given : Opening) (events later : List Event) (agent t : ℕ) (caller :
   pub next_is : (so_far : List Event) (event : Event) → world_after given events agent caller site ops (so_far ++ event ∷ []) ≡ (step (fixed_of given) (world_after given events agent caller site ops so_far) event).world
   next_is so_far event = after_append (fixed_of given) so_far (event ∷ []) (begun_world given events agent caller site ops)
 
-  -- where it was told of a lock, the server answers it
-  abbrev pub NewAnswered : List Event → Event → Type 0
-  NewAnswered so_far event = (server : ℕ) → Told (fixed_of given) (world_after given events agent caller site ops so_far) event t server → answers given events later agent t caller site ops actor goes server ≡ true
+  -- where it was told of a lock, the server was open to it
+  abbrev pub NewOpen : List Event → Event → Type 0
+  NewOpen so_far event = (server z : ℕ) (told : Told (fixed_of given) (world_after given events agent caller site ops so_far) event t server) → told.told.suite ≡ z → opens given events later agent t caller site ops actor goes z (first_asked given events later agent t caller site ops actor goes z) server ≡ true
 
   module _ (so_far rest : List Event) (event : Event) (split : later ≡ so_far ++ event ∷ rest) (c : Course so_far) where
     pub split_on : later ≡ (so_far ++ event ∷ []) ++ rest
@@ -221,7 +223,7 @@ module _ (given : Opening) (events later : List Event) (agent t : ℕ) (caller :
         let parts = and_parts (goes.near what.server) (is_up (run given events) what.server) answered in
         ⊎_elim
         (λ apart.
-        let up = (goes.unmet (so_far ++ event ∷ []) rest split_on (runs_apart apart.0)).up what.server parts.0 ∙ parts.1 in
+        let up = (goes.stays (so_far ++ event ∷ []) rest split_on (runs_apart apart.0)).up what.server parts.0 ∙ parts.1 in
         let now : is_up (world_after given events agent caller site ops (so_far ++ event ∷ [])) what.server ≡ false =
         ap (λ w. is_up w what.server) (next_is so_far event) ∙ ap (λ event. is_up (step (fixed_of given) (world_after given events agent caller site ops so_far) event).world what.server) is
         ∙ ap (is_up (step (fixed_of given) (world_after given events agent caller site ops so_far) (Crash server)).world) crashed.0 ∙ crashed.1 in
@@ -251,7 +253,8 @@ module _ (given : Opening) (events later : List Event) (agent t : ℕ) (caller :
                 let asked = operates_it (world_after given events agent caller site ops so_far) server request.Crash (server_at (world_after given events agent caller site ops so_far) server) what done in
                 let lock = any_has (λ (lock : Lock). (lock.t == t) && not lock.prepared) st.locks (ap (drops t st) (sym asked) ∙ parts.1) in
                 let own = and_parts (lock.0.t == t) (not lock.0.prepared) lock.2 in
-                no_crash server is what done (c.locks what.server (record { lock = lock.0; has = subst (λ locks. Has locks lock.0) (sym (ap locks_in at)) lock.1; of_it = eqb-true lock.0.t t own.0 }))
+                no_crash server is what done (opens_up given events later agent t caller site ops actor goes lock.0.suite (first_asked given events later agent t caller site ops actor goes lock.0.suite) what.server
+                (c.locks what.server lock.0.suite (record { lock = lock.0; has = subst (λ locks. Has locks lock.0) (sym (ap locks_in at)) lock.1; of_it = eqb-true lock.0.t t own.0; on_it = refl })))
 
             served_so : (found : Option Served) → (step (fixed_of given) (world_after given events agent caller site ops so_far) (Crash server)).done.served ≡ found → of_up (drops t) (world_after given events agent caller site ops so_far) found ≡ true → ⊥
             served_so None done some = false≢true some
@@ -281,11 +284,11 @@ module _ (given : Opening) (events later : List Event) (agent t : ℕ) (caller :
             (subst (λ other. IsCalm given events later agent t caller site ops actor goes so_far other) (sym here.1) calm_now)
         of (inr before) = c.spared front before.0 other before.1 work
 
-    -- its locks are where it is answered
-    pub locks_on : NewAnswered so_far event → HasWhereAnswered given events later agent t caller site ops actor goes (world_after given events agent caller site ops (so_far ++ event ∷ []))
-    locks_on new server was =
-        ⊎_elim (λ old. c.locks server old) (λ told. new server told)
-        (lock_told (fixed_of given) (world_after given events agent caller site ops so_far) event server t (subst (λ w. Was (locks_at w server) t) (next_is so_far event) was))
+    -- its locks are where it was open
+    pub locks_on : NewOpen so_far event → HasWhereOpen given events later agent t caller site ops actor goes (world_after given events agent caller site ops (so_far ++ event ∷ []))
+    locks_on new server z on =
+        ⊎_elim (λ old. c.locks server z old) (λ told. new server z told.0 told.1)
+        (told_on (fixed_of given) (world_after given events agent caller site ops so_far) event server t z (subst (λ w. On (locks_at w server) t z) (next_is so_far event) on))
 
     -- ---- an event that is not its own
 
@@ -293,8 +296,8 @@ module _ (given : Opening) (events later : List Event) (agent t : ℕ) (caller :
     small_all i a at = (holds_of given goes.can.accepted (events ++ Begin agent (Transaction caller site ops) ∷ so_far)).agents.small i a
         (ap (λ w. agent_at w i) (sym (run_at given events later agent t caller site ops actor goes.can goes.there goes.begins so_far)) ∙ at)
 
-    others_lock : (event ≡ Step agent → ⊥) → NewAnswered so_far event
-    others_lock apart server told = absurd (of event refl told)
+    others_lock : (event ≡ Step agent → ⊥) → NewOpen so_far event
+    others_lock apart server z told same = absurd (of event refl told)
       where
         of : (same : Event) → event ≡ same → Told (fixed_of given) (world_after given events agent caller site ops so_far) event t server → ⊥
         of (Begin i job') is told = none-some told.what (sym (becomes_none (world_after given events agent caller site ops so_far) i (λ a. begin (fixed_of given) a job') (actor_at (world_after given events agent caller site ops so_far) i))

@@ -1,25 +1,25 @@
--- What a transaction that nobody meets is replied, at a moment before its end is fixed.
+-- What a transaction that goes among locks that stay is replied, at a moment before its end is fixed.
 use Rattle.std.proofs.Common.{◌≡◌, ℕ, Bool, true, false, cond, List, [], ◌∷◌, ◌++◌, append_assoc, append-nil, Option, Some, None, is_some, refl, sym, ap, subst, ◌∙◌, arith}
-use Rattle.std.specs.Prelude.{◌&&◌, ◌||◌, option_map, Contains}
-use Rattle.std.proofs.lemmas.Bool.{false≢true, and_parts}
+use Rattle.std.specs.Prelude.{◌==◌, ◌&&◌, ◌||◌, Contains}
+use Rattle.std.specs.List.{list_any}
+use Rattle.std.proofs.lemmas.Bool.{false≢true, and_parts, and_from, eq-eqb}
 use Rattle.std.proofs.lemmas.Bool.Decides.{nat_tests}
 use Rattle.acl_core.specs.Identity.{Identity}
 use Rattle.suite_prefix.specs.SettingsRules.{Opening}
 use Rattle.suite_prefix.specs.declared.copies.Replica.{Replica}
 use Rattle.suite_prefix.specs.declared.lock_mode.LockMode.{LockMode}
 use Rattle.file_ops.specs.declared.operation.Op.{Op}
-use Rattle.rep_core.specs.declared.lock.Lock.{Lock}
 use Rattle.rep_core.specs.declared.reply.Reply.TheVariants as reply
 use Rattle.rep_core.specs.declared.request.Decision.{Decision}
 use Rattle.rep_core.specs.declared.request.Part.{Part}
 use Rattle.rep_core.specs.declared.request.Request.{Request}
 use Rattle.rep_core.specs.declared.request.Request.TheVariants as request
 use Rattle.rep_core.specs.Fits.{is_prepared}
-use Rattle.rep_core.specs.Locks.{in_the_way, has_lock}
+use Rattle.rep_core.specs.Locks.{has_lock}
 use Rattle.rep_core.specs.Store.{copy_of}
 use Rattle.rep_core.specs.State.{State}
 use Rattle.rep_core.specs.Service.{reply_of, reply_up, reply_down, given as gives, stands_prepared, can_prepare, recorded, verdict_of}
-use Rattle.rep_core.proofs.Members.{Has}
+use Rattle.rep_core.proofs.Members.{Has, has_any, has_from}
 use Rattle.suite_collect.specs.Collecting.{Asked, Upgrade, request_for, mode_asked}
 use Rattle.txn_core.specs.declared.job.Job.TheVariants.{Transaction}
 use Rattle.txn_core.specs.Doing.{TransactionRun, Running}
@@ -35,32 +35,24 @@ use Rattle.law_run_alone.proofs.Own.{replies_down}
 use Rattle.law_run_alone.proofs.Reached.{can_front}
 use Rattle.law_run_alone.proofs.Requests.{Finds}
 use Rattle.law_run_recovers.specs.Standing.{up_in, is_up, shown_in, shown_at, locks_in, locks_at}
-use Rattle.law_run_recovers.specs.Near.{asks_for, is_way_met, way_in}
-use Rattle.law_run_recovers.specs.Unmet.{world_after, robs, hinders_itself, GoesUnmet}
+use Rattle.law_run_recovers.specs.Near.{asks_for, is_open_way, is_open_at, way_in, way_at}
+use Rattle.law_run_recovers.specs.Unmet.{world_after, robs, hinders_itself}
+use Rattle.law_run_recovers.specs.Among.{GoesAmongLocks}
 use Rattle.law_run_recovers.proofs.AmongLocks.{bereaves}
 use Rattle.law_run_recovers.proofs.Keeps.{IsAtWork, open_stands}
-use Rattle.law_run_recovers.proofs.NearGround.{answers, near_open}
-use Rattle.law_run_recovers.proofs.Open.{unmet_is_among_locks, near_among}
-use Rattle.law_run_recovers.proofs.Polled.{Answers, answers_so}
-use Rattle.law_run_recovers.proofs.Serves.{Was}
+use Rattle.law_run_recovers.proofs.NearGround.{answers, opens, first_asked, is_holder, met_by, sight, opens_up}
+use Rattle.law_run_recovers.proofs.Polled.{dver_in, dver_at, Answers, answers_so}
+use Rattle.law_run_recovers.proofs.Serves.{On}
 use Rattle.law_run_recovers.proofs.Unrobbed.{unrecorded_at, finds_then, stands_then}
 
 -- ---- one server
-
-pub clear_lock : (t z : ℕ) (mode : LockMode) (st : State) → is_way_met (way_in t z mode (Some st)) ≡ false → st.up ≡ true → in_the_way t z mode st.locks ≡ None
-clear_lock t z mode st = of st.up (in_the_way t z mode st.locks)
-  where
-    of : (b : Bool) (other : Option Lock) → is_way_met (cond b (Some (option_map (λ (lock : Lock). lock.t) other)) None) ≡ false → b ≡ true → other ≡ None
-    of true None clear up = refl
-    of true (Some lock) clear up = absurd (false≢true (sym clear))
-    of false other clear up = absurd (false≢true up)
 
 either : (a b : Bool) → b ≡ true → (a || b) ≡ true
 either a b is = grind (arith, nat_tests)
 
 -- ---- at a moment
 
-module _ (given : Opening) (events later : List Event) (agent t : ℕ) (caller : Identity) (site : ℕ) (ops : List Op) (actor : Actor) (goes : GoesUnmet given events later agent t caller site ops actor) where
+module _ (given : Opening) (events later : List Event) (agent t : ℕ) (caller : Identity) (site : ℕ) (ops : List Op) (actor : Actor) (goes : GoesAmongLocks given events later agent t caller site ops actor) where
   abbrev world_at : List Event → World
   world_at so_far = world_after given events agent caller site ops so_far
 
@@ -76,40 +68,34 @@ module _ (given : Opening) (events later : List Event) (agent t : ℕ) (caller :
   abbrev pub IsSpared : List Event → Type 0
   IsSpared so_far = (front back : List Event) (event : Event) → so_far ≡ front ++ event ∷ back → IsAtWork (world_after given events agent caller site ops front) agent t → IsCalm front event
 
-  -- where it has a lock the server answers it
-  abbrev pub HasWhereAnswered : World → Type 0
-  HasWhereAnswered w = (server : ℕ) → Was (locks_at w server) t → answers given events later agent t caller site ops actor goes server ≡ true
+  -- where it has a lock the server was open to it, as it first asked for the suite
+  abbrev pub HasWhereOpen : World → Type 0
+  HasWhereOpen w = (server z : ℕ) → On (locks_at w server) t z → opens given events later agent t caller site ops actor goes z (first_asked given events later agent t caller site ops actor goes z) server ≡ true
 
   pub can_so_far : (so_far rest : List Event) → later ≡ so_far ++ rest → CanBe given (events ++ Begin agent (Transaction caller site ops) ∷ so_far)
   can_so_far so_far rest split =
       can_front given (events ++ Begin agent (Transaction caller site ops) ∷ so_far) rest
       (subst (CanBe given) (ap (λ later. events ++ Begin agent (Transaction caller site ops) ∷ later) split ∙ sym (append_assoc events (Begin agent (Transaction caller site ops) ∷ so_far) rest)) goes.can)
 
-  module _ (so_far rest : List Event) (split : later ≡ so_far ++ rest) (work : IsAtWork (world_after given events agent caller site ops so_far) agent t) (spared : IsSpared so_far) (locks : HasWhereAnswered (world_after given events agent caller site ops so_far))
+  module _ (so_far rest : List Event) (split : later ≡ so_far ++ rest) (work : IsAtWork (world_after given events agent caller site ops so_far) agent t) (spared : IsSpared so_far) (locks : HasWhereOpen (world_after given events agent caller site ops so_far))
       (server : ℕ) (st : State) (at : server_at (world_after given events agent caller site ops so_far) server ≡ Some st) where
     abbrev w : World
     w = world_after given events agent caller site ops so_far
 
     up_near : goes.near server ≡ true → st.up ≡ is_up (run given events) server
-    up_near near = ap up_in (sym at) ∙ (goes.unmet so_far rest split work.running).up server near
-
-    up_answers : goes.near server ≡ true → st.up ≡ answers given events later agent t caller site ops actor goes server
-    up_answers near = up_near near ∙ ap (λ b. b && is_up (run given events) server) (sym near)
+    up_near near = ap up_in (sym at) ∙ (goes.stays so_far rest split work.running).up server near
 
     -- one that answers is up
     pub up_so : answers given events later agent t caller site ops actor goes server ≡ true → st.up ≡ true
     up_so is = let parts = and_parts (goes.near server) (is_up (run given events) server) is in up_near parts.0 ∙ parts.1
 
-    pub stored_so : (z : ℕ) (mode : LockMode) → Contains asked (z, mode) → answers given events later agent t caller site ops actor goes server ≡ true → (old : State) → server_at (run given events) server ≡ Some old → copy_of st.store z ≡ copy_of old.store z
-    stored_so z mode has is old was =
-        open_stands given events later agent t caller site ops actor (unmet_is_among_locks given events later agent t caller site ops actor goes) server (z, mode)
-        (near_among given events later agent t caller site ops actor goes server (and_parts (goes.near server) (is_up (run given events) server) is).0) has (near_open given events later agent t caller site ops actor goes z mode has server is) so_far rest split work st old at was
+    way_same : (z : ℕ) (mode : LockMode) → goes.near server ≡ true → Contains asked (z, mode) → way_in t z mode (Some st) ≡ way_at (run given events) t z mode server
+    way_same z mode near has = ap (way_in t z mode) (sym at) ∙ (goes.stays so_far rest split work.running).way server (z, mode) near has
 
-    pub free_so : (z : ℕ) (mode : LockMode) → Contains asked (z, mode) → answers given events later agent t caller site ops actor goes server ≡ true → in_the_way t z mode st.locks ≡ None
-    free_so z mode has is =
-        clear_lock t z mode st
-        (ap (λ found. is_way_met (way_in t z mode found)) (sym at) ∙ (goes.unmet so_far rest split work.running).way server (z, mode) (and_parts (goes.near server) (is_up (run given events) server) is).0 has)
-        (up_so is)
+    pub stored_so : (z : ℕ) (mode : LockMode) → Contains asked (z, mode) → opens given events later agent t caller site ops actor goes z mode server ≡ true → (old : State) → server_at (run given events) server ≡ Some old → copy_of st.store z ≡ copy_of old.store z
+    stored_so z mode has is old was =
+        let parts = and_parts (goes.near server) (is_open_at (run given events) t z mode server) is in
+        open_stands given events later agent t caller site ops actor goes server (z, mode) parts.0 has parts.1 so_far rest split work st old at was
 
     -- ---- what it is replied
 
@@ -122,22 +108,35 @@ module _ (given : Opening) (events later : List Event) (agent t : ℕ) (caller :
         on_locks : stands_on_locks question ≡ true → answers given events later agent t caller site ops actor goes server ≡ true
         on_locks on =
             let some = stands_then given events so_far agent t caller site ops actor (can_so_far so_far rest split) goes.there goes.begins spared so_far [] (sym (append-nil so_far)) work here txn_run there running number (server, question) next st at on in
-            locks server (record { lock = some.lock; has = subst (λ locks. Has locks some.lock) (sym (ap locks_in at)) some.has; of_it = some.of_it ∙ number })
+            opens_up given events later agent t caller site ops actor goes some.lock.suite (first_asked given events later agent t caller site ops actor goes some.lock.suite) server
+            (locks server some.lock.suite (record { lock = some.lock; has = subst (λ locks. Has locks some.lock) (sym (ap locks_in at)) some.has; of_it = some.of_it ∙ number; on_it = refl }))
 
         replies_up : st.up ≡ true → reply_of st question ≡ reply_up st question
         replies_up up = ap (λ b. cond b (reply_up st question) (reply_down question)) up
 
       pub lock_right : (z : ℕ) (question : Asked) → next_of (fixed_of given) here.agent ≡ Some (server, request_for t z question) → goes.near server ≡ true → Contains asked (z, mode_asked question)
-          → Answers (fixed_of given) (run given events) (answers given events later agent t caller site ops actor goes) z server (reply_of st (request_for t z question))
+          → Answers (fixed_of given) (run given events) (sight given events later agent t caller site ops actor goes) z question server (reply_of st (request_for t z question))
       lock_right z question next near has =
-          answers_so (fixed_of given) (run given events) (answers given events later agent t caller site ops actor goes) z server t st (up_answers near) shows question (free_so z (mode_asked question) has) (λ is up. locked is)
+          answers_so (fixed_of given) (run given events) (sight given events later agent t caller site ops actor goes) z server t st question
+          (up_near near)
+          (ap is_open_way (way_same z (mode_asked question) near has) ∙ ap (λ b. b && is_open_at (run given events) t z (mode_asked question) server) (sym near))
+          met shows
+          (λ is. (up_so (on_locks (request_for t z question) next (ap (λ question. stands_on_locks (request_for t z question)) is)), locked is))
         where
-          shows : answers given events later agent t caller site ops actor goes server ≡ true → (copy_of st.store z).prefix ≡ shown_at (fixed_of given) (run given events) z server
-          shows is = of (server_at (run given events) server) refl (and_parts (goes.near server) (is_up (run given events) server) is).1
+          met : (holder : ℕ) → way_in t z (mode_asked question) (Some st) ≡ Some (Some holder) → met_by given events later agent t caller site ops actor goes z server holder ≡ true
+          met holder way =
+              and_from (goes.near server) (list_any (λ (one : ℕ × LockMode). (one.0 == z) && is_holder given events later agent t caller site ops actor goes holder (way_at (run given events) t one.0 one.1 server)) asked) near
+              (has_any (λ (one : ℕ × LockMode). (one.0 == z) && is_holder given events later agent t caller site ops actor goes holder (way_at (run given events) t one.0 one.1 server)) asked (z, mode_asked question) (has_from asked (z, mode_asked question) has)
+              (and_from (z == z) (is_holder given events later agent t caller site ops actor goes holder (way_at (run given events) t z (mode_asked question) server)) (eq-eqb z z refl)
+              (ap (is_holder given events later agent t caller site ops actor goes holder) (sym (way_same z (mode_asked question) near has) ∙ way) ∙ eq-eqb holder holder refl)))
+
+          shows : opens given events later agent t caller site ops actor goes z (mode_asked question) server ≡ true
+              → ((copy_of st.store z).prefix ≡ shown_at (fixed_of given) (run given events) z server) × ((copy_of st.store z).dver ≡ dver_at (run given events) z server)
+          shows is = of (server_at (run given events) server) refl (and_parts (goes.near server) (is_up (run given events) server) (opens_up given events later agent t caller site ops actor goes z (mode_asked question) server is)).1
             where
-              of : (found : Option State) → server_at (run given events) server ≡ found → up_in found ≡ true → (copy_of st.store z).prefix ≡ shown_in (fixed_of given) found z
+              of : (found : Option State) → server_at (run given events) server ≡ found → up_in found ≡ true → ((copy_of st.store z).prefix ≡ shown_in (fixed_of given) found z) × ((copy_of st.store z).dver ≡ dver_in found z)
               of None was up = absurd (false≢true up)
-              of (Some old) was up = ap (λ (copy : Replica). copy.prefix) (stored_so z (mode_asked question) has is old was)
+              of (Some old) was up = let same = stored_so z (mode_asked question) has is old was in (ap (λ (copy : Replica). copy.prefix) same, ap (λ (copy : Replica). copy.dver) same)
 
           locked : question ≡ Upgrade → has_lock t z st.locks ≡ true
           locked is = subst (λ question. Finds st (request_for t z question)) is (its_finds (request_for t z question) next)

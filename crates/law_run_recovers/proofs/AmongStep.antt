@@ -1,7 +1,6 @@
--- A transaction that nobody meets ends as the votes say that are up: its own steps, and all along.
-use Rattle.std.proofs.Common.{◌≡◌, ◌⊎◌, inl, inr, ⊎_elim, ℕ, ◌<◌, Bool, true, false, cond, List, [], ◌∷◌, ◌++◌, append_assoc, Option, Some, None, is_some, refl, sym, ap, subst, ◌∙◌, arith}
+-- A transaction that goes among locks that stay ends as the votes say that are open: its own steps.
+use Rattle.std.proofs.Common.{◌≡◌, ◌⊎◌, inl, inr, ⊎_elim, ℕ, Bool, true, false, cond, List, [], ◌∷◌, ◌++◌, Option, Some, None, is_some, refl, sym, ap, subst, ◌∙◌, arith}
 use Rattle.std.specs.Prelude.{◌*◌, ◌+◌, ◌-◌, ◌&&◌, nat_lt, Contains}
-use Rattle.std.specs.List.{cons_option}
 use Rattle.std.specs.Ordering.{nat_cmp}
 use Rattle.std.proofs.lemmas.Bool.{false≢true, and_parts, eq-eqb}
 use Rattle.std.proofs.lemmas.Option.{none-some, same_Some}
@@ -22,9 +21,9 @@ use Rattle.rep_core.specs.declared.reply.Verdict.{Verdict}
 use Rattle.rep_core.specs.Service.{reply_of, held, verdict_of}
 use Rattle.rep_core.specs.Serving.{answer_of}
 use Rattle.rep_core.specs.State.{State}
-use Rattle.rep_core.proofs.Members.{Has, has_from, contains_from}
+use Rattle.rep_core.proofs.Members.{Has, contains_from}
 use Rattle.suite_collect.specs.Telling.{newest}
-use Rattle.suite_collect.specs.Collecting.{Collector, counted, wanted, votes_or, mode_or, request_for, mode_asked}
+use Rattle.suite_collect.specs.Collecting.{Collector, Asked, Poll, Upgrade, counted, wanted, votes_or, mode_or, request_for, mode_asked, mode_of}
 use Rattle.weak_cache.specs.Entries.{Cache}
 use Rattle.txn_core.specs.declared.ending.Ending.{Ending}
 use Rattle.txn_core.specs.declared.job.Job.TheVariants.{Transaction}
@@ -36,7 +35,7 @@ use Rattle.run_core.specs.TableOfRun.{table_of}
 use Rattle.txn_core.specs.Suites.{Suites, suite_of, known_of}
 use Rattle.txn_core.specs.Writing.{has_vote, parts_at}
 use Rattle.txn_core.specs.Doing as doing
-use Rattle.txn_core.specs.Doing.{Task, Phase, Gathering, Fetching, Preparing, Deciding, Finishing, TransactionRun, Doing, Running, After, GoesOn, Ends, home_of}
+use Rattle.txn_core.specs.Doing.{Task, Granted, Phase, Gathering, Fetching, Preparing, Deciding, Finishing, TransactionRun, Doing, Running, After, GoesOn, Ends, home_of}
 use Rattle.txn_core.specs.Transactions.{Step as CourseStep, execute, asked_for, given_in, changes_of, decision_of, request_in, after_reply}
 use Rattle.txn_core.specs.Agents as agents
 use Rattle.txn_core.specs.Agents.{Agent, Taken, fixed_of, is_idle, has_sense, max_jobs, next_in, next_of, left, end_of, with_step, take_in, take, begins, begin, started, after_all}
@@ -49,41 +48,49 @@ use Rattle.run_core.specs.declared.event.Event.{Event}
 use Rattle.run_core.specs.declared.event.Event.TheVariants.{Begin, Step}
 use Rattle.run_core.specs.declared.done.EndedJob.{EndedJob}
 use Rattle.run_core.specs.declared.done.Served.{Served}
-use Rattle.run_core.specs.Worlds.{Actor, World, server_at, actor_at, one_more, outcome_of, opening, step}
-use Rattle.run_core.specs.Runs.{dones, done_in, outcomes, run}
+use Rattle.run_core.specs.Worlds.{Actor, World, server_at, actor_at, one_more, outcome_of, step}
+use Rattle.run_core.specs.Runs.{run}
 use Rattle.run_core.specs.Decisions.{decisions}
-use Rattle.run_core.proofs.Appending.{dones-append, outcomes-append}
 use Rattle.law_runs.specs.Claims.{ended}
 use Rattle.law_runs.specs.Numbers.{number_of}
-use Rattle.law_runs.proofs.Agents.{same_place, take_keeps}
+use Rattle.law_runs.proofs.Agents.{take_keeps}
 use Rattle.law_runs.proofs.Conclusions.{holds_of}
-use Rattle.law_runs.proofs.Standing.{append_has_left, append_has_right}
-use Rattle.law_runs.proofs.Worlds.{agent_of, agent_at}
+use Rattle.law_runs.proofs.Worlds.{agent_of}
 use Rattle.law_run_alone.proofs.Named.{no_lock}
 use Rattle.law_run_alone.proofs.Unswept.{is_resolve, never_resolves}
 use Rattle.law_run_recovers.specs.Standing.{is_up, locks_in}
 use Rattle.law_run_recovers.specs.Demands.{locks_asked, votes_set}
 use Rattle.law_run_recovers.specs.Near.{asks_for}
-use Rattle.law_run_recovers.specs.Unmet.{runs, running_in, begun_world, world_after, GoesUnmet}
-use Rattle.law_run_recovers.proofs.Apart.{event_apart, who_ends}
+use Rattle.law_run_recovers.specs.Unmet.{runs, running_in, world_after}
+use Rattle.law_run_recovers.specs.Among.{GoesAmongLocks}
 use Rattle.law_run_recovers.proofs.Asked.{onto_left, onto_so_far, asked_exclusive, next_vote, next_mode}
 use Rattle.law_run_recovers.proofs.Asking.{onto}
 use Rattle.law_run_recovers.proofs.Ends.{early_open, early_asks, fetch_is, ending_in}
 use Rattle.law_run_recovers.proofs.Executes.{begin_stands}
-use Rattle.law_run_recovers.proofs.Heard.{RightFor, MayExecute, AsksFor, asks_for as asked_by, reply_stands}
+use Rattle.law_run_recovers.proofs.Heard.{LockRight, RightFor, MayExecute, AsksFor, asks_for as asked_by, reply_stands}
 use Rattle.law_run_recovers.proofs.Keeps.{IsAtWork, at_work, last_of, run_at}
-use Rattle.law_run_recovers.proofs.NearGround.{its, answers, Known, ground, number}
+use Rattle.law_run_recovers.proofs.NearGround.{its, opens, first_asked, opens_first, Known, ground, number, sight}
 use Rattle.law_run_recovers.proofs.Open.{its_begin, begun_there, begun_servers, begun_runs}
 use Rattle.law_run_recovers.proofs.Polled.{Answers}
-use Rattle.law_run_recovers.proofs.Serves.{Was}
+use Rattle.law_run_recovers.proofs.Serves.{On}
 use Rattle.law_run_recovers.proofs.Stands.{AfterStands, StepStands, asks_of, locks_on, sets_on}
 use Rattle.law_run_recovers.proofs.Still.{IsOpen, IsOpenPhase}
-use Rattle.law_run_recovers.proofs.Took.{OwnTook, own_took}
-use Rattle.law_run_recovers.proofs.UnmetAt.{HasWhereAnswered, lock_right, fetch_right, prepare_right, decide_right}
-use Rattle.law_run_recovers.proofs.UnmetCourse.{Course, RunsIt, PhaseIn, StandsIn, Right, same_service, runs_it, next_is, NewAnswered, unhindered, spared_on, locks_on as answered_on, apart_on}
-use Rattle.law_run_recovers.proofs.UnmetKnows.{knows_begun}
+use Rattle.law_run_recovers.proofs.Took.{OwnTook}
+use Rattle.law_run_recovers.proofs.AmongAt.{HasWhereOpen, lock_right, fetch_right, prepare_right, decide_right}
+use Rattle.law_run_recovers.proofs.AmongCourse.{Course, RunsIt, PhaseIn, StandsIn, Right, same_service, next_is, NewOpen, spared_on, locks_on as answered_on}
+use Rattle.law_run_recovers.proofs.Widened.{same_mode}
+use Rattle.law_run_recovers.proofs.AmongKnows.{knows_begun}
 
-module _ (given : Opening) (events later : List Event) (agent t : ℕ) (caller : Identity) (site : ℕ) (ops : List Op) (actor : Actor) (goes : GoesUnmet given events later agent t caller site ops actor) where
+-- a request for a lock on a suite is of that suite
+abbrev suite_in : Request → ℕ
+suite_in (request.Poll u suite mode) = suite
+suite_in other = 0
+
+suite_same : (t z : ℕ) (question : Asked) (u suite : ℕ) (mode : LockMode) → request_for t z question ≡ request.Poll u suite mode → z ≡ suite
+suite_same t z (Poll other) u suite mode is = ap suite_in is
+suite_same t z Upgrade u suite mode is = cc
+
+module _ (given : Opening) (events later : List Event) (agent t : ℕ) (caller : Identity) (site : ℕ) (ops : List Op) (actor : Actor) (goes : GoesAmongLocks given events later agent t caller site ops actor) where
   abbrev its_task : Task
   its_task = its given events later agent t caller site ops actor goes
 
@@ -91,32 +98,32 @@ module _ (given : Opening) (events later : List Event) (agent t : ℕ) (caller :
   world_at so_far = world_after given events agent caller site ops so_far
 
   abbrev Good : CourseStep → Type 0
-  Good step = StepStands (fixed_of given) (run given events) (answers given events later agent t caller site ops actor goes) (table_of given events) (its given events later agent t caller site ops actor goes) actor.agent.cache (Known given events later agent t caller site ops actor goes) (ground given events later agent t caller site ops actor goes) step
+  Good step = StepStands (fixed_of given) (run given events) (sight given events later agent t caller site ops actor goes) (table_of given events) (its given events later agent t caller site ops actor goes) actor.agent.cache (Known given events later agent t caller site ops actor goes) (ground given events later agent t caller site ops actor goes) step
 
   stands_left : (step : CourseStep) → Good step → StandsIn given events later agent t caller site ops actor goes step.cache (left Running step.after)
   stands_left step = of step.after
     where
-      of : (after : After TransactionRun) → AfterStands (fixed_of given) (run given events) (answers given events later agent t caller site ops actor goes) (table_of given events) (its given events later agent t caller site ops actor goes) actor.agent.cache (Known given events later agent t caller site ops actor goes) (ground given events later agent t caller site ops actor goes) step.cache after → StandsIn given events later agent t caller site ops actor goes step.cache (left Running after)
+      of : (after : After TransactionRun) → AfterStands (fixed_of given) (run given events) (sight given events later agent t caller site ops actor goes) (table_of given events) (its given events later agent t caller site ops actor goes) actor.agent.cache (Known given events later agent t caller site ops actor goes) (ground given events later agent t caller site ops actor goes) step.cache after → StandsIn given events later agent t caller site ops actor goes step.cache (left Running after)
       of (GoesOn txn_run) good = good
       of (Ends ended) good = tt
 
   right_end : (step : CourseStep) → Good step → (ended : Ending) → end_of step.after ≡ Some ended → Right given events later agent t caller site ops actor goes ended
   right_end step = of step.after
     where
-      of : (after : After TransactionRun) → AfterStands (fixed_of given) (run given events) (answers given events later agent t caller site ops actor goes) (table_of given events) (its given events later agent t caller site ops actor goes) actor.agent.cache (Known given events later agent t caller site ops actor goes) (ground given events later agent t caller site ops actor goes) step.cache after → (ended : Ending) → end_of after ≡ Some ended → Right given events later agent t caller site ops actor goes ended
+      of : (after : After TransactionRun) → AfterStands (fixed_of given) (run given events) (sight given events later agent t caller site ops actor goes) (table_of given events) (its given events later agent t caller site ops actor goes) actor.agent.cache (Known given events later agent t caller site ops actor goes) (ground given events later agent t caller site ops actor goes) step.cache after → (ended : Ending) → end_of after ≡ Some ended → Right given events later agent t caller site ops actor goes ended
       of (GoesOn txn_run) good ended is = absurd (none-some ended is)
       of (Ends other) good ended is = subst (Right given events later agent t caller site ops actor goes) (same_Some other ended is) good
 
   -- ---- its begin
 
-  begun : (64 * actor.agent.count + agent ≡ t) × (begins (fixed_of given) actor.agent (Transaction caller site ops) ≡ true)
+  pub begun : (64 * actor.agent.count + agent ≡ t) × (begins (fixed_of given) actor.agent (Transaction caller site ops) ≡ true)
   begun = its_begin given events later agent t caller site ops actor goes.can goes.there goes.begins
 
   first_stands : StandsIn given events later agent t caller site ops actor goes (begin (fixed_of given) actor.agent (Transaction caller site ops)).cache (begin (fixed_of given) actor.agent (Transaction caller site ops)).doing
   first_stands =
       subst (λ b. StandsIn given events later agent t caller site ops actor goes (begin_if b).cache (begin_if b).doing) (sym begun.1)
       (stands_left (execute (fixed_of given) its_task (record { suites = []; cache = actor.agent.cache }))
-      (begin_stands (fixed_of given) (run given events) (answers given events later agent t caller site ops actor goes) (table_of given events) (its given events later agent t caller site ops actor goes) actor.agent.cache (Known given events later agent t caller site ops actor goes) (ground given events later agent t caller site ops actor goes) (same_service given events later agent t caller site ops actor goes)))
+      (begin_stands (fixed_of given) (run given events) (sight given events later agent t caller site ops actor goes) (table_of given events) (its given events later agent t caller site ops actor goes) actor.agent.cache (Known given events later agent t caller site ops actor goes) (ground given events later agent t caller site ops actor goes) (same_service given events later agent t caller site ops actor goes)))
     where
       begin_if : Bool → Agent
       begin_if b = cond b (record (started (fixed_of given) actor.agent (Transaction caller site ops)) { count = actor.agent.count + 1 }) actor.agent
@@ -155,15 +162,15 @@ module _ (given : Opening) (events later : List Event) (agent t : ℕ) (caller :
       nil_not [] event back is = cc
       nil_not (one ∷ front) event back is = cc
 
-      none_has : HasWhereAnswered given events later agent t caller site ops actor goes (world_after given events agent caller site ops [])
-      none_has server was =
+      none_has : HasWhereOpen given events later agent t caller site ops actor goes (world_after given events agent caller site ops [])
+      none_has server z on =
           of (server_at (run given events) server) refl
-          (subst (λ found. Was (locks_in found) t) (begun_servers given events later agent t caller site ops actor goes.can goes.there goes.begins server) was)
+          (subst (λ found. On (locks_in found) t z) (begun_servers given events later agent t caller site ops actor goes.can goes.there goes.begins server) on)
         where
-          of : (found : Option State) → server_at (run given events) server ≡ found → Was (locks_in (server_at (run given events) server)) t → answers given events later agent t caller site ops actor goes server ≡ true
-          of None at was = absurd (subst (λ found. Has (locks_in found) was.lock) at was.has)
-          of (Some st) at was =
-              absurd (no_lock given goes.can.accepted events agent t (Transaction caller site ops) goes.begins server st at was.lock (subst (λ found. Has (locks_in found) was.lock) at was.has) was.of_it)
+          of : (found : Option State) → server_at (run given events) server ≡ found → On (locks_in (server_at (run given events) server)) t z → opens given events later agent t caller site ops actor goes z (first_asked given events later agent t caller site ops actor goes z) server ≡ true
+          of None at on = absurd (subst (λ found. Has (locks_in found) on.lock) at on.has)
+          of (Some st) at on =
+              absurd (no_lock given goes.can.accepted events agent t (Transaction caller site ops) goes.begins server st at on.lock (subst (λ found. Has (locks_in found) on.lock) at on.has) on.of_it)
 
   pub first_told : first_course.told ≡ []
   unfolding first_course
@@ -191,11 +198,13 @@ module _ (given : Opening) (events later : List Event) (agent t : ℕ) (caller :
     -- ---- it is answered rightly
 
     lock_here : (z : ℕ) (collector : Collector) → IsAtWork (world_after given events agent caller site ops so_far) agent t → (asks : AsksFor its_task.t z collector took.asked.0 took.asked.1) → goes.near took.asked.0 ≡ true
-        → Contains (asks_for given events t caller ops) (z, mode_asked asks.question) → Answers (fixed_of given) (run given events) (answers given events later agent t caller site ops actor goes) z took.asked.0 said
-    lock_here z collector work asks near has =
-        let is : took.asked.1 ≡ request_for t z asks.question = asks.asked_is ∙ ap (λ n. request_for n z asks.question) (number given events later agent t caller site ops actor goes) in
-        subst (λ asked. Answers (fixed_of given) (run given events) (answers given events later agent t caller site ops actor goes) z took.asked.0 (reply_of took.st asked)) (sym is)
-        (lock_right given events later agent t caller site ops actor goes so_far (Step agent ∷ rest) split work c.spared c.locks took.asked.0 took.st took.at c.here r.txn_run c.there r.running number_here z asks.question (asks_so (request_for t z asks.question) is) near has)
+        → Contains (asks_for given events t caller ops) (z, mode_asked asks.question) → LockRight (fixed_of given) (run given events) (sight given events later agent t caller site ops actor goes) its_task.t z took.asked.0 took.asked.1 said
+    lock_here z collector work asks near has question asked =
+        let is : took.asked.1 ≡ request_for t z question = asked ∙ ap (λ n. request_for n z question) (number given events later agent t caller site ops actor goes) in
+        let modes : mode_asked asks.question ≡ mode_asked question = sym (same_mode its_task.t z asks.question) ∙ ap mode_of (sym asks.asked_is ∙ asked) ∙ same_mode its_task.t z question in
+        subst (λ asked. Answers (fixed_of given) (run given events) (sight given events later agent t caller site ops actor goes) z question took.asked.0 (reply_of took.st asked)) (sym is)
+        (lock_right given events later agent t caller site ops actor goes so_far (Step agent ∷ rest) split work c.spared c.locks took.asked.0 took.st took.at c.here r.txn_run c.there r.running number_here z question (asks_so (request_for t z question) is) near
+        (subst (λ mode. Contains (asks_for given events t caller ops) (z, mode)) modes has))
 
     -- what it has on the table by its number
     asked_there : (one : ℕ × LockMode) → Has (locks_on (table_of given events) its_task) one → Contains (asks_for given events t caller ops) one
@@ -204,16 +213,28 @@ module _ (given : Opening) (events later : List Event) (agent t : ℕ) (caller :
     set_there : (one : ℕ × Configuration) → Has (sets_on (table_of given events) its_task) one → Contains (votes_set (table_of given events) t caller ops) one
     set_there one has = contains_from (votes_set (table_of given events) t caller ops) one (subst (λ n. Has (votes_set (table_of given events) n caller ops) one) (number given events later agent t caller site ops actor goes) has)
 
+    gather_asks : (now : Cache) (suites : Suites) (z : ℕ) (at : PhaseIn given events later agent t caller site ops actor goes suites now (Gathering z)) (asks : AsksFor its_task.t z at.0.suite.collector took.asked.0 took.asked.1)
+        → Contains (asks_for given events t caller ops) (z, mode_asked asks.question)
+    gather_asks now suites z at asks =
+        let g = at.0 in
+        let mode : mode_asked asks.question ≡ g.mode = next_mode g.suite.collector took.asked.0 asks.question asks.is ∙ ap wanted g.found.reached.is ∙ ap (λ (c : Collector). c.mode) (sym g.found.reached.is) ∙ g.mode_is in
+        subst (λ mode. Contains (asks_for given events t caller ops) (z, mode)) (sym mode)
+        (asked_there (z, g.mode) (subst (λ locks. Has locks (z, g.mode)) (sym (g.asks.order ∙ ap (onto g.asked) g.next_is)) (onto_left g.asked _ (z, g.mode) (inl refl))))
+
+    widen_asks : (now : Cache) (suites : Suites) (z : ℕ) (left : List ℕ) (granted : Granted) (at : PhaseIn given events later agent t caller site ops actor goes suites now (doing.Widening (z ∷ left) granted)) (asks : AsksFor its_task.t z at.suite.collector took.asked.0 took.asked.1)
+        → Contains (asks_for given events t caller ops) (z, mode_asked asks.question)
+    widen_asks now suites z left granted at asks =
+        let mode : mode_asked asks.question ≡ Exclusive = next_mode at.suite.collector took.asked.0 asks.question asks.is ∙ ap (λ o. mode_or o at.suite.collector.mode) at.widening_is in
+        subst (λ mode. Contains (asks_for given events t caller ops) (z, mode)) (sym mode)
+        (asked_there (z, Exclusive) (subst (λ locks. Has locks (z, Exclusive)) (sym at.sets.all) (onto_so_far at.sets.so_far [] (z, Exclusive) (asked_exclusive at.sets.so_far z (at.sets.exclusive (z, at.votes) (inl refl))))))
+
     right_for : (now : Cache) (suites : Suites) (phase : Phase) → PhaseIn given events later agent t caller site ops actor goes suites now phase → (IsOpenPhase phase → IsAtWork (world_after given events agent caller site ops so_far) agent t)
-        → request_in (fixed_of given) its_task suites phase ≡ Some (took.asked.0, took.asked.1) → RightFor (fixed_of given) (run given events) (answers given events later agent t caller site ops actor goes) its_task phase took.asked.0 said
+        → request_in (fixed_of given) its_task suites phase ≡ Some (took.asked.0, took.asked.1) → RightFor (fixed_of given) (run given events) (sight given events later agent t caller site ops actor goes) its_task phase took.asked.0 took.asked.1 said
     right_for now suites (Gathering z) at work asks' =
         let g = at.0 in
         let asks = asked_by its_task z g.suite.collector took.asked.0 took.asked.1 (sym (ap (asked_for its_task z) g.there) ∙ asks') in
         let vote = next_vote g.suite.collector took.asked.0 asks.question asks.is in
-        let mode : mode_asked asks.question ≡ g.mode = next_mode g.suite.collector took.asked.0 asks.question asks.is ∙ ap wanted g.found.reached.is ∙ ap (λ (c : Collector). c.mode) (sym g.found.reached.is) ∙ g.mode_is in
-        lock_here z g.suite.collector (work tt) asks (g.found.reached.going.known.1 took.asked.0 (subst (λ (c : Collector). has_vote (counted c) took.asked.0 ≡ true) g.found.reached.is vote))
-        (subst (λ mode. Contains (asks_for given events t caller ops) (z, mode)) (sym mode)
-        (asked_there (z, g.mode) (subst (λ locks. Has locks (z, g.mode)) (sym (g.asks.order ∙ ap (onto g.asked) g.next_is)) (onto_left g.asked _ (z, g.mode) (inl refl)))))
+        lock_here z g.suite.collector (work tt) asks (g.found.reached.going.known.1 took.asked.0 (subst (λ (c : Collector). has_vote (counted c) took.asked.0 ≡ true) g.found.reached.is vote)) (gather_asks now suites z at asks)
     right_for now suites (Fetching z) at work asks' =
         let is : took.asked.1 ≡ request.Fetch t z = fetch_is its_task z (suite_of suites z) took.asked.0 took.asked.1 asks' ∙ ap (λ n. request.Fetch n z) (number given events later agent t caller site ops actor goes) in
         ap (λ asked. is_some (given_in (reply_of took.st asked))) is
@@ -223,11 +244,9 @@ module _ (given : Opening) (events later : List Event) (agent t : ℕ) (caller :
         let asks = asked_by its_task z at.suite.collector took.asked.0 took.asked.1 (sym (ap (asked_for its_task z) at.there) ∙ asks') in
         let vote = next_vote at.suite.collector took.asked.0 asks.question asks.is in
         let count' : counted at.suite.collector ≡ at.votes = ap (λ o. votes_or o (newest at.suite.collector.start at.suite.collector.told)) at.widening_is ∙ at.votes_are in
-        let mode : mode_asked asks.question ≡ Exclusive = next_mode at.suite.collector took.asked.0 asks.question asks.is ∙ ap (λ o. mode_or o at.suite.collector.mode) at.widening_is in
         lock_here z at.suite.collector (work tt) asks
         (goes.are_near.set (z, at.votes) took.asked.0 (set_there (z, at.votes) (subst (λ sets. Has sets (z, at.votes)) (sym at.sets.sets) (onto_left at.done _ (z, at.votes) (inl refl)))) (subst (λ votes. has_vote votes took.asked.0 ≡ true) count' vote))
-        (subst (λ mode. Contains (asks_for given events t caller ops) (z, mode)) (sym mode)
-        (asked_there (z, Exclusive) (subst (λ locks. Has locks (z, Exclusive)) (sym at.sets.all) (onto_so_far at.sets.so_far [] (z, Exclusive) (asked_exclusive at.sets.so_far z (at.sets.exclusive (z, at.votes) (inl refl)))))))
+        (widen_asks now suites z left granted at asks)
     right_for now suites (Preparing [] outcome) at work asks' = absurd (none-some (took.asked.0, took.asked.1) asks')
     right_for now suites (Preparing (server ∷ left) outcome) at work asks' =
         let parts = parts_at suites (changes_of outcome) server in
@@ -249,17 +268,31 @@ module _ (given : Opening) (events later : List Event) (agent t : ℕ) (caller :
         by false is up down = inr (is, down is)
     right_for now suites (Finishing left v ended) at work asks' = tt
 
-    right_here : RightFor (fixed_of given) (run given events) (answers given events later agent t caller site ops actor goes) its_task r.txn_run.phase took.asked.0 said
+    right_here : RightFor (fixed_of given) (run given events) (sight given events later agent t caller site ops actor goes) its_task r.txn_run.phase took.asked.0 took.asked.1 said
     right_here = right_for c.here.agent.cache r.txn_run.suites r.txn_run.phase r.at.1 work_in request_is
 
     -- ---- where it was told of a lock, it was answered
 
+    -- what is open in the mode asked for is in the first one
+    open_so : (z : ℕ) (asks : Request) (question : Asked) → Contains (asks_for given events t caller ops) (z, mode_asked question) → asks ≡ request_for its_task.t z question → opens given events later agent t caller site ops actor goes z (mode_asked question) took.asked.0 ≡ true
+        → (u suite : ℕ) (mode : LockMode) → asks ≡ request.Poll u suite mode → opens given events later agent t caller site ops actor goes suite (first_asked given events later agent t caller site ops actor goes suite) took.asked.0 ≡ true
+    open_so z asks question has is open' u suite mode poll =
+        subst (λ z. opens given events later agent t caller site ops actor goes z (first_asked given events later agent t caller site ops actor goes z) took.asked.0 ≡ true) (suite_same its_task.t z question u suite mode (sym is ∙ poll))
+        (opens_first given events later agent t caller site ops actor goes z (mode_asked question) has took.asked.0 open')
+
     polls_answered : (phase : Phase) → PhaseIn given events later agent t caller site ops actor goes r.txn_run.suites c.here.agent.cache phase → request_in (fixed_of given) its_task r.txn_run.suites phase ≡ Some (took.asked.0, took.asked.1)
-        → RightFor (fixed_of given) (run given events) (answers given events later agent t caller site ops actor goes) its_task phase took.asked.0 said → (u suite : ℕ) (mode : LockMode) → took.asked.1 ≡ request.Poll u suite mode → (copy : Replica) → said ≡ held copy → answers given events later agent t caller site ops actor goes took.asked.0 ≡ true
-    polls_answered (Gathering z) at asks' right u suite mode poll copy is = (subst (Answers (fixed_of given) (run given events) (answers given events later agent t caller site ops actor goes) z took.asked.0) is right).0
+        → RightFor (fixed_of given) (run given events) (sight given events later agent t caller site ops actor goes) its_task phase took.asked.0 took.asked.1 said → (u suite : ℕ) (mode : LockMode) → took.asked.1 ≡ request.Poll u suite mode → (copy : Replica) → said ≡ held copy
+        → opens given events later agent t caller site ops actor goes suite (first_asked given events later agent t caller site ops actor goes suite) took.asked.0 ≡ true
+    polls_answered (Gathering z) at asks' right u suite mode poll copy is =
+        let asks = asked_by its_task z at.0.suite.collector took.asked.0 took.asked.1 (sym (ap (asked_for its_task z) at.0.there) ∙ asks') in
+        open_so z took.asked.1 asks.question (gather_asks c.here.agent.cache r.txn_run.suites z at asks) asks.asked_is
+        (subst (Answers (fixed_of given) (run given events) (sight given events later agent t caller site ops actor goes) z asks.question took.asked.0) is (right asks.question asks.asked_is)).0 u suite mode poll
     polls_answered (Fetching z) at asks' right u suite mode poll copy is = absurd (false≢true (ap (λ said. is_some (given_in said)) (sym is) ∙ right))
     polls_answered (doing.Widening [] granted) at asks' right u suite mode poll copy is = absurd at
-    polls_answered (doing.Widening (z ∷ left) granted) at asks' right u suite mode poll copy is = (subst (Answers (fixed_of given) (run given events) (answers given events later agent t caller site ops actor goes) z took.asked.0) is right).0
+    polls_answered (doing.Widening (z ∷ left) granted) at asks' right u suite mode poll copy is =
+        let asks = asked_by its_task z at.suite.collector took.asked.0 took.asked.1 (sym (ap (asked_for its_task z) at.there) ∙ asks') in
+        open_so z took.asked.1 asks.question (widen_asks c.here.agent.cache r.txn_run.suites z left granted at asks) asks.asked_is
+        (subst (Answers (fixed_of given) (run given events) (sight given events later agent t caller site ops actor goes) z asks.question took.asked.0) is (right asks.question asks.asked_is)).0 u suite mode poll
     polls_answered (Preparing left outcome) at asks' right u suite mode poll copy is = absurd (false≢true (ap is_prepared (sym is) ∙ right))
     polls_answered (Deciding outcome) at asks' right u suite mode poll copy is =
         absurd (⊎_elim (λ up. not_verdict (verdict_of (decision_of its_task outcome)) (sym is ∙ up.1)) (λ down. not_down (sym is ∙ down.1)) right)
@@ -275,18 +308,19 @@ module _ (given : Opening) (events later : List Event) (agent t : ℕ) (caller :
         not_poll : request.Finish its_task.t v ≡ request.Poll u suite mode → ⊥
         not_poll is = cc
 
-    new_answered : NewAnswered given events later agent t caller site ops actor goes so_far (Step agent)
-    new_answered server told =
+    new_answered : NewOpen given events later agent t caller site ops actor goes so_far (Step agent)
+    new_answered server z told of_it =
         let same : the (record { server = took.asked.0; request = record { stamp = c.here.stamp; value = took.asked.1 }; reply = answer_of took.st (record { stamp = c.here.stamp; value = took.asked.1 }) }) ≡ told.what = same_Some _ told.what (sym took.done ∙ told.served) in
         let asked_is : took.asked.1 ≡ request.Poll t told.told.suite told.told.mode = ap (λ (what : Served). what.request.value) same ∙ told.told.poll in
         let said_is : said ≡ held told.told.copy = ap (λ (what : Served). what.reply.value) same ∙ told.told.reply in
         let at : took.asked.0 ≡ server = ap (λ (what : Served). what.server) same ∙ told.at in
-        subst (λ server. answers given events later agent t caller site ops actor goes server ≡ true) at (polls_answered r.txn_run.phase r.at.1 request_is right_here t told.told.suite told.told.mode asked_is told.told.copy said_is)
+        subst (λ z. opens given events later agent t caller site ops actor goes z (first_asked given events later agent t caller site ops actor goes z) server ≡ true) of_it
+        (subst (λ server. opens given events later agent t caller site ops actor goes told.told.suite (first_asked given events later agent t caller site ops actor goes told.told.suite) server ≡ true) at (polls_answered r.txn_run.phase r.at.1 request_is right_here t told.told.suite told.told.mode asked_is told.told.copy said_is))
       where
         the : Served → Served
         the what = what
 
-    locks_then : HasWhereAnswered given events later agent t caller site ops actor goes (world_after given events agent caller site ops (so_far ++ Step agent ∷ []))
+    locks_then : HasWhereOpen given events later agent t caller site ops actor goes (world_after given events agent caller site ops (so_far ++ Step agent ∷ []))
     locks_then = answered_on given events later agent t caller site ops actor goes so_far rest (Step agent) split c new_answered
 
     -- ---- its course
@@ -348,7 +382,7 @@ module _ (given : Opening) (events later : List Event) (agent t : ℕ) (caller :
     good_step : Good (step_of r.txn_run.task)
     good_step =
         subst (λ task. Good (step_of task)) (sym r.at.0)
-        (reply_stands (fixed_of given) (run given events) (answers given events later agent t caller site ops actor goes) (table_of given events) (its given events later agent t caller site ops actor goes) actor.agent.cache (Known given events later agent t caller site ops actor goes) (ground given events later agent t caller site ops actor goes) (same_service given events later agent t caller site ops actor goes) c.here.agent.cache r.txn_run.suites r.txn_run.phase r.at.1
+        (reply_stands (fixed_of given) (run given events) (sight given events later agent t caller site ops actor goes) (table_of given events) (its given events later agent t caller site ops actor goes) actor.agent.cache (Known given events later agent t caller site ops actor goes) (ground given events later agent t caller site ops actor goes) (same_service given events later agent t caller site ops actor goes) c.here.agent.cache r.txn_run.suites r.txn_run.phase r.at.1
         took.asked.0 took.asked.1 request_is said right_here knows_on)
 
     stands_then : StandsIn given events later agent t caller site ops actor goes took.new.agent.cache took.new.agent.doing
@@ -394,102 +428,3 @@ module _ (given : Opening) (events later : List Event) (agent t : ℕ) (caller :
           where
             the_one : EndedJob
             the_one = record { agent = agent; count = c.here.agent.count - 1; steps = one_more c.here.steps; ending = ended }
-
-  -- ---- all along
-
-  -- its job has ended
-  abbrev pub Over : List Event → Type 0
-  Over so_far = (one : EndedJob) × Has (ended given (events ++ Begin agent (Transaction caller site ops) ∷ so_far)) one × (number_of one ≡ t)
-
-  ended_more : (so_far : List Event) (event : Event) → ended given (events ++ Begin agent (Transaction caller site ops) ∷ (so_far ++ event ∷ []))
-      ≡ ended given (events ++ Begin agent (Transaction caller site ops) ∷ so_far) ++ cons_option (step (fixed_of given) (world_after given events agent caller site ops so_far) event).done.outcome []
-  ended_more so_far event =
-      ap (ended given) (sym (append_assoc events (Begin agent (Transaction caller site ops) ∷ so_far) (event ∷ [])))
-      ∙ ap outcomes (dones-append (fixed_of given) (opening given) (events ++ Begin agent (Transaction caller site ops) ∷ so_far) (event ∷ []))
-      ∙ outcomes-append (done_in given (events ++ Begin agent (Transaction caller site ops) ∷ so_far)) (dones (fixed_of given) (run given (events ++ Begin agent (Transaction caller site ops) ∷ so_far)) (event ∷ []))
-      ∙ ap (λ w. ended given (events ++ Begin agent (Transaction caller site ops) ∷ so_far) ++ outcomes (dones (fixed_of given) w (event ∷ [])))
-      (sym (run_at given events later agent t caller site ops actor goes.can goes.there goes.begins so_far))
-
-  pub over_on : (so_far : List Event) (event : Event) → Over so_far → Over (so_far ++ event ∷ [])
-  over_on so_far event over =
-      (over.0, subst (λ all. Has all over.0) (sym (ended_more so_far event)) (append_has_left (ended given (events ++ Begin agent (Transaction caller site ops) ∷ so_far)) (cons_option (step (fixed_of given) (world_at so_far) event).done.outcome []) over.0 over.1), over.2)
-
-  pub over_now : (so_far : List Event) (event : Event) (one : EndedJob) → (step (fixed_of given) (world_after given events agent caller site ops so_far) event).done.outcome ≡ Some one → number_of one ≡ t → Over (so_far ++ event ∷ [])
-  over_now so_far event one is number = (
-    one,
-    subst (λ all. Has all one) (sym (ended_more so_far event)) (append_has_right (ended given (events ++ Begin agent (Transaction caller site ops) ∷ so_far)) (cons_option (step (fixed_of given) (world_at so_far) event).done.outcome []) one (subst (λ found. Has (cons_option found []) one) (sym is) (inl refl))),
-    number,
-  )
-
-  pub small_at : (so_far : List Event) (i : ℕ) (a : Agent) → agent_at (world_after given events agent caller site ops so_far) i ≡ Some a → i < 64
-  small_at so_far i a at =
-      (holds_of given goes.can.accepted (events ++ Begin agent (Transaction caller site ops) ∷ so_far)).agents.small i a
-      (ap (λ w. agent_at w i) (sym (run_at given events later agent t caller site ops actor goes.can goes.there goes.begins so_far)) ∙ at)
-
-  -- none of its number ends again
-  never_again : (so_far : List Event) (event : Event) → Over so_far → (one : EndedJob) → (step (fixed_of given) (world_after given events agent caller site ops so_far) event).done.outcome ≡ Some one → number_of one ≡ t → ⊥
-  never_again so_far event over one is number =
-      let run_so = run_at given events later agent t caller site ops actor goes.can goes.there goes.begins so_far in
-      let was = (holds_of given goes.can.accepted (events ++ Begin agent (Transaction caller site ops) ∷ so_far)).over over.0 over.1 in
-      let now = who_ends (fixed_of given) (world_at so_far) one event is in
-      let small_was = (holds_of given goes.can.accepted (events ++ Begin agent (Transaction caller site ops) ∷ so_far)).agents.small over.0.agent was.agent was.at in
-      let small_now = small_at so_far one.agent now.actor.agent (ap agent_of now.there) in
-      let places = same_place over.0.count one.count over.0.agent one.agent (over.2 ∙ sym number) small_was small_now in
-      let same : was.agent ≡ now.actor.agent = same_Some was.agent now.actor.agent (sym was.at ∙ ap (agent_at (run given (events ++ Begin agent (Transaction caller site ops) ∷ so_far))) places.1 ∙ ap (λ w. agent_at w one.agent) (sym run_so) ∙ ap agent_of now.there) in
-      let counts : was.agent.count ≡ now.actor.agent.count = ap (λ (a : Agent). a.count) same in
-      let before = was.before in
-      let count = now.count in
-      let place = places.0 in
-      let idle = was.idle (omega (arith, counts, before, count, place)) in
-      none-some now.asked (sym (ap (next_in (fixed_of given)) (sym (ap (λ (a : Agent). a.doing) same) ∙ idle)) ∙ now.next)
-
-  -- while it runs another's event ends no job of its number
-  not_ended : (so_far rest : List Event) (event : Event) → later ≡ so_far ++ event ∷ rest → (c : Course given events later agent t caller site ops actor goes so_far) → ((one : EndedJob) → (step (fixed_of given) (world_after given events agent caller site ops so_far) event).done.outcome ≡ Some one → one.agent ≡ agent → ⊥)
-      → (one : EndedJob) → (step (fixed_of given) (world_after given events agent caller site ops so_far) event).done.outcome ≡ Some one → number_of one ≡ t → ⊥
-  not_ended so_far rest event split c other one is number =
-      let now = who_ends (fixed_of given) (world_at so_far) one event is in
-      let small_now = small_at so_far one.agent now.actor.agent (ap agent_of now.there) in
-      let small_own = small_at so_far agent c.here.agent (ap agent_of c.there) in
-      other one is (same_place one.count actor.agent.count one.agent agent (number ∙ sym begun.0) small_now small_own).1
-
-  ends_in : (rest so_far : List Event) → later ≡ so_far ++ rest → Course given events later agent t caller site ops actor goes so_far ⊎ Over so_far → (one : EndedJob) → Has (outcomes (dones (fixed_of given) (world_after given events agent caller site ops so_far) rest)) one → number_of one ≡ t → Right given events later agent t caller site ops actor goes one.ending
-  ends_in [] so_far split state one has numbered = absurd has
-  ends_in (event ∷ rest) so_far split state one has numbered =
-      ⊎_elim
-      (λ c. by c (λ state has. ends_in rest (so_far ++ event ∷ []) (split ∙ sym (append_assoc so_far (event ∷ []) rest)) state one has numbered))
-      (λ over.
-      goes_later (λ is. absurd (never_again so_far event over one is numbered))
-      (λ has. ends_in rest (so_far ++ event ∷ []) (split ∙ sym (append_assoc so_far (event ∷ []) rest)) (inr (over_on so_far event over)) one has numbered) (step (fixed_of given) (world_at so_far) event).done.outcome refl has)
-      state
-    where
-      goes_later : ((step (fixed_of given) (world_after given events agent caller site ops so_far) event).done.outcome ≡ Some one → Right given events later agent t caller site ops actor goes one.ending)
-          → (Has (outcomes (dones (fixed_of given) (world_after given events agent caller site ops (so_far ++ event ∷ [])) rest)) one → Right given events later agent t caller site ops actor goes one.ending)
-          → (found : Option EndedJob) → (step (fixed_of given) (world_after given events agent caller site ops so_far) event).done.outcome ≡ found
-          → Has (cons_option found (outcomes (dones (fixed_of given) (step (fixed_of given) (world_after given events agent caller site ops so_far) event).world rest))) one → Right given events later agent t caller site ops actor goes one.ending
-      goes_later here go None is has = go (subst (λ w. Has (outcomes (dones (fixed_of given) w rest)) one) (sym (next_is given events later agent t caller site ops actor goes so_far event)) has)
-      goes_later here go (Some other) is has =
-          ⊎_elim (λ same. here (is ∙ ap (λ o. Some o) same)) (λ has. go (subst (λ w. Has (outcomes (dones (fixed_of given) w rest)) one) (sym (next_is given events later agent t caller site ops actor goes so_far event)) has)) has
-
-      by : Course given events later agent t caller site ops actor goes so_far → (Course given events later agent t caller site ops actor goes (so_far ++ event ∷ []) ⊎ Over (so_far ++ event ∷ []) → Has (outcomes (dones (fixed_of given) (world_after given events agent caller site ops (so_far ++ event ∷ [])) rest)) one → Right given events later agent t caller site ops actor goes one.ending) → Right given events later agent t caller site ops actor goes one.ending
-      by c go = ⊎_elim
-          (λ apart.
-          goes_later (λ is. absurd (not_ended so_far rest event split c apart.0.other one is numbered)) (go (inl (apart_on given events later agent t caller site ops actor goes so_far rest event split c apart.0 apart.1).0)) (step (fixed_of given) (world_at so_far) event).done.outcome refl has)
-          (λ own. own_step own.0 own.1)
-          (event_apart given agent (world_at so_far) c.here c.there c.busy event (unhindered given events later agent t caller site ops actor goes so_far rest event split c))
-        where
-          own_step : event ≡ Step agent → is_some (step (fixed_of given) (world_after given events agent caller site ops so_far) event).done.served ≡ true → Right given events later agent t caller site ops actor goes one.ending
-          own_step is served =
-              let split' : later ≡ so_far ++ Step agent ∷ rest = split ∙ ap (λ event. so_far ++ event ∷ rest) is in
-              let took = own_took (fixed_of given) (world_at so_far) agent c.here c.there (subst (λ event. is_some (step (fixed_of given) (world_after given events agent caller site ops so_far) event).done.served ≡ true) is served) in
-              let r = runs_it given events later agent t caller site ops actor goes so_far c in
-              let on = own_on so_far rest split' c r took in
-              let here : (step (fixed_of given) (world_after given events agent caller site ops so_far) event).done.outcome ≡ Some one → Right given events later agent t caller site ops actor goes one.ending =
-              λ ends. ends_right so_far rest split' c r took one (ap (λ event. (step (fixed_of given) (world_after given events agent caller site ops so_far) event).done.outcome) (sym is) ∙ ends) in
-              let state : Course given events later agent t caller site ops actor goes (so_far ++ event ∷ []) ⊎ Over (so_far ++ event ∷ []) =
-              subst (λ event. Course given events later agent t caller site ops actor goes (so_far ++ event ∷ []) ⊎ Over (so_far ++ event ∷ [])) (sym is) (⊎_elim (λ on. inl on.0) (λ ended. inr (over_now so_far (Step agent) ended.0 ended.1 ended.2)) on) in
-              goes_later here (go state) (step (fixed_of given) (world_at so_far) event).done.outcome refl has
-
-  -- it ends so
-  pub unmet_ends : (one : EndedJob) → Contains (outcomes (dones (fixed_of given) (begun_world given events agent caller site ops) later)) one → number_of one ≡ t → Right given events later agent t caller site ops actor goes one.ending
-  unmet_ends one there number =
-      ends_in later [] refl (inl first_course) one (has_from (outcomes (dones (fixed_of given) (begun_world given events agent caller site ops) later)) one there) number

@@ -1,0 +1,137 @@
+//! The lines of a script above a line: what they say that matters to it.
+
+use acl_text::{NameError, Names};
+use script_text::{Words, read_number};
+use std::alloc::{AllocError, Global};
+use suite_prefix::MAX_AGENTS;
+use suite_script::{Form, Forms, Place, Scope};
+use vote_core::MAX_SERVERS;
+
+/// A script that was read up to some line.
+#[derive(Drop)]
+pub(crate) struct Reading {
+    forms: Forms,
+    /// How many lines of the header came.
+    header: usize,
+    /// Whether the line came that may stand at the header's end, or one after it.
+    is_open: bool,
+    /// Whether a line of the command's own came.
+    has_begun: bool,
+    pub(crate) scope: Scope,
+}
+
+/// Where a line stands that begins with some word.
+#[derive(Clone, Copy)]
+pub(crate) enum Standing {
+    /// In its place.
+    Here(Form),
+    /// Out of its place; a line of the header is due, where it is known which.
+    Misplaced(Option<Form>),
+    /// Nowhere.
+    Unknown(Option<Form>),
+}
+
+/// The form of a line that begins with a word.
+fn form_of(forms: &[Form], word: &[u8]) -> Option<Form> {
+    forms.iter().copied().find(|form| word == form.word)
+}
+
+impl Reading {
+    /// Nothing was read yet.
+    pub(crate) fn new(alloc: Global, forms: Forms) -> Reading {
+        Reading {
+            forms,
+            header: 0,
+            is_open: true,
+            has_begun: false,
+            scope: Scope {
+                last_server: MAX_SERVERS as u8 - 1,
+                last_agent: MAX_AGENTS as u8 - 1,
+                names: Names::new(alloc),
+            },
+        }
+    }
+
+    /// The line of the header that is due, if one is.
+    pub(crate) fn due(&self) -> Option<Form> {
+        self.forms.header.get(self.header).copied()
+    }
+
+    /// Where a line stands that begins with this word and comes next.
+    pub(crate) fn standing(&self, word: &[u8]) -> Standing {
+        if let Some(due) = self.due() {
+            return if word == due.word {
+                Standing::Here(due)
+            } else {
+                self.misplaced(word, Some(due))
+            };
+        }
+        if let Some(form) = form_of(self.forms.own, word) {
+            return Standing::Here(form);
+        }
+        match (
+            form_of(self.forms.names, word),
+            form_of(self.forms.optional, word),
+        ) {
+            (Some(form), _) if !self.has_begun => Standing::Here(form),
+            (_, Some(form)) if self.is_open => Standing::Here(form),
+            _ => self.misplaced(word, None),
+        }
+    }
+
+    /// Where a line stands that is not in its place.
+    fn misplaced(&self, word: &[u8], due: Option<Form>) -> Standing {
+        let forms = self.forms;
+        let parts = [forms.header, forms.optional, forms.names, forms.own];
+        if parts.iter().any(|part| form_of(part, word).is_some()) {
+            Standing::Misplaced(due)
+        } else {
+            Standing::Unknown(due)
+        }
+    }
+
+    /// Takes a line that has no fault.
+    pub(crate) fn take(&mut self, first: &[u8], words: Words<'_>) -> Result<(), AllocError> {
+        let Standing::Here(form) = self.standing(first) else {
+            return Ok(());
+        };
+        if self.due().is_some() {
+            self.header = self.header.saturating_add(1);
+        } else {
+            self.is_open = false;
+            self.has_begun = self.has_begun || form_of(self.forms.own, first).is_some();
+        }
+        self.note(form, words)
+    }
+
+    /// Notes what a line says: how many servers or agents there are, or a name.
+    fn note(&mut self, form: Form, mut words: Words<'_>) -> Result<(), AllocError> {
+        let (Some(place), Some(word)) = (form.places.first(), words.next()) else {
+            return Ok(());
+        };
+        match place {
+            Place::Servers => self.scope.last_server = last_of(word, MAX_SERVERS as u8),
+            Place::Agents => self.scope.last_agent = last_of(word, MAX_AGENTS as u8),
+            Place::UserName => return noted(self.scope.names.add_user(word, 0)),
+            Place::GroupName => return noted(self.scope.names.add_group(word, 0)),
+            _ => {}
+        }
+        Ok(())
+    }
+}
+
+/// The last of so many that are numbered from 0.
+fn last_of(word: &[u8], most: u8) -> u8 {
+    match read_number(word, u64::from(most)) {
+        Some(count) => (count as u8).saturating_sub(1),
+        None => most.saturating_sub(1),
+    }
+}
+
+/// A name that was noted, or had a fault, which is then the script's.
+fn noted(named: Result<(), NameError>) -> Result<(), AllocError> {
+    match named {
+        Err(NameError::Memory) => Err(AllocError),
+        _ => Ok(()),
+    }
+}

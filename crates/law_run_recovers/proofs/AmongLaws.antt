@@ -1,0 +1,282 @@
+-- What is promised to a transaction that goes among locks that stay, by the servers that are open to it.
+use Rattle.std.proofs.Common.{◌≡◌, ◌⊎◌, inl, inr, ℕ, Bool, true, false, cond, List, [], ◌∷◌, ◌++◌, append-nil, length, Option, Some, None, refl, sym, ap, subst, ◌∙◌}
+use Rattle.std.specs.Prelude.{◌==◌, ◌&&◌, not, nat_lt, map, find, Contains}
+use Rattle.std.proofs.lemmas.Bool.{false≢true, and_parts, eq-eqb, eqb-true}
+use Rattle.acl_core.specs.Identity.{Identity}
+use Rattle.vote_core.specs.Quorums.{Representative, votes_in}
+use Rattle.suite_prefix.specs.SettingsRules.{Opening}
+use Rattle.suite_prefix.specs.declared.copies.Prefix.{Prefix}
+use Rattle.suite_prefix.specs.declared.lock_mode.LockMode.{LockMode}
+use Rattle.file_ops.specs.declared.operation.Op.{Op}
+use Rattle.file_ops.specs.Rows.{PlainTable, Row, row_of}
+use Rattle.rep_core.specs.State.{State}
+use Rattle.rep_core.proofs.Finding.{find_some}
+use Rattle.rep_core.proofs.Members.{Has, any_has, has_any, has_from, has_map, contains_from}
+use Rattle.suite_collect.specs.Collecting.{needed_of}
+use Rattle.txn_core.specs.declared.ending.Ending.{Ending}
+use Rattle.txn_core.specs.declared.ending.Ending.TheVariants.{Undecided}
+use Rattle.txn_core.specs.declared.ending.Cause.TheVariants.{Unavailable}
+use Rattle.txn_core.specs.Writing.{has_vote}
+use Rattle.txn_core.specs.Doing.{Fixed, home_of}
+use Rattle.txn_core.specs.Agents.{fixed_of}
+use Rattle.run_core.specs.declared.event.Event.{Event}
+use Rattle.run_core.specs.declared.done.EndedJob.{EndedJob}
+use Rattle.run_core.specs.Worlds.{Actor, World, server_at}
+use Rattle.run_core.specs.Runs.{run}
+use Rattle.run_core.specs.TableOfRun.{table_of}
+use Rattle.law_runs.proofs.Standing.{has_append}
+use Rattle.law_run_machine.specs.Machines.{machine_of}
+use Rattle.law_one_table.proofs.Effects as effects
+use Rattle.law_headline.proofs.Keeping.{all_keep}
+use Rattle.law_run_alone.specs.Undisturbed.{is_decided}
+use Rattle.law_run_recovers.specs.Standing.{up_in, is_up}
+use Rattle.law_run_recovers.specs.Demands.{Demand, is_met, all_met, led_to_by, votes_set, votes_of_row, MayStart, MayStartAll}
+use Rattle.law_run_recovers.specs.Laws.{HasFirstVotes, answer_on}
+use Rattle.law_run_recovers.specs.Near.{asks_for, is_open_way, is_way_met, way_in, way_at, is_open_at, in_its_way}
+use Rattle.law_run_recovers.specs.Among.{GoesAmongLocks, EndsOpenly, EndsByOpenVotes, first_wanting, has_votes_open, AmongLocksEndByVotes, AmongLocksAreDecidedWhereVotesAre}
+use Rattle.law_run_recovers.specs.OpenDemands.{Want, open_demand, open_demands, first_mode, wants, wants_of_rows}
+use Rattle.law_run_recovers.specs.Local.{EndsThen, VotesNeverMovedOf}
+use Rattle.law_run_recovers.proofs.Leading.{led}
+use Rattle.law_run_recovers.proofs.NearGround.{opens, is_holder, sight, answering, can_first, number}
+use Rattle.law_run_recovers.proofs.NearRows.{start_near, same_so_far}
+use Rattle.law_run_recovers.proofs.OpenRows.{open_votes_are_rows, up_of}
+use Rattle.law_run_recovers.proofs.Picks.{votes_alike}
+use Rattle.law_run_recovers.proofs.Rows.{start_was}
+use Rattle.law_run_recovers.proofs.Stands.{of_lock, of_votes, demand_of, unmet, wants_of, EndsAs}
+use Rattle.law_run_recovers.proofs.AmongEnds.{among_ends}
+use Rattle.law_run_recovers.proofs.Unmoved.{decided_by, first_votes_at}
+
+-- ---- lists
+
+pub map_members : {X Y : Type 0} (f g : X → Y) (xs : List X) → ((x : X) → Has xs x → f x ≡ g x) → map f xs ≡ map g xs
+map_members f g [] same = refl
+map_members f g (x ∷ xs) same = ap (λ y. y ∷ map f xs) (same x (inl refl)) ∙ ap (λ ys. g x ∷ ys) (map_members f g xs (λ y has. same y (inr has)))
+
+find_members : {X : Type 0} (f g : X → Bool) (xs : List X) → ((x : X) → Has xs x → f x ≡ g x) → find f xs ≡ find g xs
+find_members f g [] same = refl
+find_members f g (x ∷ xs) same = ap (λ b. cond b (Some x) (find f xs)) (same x (inl refl)) ∙ ap (cond (g x) (Some x)) (find_members f g xs (λ y has. same y (inr has)))
+
+-- ---- ways
+
+open_not_met : (way : Option (Option ℕ)) → is_open_way way ≡ true → is_way_met way ≡ false
+open_not_met None is = refl
+open_not_met (Some None) is = refl
+open_not_met (Some (Some other)) is = absurd (false≢true is)
+
+down_not_met : (t z : ℕ) (mode : LockMode) (found : Option State) → up_in found ≡ false → is_way_met (way_in t z mode found) ≡ false
+down_not_met t z mode None down = refl
+down_not_met t z mode (Some st) down = ap (λ b. is_way_met (cond b (way_in t z mode (Some (record st { up = true }))) None)) down
+
+-- ---- all is to be had, or not
+
+abbrev pub none_in : Option Want → Bool
+none_in None = true
+none_in (Some want) = false
+
+pub all_is : (world : World) (t : ℕ) (all : List Want) → all_met (open_demands world t all) ≡ none_in (first_wanting world t all)
+all_is world t [] = refl
+all_is world t (want ∷ all) =
+    elim (is_met (open_demand world t want)) as (λ b. (b && all_met (open_demands world t all)) ≡ none_in (cond (not b) (Some want) (first_wanting world t all))) [
+      | true ↦ all_is world t all
+      | false ↦ refl
+    ]
+
+module _ (given : Opening) (events later : List Event) (agent t : ℕ) (caller : Identity) (site : ℕ) (ops : List Op) (actor : Actor) (goes : GoesAmongLocks given events later agent t caller site ops actor) where
+  abbrev fixed : Fixed
+  fixed = fixed_of given
+
+  abbrev world : World
+  world = run given events
+
+  abbrev table : PlainTable
+  table = table_of given events
+
+  abbrev asked : List (ℕ × LockMode)
+  asked = asks_for given events t caller ops
+
+  abbrev its_sight : ℕ → LockMode → ℕ → Bool
+  its_sight z mode = opens given events later agent t caller site ops actor goes z mode
+
+  -- ---- near servers that are open
+
+  abbrev pub found_by : ℕ × LockMode → Prefix → Prefix
+  found_by one start = led_to_by (fixed_of given) (run given events) (is_open_at (run given events) t one.0 (first_mode (asks_for given events t caller ops) one.0)) one.0 start
+
+  -- by them it finds what it finds by all that are open
+  pub found_near : (one : ℕ × LockMode) → Contains asked one → (start : Prefix) → MayStart (fixed_of given) actor.agent.cache site one.0 start
+      → (found_by one start ≡ led_to_by (fixed_of given) (run given events) (its_sight one.0 (first_mode asked one.0)) one.0 start) × ((server : ℕ) → has_vote (found_by one start).votes server ≡ true → goes.near server ≡ true)
+  found_near one has start may =
+      same_so_far given events t caller site ops actor goes.near goes.are_near one has (is_open_at (run given events) t one.0 (first_mode asked one.0)) (its_sight one.0 (first_mode asked one.0))
+      (λ server is. up_of t one.0 (first_mode asked one.0) (server_at (run given events) server) is) (λ server near. ap (λ b. b && is_open_at (run given events) t one.0 (first_mode asked one.0) server) near)
+      (length (run given events).servers) start (start_near given events t caller site ops actor goes.near goes.are_near one has start may)
+
+  -- a want whose voting members are near
+  abbrev IsNear : Want → Type 0
+  IsNear want = (server : ℕ) → has_vote want.votes server ≡ true → goes.near server ≡ true
+
+  voter_near : (want : Want) → IsNear want → (rep : Representative) → Has want.votes.reps rep → nat_lt 0 rep.1 ≡ true → goes.near rep.0 ≡ true
+  voter_near want near rep has some =
+      near rep.0 (has_any (λ (other : Representative). (other.0 == rep.0) && nat_lt 0 other.1) want.votes.reps rep has (ap (λ b. b && nat_lt 0 rep.1) (eq-eqb rep.0 rep.0 refl) ∙ some))
+
+  votes_same : (want : Want) → IsNear want → votes_in want.votes.reps (its_sight want.suite want.mode) ≡ votes_in want.votes.reps (is_open_at (run given events) t want.suite want.mode)
+  votes_same want near =
+      votes_alike want.votes.reps (its_sight want.suite want.mode) (is_open_at (run given events) t want.suite want.mode)
+      (λ rep has some. ap (λ b. b && is_open_at (run given events) t want.suite want.mode rep.0) (voter_near want near rep has some))
+
+  the_demand : Demand → Demand
+  the_demand one = one
+
+  demand_same : (want : Want) → IsNear want → demand_of (sight given events later agent t caller site ops actor goes) want ≡ open_demand (run given events) t want
+  unfolding the_demand
+  demand_same want near = ap (λ n. the_demand (record { suite = want.suite; got = n; needed = needed_of want.mode want.votes })) (votes_same want near)
+
+  abbrev all_wants : (ℕ → Prefix) → List Want
+  all_wants start = wants (fixed_of given) (run given events) (table_of given events) t caller ops start
+
+  abbrev lock_want : (ℕ → Prefix) → ℕ × LockMode → Want
+  lock_want start one = record { suite = one.0; mode = one.1; votes = (found_by one (start one.0)).votes }
+
+  wants_near : (start : ℕ → Prefix) → MayStartAll (fixed_of given) actor.agent.cache site start → (want : Want) → Has (all_wants start) want → IsNear want
+  wants_near start may want has = of (has_append (map (lock_want start) asked) (map of_votes (votes_set (table_of given events) t caller ops)) want has)
+    where
+      of : Has (map (lock_want start) (asks_for given events t caller ops)) want ⊎ Has (map of_votes (votes_set (table_of given events) t caller ops)) want → IsNear want
+      of (inl lock) =
+          let one = has_map (lock_want start) asked want lock in
+          subst IsNear one.2 (found_near one.0 (contains_from asked one.0 one.1) (start one.0.0) (may one.0.0)).1
+      of (inr set) =
+          let one = has_map of_votes (votes_set (table_of given events) t caller ops) want set in
+          subst IsNear one.2 (λ server vote. goes.are_near.set one.0 server (contains_from (votes_set (table_of given events) t caller ops) one.0 one.1) vote)
+
+  the_want : Want → Want
+  the_want one = one
+
+  wants_same : (start : ℕ → Prefix) → MayStartAll (fixed_of given) actor.agent.cache site start
+      → wants_of (fixed_of given) (run given events) (sight given events later agent t caller site ops actor goes) (table_of given events) t caller ops start ≡ all_wants start
+  unfolding the_want
+  wants_same start may =
+      ap (λ front. front ++ map of_votes (votes_set (table_of given events) t caller ops))
+      (map_members (of_lock (fixed_of given) (run given events) (sight given events later agent t caller site ops actor goes) start) (lock_want start) asked
+      (λ one has. ap (λ (prefix : Prefix). the_want (record { suite = one.0; mode = one.1; votes = prefix.votes })) (sym (found_near one (contains_from asked one has) (start one.0) (may one.0)).0)))
+
+  -- the first that is not to be had is the same
+  pub first_same : (start : ℕ → Prefix) → MayStartAll (fixed_of given) actor.agent.cache site start
+      → find (unmet (sight given events later agent t caller site ops actor goes)) (wants_of (fixed_of given) (run given events) (sight given events later agent t caller site ops actor goes) (table_of given events) t caller ops start)
+      ≡ first_wanting (run given events) t (all_wants start)
+  first_same start may =
+      ap (find (unmet (sight given events later agent t caller site ops actor goes))) (wants_same start may)
+      ∙ find_members (unmet (sight given events later agent t caller site ops actor goes)) (λ (want : Want). not (is_met (open_demand (run given events) t want))) (all_wants start)
+      (λ want has. ap (λ demand. not (is_met demand)) (demand_same want (wants_near start may want has)))
+
+  -- ---- how it ends
+
+  is_holder_so : (holder : ℕ) (way : Option (Option ℕ)) → is_holder given events later agent t caller site ops actor goes holder way ≡ true → way ≡ Some (Some holder)
+  is_holder_so holder (Some (Some other)) is = ap (λ n. Some (Some n)) (eqb-true other holder is)
+  is_holder_so holder (Some None) is = absurd (false≢true is)
+  is_holder_so holder None is = absurd (false≢true is)
+
+  abbrev EndsAsAt : ℕ → Ending → Option Want → Type 0
+  EndsAsAt n ended found =
+      EndsAs (fixed_of given) (run given events) (sight given events later agent t caller site ops actor goes) (table_of given events) (record { t = n; caller = caller; site = site; ops = ops }) actor.agent.cache ended found
+
+  openly : (start : ℕ → Prefix) → MayStartAll (fixed_of given) actor.agent.cache site start → (ended : Ending) (found : Option Want) → first_wanting (run given events) t (all_wants start) ≡ found
+      → EndsAsAt t ended found → EndsOpenly given events t caller ops goes.near ended found
+  openly start may ended None first is = is
+  openly start may ended (Some want) first (inl is) =
+      let near = wants_near start may want (find_some (λ (want : Want). not (is_met (open_demand (run given events) t want))) (all_wants start) want first).0 in
+      inl (record {
+        is = is.0 ∙ ap (λ n. Undecided (Unavailable want.suite n (needed_of want.mode want.votes))) (votes_same want near);
+        free = λ rep has some. free rep (is.1 rep (has_from want.votes.reps rep has) some);
+      })
+    where
+      free : (rep : Representative) → (its_sight want.suite want.mode rep.0 ≡ true) ⊎ (is_up (run given events) rep.0 ≡ false) → in_its_way (run given events) t want.suite want.mode rep.0 ≡ false
+      free rep (inl open') = open_not_met (way_at (run given events) t want.suite want.mode rep.0) (and_parts (goes.near rep.0) (is_open_at (run given events) t want.suite want.mode rep.0) open').1
+      free rep (inr down) = down_not_met t want.suite want.mode (server_at (run given events) rep.0) down
+  openly start may ended (Some want) first (inr is) =
+      let parts = and_parts (goes.near is.0.0) _ is.2 in
+      let some = any_has (λ (one : ℕ × LockMode). (one.0 == want.suite) && is_holder given events later agent t caller site ops actor goes is.0.1 (way_at (run given events) t one.0 one.1 is.0.0)) asked parts.1 in
+      let held = and_parts (some.0.0 == want.suite) (is_holder given events later agent t caller site ops actor goes is.0.1 (way_at (run given events) t some.0.0 some.0.1 is.0.0)) some.2 in
+      let same : some.0.0 ≡ want.suite = eqb-true some.0.0 want.suite held.0 in
+      inr (record {
+        server = is.0.0;
+        holder = is.0.1;
+        mode = some.0.1;
+        asks = subst (λ z. Contains asked (z, some.0.1)) same (contains_from asked some.0 some.1);
+        is_near = parts.0;
+        way = is_holder_so is.0.1 (way_at (run given events) t want.suite some.0.1 is.0.0)
+            (subst (λ z. is_holder given events later agent t caller site ops actor goes is.0.1 (way_at (run given events) t z some.0.1 is.0.0) ≡ true) same held.1);
+        is = is.1;
+      })
+
+  pub among_by_votes : (job : EndedJob) → EndsThen given events later agent t caller site ops job → EndsByOpenVotes given events t caller site ops actor.agent.cache goes.near job
+  among_by_votes job ends =
+      let right = among_ends given events later agent t caller site ops actor goes job ends.there ends.of_it in
+      let its_sight' = sight given events later agent t caller site ops actor goes in
+      record {
+        start = right.start;
+        from = right.from;
+        ends = openly right.start right.from job.ending (first_wanting (run given events) t (all_wants right.start)) refl
+            (subst (EndsAsAt t job.ending) (first_same right.start right.from)
+            (subst (λ n. EndsAsAt n job.ending (find (unmet (sight given events later agent t caller site ops actor goes)) (wants_of (fixed_of given) (run given events) (sight given events later agent t caller site ops actor goes) (table_of given events) n caller ops right.start)))
+            (number given events later agent t caller site ops actor goes) right.ends));
+      }
+
+  -- ---- what is decided
+
+  decided_openly : (ended : Ending) (found : Option Want) → EndsOpenly given events t caller ops goes.near ended found → is_decided ended ≡ (none_in found && is_up (run given events) (home_of (fixed_of given).service t))
+  decided_openly ended None is = ap is_decided is ∙ decided_by [] (is_up (run given events) (home_of (fixed_of given).service t)) (answer_on (table_of given events) t caller ops)
+  decided_openly ended (Some want) (inl short) = ap is_decided short.is
+  decided_openly ended (Some want) (inr holder) = ap is_decided holder.is
+
+  pub decided_so : (job : EndedJob) (by : EndsByOpenVotes given events t caller site ops actor.agent.cache goes.near job)
+      → is_decided job.ending ≡ (all_met (open_demands (run given events) t (wants (fixed_of given) (run given events) (table_of given events) t caller ops by.start)) && is_up (run given events) (home_of (fixed_of given).service t))
+  decided_so job by =
+      decided_openly job.ending (first_wanting (run given events) t (all_wants by.start)) by.ends
+      ∙ ap (λ b. b && is_up (run given events) (home_of (fixed_of given).service t)) (sym (all_is (run given events) t (all_wants by.start)))
+
+  -- what is met by the votes that it finds is by the rows'
+  pub rows_met : (start : ℕ → Prefix) → MayStartAll (fixed_of given) actor.agent.cache site start → all_met (open_demands (run given events) t (wants (fixed_of given) (run given events) (table_of given events) t caller ops start)) ≡ true
+      → all_met (open_demands (run given events) t (wants_of_rows (fixed_of given) (table_of given events) t caller ops)) ≡ true
+  rows_met start may met = open_votes_are_rows given events (can_first given events later agent t caller site ops actor goes) agent t caller site ops actor start goes.there goes.begins may met
+
+  pub among_had : (job : EndedJob) → EndsThen given events later agent t caller site ops job → is_decided job.ending ≡ true → has_votes_open given events t caller ops ≡ true
+  among_had job ends decided =
+      let by = among_by_votes job ends in
+      let up = is_up (run given events) (home_of (fixed_of given).service t) in
+      let both = and_parts (all_met (open_demands (run given events) t (all_wants by.start))) up (sym (decided_so job by) ∙ decided) in
+      ap (λ b. b && up) (rows_met by.start by.from both.0) ∙ both.1
+
+  -- ---- where votes were never moved
+
+  module _ (unmoved : VotesNeverMovedOf given events (asks_for given events t caller ops)) where
+    pub row_first : (one : ℕ × LockMode) → Contains (asks_for given events t caller ops) one → votes_of_row (fixed_of given) (row_of (table_of given events).rows one.0) ≡ given.c0
+    row_first one has = of (row_of (table_of given events).rows one.0) (unmoved events [] one (sym (append-nil events)) has)
+      where
+        of : (found : Option Row) → HasFirstVotes given.c0 found → votes_of_row (fixed_of given) found ≡ given.c0
+        of (Some row) first = first
+        of None first = refl
+
+    pub led_first : (one : ℕ × LockMode) → Contains (asks_for given events t caller ops) one → (start : Prefix) → MayStart (fixed_of given) actor.agent.cache site one.0 start → (found_by one start).votes ≡ given.c0
+    led_first one has start may =
+        let can = can_first given events later agent t caller site ops actor goes in
+        let end = led given one.0 (machine_of given one.0 events) (run given events) (effects.inv given events (all_keep given events can) one.0) (its_sight one.0 (first_mode asked one.0)) (answering given events later agent t caller site ops actor goes one.0) start
+        (start_was given events can one.0 agent site actor start goes.there may) in
+        ap (λ (prefix : Prefix). prefix.votes) (found_near one has start may).0
+        ∙ first_votes_at given events can one.0 (λ before later' parts. unmoved before later' one parts has) (led_to_by (fixed_of given) (run given events) (its_sight one.0 (first_mode asked one.0)) one.0 start) end.was
+
+    rows_same : (start : ℕ → Prefix) → MayStartAll (fixed_of given) actor.agent.cache site start → all_wants start ≡ wants_of_rows (fixed_of given) (table_of given events) t caller ops
+    unfolding the_want
+    rows_same start may =
+        ap (λ front. front ++ map of_votes (votes_set (table_of given events) t caller ops))
+        (map_members (lock_want start) (λ (one : ℕ × LockMode). record { suite = one.0; mode = one.1; votes = votes_of_row (fixed_of given) (row_of (table_of given events).rows one.0) }) asked
+        (λ one has. let there = contains_from asked one has in ap (λ votes. the_want (record { suite = one.0; mode = one.1; votes = votes })) (led_first one there (start one.0) (may one.0) ∙ sym (row_first one there))))
+
+    pub among_where_votes : (job : EndedJob) → EndsThen given events later agent t caller site ops job → is_decided job.ending ≡ has_votes_open given events t caller ops
+    among_where_votes job ends =
+        let by = among_by_votes job ends in
+        decided_so job by ∙ ap (λ all. all_met (open_demands (run given events) t all) && is_up (run given events) (home_of (fixed_of given).service t)) (rows_same by.start by.from)
+
+pub among_locks_end_by_votes : AmongLocksEndByVotes
+among_locks_end_by_votes given events later agent t caller site ops actor goes job ends = among_by_votes given events later agent t caller site ops actor goes job ends
+
+pub among_locks_are_decided_where_votes_are : AmongLocksAreDecidedWhereVotesAre
+among_locks_are_decided_where_votes_are given events later agent t caller site ops actor goes unmoved job ends = among_where_votes given events later agent t caller site ops actor goes unmoved job ends
