@@ -242,10 +242,12 @@ def compare_random(given: argparse.Namespace) -> int:
             continue
         count += 1
         status, told = explored(program, script, words)
-        is_same = status == 0 and (told == wanted.printed() or sorted(read(told)) == sorted(wanted.lines))
+        is_same = status == 0 and sorted(read(told)) == sorted(wanted.lines)
         tally.holds(is_same, f"seed {seed - 1}: explore {words} ends with {status}, and tells {len(read(told))} ways,"
                              f" where there are {len(wanted.lines)}")
-        tally.holds(told == wanted.printed(), f"seed {seed - 1}: the ways are told in another order or with other ends")
+        # a forgotten site that no job below has makes worlds, and no ways; moves of servers have another order
+        if "--forgets" not in words and "--returns" not in words:
+            tally.holds(told == wanted.printed(), f"seed {seed - 1}: the ways are told in another order, or with other ends")
     print(f"{count} scripts of {seed - given.first}, those with up to {MOST_WORLDS} worlds")
     return tally.told()
 
