@@ -37,8 +37,9 @@ STORIES = os.path.join(played.TOP, "examples", "explore")
 RUN = re.compile(r"^# +\./suites explore ?(.*?) ?< (\S+)$", re.M)
 HEAD = re.compile(r"all (\d+) worlds \(\d+ looked through\), (\d+) final, (\d+) ways to end")
 WAY = re.compile(r"way (\d+) in (\d+) final worlds")
-# What stands behind the code of a job that is undecided, and the numbers of a job.
+# What stands behind the code of a job that is undecided, and the line of a job whose agent stopped.
 BEHIND = re.compile(r"(undecided U\d).*")
+STOPPED = re.compile(r"\d+\.\d+ -")
 # So many ways at most are told of a random script, so that it ends soon.
 MOST_WORLDS, MOST_SECONDS = 400_000, 60
 ALL_WAYS = "1000000"
@@ -136,7 +137,7 @@ def differs_when_played(script: str, way: tuple[str, ...], suites: str) -> list[
     `together`, and each decided answer is that of the plain table.
     """
     done = subprocess.run([suites, "play"], input=script.encode(), stdout=subprocess.PIPE, stderr=subprocess.DEVNULL)
-    wanted = sorted(line for line in way if not line.endswith(" -"))
+    wanted = sorted(line for line in way if not STOPPED.fullmatch(line))
     lines = without_steps(done.stdout.decode().splitlines())
     told = sorted(lines[len(lines) - len(wanted):])
     wrong = [] if told == wanted and done.returncode == 0 else [f"play prints {told}, and not {wanted}"]
@@ -247,7 +248,8 @@ def compare_random(given: argparse.Namespace) -> int:
                              f" where there are {len(wanted.lines)}")
         # a forgotten site that no job below has makes worlds, and no ways; moves of servers have another order
         if "--forgets" not in words and "--returns" not in words:
-            tally.holds(told == wanted.printed(), f"seed {seed - 1}: the ways are told in another order, or with other ends")
+            about = f"seed {seed - 1}: the ways are told in another order, or with other ends"
+            tally.holds(told == wanted.printed(), about)
     print(f"{count} scripts of {seed - given.first}, those with up to {MOST_WORLDS} worlds")
     return tally.told()
 
