@@ -10,6 +10,7 @@ differs; status 1 where one does.
 import re
 import subprocess
 import sys
+import tempfile
 import typing
 
 import played
@@ -58,14 +59,25 @@ def status_of(wanted: str | None) -> int:
     return 1 if wanted and " may not " in wanted else 0
 
 
+def put_into(folder: str, command: str) -> str:
+    """The command, which writes the file that it names into this folder."""
+    return re.sub(r" > (\w\S*)", rf" > {folder}/\1", command)
+
+
 def main() -> int:
+    with tempfile.TemporaryDirectory(prefix="suites-") as folder:
+        return typed(folder)
+
+
+def typed(folder: str) -> int:
+    """Types all command lines; what they write is put into this folder."""
     count = wrong = 0
     for document in DOCUMENTS:
         for number, command, wanted in commands(document):
             if not is_typed(command):
                 continue
             done = subprocess.run(
-                ["sh", "-c", command],
+                ["sh", "-c", put_into(folder, command)],
                 cwd=played.TOP,
                 stdin=subprocess.DEVNULL,
                 stdout=subprocess.PIPE,

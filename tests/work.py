@@ -84,13 +84,13 @@ def lists_left(count: int) -> Script:
     return script
 
 
-def all_down(servers: int) -> Script:
-    """A file is read of so many servers, which are all down."""
+def all_down(others: str) -> Script:
+    """A file is read of eight servers with a vote each, which are down; 24 others have no vote, or are none of its."""
 
     def script(jobs: int) -> str:
-        votes = ",".join(["1"] * servers) + f"/{servers // 2}/{servers // 2 + 1}"
-        crashes = "".join(f"crash {server}\n" for server in range(servers))
-        return head(servers, 1, votes) + job(0, "file /f 666") + crashes + job(0, "read /f") * jobs
+        votes = ",".join(["1"] * 8 + [others] * 24) + "/4/5"
+        crashes = "".join(f"crash {server}\n" for server in range(8))
+        return head(32, 1, votes) + job(0, "file /f 666") + crashes + job(0, "read /f") * jobs
 
     return script
 
@@ -99,9 +99,9 @@ def all_down(servers: int) -> Script:
 PAIRS: tuple[tuple[str, Script, Script, int, float], ...] = (
     ("what was reached is kept: a walk of 64 folders, at once or by eight transactions", at_once, one_by_one, 10, 2),
     ("a content is read once: in a folder of 160 names, of 8", folder_of(160), folder_of(8), 40, 1.5),
-    ("a prefix is read once: of a list of 100 users, of 2", list_of(100), list_of(2), 40, 1.5),
+    ("a prefix is read once: of a list of 120 users, of 2", list_of(120), list_of(2), 40, 1.2),
     ("who holds is looked up: beside 1,600 locks, 3", lists_left(1600), lists_left(3), 40, 1.3),
-    ("votes are counted once: of 32 servers, 8", all_down(32), all_down(8), 20, 2.8),
+    ("votes are counted once: with 24 servers that have none, without", all_down("0"), all_down("-"), 40, 1.04),
 )
 
 

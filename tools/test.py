@@ -97,7 +97,7 @@ def tried(crate: str) -> dict[str, typing.Any]:
     return {"words": TRY, "folder": os.path.join("crates", crate)}
 
 
-PROGRAM, TRACE, MAY = "the program", "the program of trace", "the program of may"
+PROGRAM, TRACE, MAY, FORMS = "the program", "the program of trace", "the program of may", "the program of forms"
 # What takes longest stands first, but for what tells at once that something is wrong.
 PARTS = (
     Part("what README shows", tool("tools/shown.py")),
@@ -113,9 +113,12 @@ PARTS = (
     Part(PROGRAM, tool("tools/choose.py")),
     Part(TRACE, tool("tools/choose.py"), program="trace"),
     Part(MAY, tool("tools/choose.py"), program="may"),
+    Part(FORMS, tool("tools/choose.py"), program="forms"),
     Part("tests of commands", **tried("command_tests")),
     Part("rows", tool("tests/checked-build.py"), [PROGRAM]),
+    Part("the table of forms", tool("tests/form-table.py"), [PROGRAM]),
     Part("examples of FAULTS", tool("tests/explained.py"), [PROGRAM, TRACE]),
+    Part("the words that do not fit", tool("tests/misfits.py", "--cases", "1000"), [PROGRAM, FORMS]),
     Part("what explain says of damaged scripts", tool("tests/damaged-scripts.py", "--cases", "1000"), [PROGRAM]),
     Part("command lines of documents", tool("tests/typed.py"), [PROGRAM, TRACE]),
     Part("answers of may", tool("tests/may.py"), [MAY]),

@@ -1,4 +1,4 @@
--- Outcomes stay apart.
+-- Outcomes stay in order.
 use Rattle.std.proofs.Common.{◌≡◌, ◌≢◌, ◌⊎◌, ⊎_elim, inl, inr, ℕ, zero, suc, ◌+◌, ◌<◌, ◌≤◌, List, [], ◌∷◌, ◌++◌, map, take, slice_set, subst, refl, ap, ◌∙◌, sym, arith}
 use Rattle.std.specs.Prelude.{Contains, slice_get, Option, Some, None}
 use Rattle.std.proofs.lemmas.Option.{same_Some, slice_get-get_or}
@@ -6,9 +6,9 @@ use Rattle.std.proofs.lemmas.List.{length-take, get_or-take}
 use Rattle.std.proofs.lemmas.List.Elements.{Contains-append_left, Contains-append_right}
 use Rattle.agent_pool.specs.declared.work.Done.{Done}
 use Rattle.agent_pool.specs.declared.outcome.JobOutcome.{JobOutcome}
-use Rattle.agent_pool.specs.code.Working.{RiseBetween}
-use Rattle.agent_pool.specs.Pools.{AreApart}
-use Rattle.agent_pool.specs.code.Filled.{AreApartIn, AreBelow, AreNone, AreOfThese, IsPut}
+use Rattle.agent_pool.specs.code.Working.{RiseBetween, RiseInPlace}
+use Rattle.agent_pool.specs.Pools.{AreApart, AreInOrder}
+use Rattle.agent_pool.specs.code.Filled.{AreInOrderIn, AreBelow, AreNone, AreOfThese, IsPut}
 use Rattle.agent_pool.specs.Seats.{AreDistinct}
 
 pub same_or : (j i : ℕ) → (j ≡ i) ⊎ (j ≢ i)
@@ -37,30 +37,35 @@ put_cases old new place outcome put i a at =
     ⊎_elim (λ (e : i ≡ place). inl (e, same_Some a outcome (set_here old place None (Some outcome) (Some a) put.was (subst (λ k. slice_get (slice_set old place (Some outcome)) k ≡ Some (Some a)) e there))))
     (λ (n : i ≢ place). inr (n, sym (set_apart old place i (Some outcome) n) ∙ there)) (same_or i place)
 
--- a new key is no old one
-new_key : (numbers : List ℕ) (agent low : ℕ) (old : List (Option JobOutcome)) (outcome : JobOutcome) → ¬ (Contains numbers agent) → AreBelow numbers agent low old → outcome.agent ≡ agent → low ≤ outcome.count
-    → (j : ℕ) (b : JobOutcome) → slice_get old j ≡ Some (Some b) → outcome.agent ≡ b.agent → outcome.count ≡ b.count → ⊥
-new_key numbers agent low old outcome fresh below of high j b at same count =
-    ⊎_elim (λ (h : Contains numbers b.agent). fresh (subst (λ n. Contains numbers n) (sym same ∙ of) h)) (λ (h : (b.agent ≡ agent) × (b.count < low)). let less = h.1 in omega arith) (below j b at)
+-- what else is of this agent stands before, and was begun before
+stands_before : (numbers : List ℕ) (agent low floor : ℕ) (old : List (Option JobOutcome)) (outcome : JobOutcome) → ¬ (Contains numbers agent) → AreBelow numbers agent low floor old → outcome.agent ≡ agent
+    → (j : ℕ) (b : JobOutcome) → slice_get old j ≡ Some (Some b) → outcome.agent ≡ b.agent → (b.count < low) × (j < floor)
+stands_before numbers agent low floor old outcome fresh below of j b at same =
+    ⊎_elim (λ (h : Contains numbers b.agent). absurd (fresh (subst (λ n. Contains numbers n) (sym same ∙ of) h))) (λ (h : (b.agent ≡ agent) × (b.count < low) × (j < floor)). (h.1, h.2)) (below j b at)
 
-pub put_apart : (numbers : List ℕ) (agent low : ℕ) (old new : List (Option JobOutcome)) (place : ℕ) (outcome : JobOutcome) → ¬ (Contains numbers agent) → AreApartIn old → AreBelow numbers agent low old
-    → IsPut old place outcome new → outcome.agent ≡ agent → low ≤ outcome.count → AreApartIn new
-put_apart numbers agent low old new place outcome fresh apart below put of high i j a b ati atj same count =
+pub put_in_order : (numbers : List ℕ) (agent low floor : ℕ) (old new : List (Option JobOutcome)) (place : ℕ) (outcome : JobOutcome) → ¬ (Contains numbers agent) → AreInOrderIn old → AreBelow numbers agent low floor old
+    → IsPut old place outcome new → outcome.agent ≡ agent → low ≤ outcome.count → floor ≤ place → AreInOrderIn new
+put_in_order numbers agent low floor old new place outcome fresh order below put of high past i j a b ati atj same before =
     ⊎_elim
-    (λ (x : (i ≡ place) × (a ≡ outcome)). ⊎_elim (λ (y : (j ≡ place) × (b ≡ outcome)). x.0 ∙ sym y.0)
-    (λ (y : (j ≢ place) × (slice_get old j ≡ Some (Some b))). absurd (new_key numbers agent low old outcome fresh below of high j b y.1 (ap (λ (o : JobOutcome). o.agent) (sym x.1) ∙ same) (ap (λ (o : JobOutcome). o.count) (sym x.1) ∙ count)))
+    (λ (x : (i ≡ place) × (a ≡ outcome)). ⊎_elim (λ (y : (j ≡ place) × (b ≡ outcome)). absurd (let e = x.0 in let f = y.0 in omega arith))
+    (λ (y : (j ≢ place) × (slice_get old j ≡ Some (Some b))).
+    let k = stands_before numbers agent low floor old outcome fresh below of j b y.1 (ap (λ (o : JobOutcome). o.agent) (sym x.1) ∙ same) in
+    absurd (let e = x.0 in let l = k.1 in omega arith))
     (put_cases old new place outcome put j b atj))
     (λ (x : (i ≢ place) × (slice_get old i ≡ Some (Some a))). ⊎_elim
-    (λ (y : (j ≡ place) × (b ≡ outcome)). absurd (new_key numbers agent low old outcome fresh below of high i a x.1 (ap (λ (o : JobOutcome). o.agent) (sym y.1) ∙ sym same) (ap (λ (o : JobOutcome). o.count) (sym y.1) ∙ sym count)))
-    (λ (y : (j ≢ place) × (slice_get old j ≡ Some (Some b))). apart i j a b x.1 y.1 same count)
+    (λ (y : (j ≡ place) × (b ≡ outcome)).
+    let k = stands_before numbers agent low floor old outcome fresh below of i a x.1 (ap (λ (o : JobOutcome). o.agent) (sym y.1) ∙ sym same) in
+    let c = ap (λ (o : JobOutcome). o.count) y.1 in let less = k.0 in omega arith)
+    (λ (y : (j ≢ place) × (slice_get old j ≡ Some (Some b))). order i j a b x.1 y.1 same before)
     (put_cases old new place outcome put j b atj))
     (put_cases old new place outcome put i a ati)
 
-pub put_below : (numbers : List ℕ) (agent low : ℕ) (old new : List (Option JobOutcome)) (place : ℕ) (outcome : JobOutcome) → AreBelow numbers agent low old
-    → IsPut old place outcome new → outcome.agent ≡ agent → low ≤ outcome.count → AreBelow numbers agent (outcome.count + 1) new
-put_below numbers agent low old new place outcome below put of high i a at =
-    ⊎_elim (λ (x : (i ≡ place) × (a ≡ outcome)). inr (ap (λ (o : JobOutcome). o.agent) x.1 ∙ of, (let e = ap (λ (o : JobOutcome). o.count) x.1 in omega arith)))
-    (λ (x : (i ≢ place) × (slice_get old i ≡ Some (Some a))). ⊎_elim (λ h. inl h) (λ (h : (a.agent ≡ agent) × (a.count < low)). inr (h.0, (let less = h.1 in omega arith))) (below i a x.1))
+pub put_below : (numbers : List ℕ) (agent low floor : ℕ) (old new : List (Option JobOutcome)) (place : ℕ) (outcome : JobOutcome) → AreBelow numbers agent low floor old
+    → IsPut old place outcome new → outcome.agent ≡ agent → low ≤ outcome.count → floor ≤ place → AreBelow numbers agent (outcome.count + 1) (place + 1) new
+put_below numbers agent low floor old new place outcome below put of high past i a at =
+    ⊎_elim (λ (x : (i ≡ place) × (a ≡ outcome)). inr (ap (λ (o : JobOutcome). o.agent) x.1 ∙ of, (let e = ap (λ (o : JobOutcome). o.count) x.1 in omega arith), (let e = x.0 in omega arith)))
+    (λ (x : (i ≢ place) × (slice_get old i ≡ Some (Some a))). ⊎_elim (λ h. inl h)
+    (λ (h : (a.agent ≡ agent) × (a.count < low) × (i < floor)). inr (h.0, (let less = h.1 in omega arith), (let less = h.2 in omega arith))) (below i a x.1))
     (put_cases old new place outcome put i a at)
 
 pub none_at : (slots : List (Option JobOutcome)) → AreNone slots → (i : ℕ) (a : JobOutcome) → slice_get slots i ≡ Some (Some a) → ⊥
@@ -68,46 +73,67 @@ none_at [] none i a e = cc
 none_at (s ∷ slots) none zero a e = let h : Some a ≡ None = sym (same_Some s (Some a) e) ∙ none.0 in cc
 none_at (s ∷ slots) none (suc i) a e = none_at slots none.1 i a e
 
+some_at : (os : List JobOutcome) (k : ℕ) (o : JobOutcome) → slice_get os k ≡ Some o → slice_get (map (λ o. Some o) os) k ≡ Some (Some o)
+some_at [] k o e = cc
+some_at (x ∷ os) zero o e = ap Some (ap Some (same_Some x o e))
+some_at (x ∷ os) (suc k) o e = some_at os k o e
+
+three : (i j : ℕ) → (i < j) ⊎ ((i ≡ j) ⊎ (j < i))
+three zero zero = inr (inl refl)
+three zero (suc j) = inl (omega arith)
+three (suc i) zero = inr (inr (omega arith))
+three (suc i) (suc j) =
+    ⊎_elim (λ l. inl (omega arith)) (λ (h : (i ≡ j) ⊎ (j < i)). inr (⊎_elim (λ e. inl (ap suc e)) (λ l. inr (omega arith)) h)) (three i j)
+
 -- the outcomes where all places are filled
-pub apart_filled : (outcomes : List JobOutcome) → AreApartIn (map (λ o. Some o) outcomes) → AreApart outcomes
-apart_filled outcomes apart i j a b ati atj same count = apart i j a b (some_at outcomes i a ati) (some_at outcomes j b atj) same count
-  where
-    some_at : (os : List JobOutcome) (k : ℕ) (o : JobOutcome) → slice_get os k ≡ Some o → slice_get (map (λ o. Some o) os) k ≡ Some (Some o)
-    some_at [] k o e = cc
-    some_at (x ∷ os) zero o e = ap Some (ap Some (same_Some x o e))
-    some_at (x ∷ os) (suc k) o e = some_at os k o e
+pub order_filled : (outcomes : List JobOutcome) → AreInOrderIn (map (λ o. Some o) outcomes) → AreInOrder outcomes
+order_filled outcomes order i j a b ati atj same before = order i j a b (some_at outcomes i a ati) (some_at outcomes j b atj) same before
+
+pub apart_filled : (outcomes : List JobOutcome) → AreInOrderIn (map (λ o. Some o) outcomes) → AreApart outcomes
+apart_filled outcomes order i j a b ati atj same count =
+    ⊎_elim (λ (l : i < j). absurd (let less = order_filled outcomes order i j a b ati atj same l in omega arith))
+    (λ (h : (i ≡ j) ⊎ (j < i)). ⊎_elim (λ e. e) (λ (l : j < i). absurd (let less = order_filled outcomes order j i b a atj ati (sym same) l in omega arith)) h)
+    (three i j)
 
 -- ---- all that an agent did
 
 open_rise : (low high : ℕ) (d : Done) (ds : List Done) → RiseBetween low (d ∷ ds) high → (low ≤ d.ran.count) × RiseBetween (d.ran.count + 1) ds high
 open_rise low high d ds rise = rise
 
--- what is so at a place of the list of what was done
-pub record At (agent : ℕ) (numbers : List ℕ) (high : ℕ) (left : List Done) (slots : List (Option JobOutcome)) : Type 0 where
-  pub low : ℕ
-  pub rise : RiseBetween low left high
-  pub apart : AreApartIn slots
-  pub below : AreBelow numbers agent low slots
+open_order : (floor roof : ℕ) (d : Done) (ds : List Done) → RiseInPlace floor (d ∷ ds) roof → (floor ≤ d.place) × RiseInPlace (d.place + 1) ds roof
+open_order floor roof d ds order = order
 
-pub at_next : (agent : ℕ) (numbers : List ℕ) (high : ℕ) (left rest : List Done) (d : Done) (old new : List (Option JobOutcome)) (job : ℕ) → ¬ (Contains numbers agent) → left ≡ d ∷ rest → At agent numbers high left old
-    → IsPut old d.place (record { job = job; agent = agent; count = d.ran.count; at = d.ran.at }) new → At agent numbers high rest new
-at_next agent numbers high left rest d old new job fresh is at put =
+-- what is so at a place of the list of what was done
+pub record At (agent : ℕ) (numbers : List ℕ) (high roof : ℕ) (left : List Done) (slots : List (Option JobOutcome)) : Type 0 where
+  pub low : ℕ
+  pub floor : ℕ
+  pub rise : RiseBetween low left high
+  pub places : RiseInPlace floor left roof
+  pub order : AreInOrderIn slots
+  pub below : AreBelow numbers agent low floor slots
+
+pub at_next : (agent : ℕ) (numbers : List ℕ) (high roof : ℕ) (left rest : List Done) (d : Done) (old new : List (Option JobOutcome)) (job : ℕ) → ¬ (Contains numbers agent) → left ≡ d ∷ rest → At agent numbers high roof left old
+    → IsPut old d.place (record { job = job; agent = agent; count = d.ran.count; at = d.ran.at }) new → At agent numbers high roof rest new
+at_next agent numbers high roof left rest d old new job fresh is at put =
     let rise = open_rise at.low high d rest (subst (λ ds. RiseBetween at.low ds high) is at.rise) in
+    let places = open_order at.floor roof d rest (subst (λ ds. RiseInPlace at.floor ds roof) is at.places) in
     let outcome : JobOutcome = record { job = job; agent = agent; count = d.ran.count; at = d.ran.at } in
     record {
       low = d.ran.count + 1;
+      floor = d.place + 1;
       rise = rise.1;
-      apart = put_apart numbers agent at.low old new d.place outcome fresh at.apart at.below put refl rise.0;
-      below = put_below numbers agent at.low old new d.place outcome at.below put refl rise.0;
+      places = places.1;
+      order = put_in_order numbers agent at.low at.floor old new d.place outcome fresh at.order at.below put refl rise.0 places.0;
+      below = put_below numbers agent at.low at.floor old new d.place outcome at.below put refl rise.0 places.0;
     }
 
 -- one agent's outcomes after those of others
-pub of_more : (numbers : List ℕ) (agent upper : ℕ) (slots : List (Option JobOutcome)) → AreBelow numbers agent upper slots → AreOfThese (numbers ++ agent ∷ []) slots
-of_more numbers agent upper slots below i a at =
-    ⊎_elim (λ h. Contains-append_left numbers (agent ∷ []) a.agent h) (λ (h : (a.agent ≡ agent) × (a.count < upper)). Contains-append_right numbers (agent ∷ []) a.agent (0, omega arith, sym h.0)) (below i a at)
+pub of_more : (numbers : List ℕ) (agent upper top : ℕ) (slots : List (Option JobOutcome)) → AreBelow numbers agent upper top slots → AreOfThese (numbers ++ agent ∷ []) slots
+of_more numbers agent upper top slots below i a at =
+    ⊎_elim (λ h. Contains-append_left numbers (agent ∷ []) a.agent h) (λ (h : (a.agent ≡ agent) × (a.count < upper) × (i < top)). Contains-append_right numbers (agent ∷ []) a.agent (0, omega arith, sym h.0)) (below i a at)
 
-pub below_none : (numbers : List ℕ) (agent low : ℕ) (slots : List (Option JobOutcome)) → AreOfThese numbers slots → AreBelow numbers agent low slots
-below_none numbers agent low slots of i a at = inl (of i a at)
+pub below_none : (numbers : List ℕ) (agent low floor : ℕ) (slots : List (Option JobOutcome)) → AreOfThese numbers slots → AreBelow numbers agent low floor slots
+below_none numbers agent low floor slots of i a at = inl (of i a at)
 
 -- in a list without a number twice, none stands before itself
 pub is_fresh : (numbers : List ℕ) (i n : ℕ) → AreDistinct numbers → slice_get numbers i ≡ Some n → ¬ (Contains (take i numbers) n)

@@ -1,5 +1,5 @@
 -- Places by their two columns.
-use Rattle.std.proofs.Common.{◌≡◌, ◌≢◌, ◌⊎◌, ⊎_elim, ◌∙◌, ℕ, zero, suc, ◌+◌, ◌<◌, ◌≤◌, Bool, true, false, List, [], ◌∷◌, length, map, slice_set, refl, ap, sym, arith}
+use Rattle.std.proofs.Common.{◌≡◌, ◌≢◌, ⊎_elim, ◌∙◌, ℕ, zero, suc, ◌+◌, ◌<◌, ◌≤◌, Bool, true, false, List, [], ◌∷◌, length, map, slice_set, refl, ap, sym, arith}
 use Rattle.std.specs.Prelude.{replicate, slice_get, slice_index_or, Option, Some, None}
 use Rattle.std.proofs.lemmas.Option.{same_Some, slice_get_within}
 use Rattle.agent_pool.specs.declared.outcome.JobOutcome.{JobOutcome}

@@ -28,6 +28,7 @@ pool_is jobs was old left seats worked (Ok pool) distinct seated work is = recor
   each = subst (λ (players : List Played). AreOutcomes was players jobs pool.outcomes.items) (sym is.agents)
       (subst (λ (sat : List Played). AreOutcomes sat (players_of worked) jobs pool.outcomes.items) (sits_same old left was seats seated.each) (is.each seats work));
   apart = is.apart;
+  order = is.order;
   once = ap begun_by is.agents ∙ all_begun jobs seats worked work is.ran
       ∙ ap (λ (sat : List Played). begun_by sat + done_in worked) (sits_same old left was seats seated.each) ∙ ap (λ n. begun_by was + n) is.once;
 }

@@ -18,7 +18,7 @@ use Rattle.agent_pool.specs.code.Starts.{IsWorkOf}
 use Rattle.agent_pool.specs.code.Steps.{DidJob, end_entry}
 use Rattle.agent_pool.specs.Pools.{job_numbers}
 use Rattle.agent_pool.specs.Transcripts.{Played, GoesOn, IsIdle, IsLonger, IsTold, Leads, at_rest, begins, number_of}
-use Rattle.agent_pool.specs.code.Working.{AllDone, IsDone, IsHalted, RiseBetween}
+use Rattle.agent_pool.specs.code.Working.{AllDone, IsDone, IsHalted, RiseBetween, RiseInPlace}
 use Rattle.agent_pool.proofs.Begins.{begins-append, goes-append}
 use Rattle.agent_pool.proofs.Leaving.{leads_longer, longer_longer}
 
@@ -65,6 +65,14 @@ rise_more : (low high : ℕ) (ds : List Done) (d : Done) → RiseBetween low ds 
 rise_more low high [] d rise more = (omega arith, omega arith)
 rise_more low high (e ∷ ds) d rise more = (rise.0, rise_more (e.ran.count + 1) high ds d rise.1 more)
 
+pub place_longer : (low high higher : ℕ) (ds : List Done) → RiseInPlace low ds high → high ≤ higher → RiseInPlace low ds higher
+place_longer low high higher [] rise more = omega arith
+place_longer low high higher (d ∷ ds) rise more = (rise.0, place_longer (d.place + 1) high higher ds rise.1 more)
+
+pub place_more : (low high : ℕ) (ds : List Done) (d : Done) → RiseInPlace low ds high → high ≤ d.place → RiseInPlace low (ds ++ d ∷ []) (d.place + 1)
+place_more low high [] d rise more = (omega arith, omega arith)
+place_more low high (e ∷ ds) d rise more = (rise.0, place_more (e.place + 1) high ds d rise.1 more)
+
 -- an agent that did nothing yet
 pub works_first : (jobs : List NamedJob) (seat : SeatedAgent) (w : Worked) → w.player ≡ seat.player → w.pass ≡ seat.pass → w.done.items ≡ [] → w.halt ≡ None → IsIdle seat.player → IsWorkOf jobs seat w
 works_first jobs seat w player pass none ran idle = record {
@@ -77,6 +85,8 @@ works_first jobs seat w player pass none ran idle = record {
   went = pass;
   done = subst (λ ds. AllDone jobs (begins seat.player.entries) w.player ds) (sym none) tt;
   rise = subst (λ ds. RiseBetween (begins seat.player.entries) ds (begins w.player.entries)) (sym none) (let e = ap (λ (p : Played). begins p.entries) player in omega arith);
+  next = 0;
+  order = subst (λ ds. RiseInPlace 0 ds 0) (sym none) (omega arith);
   halted = subst (λ h. IsHalted jobs w.player h) (sym ran) (subst (λ (p : Played). IsIdle p) (sym player) idle);
   leads = λ all. ap (λ (p : Played). at_rest p.agent.state) player;
   once = λ all. let same = ap (λ (p : Played). begins p.entries) player in let few = ap length none in omega arith;
@@ -93,6 +103,8 @@ works_longer jobs seat w v why longer old went same is halted =
       went = goes-append old.longer.rest longer.rest seat.pass w.pass v.pass old.went went;
       done = subst (λ ds. AllDone jobs (begins seat.player.entries) v.player ds) (sym same) (done_longer jobs (begins seat.player.entries) w.player v.player w.done.items longer old.done);
       rise = subst (λ ds. RiseBetween (begins seat.player.entries) ds (begins v.player.entries)) (sym same) (rise_longer (begins seat.player.entries) (begins w.player.entries) (begins v.player.entries) w.done.items old.rise (omega arith));
+      next = old.next;
+      order = subst (λ ds. RiseInPlace 0 ds old.next) (sym same) old.order;
       halted = subst (λ h. IsHalted jobs v.player h) (sym is) halted;
       leads = λ all. let bad : Some why ≡ None = sym is ∙ all in absurd (cc);
       once = λ all. let bad : Some why ≡ None = sym is ∙ all in cc;
@@ -116,8 +128,8 @@ not_some (Some why) none = cc
 
 -- and it did this one
 pub works_more : (servers : ℕ) (jobs : List NamedJob) (seat : SeatedAgent) (w v : Worked) (d : Done) (named : NamedJob) → IsWorkOf jobs seat w → DidJob servers named.job w.player v.player w.pass v.pass (came.Ended d.ran) → v.done.items ≡ w.done.items ++ d ∷ []
-    → slice_get jobs d.place ≡ Some named → w.halt ≡ None → v.halt ≡ None → IsWorkOf jobs seat v
-works_more servers jobs seat w v d named old did same there before ran =
+    → slice_get jobs d.place ≡ Some named → w.halt ≡ None → v.halt ≡ None → RiseInPlace 0 w.done.items d.place → IsWorkOf jobs seat v
+works_more servers jobs seat w v d named old did same there before ran order =
     let longer = did.longer in
     let began = begins seat.player.entries in
     let since : began ≤ d.ran.count = let more = ap begins old.longer.entries ∙ begins-append seat.player.entries old.longer.rest in let at = did.ran.1 in omega arith in
@@ -129,6 +141,8 @@ works_more servers jobs seat w v d named old did same there before ran =
       rise = subst (λ ds. RiseBetween (begins seat.player.entries) ds (begins v.player.entries)) (sym same)
           (subst (λ n. RiseBetween (begins seat.player.entries) (w.done.items ++ d ∷ []) n) (sym did.ran.2)
           (rise_more (begins seat.player.entries) (begins w.player.entries) w.done.items d old.rise (let e = did.ran.1 in omega arith)));
+      next = d.place + 1;
+      order = subst (λ ds. RiseInPlace 0 ds (d.place + 1)) (sym same) (place_more 0 d.place w.done.items d order (omega arith));
       halted = subst (λ h. IsHalted jobs v.player h) (sym ran) did.ran.3;
       leads = λ all. leads_longer seat.player w.player v.player old.longer longer (old.leads before) (did.leads (λ e. cc));
       once = λ all.

@@ -1,5 +1,5 @@
 -- What a pool did.
-use Rattle.std.specs.Prelude.{◌≡◌, ℕ, ◌+◌, ◌≤◌, true, List, [], ◌∷◌, All, length, map, Contains, slice_get, Option, Some}
+use Rattle.std.specs.Prelude.{◌≡◌, ℕ, ◌+◌, ◌<◌, ◌≤◌, true, List, [], ◌∷◌, All, length, map, Contains, slice_get, Option, Some}
 use Rattle.std.specs.List.{AllZip}
 use Rattle.server_lock.specs.Counts.{passes_by}
 use Rattle.server_lock.specs.Passes.{Held}
@@ -38,19 +38,24 @@ AreOutcomes was players jobs outcomes = AllZip (IsOutcome was players) jobs outc
 abbrev pub AreApart : List JobOutcome → Type 0
 AreApart outcomes = (i j : ℕ) (a b : JobOutcome) → slice_get outcomes i ≡ Some a → slice_get outcomes j ≡ Some b → a.agent ≡ b.agent → a.count ≡ b.count → i ≡ j
 
+-- of two of one agent the one whose job stands first was begun first
+abbrev pub AreInOrder : List JobOutcome → Type 0
+AreInOrder outcomes = (i j : ℕ) (a b : JobOutcome) → slice_get outcomes i ≡ Some a → slice_get outcomes j ≡ Some b → a.agent ≡ b.agent → i < j → a.count < b.count
+
 -- how many jobs agents began, all together
 abbrev pub begun_by : List Played → ℕ
 begun_by [] = 0
 begun_by (player ∷ players) = begins player.entries + begun_by players
 
 -- Each agent went on, with its pass, and is idle again. The other passes come back as they were. There is one outcome for each job, no two of them with
--- one agent and one count. The agents began no more jobs than these.
+-- one agent and one count, and each agent began its jobs in their order. The agents began no more jobs than these.
 pub record IsPoolOf (jobs : List NamedJob) (was : List Played) (passes : List Held) (pool : Pool) : Type 0 where
   pub agents : AllZip (WentOn passes pool.passes.items) was pool.agents.items
   pub idle : All IsIdle pool.agents.items
   pub others : (asker : Option ℕ) → IsOther was asker → passes_by asker pool.passes.items ≡ passes_by asker passes
   pub each : AreOutcomes was pool.agents.items jobs pool.outcomes.items
   pub apart : AreApart pool.outcomes.items
+  pub order : AreInOrder pool.outcomes.items
   pub once : begun_by pool.agents.items ≡ begun_by was + length jobs
 
 abbrev pub job_numbers : List NamedJob → List ℕ

@@ -6,8 +6,8 @@ ghost use Rattle.std.specs.List.{AllZip};
 ghost use Rattle.agent_pool.specs.declared.fault.PoolFault.TheVariants.{Double, Missing};
 ghost use Rattle.agent_pool.specs.Gathers.{Gathers, IsDouble, first_strange, first_stuck, lacks_memory, places, places_by};
 ghost use Rattle.agent_pool.specs.code.Gathering.{AreGathered, AreSeen, AreWithin, HasRoom, IsEmpty, IsGathered, IsTaken, IsWithin};
-ghost use Rattle.agent_pool.specs.Pools.{AreApart, AreOutcomes, IsFaultOf, IsOf};
-ghost use Rattle.agent_pool.specs.code.Filled.{AreApartIn, AreNone, AreWorks, IsFilled, IsPut, KeepFilled, StayApart};
+ghost use Rattle.agent_pool.specs.Pools.{AreApart, AreInOrder, AreOutcomes, IsFaultOf, IsOf};
+ghost use Rattle.agent_pool.specs.code.Filled.{AreInOrderIn, AreNone, AreWorks, IsFilled, IsPut, KeepFilled, StayInOrder};
 ghost use Rattle.agent_pool.specs.code.Filled.{done_in, filled_in, passes_of, players_of, sitting};
 ghost use Rattle.agent_pool.specs.Seats.{AreDistinct, numbers_of};
 ghost use Rattle.agent_pool.specs.code.Starts.{IsWorkOf};
@@ -143,7 +143,7 @@ fn fill(jobs: &[NamedJob], worked: &[Worked], slots: &mut Slots) -> Result<(), P
     requires long { length slots.old ≡ length jobs.now }
     ensures filled { OnOk result ((seats : List SeatedAgent) → AllZip (IsWorkOf jobs.now) seats worked.now
         → AllZip (IsFilled (sitting seats) (players_of worked.now)) jobs.now slots.new) }
-    ensures apart { OnOk result (AreApartIn slots.new) }
+    ensures order { OnOk result (AreInOrderIn slots.new) }
     ensures many { OnOk result (filled_in slots.new ≡ done_in worked.now) }
     ensures long { length slots.new ≡ length slots.old }
     ensures seen { OnOk result (AreSeen (places worked.now) slots.new) }
@@ -166,7 +166,7 @@ fn place_all(
     requires within { AreWithin (length jobs.now) done.now }
     ensures filled { OnOk result ((was players : List Played) (before player : Played) → IsOf was players agent before player
         → AllDone jobs.now (begins before.entries) player done.now → KeepFilled jobs.now was players slots.old slots.new) }
-    ensures apart { OnOk result (StayApart agent done.now slots.old slots.new) }
+    ensures order { OnOk result (StayInOrder agent done.now slots.old slots.new) }
     ensures many { OnOk result (filled_in slots.new ≡ filled_in slots.old + length done.now) }
     ensures long { length slots.new ≡ length slots.old }
     ensures seen { OnOk result ((seen : List ℕ) → AreSeen seen slots.old → AreSeen (seen ++ places_by done.now) slots.new) }
@@ -211,7 +211,8 @@ fn outcomes_of(jobs: &[NamedJob], slots: Slots) -> Result<Vec<JobOutcome>, PoolF
     requires long { length slots ≡ length jobs.now }
     ensures each { IfOk result (λ outcomes. (was players : List Played) → AllZip (IsFilled was players) jobs.now slots
         → AreOutcomes was players jobs.now outcomes.items) }
-    ensures apart { IfOk result (λ outcomes. AreApartIn slots → AreApart outcomes.items) }
+    ensures apart { IfOk result (λ outcomes. AreInOrderIn slots → AreApart outcomes.items) }
+    ensures order { IfOk result (λ outcomes. AreInOrderIn slots → AreInOrder outcomes.items) }
     ensures all { IfOk result (λ outcomes. filled_in slots ≡ length jobs.now) }
     ensures full { IfOk result (λ outcomes. (k : ℕ) → slice_get slots k ≢ Some None) }
     ensures missing { IfErr result (λ fault. (job : ℕ) × (fault ≡ Missing job) × IsEmpty jobs.now slots job) }

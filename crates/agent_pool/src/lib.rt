@@ -4,9 +4,9 @@
 //! back, each with the **transcript** of what it did.
 //!
 //! **Promises**, on success (`IsPoolOf`): there is one outcome for each job, no two of one agent and count. The
-//! agent's transcript has the job as its begin of that count, and that outcome after it. The agents are idle and
-//! began just as many jobs as were handed in. So no job is lost, carried out twice, or ended by an end of another
-//! time.
+//! agent's transcript has the job as its begin of that count, and that outcome after it. Of two jobs of one agent it
+//! began the one that stands first before the other. The agents are idle and began just as many jobs as were handed
+//! in. So no job is lost, carried out twice, out of its order, or ended by an end of another time.
 //!
 //! Else the fault is what gathering finds in what the agents handed back (`GathersOrLacks`), the first of these.
 //! Memory: an agent was out of memory, or none could begin. Stranger: an agent took a place beyond the jobs.
@@ -19,9 +19,10 @@
 //! its pass. `are_ready` tells it. `first_players` with the passes of a start are so, and so is what comes back.
 //!
 //! Jobs go through one channel (`crossbeam_channel`), under a rule that every step of every thread keeps
-//! (`IsEachOnce`). What was put is the jobs, each once, and then end marks. A thread writes down what its agent is
-//! told before the agent takes it. What a thread hands back is known by its promise (`IsWorked`), which std gives
-//! at the join. An agent that is out of memory goes on taking and runs nothing, so nobody waits for it in vain.
+//! (`IsEachOnce`). What was put is the jobs, each once, and then end marks, and each thread takes jobs in their order.
+//! A thread writes down what its agent is told before the agent takes it. What a thread hands back is known by its
+//! promise (`IsWorked`), which std gives at the join. An agent that is out of memory goes on taking and runs nothing,
+//! so nobody waits for it in vain.
 //!
 //! **Files**: `line` (the channel and its rule), `player`, `outcome`, `fault`, `passes`, `ready`, `pool_context`,
 //! `asking`, `work`, `start`, `slots`, `gather`, `pool`.

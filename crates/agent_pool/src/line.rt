@@ -1,8 +1,9 @@
 //! The channel through which jobs go, and its rule.
 
-ghost use Rattle.std.specs.Prelude.{◌≡◌, ◌≤◌, true, false};
+ghost use Rattle.std.specs.Prelude.{◌≡◌, ◌≤◌, IfOk, true, false};
 ghost use Rattle.crossbeam_channel.specs.Claims.{view, IsSeatAt};
 ghost use Rattle.crossbeam_channel.specs.Ends.{sends_on, receives_on};
+ghost use Rattle.agent_pool.specs.Line.{TakesItem};
 
 use crossbeam_channel::protocol::{Lesson, Outcome, Protocol, Split};
 use crossbeam_channel::{Pass, RecvError, RuledReceiver, RuledSender, SendError};
@@ -16,16 +17,17 @@ pub enum Item {
 }
 
 /// What a thread knows of the channel: whether it is the one that puts, how many jobs and how many end marks it put,
-/// and how many threads may take. No value of it is made.
+/// how many threads may take, and the least place at which it may take a job. No value of it is made.
 pub struct Hand {
     pub puts: bool,
     pub put: usize,
     pub ends: usize,
     pub takers: usize,
+    pub low: usize,
 }
 
 /// The rule: each item is an end mark or names its job, no job is put twice, and after the jobs no more end marks are
-/// put than threads may take.
+/// put than threads may take. Each thread takes jobs in their order.
 pub struct EachOnce;
 
 impl Protocol<Item, Hand> for EachOnce {
@@ -67,9 +69,9 @@ impl Lesson<Item, Hand> for Puts {
 pub(crate) struct Takes;
 
 impl Outcome<Item, Hand> for Takes {
-    ghost use Rattle.std.specs.Prelude.{◌≡◌};
+    ghost use Rattle.agent_pool.specs.Line.{TakesItem};
 
-    ghost then = { λ v x w. w ≡ v };
+    ghost then = { TakesItem };
 }
 
 impl Lesson<Item, Hand> for Takes {
@@ -106,14 +108,18 @@ pub(crate) fn feed<R: Wait>(
     Ok(())
 }
 
-/// Takes an item.
+/// Takes an item: a job stands behind all that were taken so.
 pub(crate) fn take<R: Wait>(
     rt: &R,
     receiver: &Receiver,
     ticket: &mut Ticket,
 ) -> Result<Item, RecvError>
     requires { IsSeatAt (receives_on receiver.now) ticket.old × ((view ticket.old).puts ≡ false) }
-    ensures { IsSeatAt (receives_on receiver.now) ticket.new × ((view ticket.new).puts ≡ false) }
+    ensures seat { IsSeatAt (receives_on receiver.now) ticket.new × ((view ticket.new).puts ≡ false) }
+    ensures taken { IfOk result (λ item. TakesItem (view ticket.old) item (view ticket.new)) }
 {
-    receiver.recv_as::<Takes, R>(rt, ticket)
+    match receiver.recv_as::<Takes, R>(rt, ticket) {
+        Ok(item) => Ok(item),
+        Err(error) => Err(error),
+    }
 }

@@ -25,11 +25,11 @@ use crossbeam_channel::bounded_with;
 use server_lock::{Gate, Pass, Servers};
 use std::alloc::{AllocError, Global};
 use std::sync::Wait;
-use std::sync::atomic::AtomicU64;
 use std::thread;
 use std::thread::{Scope, Threads};
 
-/// How many jobs wait at most to be taken. Where more are handed in, each that is taken wakes the thread that hands them out.
+/// How many jobs wait at most to be taken, beside one for each agent. Where more are handed in, each that is taken wakes the
+/// thread that hands them out; so with room for one an agent threads were switched once for each job.
 const MAX_WAITING: usize = 65_536;
 
 /// What a pool did: the agents with their transcripts, in the order in which they were handed in, the passes, and
@@ -70,14 +70,12 @@ pub fn run_pool<R: Threads + Wait + Sync, G: Gate + Sync>(
     passes.reserve(count)?;
     let waiting = count + jobs.len().min(MAX_WAITING);
     let (sender, receiver, ticket) = bounded_with::<Item, Hand, EachOnce, Global>(alloc, waiting)?;
-    let refused = AtomicU64::new(u64::MAX);
     let context = PoolContext {
         alloc,
         gate,
         servers,
         jobs,
         receiver: &receiver,
-        refused: &refused,
     };
     let giver = Giver { sender, ticket };
     let worked = work_in_threads(rt, &context, giver, seats)?;
@@ -104,7 +102,7 @@ fn work_in_threads<R: Threads + Wait + Sync, G: Gate + Sync>(
     ensures { IfOk result (λ worked. AllZip (IsWorkOf context.now.jobs.now) seats.items worked.items) }
 {
     let (alloc, gate, servers) = (context.alloc, context.gate, context.servers);
-    let (jobs, receiver, refused) = (context.jobs, context.receiver, context.refused);
+    let (jobs, receiver) = (context.jobs, context.receiver);
     let Giver { sender, ticket } = giver;
     thread::scope(
         thread::scope_env(),
@@ -121,7 +119,6 @@ fn work_in_threads<R: Threads + Wait + Sync, G: Gate + Sync>(
                 servers,
                 jobs,
                 receiver,
-                refused,
             };
             in_scope(rt, scope, &context, Giver { sender, ticket }, seats)
         },

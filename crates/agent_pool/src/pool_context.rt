@@ -4,7 +4,6 @@ use crate::line::Receiver;
 use run_certify::KeptJob;
 use server_lock::{Gate, Servers};
 use std::alloc::Global;
-use std::sync::atomic::AtomicU64;
 
 /// A job, with its number.
 #[derive(Drop)]
@@ -13,8 +12,8 @@ pub struct NamedJob {
     pub job: KeptJob,
 }
 
-/// What all threads of a pool work with: memory, the gate, the servers, the jobs that were handed in, the channel
-/// through which these go, and the number of the agent for which no thread could be started.
+/// What all threads of a pool work with: memory, the gate, the servers, the jobs that were handed in, and the channel
+/// through which these go.
 #[derive(Drop)]
 pub(crate) struct PoolContext<'a, G: Gate> {
     pub(crate) alloc: Global,
@@ -22,5 +21,4 @@ pub(crate) struct PoolContext<'a, G: Gate> {
     pub(crate) servers: &'a Servers,
     pub(crate) jobs: &'a [NamedJob],
     pub(crate) receiver: &'a Receiver,
-    pub(crate) refused: &'a AtomicU64,
 }

@@ -12,10 +12,11 @@ ghost use Rattle.agent_pool.specs.code.Working.{IsWorked};
 use crate::line::Ticket;
 use crate::pool_context::{NamedJob, PoolContext};
 use crate::work::{SeatedAgent, Worked, work};
+use crossbeam_channel::bounded;
 use server_lock::Gate;
+use std::alloc::Global;
 use std::snapshot::Snapshot;
 use std::sync::Wait;
-use std::sync::atomic::Ordering;
 use std::thread::{Promise, PromisedHandle, Scope, Threads};
 
 /// That an agent went on from where it was, and did jobs of these.
@@ -38,8 +39,8 @@ pub(crate) enum Start<'a> {
     Rested(Worked),
 }
 
-/// Starts the thread of an agent. Where none can be started the agent comes back as it was: its closure, which is
-/// called here, then finds its number among those refused.
+/// Starts the thread of an agent, which waits to be told that it has started. Where none can be started the agent comes
+/// back as it was: its closure, which is called here, then finds that nobody is left to tell it.
 pub(crate) fn begin_thread<'s, E, R: Threads + Wait + Sync, G: Gate + Sync>(
     rt: &'s R,
     scope: &Scope<'s, E>,
@@ -51,9 +52,11 @@ pub(crate) fn begin_thread<'s, E, R: Threads + Wait + Sync, G: Gate + Sync>(
     requires idle { IsIdle seat.player }
     ensures { IsStart context.now.jobs.now seat result }
 {
-    let number = u64::from(seat.player.number());
     let (alloc, gate, servers) = (context.alloc, context.gate, context.servers);
-    let (jobs, receiver, refused) = (context.jobs, context.receiver, context.refused);
+    let (jobs, receiver) = (context.jobs, context.receiver);
+    let Ok((starter, started)) = bounded::<(), Global>(alloc, 1) else {
+        return Start::Rested(Worked::new(alloc, seat));
+    };
     let works = Works {
         jobs,
         was: Snapshot::of(&seat),
@@ -66,7 +69,7 @@ pub(crate) fn begin_thread<'s, E, R: Threads + Wait + Sync, G: Gate + Sync>(
             ensures { IsWorked jobs.entry.now player pass result }
         {
             let seat = SeatedAgent { player, pass };
-            if refused.load(Ordering::SeqCst) == number {
+            if started.recv(rt).is_err() {
                 return Worked::new(alloc, seat);
             }
             let context = PoolContext {
@@ -75,15 +78,17 @@ pub(crate) fn begin_thread<'s, E, R: Threads + Wait + Sync, G: Gate + Sync>(
                 servers,
                 jobs,
                 receiver,
-                refused,
             };
             work(rt, &context, ticket, seat)
         },
     );
     match spawned {
-        Ok(handle) => Start::Started(handle),
+        Ok(handle) => {
+            let _told = starter.send(rt, ());
+            Start::Started(handle)
+        }
         Err(back) => {
-            refused.store(number, Ordering::SeqCst);
+            drop(starter);
             Start::Rested((back.value)())
         }
     }

@@ -1,10 +1,11 @@
 //! What a thread does: it takes jobs, and has its agent carry them out.
 
-ghost use Rattle.std.specs.Prelude.{◌≡◌, ◌≤◌, List, false, length, Some};
+ghost use Rattle.std.specs.Prelude.{◌≡◌, ◌≤◌, ◌+◌, [], List, false, length, Some};
 ghost use Rattle.crossbeam_channel.specs.Claims.{view, IsSeatAt};
 ghost use Rattle.crossbeam_channel.specs.Ends.{receives_on};
 ghost use Rattle.agent_pool.specs.code.Starts.{IsWorkOf};
 ghost use Rattle.agent_pool.specs.code.Steps.{DidJob, DidMore};
+ghost use Rattle.agent_pool.specs.code.Working.{RiseInPlace};
 ghost use Rattle.agent_pool.specs.Transcripts.{IsIdle};
 
 use crate::asking::{Came, Ran};
@@ -54,7 +55,8 @@ impl Worked {
     /// It did nothing yet, whatever jobs there are.
     pub(crate) fn new(alloc: Global, seat: SeatedAgent) -> Worked
         requires { IsIdle seat.player }
-        ensures { (jobs : List NamedJob) → IsWorkOf jobs seat result }
+        ensures work { (jobs : List NamedJob) → IsWorkOf jobs seat result }
+        ensures none { result.done.items ≡ [] }
     {
         let SeatedAgent { player, pass } = seat;
         Worked {
@@ -86,7 +88,7 @@ impl Worked {
         }
     }
 
-    /// Carries out a job that was handed in at this place; nothing, once it halted.
+    /// Carries out a job that was handed in at this place, behind all that it did; nothing, once it halted.
     fn carry_out<R: Wait, G: Gate>(
         mut self,
         rt: &R,
@@ -94,8 +96,10 @@ impl Worked {
         place: usize,
         was: &Snapshot<SeatedAgent>,
     ) -> Worked
-        requires { IsWorkOf context.now.jobs.now was.now.value self }
-        ensures { IsWorkOf context.now.jobs.now was.now.value result }
+        requires work { IsWorkOf context.now.jobs.now was.now.value self }
+        requires behind { RiseInPlace 0 self.done.items place }
+        ensures work { IsWorkOf context.now.jobs.now was.now.value result }
+        ensures order { RiseInPlace 0 result.done.items (place + 1) }
     {
         if self.halt.is_some() {
             return self;

@@ -32,16 +32,25 @@ asked_word request.Return = codes "return"
 
 -- ---- what is left of a suite
 
-abbrev pub taken_prefix_text : Prefix → List ℕ
-taken_prefix_text prefix = codes ",\"takes\":\"prefix\"," ++ prefix_text prefix
+abbrev pub take_word : Take → List ℕ
+take_word Keep = codes "nothing"
+take_word (take.Prefix prefix) = codes "prefix"
+take_word (Whole replica) = codes "whole"
 
-abbrev pub taken_whole_text : Replica → List ℕ
-taken_whole_text replica = codes ",\"takes\":\"whole\"," ++ replica_text replica
+-- a prefix, or a copy, that is left
+abbrev pub left_prefix : Prefix → List ℕ
+left_prefix prefix = codes "," ++ prefix_text prefix
+
+abbrev pub left_whole : Replica → List ℕ
+left_whole replica = codes "," ++ replica_text replica
+
+abbrev pub left_text : Take → List ℕ
+left_text Keep = []
+left_text (take.Prefix prefix) = left_prefix prefix
+left_text (Whole replica) = left_whole replica
 
 abbrev pub take_text : Take → List ℕ
-take_text Keep = codes ",\"takes\":\"nothing\""
-take_text (take.Prefix prefix) = taken_prefix_text prefix
-take_text (Whole replica) = taken_whole_text replica
+take_text take = codes ",\"takes\":\"" ++ take_word take ++ codes "\"" ++ left_text take
 
 -- a suite in a Prepare, with the lock on it
 abbrev pub part_text : Part → List ℕ

@@ -2,7 +2,7 @@
 
 ghost use Rattle.std.specs.Prelude.{◌≡◌, ◌++◌, OnOk, codes};
 ghost use Rattle.std.specs.List.{flat_map};
-ghost use Rattle.event_json.specs.Requests.{about_text, asked_word, decide_text, finish_text, of_text, part_text, parts_text, poll_text, prepare_text, request_text, t_text, take_text, taken_prefix_text, taken_whole_text};
+ghost use Rattle.event_json.specs.Requests.{about_text, asked_word, decide_text, finish_text, left_prefix, left_text, left_whole, of_text, part_text, parts_text, poll_text, prepare_text, request_text, t_text, take_text, take_word};
 ghost use Rattle.event_json.specs.Strings.{listed};
 
 use crate::copies::{push_prefix, push_replica};
@@ -158,23 +158,44 @@ fn push_part(alloc: Global, text: &mut Vec<u8>, part: &Part) -> Result<(), Alloc
 fn push_take(alloc: Global, text: &mut Vec<u8>, take: &Take) -> Result<(), AllocError>
     ensures { OnOk result (text.new.items ≡ text.old.items ++ take_text take.now) }
 {
+    text.extend_from_slice(b",\"takes\":\"")?;
+    text.extend_from_slice(take_word(take))?;
+    text.extend_from_slice(b"\"")?;
+    push_left(alloc, text, take)
+}
+
+/// What is left of a suite, in a word.
+fn take_word(take: &Take) -> &'static [u8]
+    ensures { result.now ≡ take_word take.now }
+{
     match take {
-        Take::Keep => text.extend_from_slice(b",\"takes\":\"nothing\""),
-        Take::Prefix(prefix) => push_taken_prefix(text, prefix),
-        Take::Whole(replica) => push_taken_whole(alloc, text, replica),
+        Take::Keep => b"nothing",
+        Take::Prefix(_) => b"prefix",
+        Take::Whole(_) => b"whole",
     }
 }
 
-fn push_taken_prefix(text: &mut Vec<u8>, prefix: &Prefix) -> Result<(), AllocError>
-    ensures { OnOk result (text.new.items ≡ text.old.items ++ taken_prefix_text prefix.now) }
+/// A prefix, or a copy, that is left.
+fn push_left(alloc: Global, text: &mut Vec<u8>, take: &Take) -> Result<(), AllocError>
+    ensures { OnOk result (text.new.items ≡ text.old.items ++ left_text take.now) }
 {
-    text.extend_from_slice(b",\"takes\":\"prefix\",")?;
+    match take {
+        Take::Keep => Ok(()),
+        Take::Prefix(prefix) => push_left_prefix(text, prefix),
+        Take::Whole(replica) => push_left_whole(alloc, text, replica),
+    }
+}
+
+fn push_left_prefix(text: &mut Vec<u8>, prefix: &Prefix) -> Result<(), AllocError>
+    ensures { OnOk result (text.new.items ≡ text.old.items ++ left_prefix prefix.now) }
+{
+    text.extend_from_slice(b",")?;
     push_prefix(text, prefix)
 }
 
-fn push_taken_whole(alloc: Global, text: &mut Vec<u8>, replica: &Replica) -> Result<(), AllocError>
-    ensures { OnOk result (text.new.items ≡ text.old.items ++ taken_whole_text replica.now) }
+fn push_left_whole(alloc: Global, text: &mut Vec<u8>, replica: &Replica) -> Result<(), AllocError>
+    ensures { OnOk result (text.new.items ≡ text.old.items ++ left_whole replica.now) }
 {
-    text.extend_from_slice(b",\"takes\":\"whole\",")?;
+    text.extend_from_slice(b",")?;
     push_replica(alloc, text, replica)
 }

@@ -1,21 +1,23 @@
 -- What was decided of a transaction that goes among locks that stay had its home up and its votes open, whether or not its agent went on to the end.
-use Rattle.std.proofs.Common.{◌≡◌, ◌⊎◌, inl, inr, ⊎_elim, ℕ, ◌<◌, true, List, [], ◌∷◌, ◌++◌, append_assoc, Option, Some, None, is_some, refl, sym, ap, subst, ◌∙◌, arith}
-use Rattle.std.specs.Prelude.{◌==◌, ◌&&◌, find}
+use Rattle.std.proofs.Common.{◌≡◌, ◌⊎◌, inl, inr, ⊎_elim, ℕ, ◌<◌, true, List, [], ◌∷◌, ◌++◌, append_assoc, Option, Some, None, is_some, Ok, Err, refl, sym, ap, subst, ◌∙◌, arith}
+use Rattle.std.specs.Prelude.{◌==◌, ◌&&◌, find, Contains}
 use Rattle.std.specs.List.{list_any, cons_option}
 use Rattle.std.proofs.lemmas.Bool.{false≢true, eqb-true, or_cases}
 use Rattle.std.proofs.lemmas.Option.{none-some, same_Some}
 use Rattle.acl_core.specs.Identity.{Identity}
 use Rattle.suite_prefix.specs.SettingsRules.{Opening}
 use Rattle.file_ops.specs.declared.operation.Op.{Op}
+use Rattle.rep_core.proofs.Members.{Has, has_from}
 use Rattle.rep_core.specs.declared.request.Request.{Request}
 use Rattle.rep_core.specs.declared.request.Request.TheVariants as request
 use Rattle.txn_core.specs.declared.job.Job.TheVariants.{Transaction}
+use Rattle.txn_core.specs.Doing as doing
 use Rattle.txn_core.specs.Doing.{Running, home_of}
 use Rattle.txn_core.specs.Transactions.{request_in, decision_of}
 use Rattle.txn_core.specs.Agents.{Agent, fixed_of, next_in, next_of}
 use Rattle.run_core.specs.declared.event.Event.{Event}
 use Rattle.run_core.specs.declared.event.Event.TheVariants.{Begin, Step}
-use Rattle.run_core.specs.Worlds.{Actor, World, server_at, actor_at, asks, steps_once, step}
+use Rattle.run_core.specs.Worlds.{Actor, World, server_at, actor_at, asks_at, asks, steps_once, step}
 use Rattle.run_core.specs.Runs.{run}
 use Rattle.run_core.specs.Decisions.{Decided, decided, decided_by, decisions, decisions_from, task_of, task_at}
 use Rattle.run_core.specs.TableOfRun.{table_of}
@@ -26,17 +28,19 @@ use Rattle.law_runs.proofs.Conclusions.{holds_of}
 use Rattle.law_runs.proofs.Worlds.{agent_of, agent_at}
 use Rattle.law_run_recovers.specs.Standing.{is_up}
 use Rattle.law_run_recovers.specs.Unmet.{world_after}
-use Rattle.law_run_recovers.specs.Among.{GoesAmongLocks, first_wanting, has_votes_open, AmongLocksHadVotesOpen}
+use Rattle.law_run_recovers.specs.Among.{GoesAmongLocks, first_wanting, has_votes_open, AmongLocksHadVotesOpen, AmongLocksAreAnsweredAsBegun}
 use Rattle.law_run_recovers.specs.OpenDemands.{wants}
+use Rattle.law_run_recovers.specs.Laws.{answer_on}
 use Rattle.law_run_recovers.specs.Local.{UnmetHadVotesUp}
 use Rattle.law_run_recovers.proofs.AmongLaws.{none_in, all_is, first_same, rows_met, among_had}
 use Rattle.law_run_recovers.proofs.Apart.{event_apart}
 use Rattle.law_run_recovers.proofs.AtDecision.{decides_up}
-use Rattle.law_run_recovers.proofs.HadVotes.{decided_since}
+use Rattle.law_run_recovers.proofs.Deciding.{answer_as, decides_answer}
+use Rattle.law_run_recovers.proofs.HadVotes.{decided_since, stood_since}
 use Rattle.law_run_recovers.proofs.Keeps.{run_at}
-use Rattle.law_run_recovers.proofs.NearGround.{sight, number}
+use Rattle.law_run_recovers.proofs.NearGround.{its, sight, number}
 use Rattle.law_run_recovers.proofs.Open.{its_begin, unmet_is_among_locks}
-use Rattle.law_run_recovers.proofs.Stands.{unmet, wants_of}
+use Rattle.law_run_recovers.proofs.Stands.{unmet, wants_of, HasAll}
 use Rattle.law_run_recovers.proofs.Took.{own_took}
 use Rattle.law_run_recovers.proofs.AmongCourse.{Course, StandsIn, PhaseIn, runs_it, next_is, unhindered, running_now, apart_on}
 use Rattle.law_run_recovers.proofs.AmongEnds.{Over, small_at, over_on, over_now}
@@ -106,24 +110,57 @@ module _ (given : Opening) (events later : List Event) (agent t : ℕ) (caller :
     here : actor_at (world_after given events agent caller site ops so_far) agent ≡ Some so.actor
     here = ap (actor_at (world_after given events agent caller site ops so_far)) (sym own) ∙ there
 
+    abbrev home : ℕ
+    home = home_of (fixed_of given).service so.txn_run.task.t
+
+    abbrev what : ℕ × Request
+    what = (home, request.Decide so.txn_run.task.t (decision_of so.txn_run.task so.outcome))
+
+    served_so : decided_by (world_after given events agent caller site ops so_far) (task_of so.actor.agent.doing)
+        (asks_at (fixed_of given) (world_after given events agent caller site ops so_far) agent so.actor what (server_at (world_after given events agent caller site ops so_far) home)).done.served ≡ Some one
+    served_so =
+        let w = world_at so_far in
+        let asked : next_of (fixed_of given) so.actor.agent ≡ Some what = ap (next_in (fixed_of given)) so.running ∙ ap (request_in (fixed_of given) so.txn_run.task so.txn_run.suites) so.deciding in
+        sym (ap (λ asked. decided_by w (task_of so.actor.agent.doing) (asks (fixed_of given) w agent so.actor asked).done.served) asked)
+        ∙ sym (ap (λ found. decided_by w (task_at found) (steps_once (fixed_of given) w agent found).done.served) here)
+        ∙ ap (λ event. decided (fixed_of given) w event) (sym (so.step ∙ ap Step own)) ∙ is
+
     home_now : is_up (world_after given events agent caller site ops so_far) (home_of (fixed_of given).service t) ≡ true
     home_now =
         let w = world_at so_far in
-        let home = home_of (fixed_of given).service so.txn_run.task.t in
-        let what : ℕ × Request = (home, request.Decide so.txn_run.task.t (decision_of so.txn_run.task so.outcome)) in
-        let asked : next_of (fixed_of given) so.actor.agent ≡ Some what = ap (next_in (fixed_of given)) so.running ∙ ap (request_in (fixed_of given) so.txn_run.task so.txn_run.suites) so.deciding in
-        let served = sym (ap (λ asked. decided_by w (task_of so.actor.agent.doing) (asks (fixed_of given) w agent so.actor asked).done.served) asked)
-        ∙ sym (ap (λ found. decided_by w (task_at found) (steps_once (fixed_of given) w agent found).done.served) here)
-        ∙ ap (λ event. decided (fixed_of given) w event) (sym (so.step ∙ ap Step own)) ∙ is in
         ap (λ n. is_up w (home_of (fixed_of given).service n)) (sym its_number)
-        ∙ decides_up (fixed_of given) w agent so.actor (task_of so.actor.agent.doing) one what (server_at w home) refl served
+        ∙ decides_up (fixed_of given) w agent so.actor (task_of so.actor.agent.doing) one what (server_at w home) refl served_so
 
-    course_had : Course given events later agent t caller site ops actor goes so_far → HadAll
-    course_had c =
+    -- it is answered as it was to be
+    answer_so : one.answer ≡ answer_as so.outcome
+    answer_so =
+        let w = world_at so_far in
+        decides_answer (fixed_of given) w agent so.actor so.txn_run.task so.outcome one home (server_at w home) refl
+        (subst (λ doing. decided_by (world_after given events agent caller site ops so_far) (task_of doing) (asks_at (fixed_of given) (world_after given events agent caller site ops so_far) agent so.actor what (server_at (world_after given events agent caller site ops so_far) home)).done.served ≡ Some one) so.running served_so)
+
+    all_had : Course given events later agent t caller site ops actor goes so_far
+        → HasAll (fixed_of given) (run given events) (sight given events later agent t caller site ops actor goes) (table_of given events) (its given events later agent t caller site ops actor goes) actor.agent.cache (answer_as so.outcome)
+    all_had c =
         let same = same_Some c.here so.actor (sym c.there ∙ here) in
         let stands : StandsIn given events later agent t caller site ops actor goes c.here.agent.cache (Some (Running so.txn_run)) =
         subst (StandsIn given events later agent t caller site ops actor goes c.here.agent.cache) (ap (λ (a : Actor). a.agent.doing) same ∙ so.running) c.stands in
-        let has = subst (PhaseIn given events later agent t caller site ops actor goes so.txn_run.suites c.here.agent.cache) so.deciding stands.1 in
+        as_all (subst (PhaseIn given events later agent t caller site ops actor goes so.txn_run.suites c.here.agent.cache) so.deciding stands.1)
+      where
+        as_all : PhaseIn given events later agent t caller site ops actor goes so.txn_run.suites c.here.agent.cache (doing.Deciding so.outcome)
+            → HasAll (fixed_of given) (run given events) (sight given events later agent t caller site ops actor goes) (table_of given events) (its given events later agent t caller site ops actor goes) actor.agent.cache (answer_as so.outcome)
+        as_all has = of so.outcome has
+          where
+            of : (outcome : doing.Proposal) → PhaseIn given events later agent t caller site ops actor goes so.txn_run.suites c.here.agent.cache (doing.Deciding outcome)
+                → HasAll (fixed_of given) (run given events) (sight given events later agent t caller site ops actor goes) (table_of given events) (its given events later agent t caller site ops actor goes) actor.agent.cache (answer_as outcome)
+            of (Ok granted) has = has
+            of (Err refusal) has = has
+
+    course_answered : Course given events later agent t caller site ops actor goes so_far → one.answer ≡ answer_on (table_of given events) t caller ops
+    course_answered c = answer_so ∙ (all_had c).answer_is ∙ ap (λ n. answer_on (table_of given events) n caller ops) (number given events later agent t caller site ops actor goes)
+
+    course_had : Course given events later agent t caller site ops actor goes so_far → HadAll
+    course_had c =
+        let has = all_had c in
         let none : first_wanting (run given events) t (wants (fixed_of given) (run given events) (table_of given events) t caller ops has.start) ≡ None =
         sym (first_same given events later agent t caller site ops actor goes has.start has.from)
         ∙ subst (λ n. find (unmet (sight given events later agent t caller site ops actor goes)) (wants_of (fixed_of given) (run given events) (sight given events later agent t caller site ops actor goes) (table_of given events) n caller ops has.start) ≡ None) (number given events later agent t caller site ops actor goes) has.none in
@@ -148,7 +185,31 @@ module _ (given : Opening) (events later : List Event) (agent t : ℕ) (caller :
     pub had_then : State so_far → HadAll
     had_then state = ⊎_elim (λ c. course_had c) (λ over. absurd (over_not over)) state
 
+    pub answered_then : State so_far → one.answer ≡ answer_on (table_of given events) t caller ops
+    answered_then state = ⊎_elim (λ c. course_answered c) (λ over. absurd (over_not over)) state
+
   -- ---- all along
+
+  answered_in : (rest so_far : List Event) → later ≡ so_far ++ rest → State so_far → (one : Decided) → Has (decisions_from (fixed_of given) (world_after given events agent caller site ops so_far) rest) one → one.t ≡ t
+      → one.answer ≡ answer_on (table_of given events) t caller ops
+  answered_in [] so_far split state one has of_it = absurd has
+  answered_in (event ∷ rest) so_far split state one has of_it =
+      of (decided (fixed_of given) (world_after given events agent caller site ops so_far) event) refl
+      (λ has. answered_in rest (so_far ++ event ∷ []) (split ∙ sym (append_assoc so_far (event ∷ []) rest)) (state_on so_far rest event split state) one
+      (subst (λ w. Has (decisions_from (fixed_of given) w rest) one) (sym (next_is given events later agent t caller site ops actor goes so_far event)) has) of_it) has
+    where
+      of : (found : Option Decided) → decided (fixed_of given) (world_after given events agent caller site ops so_far) event ≡ found
+          → (Has (decisions_from (fixed_of given) (step (fixed_of given) (world_after given events agent caller site ops so_far) event).world rest) one → one.answer ≡ answer_on (table_of given events) t caller ops)
+          → Has (cons_option found (decisions_from (fixed_of given) (step (fixed_of given) (world_after given events agent caller site ops so_far) event).world rest)) one → one.answer ≡ answer_on (table_of given events) t caller ops
+      of None is go has = go has
+      of (Some other) is go (inl now) = answered_then so_far rest event split one (is ∙ ap (λ one. Some one) now) of_it state
+      of (Some other) is go (inr after) = go after
+
+  pub answered_begun : (one : Decided) → Contains (decisions given (events ++ Begin agent (Transaction caller site ops) ∷ later)) one → one.t ≡ t → one.answer ≡ answer_on (table_of given events) t caller ops
+  answered_begun one there of_it =
+      answered_in later [] refl (inl (first_course given events later agent t caller site ops actor goes)) one
+      (stood_since given events later agent t caller site ops actor goes.can goes.there (its_begin given events later agent t caller site ops actor goes.can goes.there goes.begins).0 one
+      (has_from (decisions given (events ++ Begin agent (Transaction caller site ops) ∷ later)) one there) of_it) of_it
 
   decided_in : (rest so_far : List Event) → later ≡ so_far ++ rest → State so_far → list_any (λ (one : Decided). one.t == t) (decisions_from (fixed_of given) (world_after given events agent caller site ops so_far) rest) ≡ true → HadAll
   decided_in [] so_far split state some = absurd (false≢true some)
@@ -170,6 +231,9 @@ module _ (given : Opening) (events later : List Event) (agent t : ℕ) (caller :
   stood_had some =
       decided_in later [] refl (inl (first_course given events later agent t caller site ops actor goes))
       (decided_since given events later agent t caller site ops actor goes.can goes.there (its_begin given events later agent t caller site ops actor goes.can goes.there goes.begins).0 some)
+
+pub among_locks_are_answered_as_begun : AmongLocksAreAnsweredAsBegun
+among_locks_are_answered_as_begun given events later agent t caller site ops actor goes one there of_it = answered_begun given events later agent t caller site ops actor goes one there of_it
 
 pub among_locks_had_votes_open : AmongLocksHadVotesOpen
 among_locks_had_votes_open given events later agent t caller site ops actor goes was = ⊎_elim

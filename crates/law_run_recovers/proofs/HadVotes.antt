@@ -40,7 +40,7 @@ use Rattle.run_core.proofs.Appending.{dones-append, outcomes-append, decisions_f
 use Rattle.law_runs.proofs.Answering.{answers_follow_knowledge}
 use Rattle.law_runs.specs.Answers.{IsAnsweredAsKnown}
 use Rattle.law_runs.proofs.Agents.{Runs, IsAt, not_begun}
-use Rattle.law_runs.proofs.Standing.{NotIn}
+use Rattle.law_runs.proofs.Standing.{NotIn, has_append}
 use Rattle.law_runs.proofs.Conclusions.{holds_of, decided_once}
 use Rattle.law_runs.specs.Numbers.{number_of}
 use Rattle.law_runs.specs.Claims.{ended}
@@ -241,6 +241,23 @@ module _ (given : Opening) (events later : List Event) (agent t : ℕ) (caller :
     (there : actor_at (run given events) agent ≡ Some actor) (number : 64 * actor.agent.count + agent ≡ t) where
   abbrev pub by_then : Bool
   by_then = list_any (λ (one : Decided). one.t == t) (decisions_from (fixed_of given) (step (fixed_of given) (run given events) (Begin agent (Transaction caller site ops))).world later)
+
+  -- each that is of it stands among those since
+  pub stood_since : (one : Decided) → Has (decisions given (events ++ Begin agent (Transaction caller site ops) ∷ later)) one → one.t ≡ t
+      → Has (decisions_from (fixed_of given) (step (fixed_of given) (run given events) (Begin agent (Transaction caller site ops))).world later) one
+  stood_since one has of_it =
+      let job : Job = Transaction caller site ops in
+      let rest = decisions_from (fixed_of given) (step (fixed_of given) (run given events) (Begin agent job)).world later in
+      let new : NotIn (decisions given events) (64 * actor.agent.count + agent) =
+      not_begun (agent_at (run given events)) (decisions given events) agent actor.agent (holds_of given can.accepted events).agents (ap agent_of there) actor.agent.count (self actor.agent.count) in
+      let parts : decisions given (events ++ Begin agent job ∷ later) ≡ decisions given events ++ rest =
+      decisions_from-append (fixed_of given) (opening given) events (Begin agent job ∷ later)
+      ∙ ap (λ more. decisions given events ++ more) (ap (λ (first : Option Decided). cons_option first rest) (no_task (run given events) (step (fixed_of given) (run given events) (Begin agent job)).done.served)) in
+      ⊎_elim (λ before. absurd (new one before (of_it ∙ sym number))) (λ since. since)
+      (has_append (decisions given events) rest one (subst (λ ds. Has ds one) parts has))
+    where
+      self : (n : ℕ) → n ≤ n
+      self n = omega arith
 
   pub decided_since : list_any (λ (one : Decided). one.t == t) (decisions given (events ++ Begin agent (Transaction caller site ops) ∷ later)) ≡ true → by_then ≡ true
   decided_since is =

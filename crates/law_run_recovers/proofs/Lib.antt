@@ -24,6 +24,7 @@ pub mod Downs
 pub mod Since
 pub mod Decider
 pub mod AtDecision
+pub mod Deciding
 pub mod HadVotes
 pub mod Took
 pub mod Still

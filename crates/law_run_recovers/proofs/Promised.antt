@@ -29,7 +29,7 @@ use Rattle.law_run_recovers.proofs.Rows.{met_demands_are_rows}
 use Rattle.law_run_recovers.proofs.Stored.{all_is_stored}
 use Rattle.law_run_recovers.proofs.Swept.{sweeps_leave_doubts}
 use Rattle.law_run_recovers.proofs.Taken.{taken_away_are_never_decided}
-use Rattle.law_run_recovers.proofs.AmongDecided.{among_locks_had_votes_open, unmet_had_votes_up}
+use Rattle.law_run_recovers.proofs.AmongDecided.{among_locks_had_votes_open, among_locks_are_answered_as_begun, unmet_had_votes_up}
 use Rattle.law_run_recovers.proofs.UnmetLaws.{unmet_end_by_votes, unmet_are_decided_where_votes_are}
 use Rattle.law_run_recovers.proofs.AmongTime.{among_locks_end_in_time, unmet_end_in_time}
 use Rattle.law_run_recovers.proofs.Unmoved.{decided_where_votes_are}
@@ -49,6 +49,7 @@ available sites given events can = record {
   among_in_time = among_locks_end_in_time given events;
   among_had_votes = among_locks_had_votes_open given events;
   among_where_votes = among_locks_are_decided_where_votes_are given events;
+  among_answers = among_locks_are_answered_as_begun given events;
   finished = finished_before_at_server given events can;
   changes_met = changes_are_met_at_server given events can;
   homes = homes_go_round given;

@@ -19,6 +19,7 @@ use Rattle.run_core.specs.declared.event.Event.TheVariants.{Begin}
 use Rattle.run_core.specs.declared.done.EndedJob.{EndedJob}
 use Rattle.run_core.specs.Worlds.{Actor, World, actor_at}
 use Rattle.run_core.specs.Runs.{run}
+use Rattle.run_core.specs.Decisions.{Decided, decisions}
 use Rattle.run_core.specs.TableOfRun.{table_of}
 use Rattle.law_headline.specs.Premises.{CanBe}
 use Rattle.law_run_alone.specs.Alone.{begins_job}
@@ -140,3 +141,14 @@ AmongLocksHadVotesOpenAt given events =
 
 abbrev pub AmongLocksHadVotesOpen : Type 0
 AmongLocksHadVotesOpen = (given : Opening) (events : List Event) → AmongLocksHadVotesOpenAt given events
+
+-- What is decided of it is answered as the table answers it that there was as it began, whatever others decided since.
+abbrev pub AmongLocksAreAnsweredAsBegunAt : Opening → List Event → Type 0
+AmongLocksAreAnsweredAsBegunAt given events =
+    (later : List Event) (agent t : ℕ) (caller : Identity) (site : ℕ) (ops : List Op) (actor : Actor)
+    → GoesAmongLocks given events later agent t caller site ops actor
+    → (one : Decided) → Contains (decisions given (events ++ Begin agent (Transaction caller site ops) ∷ later)) one → one.t ≡ t
+    → one.answer ≡ answer_on (table_of given events) t caller ops
+
+abbrev pub AmongLocksAreAnsweredAsBegun : Type 0
+AmongLocksAreAnsweredAsBegun = (given : Opening) (events : List Event) → AmongLocksAreAnsweredAsBegunAt given events

@@ -13,7 +13,7 @@ use Rattle.law_run_alone.specs.Undisturbed.{NothingIsInTheWayAt, UndisturbedAreD
 use Rattle.law_run_recovers.specs.Laws.{EndsAreByVotesAt, EndsInTimeAt, MetDemandsAreRowsAt, DecidedWhereVotesAreAt, HomesGoRoundOf, OneOfThemIsDecidedAt, DecidedHadVotesUpAt}
 use Rattle.law_run_recovers.specs.InTime.{RunsEndByTheBoundsAt}
 use Rattle.law_run_recovers.specs.Local.{UnmetEndByVotesAt, UnmetEndInTimeAt, UnmetHadVotesUpAt, UnmetAreDecidedWhereVotesAreAt}
-use Rattle.law_run_recovers.specs.Among.{AmongLocksEndByVotesAt, AmongLocksEndInTimeAt, AmongLocksHadVotesOpenAt, AmongLocksAreDecidedWhereVotesAreAt}
+use Rattle.law_run_recovers.specs.Among.{AmongLocksEndByVotesAt, AmongLocksEndInTimeAt, AmongLocksHadVotesOpenAt, AmongLocksAreDecidedWhereVotesAreAt, AmongLocksAreAnsweredAsBegunAt}
 use Rattle.law_run_recovers.specs.Histories.{FinishedBeforeAtServerAt, ChangesAreMetAtServerAt}
 use Rattle.law_run_recovers.specs.Blocking.{BlockedByDoubtsAt, SomeServerBlocksAt, OneCrashBlocksAt}
 use Rattle.law_run_recovers.specs.Sweeping.{SweepsLeaveDoubtsAt, SweepsKeepEffectsAt, OnlyDoubtsAreLeftAt, NoLockIsLeftAt, AllIsStoredAt, TakenAwayAreNeverDecidedAt}
@@ -41,6 +41,7 @@ pub record IsAvailable (given : Opening) (events : List Event) : Type 0 where
   pub among_in_time : AmongLocksEndInTimeAt given events
   pub among_had_votes : AmongLocksHadVotesOpenAt given events
   pub among_where_votes : AmongLocksAreDecidedWhereVotesAreAt given events
+  pub among_answers : AmongLocksAreAnsweredAsBegunAt given events
   -- where a server served the Finish of one transaction before a request of another that is none, the first was decided before the second; so a change whose
   -- Finish says that it was answered is met
   pub finished : FinishedBeforeAtServerAt given events

@@ -14,7 +14,8 @@
 //!   (`alone_are_unmet`). Its votes are those of the rows (`near_votes_are_rows`, `open_votes_are_rows`).
 //! - So does one among locks that others left, where what is in its way stays: by the votes that are open to it
 //!   (`among_locks_end_by_votes`, `among_locks_end_in_time`, `among_locks_had_votes_open`,
-//!   `among_locks_are_decided_where_votes_are`); what nobody meets is one (`unmet_are_among_locks`).
+//!   `among_locks_are_decided_where_votes_are`, `among_locks_are_answered_as_begun`); what nobody meets is one
+//!   (`unmet_are_among_locks`).
 //! - Homes go round. So where the votes are up, of as many tries as there are servers one is decided
 //!   (`homes_go_round`, `one_of_them_is_decided`).
 //! - Sweeps leave only locks in doubt, change no copy in effect, and with all servers up leave none
@@ -33,17 +34,16 @@
 //!
 //! **Files**: `lib`, `promises`. **Definitions** (`specs/`): `Standing`, `Alone`, `Demands`, `InTime`, `Laws`,
 //! `Sweeping`, `Promises`, `Worked`, `Near`, `Unmet`, `OpenDemands`, `Local`, `Among`, `Histories`, `Blocking`,
-//! `Contending`.
-//! The proofs follow a transaction over its agent's steps (`proofs/Ends.antt`, `Stands.antt`, `Asking.antt`; where
-//! others go on `AmongCourse.antt`, `AmongStep.antt`, `AmongEnds.antt`) and a sweep by its list (`Sweeps.antt`,
-//! `Swept.antt`, `Rounds.antt`).
+//! `Contending`. The proofs follow a transaction over its agent's steps (`proofs/Ends.antt`, `Stands.antt`,
+//! `Asking.antt`; where others go on `AmongCourse.antt`, `AmongStep.antt`, `AmongEnds.antt`) and a sweep by its list
+//! (`Sweeps.antt`, `Swept.antt`, `Rounds.antt`).
 #![tactic(auto)]
 
 mod promises;
 
 ghost use Rattle.law_run_recovers.specs.Laws.{EndsAreByVotes, EndsInTime, MetDemandsAreRows, DecidedWhereVotesAre, HomesGoRound, OneOfThemIsDecided, DecidedHadVotesUp};
 ghost use Rattle.law_run_recovers.specs.Local.{AloneAreUnmet, NearVotesAreRows, OpenVotesAreRows, UnmetAreDecidedWhereVotesAre, UnmetEndByVotes, UnmetEndInTime, UnmetHadVotesUp};
-ghost use Rattle.law_run_recovers.specs.Among.{UnmetAreAmongLocks, AmongLocksEndByVotes, AmongLocksEndInTime, AmongLocksHadVotesOpen, AmongLocksAreDecidedWhereVotesAre};
+ghost use Rattle.law_run_recovers.specs.Among.{UnmetAreAmongLocks, AmongLocksEndByVotes, AmongLocksEndInTime, AmongLocksHadVotesOpen, AmongLocksAreDecidedWhereVotesAre, AmongLocksAreAnsweredAsBegun};
 ghost use Rattle.law_run_recovers.specs.Histories.{FinishedBeforeAtServer, ChangesAreMetAtServer};
 ghost use Rattle.law_run_recovers.specs.InTime.{RunsEndByTheBounds};
 ghost use Rattle.law_run_recovers.specs.Sweeping.{SweepsLeaveDoubts, SweepsKeepEffects, OnlyDoubtsAreLeft, NoLockIsLeft, AllIsStored, TakenAwayAreNeverDecided};
@@ -156,6 +156,12 @@ pub fn among_locks_had_votes_open()
 /// of the rows are open to it. It does nothing.
 pub fn among_locks_are_decided_where_votes_are()
     ensures { AmongLocksAreDecidedWhereVotesAre }
+{}
+
+/// A law: and what is decided of it is answered as the table answers it that there was as it began, whatever others decided
+/// since. It does nothing.
+pub fn among_locks_are_answered_as_begun()
+    ensures { AmongLocksAreAnsweredAsBegun }
 {}
 
 /// A law: where votes were never moved, such a transaction is decided exactly where its home and the votes of the rows are

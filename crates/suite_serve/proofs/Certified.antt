@@ -6,10 +6,10 @@ use Rattle.run_certify.specs.Certified.{IsCertified}
 use Rattle.agent_pool.specs.declared.outcome.JobOutcome.{JobOutcome}
 use Rattle.agent_pool.specs.declared.pool_context.NamedJob.{NamedJob}
 use Rattle.suite_serve.specs.Scripts.{Plan}
-use Rattle.suite_serve.specs.Served.{AreApart, AreFirst, AreJobEnds, Came, IsServed, end_in, items_in}
+use Rattle.suite_serve.specs.Served.{AreApart, AreFirst, AreInOrder, AreJobEnds, Came, IsServed, end_in, items_in}
 use Rattle.suite_serve.specs.code.Working.{AreDone, HaveEnded, named_from, transcripts_of}
 use Rattle.suite_serve.specs.declared.serving.Worked.{Worked}
-use Rattle.suite_serve.proofs.Ended.{all_ends, apart_ends, first_ends}
+use Rattle.suite_serve.proofs.Ended.{all_ends, apart_ends, first_ends, order_ends}
 
 -- what came of jobs, by the outcomes that a pool gave
 abbrev pub came_of : List (List Entry) → List JobOutcome → ℕ → Came
@@ -25,6 +25,7 @@ is_served plan came histories transcripts jobs worked certified named told done 
     let each = all_ends players done.numbered 0 plan.jobs outcomes ended in
     let apart = apart_ends players done.numbered jobs outcomes done.each done.apart in
     let first = first_ends players done.numbered plan.alone jobs outcomes done.each done.first in
+    let order = order_ends players done.numbered jobs outcomes done.each done.order in
     record {
       histories = histories;
       transcripts = transcripts;
@@ -34,5 +35,6 @@ is_served plan came histories transcripts jobs worked certified named told done 
           (subst (λ (ts : List (List Entry)). AreJobEnds ts 0 plan.jobs (map (end_in ts) outcomes)) (sym told) each);
       apart = subst (λ (all : Came). AreApart all.ends) (sym is) (subst (λ (ts : List (List Entry)). AreApart (map (end_in ts) outcomes)) (sym told) apart);
       alone = subst (λ (all : Came). AreFirst plan.alone all.ends) (sym is) (subst (λ (ts : List (List Entry)). AreFirst plan.alone (map (end_in ts) outcomes)) (sym told) first);
+      order = subst (λ (all : Came). AreInOrder all.ends) (sym is) (subst (λ (ts : List (List Entry)). AreInOrder (map (end_in ts) outcomes)) (sym told) order);
       steps = ap (λ (all : Came). all.steps) is;
     }

@@ -11,8 +11,8 @@ use Rattle.agent_pool.specs.declared.outcome.JobOutcome.{JobOutcome}
 use Rattle.agent_pool.specs.declared.pool_context.NamedJob.{NamedJob}
 use Rattle.agent_pool.specs.Endings.{end_of}
 use Rattle.agent_pool.specs.Transcripts.{Played, number_of}
-use Rattle.agent_pool.specs.Pools.{AreApart as ApartOutcomes}
-use Rattle.suite_serve.specs.Served.{AreApart, AreFirst, AreJobEnds, IsJobEnd, JobEnd, done_as, end_in, end_there, named_end}
+use Rattle.agent_pool.specs.Pools.{AreApart as ApartOutcomes, AreInOrder as OutcomesInOrder}
+use Rattle.suite_serve.specs.Served.{AreApart, AreFirst, AreInOrder, AreJobEnds, IsJobEnd, JobEnd, done_as, end_in, end_there, named_end}
 use Rattle.suite_serve.specs.code.Working.{AreNumbered, AreOfFirst, HasEnded, HaveEnded, named_from, transcripts_of}
 use Rattle.suite_serve.proofs.Numbers.{number_at}
 use Rattle.suite_serve.proofs.Places.{contained_get, get_past}
@@ -90,7 +90,7 @@ pub first_ends : (players : List Played) → AreNumbered 0 players → (alone : 
 first_ends players are alone jobs outcomes all first place end low there =
     let from = from_outcome players are jobs outcomes all place end there in
     let one = first place from.outcome low from.there in
-    (from.outcome.count, (from.done ∙ ap (λ (n : ℕ). Some (n, from.outcome.count)) one.0, one.1))
+    from.done ∙ (ap (λ (n : ℕ). Some (n, from.outcome.count)) one.0 ∙ ap (λ (n : ℕ). Some (0, n)) one.1)
 
 pub apart_ends : (players : List Played) → AreNumbered 0 players → (jobs : List NamedJob) (outcomes : List JobOutcome) → HaveEnded players jobs outcomes → ApartOutcomes outcomes
     → AreApart (map (end_in (transcripts_of players)) outcomes)
@@ -99,3 +99,15 @@ apart_ends players are jobs outcomes all apart i j a b at_i at_j same =
     let y = from_outcome players are jobs outcomes all j b at_j in
     let both : (x.outcome.agent, x.outcome.count) ≡ (y.outcome.agent, y.outcome.count) = same_Some (x.outcome.agent, x.outcome.count) (y.outcome.agent, y.outcome.count) (sym x.done ∙ same ∙ y.done) in
     apart i j x.outcome y.outcome x.there y.there (ap (λ (p : ℕ × ℕ). p.0) both) (ap (λ (p : ℕ × ℕ). p.1) both)
+
+pub order_ends : (players : List Played) → AreNumbered 0 players → (jobs : List NamedJob) (outcomes : List JobOutcome) → HaveEnded players jobs outcomes → OutcomesInOrder outcomes
+    → AreInOrder (map (end_in (transcripts_of players)) outcomes)
+order_ends players are jobs outcomes all order i j a b agent first second at_i at_j before is_a is_b =
+    let x = from_outcome players are jobs outcomes all i a at_i in
+    let y = from_outcome players are jobs outcomes all j b at_j in
+    let one : (x.outcome.agent, x.outcome.count) ≡ (agent, first) = same_Some (x.outcome.agent, x.outcome.count) (agent, first) (sym x.done ∙ is_a) in
+    let other : (y.outcome.agent, y.outcome.count) ≡ (agent, second) = same_Some (y.outcome.agent, y.outcome.count) (agent, second) (sym y.done ∙ is_b) in
+    let less = order i j x.outcome y.outcome x.there y.there (ap (λ (p : ℕ × ℕ). p.0) one ∙ sym (ap (λ (p : ℕ × ℕ). p.0) other)) before in
+    let from = ap (λ (p : ℕ × ℕ). p.1) one in
+    let to = ap (λ (p : ℕ × ℕ). p.1) other in
+    omega arith

@@ -1,9 +1,9 @@
 -- From what agent 0 did alone, and what all agents did after it, to what was done with all jobs.
-use Rattle.std.proofs.Common.{◌≡◌, ◌∙◌, ap, sym, refl, subst, inl, inr, arith, ℕ, zero, suc, ◌+◌, ◌<◌, min, List, [], ◌∷◌, ◌++◌, length}
+use Rattle.std.proofs.Common.{◌≡◌, ◌∙◌, ap, sym, refl, subst, inl, inr, arith, ℕ, zero, suc, ◌+◌, ◌-◌, ◌<◌, ◌≤◌, min, List, [], ◌∷◌, ◌++◌, length}
 use Rattle.std.proofs.lemmas.Slice.Zip.{AllZip-long}
 use Rattle.std.proofs.lemmas.List.Elements.{Contains-append_left}
-use Rattle.std.proofs.lemmas.Option.{none-some, same_Some, slice_get_within}
-use Rattle.std.specs.Prelude.{Contains, slice_get, Some}
+use Rattle.std.proofs.lemmas.Option.{none-some, same_Some, slice_get-get_or, slice_get_within}
+use Rattle.std.specs.Prelude.{Contains, slice_get, slice_index_or, Some}
 use Rattle.std.specs.List.{AllZip}
 use Rattle.txn_core.specs.declared.job.Job.{Job}
 use Rattle.suite_prefix.specs.SettingsRules.{Opening}
@@ -13,7 +13,7 @@ use Rattle.run_certify.specs.declared.entry.Entry.TheVariants.{Begun, Asked, Lac
 use Rattle.agent_pool.specs.declared.outcome.JobOutcome.{JobOutcome}
 use Rattle.agent_pool.specs.declared.pool.Pool.{Pool}
 use Rattle.agent_pool.specs.declared.pool_context.NamedJob.{NamedJob}
-use Rattle.agent_pool.specs.Pools.{AreApart, IsOutcome, IsPoolOf, begun_by}
+use Rattle.agent_pool.specs.Pools.{AreApart, AreInOrder, IsOutcome, IsPoolOf, begun_by}
 use Rattle.agent_pool.specs.Seats.{AreReady, WentOn}
 use Rattle.agent_pool.specs.Transcripts.{IsLonger, IsTold, Played, begins, first_player, number_of, players_from}
 use Rattle.agent_pool.proofs.Readiness.{ready_first}
@@ -125,10 +125,39 @@ all_of_first old new was now jobs outcomes all is ended place outcome there =
     let begun = begun_one old new was now all has.player has.there in
     (sym has.number ∙ of_one old new was now all has.player has.there ∙ is, omega arith)
 
-first_of_both : (few : ℕ) (before after : List JobOutcome) → AllOfFirst few before → (place : ℕ) (outcome : JobOutcome) → place < length before → slice_get (before ++ after) place ≡ Some outcome → (outcome.agent ≡ 0) × (outcome.count < few)
-first_of_both few before after all place outcome low there =
+-- counts of one agent, which rise, rise by one at least from place to place
+rises : (os : List JobOutcome) (few : ℕ) → AreInOrder os → AllOfFirst few os → (k i : ℕ) (a b : JobOutcome) → slice_get os i ≡ Some a → slice_get os (i + k) ≡ Some b → a.count + k ≤ b.count
+rises os few order all zero i a b at_a at_b =
+    let here : slice_get os i ≡ Some b = subst (λ (n : ℕ). slice_get os n ≡ Some b) (omega arith) at_b in
+    let same = ap (λ (o : JobOutcome). o.count) (same_Some a b (sym at_a ∙ here)) in
+    omega arith
+rises os few order all (suc k) i a b at_a at_b =
+    let within = slice_get_within os (i + suc k) b at_b in
+    let c = slice_index_or os (i + k) a in
+    let at_c : slice_get os (i + k) ≡ Some c = slice_get-get_or os (i + k) a (omega arith) in
+    let so_far = rises os few order all k i a c at_a at_c in
+    let more = order (i + k) (i + suc k) c b at_c at_b ((all (i + k) c at_c).0 ∙ sym (all (i + suc k) b at_b).0) (omega arith) in
+    omega arith
+
+-- so as many as there are places are the places
+at_its_place : (os : List JobOutcome) (few : ℕ) → few ≡ length os → AreInOrder os → AllOfFirst few os → (i : ℕ) (a : JobOutcome) → slice_get os i ≡ Some a → a.count ≡ i
+at_its_place os few long order all i a at =
+    let within = slice_get_within os i a at in
+    let first = slice_index_or os 0 a in
+    let at_first : slice_get os 0 ≡ Some first = slice_get-get_or os 0 a (omega arith) in
+    let low = rises os few order all i 0 first a at_first (subst (λ (n : ℕ). slice_get os n ≡ Some a) (omega arith) at) in
+    let left = length os - 1 - i in
+    let last = slice_index_or os (i + left) a in
+    let at_last : slice_get os (i + left) ≡ Some last = slice_get-get_or os (i + left) a (omega arith) in
+    let high = rises os few order all left i a last at at_last in
+    let top = (all (i + left) last at_last).1 in
+    omega arith
+
+first_of_both : (few : ℕ) (before after : List JobOutcome) → few ≡ length before → AreInOrder before → AllOfFirst few before → (place : ℕ) (outcome : JobOutcome) → place < length before → slice_get (before ++ after) place ≡ Some outcome
+    → (outcome.agent ≡ 0) × (outcome.count ≡ place)
+first_of_both few before after long order all place outcome low there =
     elim (get_either before after place outcome there) [
-      | inl first ↦ all place outcome first
+      | inl first ↦ ((all place outcome first).0, at_its_place before few long order all place outcome first)
       | inr second ↦ let past = second.1.0 in absurd (omega arith)
     ]
 
@@ -158,6 +187,21 @@ apart_both before after one two cross i j a b at_i at_j agent count =
       ]
     ]
 
+order_both : (before after : List JobOutcome) → AreInOrder before → AreInOrder after
+    → ((i j : ℕ) (a b : JobOutcome) → slice_get before i ≡ Some a → slice_get after j ≡ Some b → a.agent ≡ b.agent → a.count < b.count)
+    → AreInOrder (before ++ after)
+order_both before after one two cross i j a b at_i at_j agent less =
+    elim (get_either before after i a at_i) [
+      | inl first ↦ elim (get_either before after j b at_j) [
+        | inl other ↦ one i j a b first other agent less
+        | inr other ↦ cross i other.0 a b first other.1.1 agent
+      ]
+      | inr second ↦ elim (get_either before after j b at_j) [
+        | inl other ↦ let within = slice_get_within before j b other in let past = second.1.0 in absurd (omega arith)
+        | inr other ↦ two second.0 other.0 a b second.1.1 other.1.1 agent (let x = second.1.0 in let y = other.1.0 in omega arith)
+      ]
+    ]
+
 -- agent 0 did the jobs above, and then all agents those below
 pub both_done : (given : Opening) (jobs above below : List NamedJob) (alone : ℕ) (passes : List Held) (others : List Played) (first : Pool) (second : Pool) (worked : Worked)
     → jobs ≡ above ++ below → length above ≡ min alone (length jobs) → first_player given 0 ∷ others ≡ players_from given 0 given.agents
@@ -179,7 +223,7 @@ both_done given jobs above below alone passes others first second worked split c
     let longer = AllZip-long (HasEnded second.agents.items) jobs (first.outcomes.items ++ second.outcomes.items) each in
     let once = one.once in
     let none : begun_by (first_player given 0 ∷ []) ≡ 0 = refl in
-    let cross : (i j : ℕ) (a b : JobOutcome) → slice_get first.outcomes.items i ≡ Some a → slice_get second.outcomes.items j ≡ Some b → a.agent ≡ b.agent → a.count ≡ b.count → ⊥ = λ i j a b at_i at_j agent count.
+    let cross : (i j : ℕ) (a b : JobOutcome) → slice_get first.outcomes.items i ≡ Some a → slice_get second.outcomes.items j ≡ Some b → a.agent ≡ b.agent → a.count < b.count = λ i j a b at_i at_j agent.
     let here = all i a at_i in
     let named = zip_at (IsOutcome was second.agents.items) below second.outcomes.items two.each j b at_j in
     let is = named.1 in
@@ -191,15 +235,14 @@ both_done given jobs above below alone passes others first second worked split c
     record {
       numbered = subst (AreNumbered 0) (sym agents) (numbered_still first.passes.items second.passes.items 0 was second.agents.items two.agents numbered);
       each = subst (λ (ps : List Played). HaveEnded ps jobs worked.outcomes.items) (sym agents) (subst (λ (os : List JobOutcome). HaveEnded second.agents.items jobs os) (sym outcomes) each);
-      apart = subst AreApart (sym outcomes) (apart_both first.outcomes.items second.outcomes.items one.apart two.apart cross);
+      apart = subst AreApart (sym outcomes) (apart_both first.outcomes.items second.outcomes.items one.apart two.apart (λ i j a b at_i at_j agent count. let less = cross i j a b at_i at_j agent in omega arith));
+      order = subst AreInOrder (sym outcomes) (order_both first.outcomes.items second.outcomes.items one.order two.order cross);
       first =
           subst (AreOfFirst alone) (sym outcomes)
           (λ (place : ℕ) (outcome : JobOutcome) (low : place < alone) (there : slice_get (first.outcomes.items ++ second.outcomes.items) place ≡ Some outcome).
           let within = slice_get_within (first.outcomes.items ++ second.outcomes.items) place outcome there in
           let before : place < length first.outcomes.items = omega arith in
-          let is = first_of_both (begun_by first.agents.items) first.outcomes.items second.outcomes.items all place outcome before there in
-          let less = is.1 in
-          (is.0, omega arith));
+          first_of_both (begun_by first.agents.items) first.outcomes.items second.outcomes.items (omega arith) one.order all place outcome before there);
     }
 
 -- ---- agents who can work

@@ -88,12 +88,19 @@ done_as end = option_map (λ (told : EndedJob). (told.agent, told.count)) end.to
 abbrev pub AreApart : List JobEnd → Type 0
 AreApart ends = (i j : ℕ) (a b : JobEnd) → slice_get ends i ≡ Some a → slice_get ends j ≡ Some b → done_as a ≡ done_as b → i ≡ j
 
--- so many of the first were done by agent 0, as its first jobs
+-- so many of the first were done by agent 0, each as the job of its place
 abbrev pub AreFirst : ℕ → List JobEnd → Type 0
-AreFirst alone ends = (place : ℕ) (end : JobEnd) → place < alone → slice_get ends place ≡ Some end → (count : ℕ) × ((done_as end ≡ Some (0, count)) × (count < alone))
+AreFirst alone ends = (place : ℕ) (end : JobEnd) → place < alone → slice_get ends place ≡ Some end → done_as end ≡ Some (0, place)
+
+-- of two that one agent did, it began the first before the second
+abbrev pub AreInOrder : List JobEnd → Type 0
+AreInOrder ends =
+    (i j : ℕ) (a b : JobEnd) (agent first second : ℕ) → slice_get ends i ≡ Some a → slice_get ends j ≡ Some b → i < j
+    → done_as a ≡ Some (agent, first) → done_as b ≡ Some (agent, second) → first < second
 
 -- What came of a script's jobs is what came of them in one run of servers and agents, which opens with the script's settings: each job ended so in what
--- the agents did, those above `together` as the first jobs of agent 0, and so many requests were served.
+-- the agents did, those above `together` as the first jobs of agent 0, in their order; each agent did its jobs in their order; and so many requests were
+-- served.
 pub record IsServed (plan : Plan) (came : Came) : Type 0 where
   pub histories : List (List Item)
   pub transcripts : List (List Entry)
@@ -101,4 +108,5 @@ pub record IsServed (plan : Plan) (came : Came) : Type 0 where
   pub each : AreJobEnds transcripts 0 plan.jobs came.ends
   pub apart : AreApart came.ends
   pub alone : AreFirst plan.alone came.ends
+  pub order : AreInOrder came.ends
   pub steps : came.steps ≡ items_in histories

@@ -3,8 +3,9 @@
 //! **Promises.** `read_script` reads a script whole, before anything is served, and says its first fault. `serve`
 //! has the jobs above `together` carried out by agent 0 alone, then the others by all agents. It closes the servers
 //! and asks `certify`. What it gives (`IsServed`) names one run. For each job, in the script's order, its agent's
-//! transcript has it as its begin of some count, then so many requests, and then the end that its line tells. No
-//! two lines are of one agent and count. So a line cannot be another job's, and nothing is printed that was not
+//! transcript has it as its begin of some count, then so many requests, and then the end that its line tells. The
+//! jobs above `together` are the first that agent 0 began, in their order, and each agent began its jobs in theirs.
+//! No two lines are of one agent and count. So a line cannot be another job's, and nothing is printed that was not
 //! certified.
 //!
 //! A fault of the pool but Memory, of closing, or of certifying prints `mismatch` and no outcome. No clause says

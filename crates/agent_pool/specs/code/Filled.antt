@@ -10,7 +10,7 @@ use Rattle.agent_pool.specs.declared.outcome.JobOutcome.{JobOutcome}
 use Rattle.agent_pool.specs.Pools.{IsOutcome}
 use Rattle.agent_pool.specs.Transcripts.{Played, IsIdle}
 use Rattle.agent_pool.specs.code.Starts.{IsWorkOf}
-use Rattle.agent_pool.specs.code.Working.{RiseBetween}
+use Rattle.agent_pool.specs.code.Working.{RiseBetween, RiseInPlace}
 
 -- all who sit here are idle
 abbrev pub AreIdle : List SeatedAgent → Type 0
@@ -48,27 +48,28 @@ filled_in [] = 0
 filled_in (None ∷ slots) = filled_in slots
 filled_in (Some outcome ∷ slots) = filled_in slots + 1
 
-abbrev pub AreApartIn : List (Option JobOutcome) → Type 0
-AreApartIn slots = (i j : ℕ) (a b : JobOutcome) → slice_get slots i ≡ Some (Some a) → slice_get slots j ≡ Some (Some b) → a.agent ≡ b.agent → a.count ≡ b.count → i ≡ j
+-- of two of one agent the one that stands first was begun first
+abbrev pub AreInOrderIn : List (Option JobOutcome) → Type 0
+AreInOrderIn slots = (i j : ℕ) (a b : JobOutcome) → slice_get slots i ≡ Some (Some a) → slice_get slots j ≡ Some (Some b) → a.agent ≡ b.agent → i < j → a.count < b.count
 
 -- all are of these agents
 abbrev pub AreOfThese : List ℕ → List (Option JobOutcome) → Type 0
 AreOfThese numbers slots = (i : ℕ) (a : JobOutcome) → slice_get slots i ≡ Some (Some a) → Contains numbers a.agent
 
--- or of this agent, with a count below
-abbrev pub AreBelow : List ℕ → ℕ → ℕ → List (Option JobOutcome) → Type 0
-AreBelow numbers agent low slots = (i : ℕ) (a : JobOutcome) → slice_get slots i ≡ Some (Some a) → Contains numbers a.agent ⊎ ((a.agent ≡ agent) × (a.count < low))
+-- or of this agent, with a count below, and at a place below
+abbrev pub AreBelow : List ℕ → ℕ → ℕ → ℕ → List (Option JobOutcome) → Type 0
+AreBelow numbers agent low floor slots = (i : ℕ) (a : JobOutcome) → slice_get slots i ≡ Some (Some a) → Contains numbers a.agent ⊎ ((a.agent ≡ agent) × (a.count < low) × (i < floor))
 
 -- an outcome was put at a place that had none
 pub record IsPut (old : List (Option JobOutcome)) (place : ℕ) (outcome : JobOutcome) (new : List (Option JobOutcome)) : Type 0 where
   pub was : slice_get old place ≡ Some None
   pub is : new ≡ slice_set old place (Some outcome)
 
--- outcomes stay apart
-abbrev pub StayApart : ℕ → List Done → List (Option JobOutcome) → List (Option JobOutcome) → Type 0
-StayApart agent ds old new =
-    (numbers : List ℕ) (low high : ℕ) → ¬ (Contains numbers agent) → RiseBetween low ds high → AreApartIn old → AreBelow numbers agent low old
-    → AreApartIn new × ((upper : ℕ) × AreBelow numbers agent upper new)
+-- outcomes stay in order
+abbrev pub StayInOrder : ℕ → List Done → List (Option JobOutcome) → List (Option JobOutcome) → Type 0
+StayInOrder agent ds old new =
+    (numbers : List ℕ) (low high floor roof : ℕ) → ¬ (Contains numbers agent) → RiseBetween low ds high → RiseInPlace floor ds roof → AreInOrderIn old
+    → AreBelow numbers agent low floor old → AreInOrderIn new × ((upper top : ℕ) × AreBelow numbers agent upper top new)
 
 abbrev pub AreNone : List (Option JobOutcome) → Type 0
 AreNone [] = Unit {0}

@@ -10,7 +10,7 @@ use Rattle.agent_pool.specs.declared.work.Done.{Done}
 use Rattle.agent_pool.specs.declared.work.SeatedAgent.{SeatedAgent}
 use Rattle.agent_pool.specs.declared.work.Worked.{Worked}
 use Rattle.agent_pool.specs.declared.pool_context.NamedJob.{NamedJob}
-use Rattle.agent_pool.specs.Pools.{AreApart, AreOutcomes}
+use Rattle.agent_pool.specs.Pools.{AreApart, AreInOrder, AreOutcomes}
 use Rattle.agent_pool.specs.code.Filled.{AreNone, done_in, passes_of, players_of, sitting}
 use Rattle.agent_pool.specs.Seats.{AreDistinct}
 use Rattle.agent_pool.specs.code.Starts.{IsWorkOf}
@@ -61,6 +61,7 @@ AreWithin many (done ∷ later) = IsWithin many done × AreWithin many later
 pub record AreGathered (jobs : List NamedJob) (worked : List Worked) (outcomes : List JobOutcome) : Type 0 where
   pub each : (seats : List SeatedAgent) → AllZip (IsWorkOf jobs) seats worked → AreOutcomes (sitting seats) (players_of worked) jobs outcomes
   pub apart : AreApart outcomes
+  pub order : AreInOrder outcomes
   pub once : done_in worked ≡ length jobs
 
 -- a pool of what all these did
@@ -70,4 +71,5 @@ pub record IsGathered (jobs : List NamedJob) (worked : List Worked) (left : List
   pub ran : AllRan worked
   pub each : (seats : List SeatedAgent) → AllZip (IsWorkOf jobs) seats worked → AreOutcomes (sitting seats) (players_of worked) jobs pool.outcomes.items
   pub apart : AreApart pool.outcomes.items
+  pub order : AreInOrder pool.outcomes.items
   pub once : done_in worked ≡ length jobs

@@ -27,6 +27,11 @@ abbrev pub RiseBetween : ℕ → List Done → ℕ → Type 0
 RiseBetween low [] high = low ≤ high
 RiseBetween low (done ∷ later) high = (low ≤ done.ran.count) × RiseBetween (done.ran.count + 1) later high
 
+-- so do the places
+abbrev pub RiseInPlace : ℕ → List Done → ℕ → Type 0
+RiseInPlace low [] high = low ≤ high
+RiseInPlace low (done ∷ later) high = (low ≤ done.place) × RiseInPlace (done.place + 1) later high
+
 -- an agent that ran whatever it took has no job; what one could not do is a job that was handed in, and what none could know is not
 abbrev pub IsHalted : List NamedJob → Played → Option Halt → Type 0
 IsHalted jobs played None = IsIdle played
@@ -34,13 +39,15 @@ IsHalted jobs played (Some Lacked) = Unit {0}
 IsHalted jobs played (Some (Stuck job)) = Contains (job_numbers jobs) job
 IsHalted jobs played (Some (Strange place)) = length jobs ≤ place
 
--- An agent went on with its pass, and did these of the jobs that were handed in. If it ran whatever it took, it went on as the agent function does, and
+-- An agent went on with its pass, and did these of the jobs that were handed in, in their order. If it ran whatever it took, it went on as the agent function does, and
 -- began no others.
 pub record IsWorked (jobs : List NamedJob) (was : Played) (pass : Held) (worked : Worked) : Type 0 where
   pub longer : IsLonger was worked.player
   pub went : GoesOn longer.rest pass worked.pass
   pub done : AllDone jobs (begins was.entries) worked.player worked.done.items
   pub rise : RiseBetween (begins was.entries) worked.done.items (begins worked.player.entries)
+  pub next : ℕ
+  pub order : RiseInPlace 0 worked.done.items next
   pub halted : IsHalted jobs worked.player worked.halt
   pub leads : worked.halt ≡ None → Leads was.agent.fixed (at_rest was.agent.state) longer.rest (at_rest worked.player.agent.state)
   pub once : worked.halt ≡ None → begins worked.player.entries ≡ begins was.entries + length worked.done.items

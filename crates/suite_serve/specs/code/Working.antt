@@ -5,7 +5,7 @@ use Rattle.txn_core.specs.declared.job.Job.{Job}
 use Rattle.run_certify.specs.declared.entry.Entry.{Entry}
 use Rattle.agent_pool.specs.declared.outcome.JobOutcome.{JobOutcome}
 use Rattle.agent_pool.specs.declared.pool_context.NamedJob.{NamedJob}
-use Rattle.agent_pool.specs.Pools.{AreApart}
+use Rattle.agent_pool.specs.Pools.{AreApart, AreInOrder}
 use Rattle.agent_pool.specs.Transcripts.{Played, IsTold, number_of}
 use Rattle.suite_serve.specs.declared.serving.Worked.{Worked}
 
@@ -34,9 +34,9 @@ pub record HasEnded (players : List Played) (named : NamedJob) (outcome : JobOut
 abbrev pub HaveEnded : List Played → List NamedJob → List JobOutcome → Type 0
 HaveEnded players jobs outcomes = AllZip (HasEnded players) jobs outcomes
 
--- so many of the first outcomes are of agent 0, and of its first jobs
+-- so many of the first outcomes are of agent 0, each of the job of its place
 abbrev pub AreOfFirst : ℕ → List JobOutcome → Type 0
-AreOfFirst alone outcomes = (place : ℕ) (outcome : JobOutcome) → place < alone → slice_get outcomes place ≡ Some outcome → (outcome.agent ≡ 0) × (outcome.count < alone)
+AreOfFirst alone outcomes = (place : ℕ) (outcome : JobOutcome) → place < alone → slice_get outcomes place ≡ Some outcome → (outcome.agent ≡ 0) × (outcome.count ≡ place)
 
 -- all jobs were done, so many of the first by agent 0
 pub record AreDone (jobs : List NamedJob) (alone : ℕ) (worked : Worked) : Type 0 where
@@ -44,3 +44,4 @@ pub record AreDone (jobs : List NamedJob) (alone : ℕ) (worked : Worked) : Type
   pub each : HaveEnded worked.agents.items jobs worked.outcomes.items
   pub apart : AreApart worked.outcomes.items
   pub first : AreOfFirst alone worked.outcomes.items
+  pub order : AreInOrder worked.outcomes.items

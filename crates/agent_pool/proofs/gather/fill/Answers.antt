@@ -7,7 +7,7 @@ use Rattle.agent_pool.specs.declared.work.Worked.{Worked}
 use Rattle.agent_pool.specs.code.Gathering.{AreSeen, AreWithin}
 use Rattle.agent_pool.specs.Gathers.{IsDouble, places, places_by}
 use Rattle.agent_pool.specs.Seats.{numbers_of}
-use Rattle.agent_pool.specs.code.Working.{AllDone, RiseBetween}
+use Rattle.agent_pool.specs.code.Working.{AllDone, RiseBetween, RiseInPlace}
 use Rattle.agent_pool.specs.Transcripts.{begins, number_of}
 use Rattle.agent_pool.proofs.Apart.{below_none, is_fresh, none_at, of_more}
 use Rattle.agent_pool.proofs.Filling.{is_of, more_many, none_filled, none_many, number_at, take_numbers, worked_at}
@@ -17,7 +17,7 @@ use Rattle.agent_pool.proofs.gather.fill.Goals as goal
 pub loop-one-init : goal.loop-one-init
 loop-one-init c = (
   (λ seats works. none_filled (sitting seats) (players_of c.args.worked.now) c.args.jobs.now c.args.slots.now c.requires.none c.requires.long),
-  (λ i j a b ati atj same count. absurd (none_at c.args.slots.now c.requires.none i a ati)),
+  (λ i j a b ati atj same before. absurd (none_at c.args.slots.now c.requires.none i a ati)),
   (λ i a at. absurd (none_at c.args.slots.now c.requires.none i a at)),
   none_many c.args.slots.now c.requires.none,
   refl,
@@ -40,13 +40,15 @@ loop-one-preserved c =
     let n = c.number.result in
     let fresh = subst (λ m. ¬ (Contains (take index ns) m)) (sym num) (is_fresh ns index (number_of w.player) c.requires.distinct here) in
     let lowest = begins at.seat.player.entries in
-    let apart = c.in_ok-place_all.ensures.apart (take index ns) lowest (begins w.player.entries) fresh (subst (λ (ds : List Done). RiseBetween lowest ds (begins w.player.entries)) (sym c.deref.ensures.value) at.work.rise) was.1 (below_none (take index ns) n lowest c.loop-one.slots was.2) in (
+    let order = c.in_ok-place_all.ensures.order (take index ns) lowest (begins w.player.entries) 0 at.work.next fresh
+    (subst (λ (ds : List Done). RiseBetween lowest ds (begins w.player.entries)) (sym c.deref.ensures.value) at.work.rise)
+    (subst (λ (ds : List Done). RiseInPlace 0 ds at.work.next) (sym c.deref.ensures.value) at.work.order) was.1 (below_none (take index ns) n lowest 0 c.loop-one.slots was.2) in (
       (λ seats works.
           let on = worked_at jobs seats worked index w works low here_is in
           c.in_ok-place_all.ensures.filled (sitting seats) (players_of worked) on.seat.player w.player (is_of jobs seats worked w n on num)
           (subst (λ (ds : List Done). AllDone jobs (begins on.seat.player.entries) w.player ds) (sym c.deref.ensures.value) on.work.done) (was.0 seats works)),
-      apart.0,
-      subst (λ l. AreOfThese l c.place_all.new.slots) (sym (take_numbers c.args.worked.now index w c.loop-one-test.true (search rules) ∙ ap (λ m. take index ns ++ m ∷ []) (sym num))) (of_more (take index ns) n apart.1.0 c.place_all.new.slots apart.1.1),
+      order.0,
+      subst (λ l. AreOfThese l c.place_all.new.slots) (sym (take_numbers c.args.worked.now index w c.loop-one-test.true (search rules) ∙ ap (λ m. take index ns ++ m ∷ []) (sym num))) (of_more (take index ns) n order.1.0 order.1.1 c.place_all.new.slots order.1.2),
       (let all = c.in_ok-place_all.ensures.many in let done = ap length c.deref.ensures.value in let were = was.3 in let more = more_many worked index w low here_is in omega arith),
       c.in_ok-place_all.ensures.long ∙ was.4,
       (let before = places (take index worked) in

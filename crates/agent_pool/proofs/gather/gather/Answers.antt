@@ -3,7 +3,7 @@ use Rattle.std.specs.Prelude.{None}
 use Rattle.agent_pool.specs.declared.work.Worked.{Worked}
 use Rattle.agent_pool.specs.declared.outcome.JobOutcome.{JobOutcome}
 use Rattle.agent_pool.specs.Gathers.{HaveOne, NoneFailed, TellsOf, first_stuck, places}
-use Rattle.agent_pool.specs.Pools.{AreApart, AreOutcomes}
+use Rattle.agent_pool.specs.Pools.{AreApart, AreInOrder, AreOutcomes}
 use Rattle.agent_pool.specs.code.Filled.{players_of, sitting}
 use Rattle.agent_pool.specs.code.Gathering.{AreGathered}
 use Rattle.agent_pool.proofs.Seen.{all_ran, tells_fault}
@@ -26,6 +26,7 @@ returns-in-Ok-clause-pool c =
       ran = all_ran worked told.0.memory told.0.strange told.2;
       each = λ seats works. subst (λ (os : List JobOutcome). AreOutcomes (sitting seats) (players_of worked) jobs os) (sym same) (had.each seats works);
       apart = subst (λ (os : List JobOutcome). AreApart os) (sym same) had.apart;
+      order = subst (λ (os : List JobOutcome). AreInOrder os) (sym same) had.order;
       once = had.once;
     }
 

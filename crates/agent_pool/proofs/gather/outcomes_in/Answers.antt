@@ -1,10 +1,7 @@
-use Rattle.std.proofs.Common.{rules, ◌≡◌, ◌∙◌, inr, false, length, List, ap, sym, subst}
-use Rattle.std.specs.Prelude.{None, Option}
-use Rattle.std.specs.List.{AllZip}
-use Rattle.agent_pool.specs.declared.outcome.JobOutcome.{JobOutcome}
+use Rattle.std.proofs.Common.{rules, ◌≡◌, ◌∙◌, inr, false, sym}
+use Rattle.std.specs.Prelude.{None}
 use Rattle.agent_pool.specs.Gathers.{first_strange, first_stuck, lacks_memory, places}
-use Rattle.agent_pool.specs.code.Filled.{AreApartIn, IsFilled, filled_in, players_of, sitting}
-use Rattle.agent_pool.specs.code.Gathering.{AreSeen}
+use Rattle.agent_pool.specs.code.Filled.{players_of, sitting}
 use Rattle.agent_pool.proofs.Seen.{missing_is, one_each, tells_double, tells_missing}
 use Rattle.agent_pool.proofs.gather.outcomes_in.Goals as goal
 
@@ -45,6 +42,7 @@ pub returns-in-None-clause-outcomes : goal.returns-in-None-clause-outcomes
 returns-in-None-clause-outcomes c =
     record {
       each = λ seats works. c.in_ok-outcomes.ensures.each (sitting seats) (players_of c.args.worked.now) (c.in_ok-fill.ensures.filled seats works);
-      apart = c.in_ok-outcomes.ensures.apart c.in_ok-fill.ensures.apart;
+      apart = c.in_ok-outcomes.ensures.apart c.in_ok-fill.ensures.order;
+      order = c.in_ok-outcomes.ensures.order c.in_ok-fill.ensures.order;
       once = sym c.in_ok-fill.ensures.many ∙ c.in_ok-outcomes.ensures.all;
     }

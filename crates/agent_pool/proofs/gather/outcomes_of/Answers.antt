@@ -1,11 +1,11 @@
-use Rattle.std.proofs.Common.{◌≡◌, ◌∙◌, ap, sym, subst, refl, rules, map, arith, length, List}
+use Rattle.std.proofs.Common.{◌∙◌, ap, sym, subst, refl, rules, arith, length, List}
 use Rattle.std.proofs.lemmas.List.{length-map}
 use Rattle.std.proofs.lemmas.Option.{slice_get_read}
-use Rattle.std.specs.Prelude.{None, Option, Some, slice_get}
+use Rattle.std.specs.Prelude.{Option, Some, slice_get}
 use Rattle.std.specs.List.{AllZip}
 use Rattle.agent_pool.specs.declared.outcome.JobOutcome.{JobOutcome}
-use Rattle.agent_pool.specs.code.Filled.{AreApartIn, IsFilled, filled_in}
-use Rattle.agent_pool.proofs.Apart.{apart_filled}
+use Rattle.agent_pool.specs.code.Filled.{AreInOrderIn, IsFilled, filled_in}
+use Rattle.agent_pool.proofs.Apart.{apart_filled, order_filled}
 use Rattle.agent_pool.proofs.Columns.{full_below, full_further}
 use Rattle.agent_pool.proofs.Filling.{all_filled, some_many}
 use Rattle.agent_pool.proofs.Seen.{full_at}
@@ -26,7 +26,10 @@ returns-clause-each c was players filled =
     (subst (λ (slots : List (Option JobOutcome)). AllZip (IsFilled was players) c.args.jobs.now slots) (sym c.into_outcomes.ensures) filled)
 
 pub returns-clause-apart : goal.returns-clause-apart
-returns-clause-apart c apart = apart_filled c.into_outcomes.result.items (subst (λ (slots : List (Option JobOutcome)). AreApartIn slots) (sym c.into_outcomes.ensures) apart)
+returns-clause-apart c order = apart_filled c.into_outcomes.result.items (subst (λ (slots : List (Option JobOutcome)). AreInOrderIn slots) (sym c.into_outcomes.ensures) order)
+
+pub returns-clause-order : goal.returns-clause-order
+returns-clause-order c order = order_filled c.into_outcomes.result.items (subst (λ (slots : List (Option JobOutcome)). AreInOrderIn slots) (sym c.into_outcomes.ensures) order)
 
 pub returns-clause-all : goal.returns-clause-all
 returns-clause-all c =

@@ -13,7 +13,7 @@ use Rattle.agent_pool.proofs.gather.place_all.Goals as goal
 pub loop-one-init : goal.loop-one-init
 loop-one-init c = (
   (λ was players before player by all filled. filled),
-  (λ numbers low high fresh rise apart below. record { low = low; rise = rise; apart = apart; below = below }),
+  (λ numbers low high floor roof fresh rise places order below. record { low = low; floor = floor; rise = rise; places = places; order = order; below = below }),
   omega arith,
   refl,
   (λ seen was. subst (λ (ps : List ℕ). AreSeen ps c.args.slots.now) (sym (append-nil seen)) was),
@@ -25,9 +25,9 @@ loop-one-preserved c = (
       c.in_ok-place_one.ensures.filled was players before player by
       (done_at c.args.jobs.now (begins before.entries) player c.args.done.now c.loop-one.one-index _ all c.loop-one-test.true (search rules))
       (c.loop-one.invariant.0 was players before player by all filled)),
-  (λ numbers low high fresh rise apart below.
-      at_next c.args.agent numbers high _ _ _ _ _ c.in_ok-place_one.ensures.put.0 fresh (drop_more c.args.done.now c.loop-one.one-index _ c.loop-one-test.true)
-      (c.loop-one.invariant.1 numbers low high fresh rise apart below) c.in_ok-place_one.ensures.put.1),
+  (λ numbers low high floor roof fresh rise places order below.
+      at_next c.args.agent numbers high roof _ _ _ _ _ c.in_ok-place_one.ensures.put.0 fresh (drop_more c.args.done.now c.loop-one.one-index _ c.loop-one-test.true)
+      (c.loop-one.invariant.1 numbers low high floor roof fresh rise places order below) c.in_ok-place_one.ensures.put.1),
   (let more : filled_in c.place_one.new.slots ≡ filled_in c.loop-one.slots + 1 = put_many _ _ _ _ c.in_ok-place_one.ensures.put.1 in
       let were = c.loop-one.invariant.2 in
       omega arith),
@@ -46,10 +46,10 @@ returns-clause-seen c seen was =
     let past = c.loop-one-test.false in
     subst (λ (ds : List Done). AreSeen (seen ++ places_by ds) c.loop-one.slots) (take_all c.loop-one.one-index c.args.done.now (omega arith)) (c.loop-one.invariant.4 seen was)
 
-pub returns-clause-apart : goal.returns-clause-apart
-returns-clause-apart c numbers low high fresh rise apart below =
-    let at = c.loop-one.invariant.1 numbers low high fresh rise apart below in
-    (at.apart, (at.low, at.below))
+pub returns-clause-order : goal.returns-clause-order
+returns-clause-order c numbers low high floor roof fresh rise places order below =
+    let at = c.loop-one.invariant.1 numbers low high floor roof fresh rise places order below in
+    (at.order, (at.low, at.floor, at.below))
 
 pub returns-in_err-place_one-clause-double : goal.returns-in_err-place_one-clause-double
 returns-in_err-place_one-clause-double c =

@@ -1,9 +1,9 @@
 use Rattle.std.proofs.Common.{◌≡◌, ◌+◌, ◌++◌, ℕ, List, drop, length, take}
 use Rattle.std.specs.Prelude.{Contains}
 use Rattle.agent_pool.specs.Transcripts.{Played, begins}
-use Rattle.agent_pool.specs.code.Working.{AllDone, RiseBetween}
+use Rattle.agent_pool.specs.code.Working.{AllDone, RiseBetween, RiseInPlace}
 use Rattle.agent_pool.specs.Pools.{IsOf}
-use Rattle.agent_pool.specs.code.Filled.{AreApartIn, AreBelow, KeepFilled, filled_in}
+use Rattle.agent_pool.specs.code.Filled.{AreBelow, AreInOrderIn, KeepFilled, filled_in}
 use Rattle.agent_pool.specs.code.Gathering.{AreSeen}
 use Rattle.agent_pool.specs.Gathers.{places_by}
 use Rattle.agent_pool.proofs.Apart.{At}
@@ -13,8 +13,8 @@ abbrev pub invariant-loop-one : goal.invariant-loop-one
 invariant-loop-one l =
     ((was players : List Played) (before player : Played) → IsOf was players l.agent before player → AllDone l.jobs (begins before.entries) player l.done
     → KeepFilled l.jobs was players l.fn.slots l.slots)
-    × ((numbers : List ℕ) (low high : ℕ) → ¬ (Contains numbers l.agent) → RiseBetween low l.done high → AreApartIn l.fn.slots → AreBelow numbers l.agent low l.fn.slots
-    → At l.agent numbers high (drop l.one-index l.done) l.slots)
+    × ((numbers : List ℕ) (low high floor roof : ℕ) → ¬ (Contains numbers l.agent) → RiseBetween low l.done high → RiseInPlace floor l.done roof → AreInOrderIn l.fn.slots
+    → AreBelow numbers l.agent low floor l.fn.slots → At l.agent numbers high roof (drop l.one-index l.done) l.slots)
     × (filled_in l.slots ≡ filled_in l.fn.slots + l.one-index)
     × (length l.slots ≡ length l.fn.slots)
     × ((seen : List ℕ) → AreSeen seen l.fn.slots → AreSeen (seen ++ places_by (take l.one-index l.done)) l.slots)

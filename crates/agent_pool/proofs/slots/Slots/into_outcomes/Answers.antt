@@ -1,4 +1,4 @@
-use Rattle.std.proofs.Common.{◌≡◌, ◌≢◌, ℕ, ◌∙◌, List, sym, subst}
+use Rattle.std.proofs.Common.{◌≢◌, ℕ, ◌∙◌, List, sym, subst}
 use Rattle.std.specs.Prelude.{Option, None, Some, slice_get}
 use Rattle.agent_pool.specs.declared.outcome.JobOutcome.{JobOutcome}
 use Rattle.agent_pool.proofs.Columns.{slots_full}

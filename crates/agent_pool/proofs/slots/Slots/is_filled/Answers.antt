@@ -1,5 +1,5 @@
-use Rattle.std.proofs.Common.{◌≡◌, ◌<◌, List, length, sym, subst, arith, rules}
-use Rattle.std.specs.Prelude.{Option, None, Some, slice_get, slice_index_or}
+use Rattle.std.proofs.Common.{◌≡◌, ◌<◌, List, length, sym, subst, arith}
+use Rattle.std.specs.Prelude.{Option, None, Some, slice_get}
 use Rattle.agent_pool.specs.declared.outcome.JobOutcome.{JobOutcome}
 use Rattle.agent_pool.specs.code.Slots.{slots_of}
 use Rattle.agent_pool.proofs.Columns.{slot_free, slot_there, slots_long}

@@ -1,4 +1,4 @@
-use Rattle.std.proofs.Common.{◌≡◌, ◌<◌, ◌∙◌, ap, List, length, slice_set, sym, subst, arith, rules}
+use Rattle.std.proofs.Common.{◌<◌, ◌∙◌, ap, List, length, slice_set, sym, subst, arith}
 use Rattle.std.specs.Prelude.{Option, Some}
 use Rattle.agent_pool.specs.declared.outcome.JobOutcome.{JobOutcome}
 use Rattle.agent_pool.specs.code.Slots.{slots_of}

@@ -1,4 +1,4 @@
-use Rattle.std.proofs.Common.{rules, ◌++◌, ◌∷◌, [], ◌∙◌, ap, sym, refl, subst}
+use Rattle.std.proofs.Common.{rules, ◌+◌, List, ◌++◌, ◌∷◌, [], ◌∙◌, ap, sym, refl, subst, arith}
 use Rattle.std.specs.Prelude.{Some}
 use Rattle.std.proofs.lemmas.Option.{slice_get-get_or}
 use Rattle.std.proofs.lemmas.Bool.{ltb-true}
@@ -7,32 +7,50 @@ use Rattle.agent_pool.specs.declared.work.Halt.{Halt}
 use Rattle.agent_pool.specs.declared.work.Halt.TheVariants.{Lacked, Strange}
 use Rattle.agent_pool.specs.declared.pool_context.NamedJob.{NamedJob}
 use Rattle.agent_pool.specs.code.Steps.{DidJob}
-use Rattle.agent_pool.specs.code.Working.{IsHalted}
-use Rattle.agent_pool.proofs.Works.{not_some, number_there, works_longer, works_more, works_stop}
+use Rattle.agent_pool.specs.declared.work.Done.{Done}
+use Rattle.agent_pool.specs.code.Working.{IsHalted, RiseInPlace}
+use Rattle.agent_pool.proofs.Works.{not_some, number_there, place_longer, place_more, works_longer, works_more, works_stop}
 use Rattle.agent_pool.proofs.work.Worked.carry_out.Goals as goal
 use Rattle.agent_pool.proofs.work.Worked.carry_out.Goals.{in-Lacked, in-Stuck}
 
-pub returns-then-is_err : goal.returns-then-is_err
-returns-then-is_err g c = works_stop _ _ c.args.self _ Lacked c.requires (search rules) (search rules) (search rules) (search rules) tt
+pub returns-then-is_err-clause-work : goal.returns-then-is_err-clause-work
+returns-then-is_err-clause-work g c = works_stop _ _ c.args.self _ Lacked c.requires.work (search rules) (search rules) (search rules) (search rules) tt
 
-pub returns-in_default : goal.returns-in_default
-returns-in_default g c = works_stop _ _ c.args.self _ (Strange c.args.place) c.requires (search rules) (search rules) (search rules) (search rules) (search rules)
+pub returns-in_default-clause-work : goal.returns-in_default-clause-work
+returns-in_default-clause-work g c = works_stop _ _ c.args.self _ (Strange c.args.place) c.requires.work (search rules) (search rules) (search rules) (search rules) (search rules)
 
-pub returns-in-Ended : goal.returns-in-Ended
-returns-in-Ended g c =
+pub returns-in-Ended-clause-work : goal.returns-in-Ended-clause-work
+returns-in-Ended-clause-work g c =
     let named = c.in-Some.named.now in
     let at = slice_get-get_or c.args.context.now.jobs.now c.args.place named (ltb-true _ _ (sym c.in-Some.ensures.lookup.0)) ∙ ap (λ (it : NamedJob). Some it) (sym c.in-Some.ensures.lookup.1) in
-    works_more _ _ _ c.args.self _ (record { place = c.args.place; ran = c.in-Ended.ran }) named c.requires
+    works_more _ _ _ c.args.self _ (record { place = c.args.place; ran = c.in-Ended.ran }) named c.requires.work
     (subst (λ (what : Came). DidJob c.args.context.now.servers.now.servers named.job c.args.self.player c.run-pass.new.player c.args.self.pass c.run-pass.result.0 what) c.in-Ended.is c.run-pass.ensures)
-    (c.push_reserved.ensures.items ∙ ap (λ ds. ds ++ record { place = c.args.place; ran = c.in-Ended.ran } ∷ []) c.reserve.ensures.items) at (not_some c.args.self.halt (search rules)) refl
+    (c.push_reserved.ensures.items ∙ ap (λ ds. ds ++ record { place = c.args.place; ran = c.in-Ended.ran } ∷ []) c.reserve.ensures.items) at (not_some c.args.self.halt (search rules)) refl c.requires.behind
 
-pub returns : goal.returns
-returns g c =
+pub returns-clause-work : goal.returns-clause-work
+returns-clause-work g c =
     let named = c.in-Some.named.now in
     let at = slice_get-get_or c.args.context.now.jobs.now c.args.place named (ltb-true _ _ (sym c.in-Some.ensures.lookup.0)) ∙ ap (λ (it : NamedJob). Some it) (sym c.in-Some.ensures.lookup.1) in
     let player = c.run-pass.new.player in
-    works_longer _ _ c.args.self _ _ c.run-pass.ensures.longer c.requires c.run-pass.ensures.went c.reserve.ensures.items refl
+    works_longer _ _ c.args.self _ _ c.run-pass.ensures.longer c.requires.work c.run-pass.ensures.went c.reserve.ensures.items refl
     (elim c.match-came.branch [
       | in-Lacked w ↦ subst (λ (h : Halt). IsHalted c.args.context.now.jobs.now player (Some h)) (sym w.halt-is) tt
       | in-Stuck w ↦ subst (λ (h : Halt). IsHalted c.args.context.now.jobs.now player (Some h)) (sym w.halt-is) (number_there c.args.context.now.jobs.now c.args.place named at)
     ])
+
+pub returns-then-is_some-clause-order : goal.returns-then-is_some-clause-order
+returns-then-is_some-clause-order g c = place_longer 0 c.args.place (c.args.place + 1) c.args.self.done.items c.requires.behind (omega arith)
+
+pub returns-then-is_err-clause-order : goal.returns-then-is_err-clause-order
+returns-then-is_err-clause-order g c = place_longer 0 c.args.place (c.args.place + 1) _ (subst (λ (ds : List Done). RiseInPlace 0 ds c.args.place) (search rules) c.requires.behind) (omega arith)
+
+pub returns-in_default-clause-order : goal.returns-in_default-clause-order
+returns-in_default-clause-order g c = place_longer 0 c.args.place (c.args.place + 1) _ (subst (λ (ds : List Done). RiseInPlace 0 ds c.args.place) (search rules) c.requires.behind) (omega arith)
+
+pub returns-in-Ended-clause-order : goal.returns-in-Ended-clause-order
+returns-in-Ended-clause-order g c =
+    subst (λ (ds : List Done). RiseInPlace 0 ds (c.args.place + 1)) (sym (c.push_reserved.ensures.items ∙ ap (λ ds. ds ++ record { place = c.args.place; ran = c.in-Ended.ran } ∷ []) c.reserve.ensures.items))
+    (place_more 0 c.args.place c.args.self.done.items (record { place = c.args.place; ran = c.in-Ended.ran }) c.requires.behind (omega arith))
+
+pub returns-clause-order : goal.returns-clause-order
+returns-clause-order g c = place_longer 0 c.args.place (c.args.place + 1) _ (subst (λ (ds : List Done). RiseInPlace 0 ds c.args.place) (sym c.reserve.ensures.items) c.requires.behind) (omega arith)

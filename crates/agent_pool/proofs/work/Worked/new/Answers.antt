@@ -2,5 +2,5 @@ use Rattle.std.proofs.Common.{refl}
 use Rattle.agent_pool.proofs.Works.{works_first}
 use Rattle.agent_pool.proofs.work.Worked.new.Goals as goal
 
-pub returns : goal.returns
-returns c jobs = works_first jobs c.args.seat _ refl refl c.new.ensures.items refl c.requires
+pub returns-clause-work : goal.returns-clause-work
+returns-clause-work c jobs = works_first jobs c.args.seat _ refl refl c.new.ensures.items refl c.requires

@@ -1,0 +1,109 @@
+#!/usr/bin/env python3
+"""tests/form-table.py [PROGRAM]
+
+Holds the table of forms (crates/forms/stdout) against the program (out/suites, if none is named). Each line and each
+operation of the table is written with a word in each of its places, and has no fault. It has fault S1 with a word too
+few, with a word too many and with another first word. Each number has no fault at its limits, and beyond them the fault
+that the table tells. Prints what differs; status 1 where something does.
+"""
+from __future__ import annotations
+
+import argparse
+import subprocess
+import sys
+import typing
+
+import played
+
+import forms
+
+# A word that fits in each place.
+SAMPLES = {
+    "SERVERS": "3", "AGENTS": "2", "VOTES": "1,1,1/2/2", "UID": "1000", "GID": "100", "INIT": "644", "BUDGET": "4096",
+    "QUOTA": "4096", "SLOTS": "16", "OLD": "0,1", "NAME": "lisa", "A": "1", "S": "2", "SITE": "0", "N": "5",
+    "GIDS": "100", "PATH": "/a", "HEX": "6869", "LIST": "u::rw,g::r,o::-", "OPERATIONS": "read /a",
+}
+LAST = {"servers": int(SAMPLES["SERVERS"]) - 1, "agents": int(SAMPLES["AGENTS"]) - 1}
+
+
+class Case(typing.NamedTuple):
+    """A script, and the code of the fault in its line of some number; none, where it has no fault."""
+
+    command: str
+    lines: list[str]
+    number: int
+    code: str
+
+
+def places_of(places: str) -> list[str]:
+    return [place.strip("[]") for place in places.split()]
+
+
+def variants(word: str, places: str) -> typing.Iterator[tuple[str, str]]:
+    """A form with words in its places, and with words that do not fit; each with the code of its fault."""
+    names = places_of(places)
+    fits = [SAMPLES[name] for name in names]
+    yield " ".join([word, *fits]), ""
+    yield " ".join([f"{word}s", *fits]), "S1"
+    if names[-1:] != ["OPERATIONS"]:
+        yield " ".join([word, *fits, "0"]), "S1"
+    if fits:
+        yield " ".join([word, *fits[:-1]]), "" if places.endswith("]") else "S1"
+    for at, name in enumerate(names):
+        place = forms.PLACES.get(name)
+        if place and place.most != "-":
+            least, most = int(place.least), LAST[place.most] if place.most in LAST else int(place.most)
+            for number, code in ((least, ""), (most, ""), (most + 1, place.code), (least - 1, place.code)):
+                if number >= 0:
+                    yield " ".join([word, *fits[:at], str(number), *fits[at + 1 :]]), code
+
+
+def cases_of(command: str) -> typing.Iterator[Case]:
+    """All lines of a command's scripts, each below the header, and all operations."""
+    rows = [line for line in forms.LINES if line.command == command]
+    header = [next(variants(line.word, line.places))[0] for line in rows if line.part == "header"]
+    for line in rows:
+        at = [one.word for one in rows if one.part == "header"].index(line.word) if line.part == "header" else None
+        for text, code in variants(line.word, line.places):
+            lines = [*header, text] if at is None else [*header[:at], text, *header[at + 1 :]]
+            yield Case(command, lines, len(lines) if at is None else at + 1, code if fits_below(lines, at) else "?")
+    own = next(line for line in rows if line.places.endswith("OPERATIONS"))
+    begins = next(variants(own.word, own.places))[0].removesuffix(SAMPLES["OPERATIONS"])
+    for operation in forms.OPERATIONS.values():
+        for text, code in variants(operation.word, operation.places):
+            yield Case(command, [*header, f"{begins}read /b ; {text}"], len(header) + 1, code)
+
+
+def fits_below(lines: list[str], at: int | None) -> bool:
+    """Whether the header below a line fits it: with one server there are no votes of three."""
+    return at is None or not lines[at].startswith("servers 1")
+
+
+def tells(program: str, case: Case) -> str:
+    """The first fault that the program tells, if it tells one."""
+    words = ["serve", "--agents", "2"] if case.command == "serve" else [case.command]
+    text = "".join(f"{line}\n" for line in case.lines)
+    done = subprocess.run([program, *words], input=text, stdout=subprocess.PIPE, stderr=subprocess.DEVNULL, text=True)
+    return done.stdout.strip() if done.returncode == 3 else f"status {done.returncode}" if done.returncode else ""
+
+
+def main() -> int:
+    read = argparse.ArgumentParser(description=__doc__, formatter_class=argparse.RawDescriptionHelpFormatter)
+    read.add_argument("program", nargs="?")
+    program = played.program(read.parse_args().program)
+    count = wrong = 0
+    for case in (case for command in forms.COMMANDS for case in cases_of(command)):
+        if case.code == "?":
+            continue
+        wanted = f"fault line {case.number}: {case.code}" if case.code else ""
+        told = tells(program, case)
+        count += 1
+        if told != wanted:
+            wrong += 1
+            print(f"{case.command}: {case.lines[case.number - 1]!r}: {told or 'no fault'}, wanted {wanted or 'none'}")
+    print(f"{count} lines, {wrong} differ")
+    return 1 if wrong or not count else 0
+
+
+if __name__ == "__main__":
+    sys.exit(main())
