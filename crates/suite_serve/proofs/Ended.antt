@@ -1,5 +1,5 @@
 -- From outcomes to how jobs ended in the agents' transcripts.
-use Rattle.std.proofs.Common.{◌≡◌, ◌∙◌, ap, sym, refl, arith, ℕ, zero, suc, ◌+◌, List, [], ◌∷◌, ◌++◌, length, map}
+use Rattle.std.proofs.Common.{◌≡◌, ◌∙◌, ap, sym, refl, arith, ℕ, zero, suc, ◌+◌, ◌<◌, List, [], ◌∷◌, ◌++◌, length, map}
 use Rattle.std.proofs.lemmas.Option.{none-some, same_Some, slice_get-map}
 use Rattle.std.specs.Prelude.{Contains, slice_get, Option, Some}
 use Rattle.std.specs.Prelude.{option_map}
@@ -107,7 +107,8 @@ order_ends players are jobs outcomes all order i j a b agent first second at_i a
     let y = from_outcome players are jobs outcomes all j b at_j in
     let one : (x.outcome.agent, x.outcome.count) ≡ (agent, first) = same_Some (x.outcome.agent, x.outcome.count) (agent, first) (sym x.done ∙ is_a) in
     let other : (y.outcome.agent, y.outcome.count) ≡ (agent, second) = same_Some (y.outcome.agent, y.outcome.count) (agent, second) (sym y.done ∙ is_b) in
-    let less = order i j x.outcome y.outcome x.there y.there (ap (λ (p : ℕ × ℕ). p.0) one ∙ sym (ap (λ (p : ℕ × ℕ). p.0) other)) before in
-    let from = ap (λ (p : ℕ × ℕ). p.1) one in
-    let to = ap (λ (p : ℕ × ℕ). p.1) other in
-    omega arith
+    let agents : x.outcome.agent ≡ y.outcome.agent = ap (λ (p : ℕ × ℕ). p.0) one ∙ sym (ap (λ (p : ℕ × ℕ). p.0) other) in
+    let less : x.outcome.count < y.outcome.count = order i j x.outcome y.outcome x.there y.there agents before in
+    let from : x.outcome.count ≡ first = ap (λ (p : ℕ × ℕ). p.1) one in
+    let to : y.outcome.count ≡ second = ap (λ (p : ℕ × ℕ). p.1) other in
+    omega (arith, less, from, to)

@@ -1,7 +1,6 @@
-use Rattle.std.proofs.Common.{◌∙◌, ap, subst, List}
+use Rattle.std.proofs.Common.{◌∙◌, ap, subst}
 use Rattle.suite_prefix.specs.SettingsRules.{Opening}
 use Rattle.server_lock.specs.Closed.{AreOf}
-use Rattle.agent_pool.specs.declared.pool_context.NamedJob.{NamedJob}
 use Rattle.suite_serve.specs.Scripts.{Plan}
 use Rattle.suite_serve.specs.Served.{IsServed}
 use Rattle.suite_serve.specs.code.Working.{AreDone}
