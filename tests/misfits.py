@@ -2,8 +2,8 @@
 """tests/misfits.py [--cases COUNT] [--from SEED] [PROGRAM [FORMS]]
 
 Damages scripts as tests/damaged-scripts.py does, and plays them by the program (out/suites, if none is named). Of each
-faulty line the program `forms` has to tell the same code, and the number of the word at which `./suites explain` shows
-the fault. Prints what differs; status 1 where something does.
+faulty line the program `forms` has to tell the same code. The fault has to stay where all is cut off behind the word
+that `forms` tells. Prints what differs; status 1 where something does.
 """
 from __future__ import annotations
 
@@ -16,7 +16,7 @@ import sys
 
 import played
 
-import faulty
+from faulty import WORD
 
 HERE = os.path.dirname(os.path.abspath(__file__))
 
@@ -34,17 +34,30 @@ def printed_by(words: list[str], text: bytes) -> str:
     return done.stdout.decode("latin1").strip("\n")
 
 
-def differing(program: str, forms: str, command: str, text: bytes) -> str | None:
-    """What `forms` tells otherwise of a faulty script: "" where it tells the same; nothing of one without a fault."""
+def fault_of(program: str, command: str, lines: list[str]) -> str:
+    """The fault that the program tells of a script; nothing where it tells none."""
     words = ["serve", "--agents", "2"] if command == "serve" else [command]
-    fault = printed_by([program, *words], text)
-    if not fault.startswith("fault line "):
+    told = printed_by([program, *words], "".join(f"{line}\n" for line in lines).encode("latin1"))
+    return told if told.startswith("fault line ") else ""
+
+
+def differing(program: str, forms: str, command: str, lines: list[str]) -> str | None:
+    """What `forms` tells otherwise of a faulty script: "" where it tells the same; nothing of one without a fault."""
+    fault = fault_of(program, command, lines)
+    if not fault:
         return None
     number, code = fault.removeprefix("fault line ").split(": ")
-    told = printed_by([forms, command, number], text).split("\t")
-    _, found, _ = faulty.found_in(text.decode("latin1"), int(number), code, command)
-    wanted = [str(found.at + 1) if found else "-", code]
-    return "" if told[:2] == wanted else f"{command}, {fault}: {told}, wanted {wanted}"
+    script = "".join(f"{line}\n" for line in lines).encode("latin1")
+    place, told, *_ = printed_by([forms, command, number], script).split("\t")
+    if told != code:
+        return f"{command}, {fault}: forms tells {told}"
+    words = WORD.findall(lines[int(number) - 1]) if int(number) <= len(lines) else []
+    if int(place) > len(words):
+        return "" if int(place) == len(words) + 1 else f"{command}, {fault}: there is no word {place}"
+    # with a space behind it a carriage return ends no line
+    cut = [*lines[: int(number) - 1], " ".join(words[: int(place)]) + " "]
+    left = fault_of(program, command, cut)
+    return "" if left == fault else f"{command}, {fault}: up to word {place} it is {left or 'none'}"
 
 
 def main() -> int:
@@ -67,7 +80,7 @@ def main() -> int:
         damage = damaged.Damage(dice, command, damaged.script_of(command, seed), None)
         if not damage.fits:
             continue
-        told = differing(program, forms, command, "".join(f"{line}\n" for line in damage.lines).encode("latin1"))
+        told = differing(program, forms, command, damage.lines)
         count += told is not None
         if told:
             wrong += 1

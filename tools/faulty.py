@@ -1,15 +1,18 @@
 """What is wrong with one line of a script, or with one item of a list, that the program found faulty.
 
-The program's line and code are given. The words of that line are gone through from the left (tools/grammar.py), and
-what is found first is told where its code is the program's; where it is another, nothing is told.
+The program's line and code are given. The program `forms` tells the word that does not fit and what is due there
+(tools/fitting.py); what is told of it, and what would mend the line, is laid out here. Whether a changed line fits is
+asked of the program too. Where its code is not the one that was given, nothing is told.
 """
 import re
 import typing
 
+import fitting
 import forms
 import grammar
+from fitting import Misfit
 from forms import COMMANDS, OPERATIONS
-from grammar import ANY, either, nearest, plain, quoted
+from grammar import either, nearest, plain, quoted
 
 WORD = re.compile(r"[^ \t]+")
 # The word with which a line begins that says something.
@@ -24,8 +27,6 @@ MARKS = {
 OWN = {"play": "event", "serve": "job", "table": "transaction"}
 # So many bytes of a line are shown.
 WIDTH = 100
-# So far before the word at which a fault shows one is looked for that is too many or missing.
-NEAR = 12
 
 
 class Fault(typing.NamedTuple):
@@ -34,7 +35,6 @@ class Fault(typing.NamedTuple):
     code: str
     at: int
     text: str
-    is_misplaced: bool = False
     form: str = ""
 
 
@@ -51,13 +51,16 @@ def known_of(language: str) -> list[str]:
 
 
 class Script:
-    """The lines above the faulty one, all of which the program took, as one of a command's scripts."""
+    """The lines above the faulty one, all of which the program took, as one of a command's scripts. Those are kept on
+    which it depends what fits below them.
+    """
 
     def __init__(self, language: str, lines: list[str], number: int) -> None:
         self.language, self.lines, self.number = language, lines, number
         self.headers: dict[str, tuple[int, list[str]]] = {}
         self.names: grammar.Names = {"user": {}, "group": {}}
         self.begun = self.together = 0
+        self.above: list[str] = []
         for place, line in enumerate(lines[: number - 1], 1):
             first = FIRST.match(line)
             if first:
@@ -65,6 +68,8 @@ class Script:
 
     def keep(self, place: int, line: str, first: str) -> None:
         part = self.part_of(first)
+        if part and not (part == "own" and self.begun):
+            self.above.append(line)
         if part == "own":
             self.begun = self.begun or place
             self.together = self.together or (place if first == "together" else 0)
@@ -90,22 +95,36 @@ class Script:
         return int(words[1]) if len(words) > 1 and re.fullmatch("[0-9]{1,3}", words[1]) else most
 
     def where(self, first: str) -> grammar.Where:
-        names = {"user": {}, "group": {}} if first == "root" else self.names
         return grammar.Where(
-            self.count("servers", grammar.MAX_SERVERS), self.count("agents", grammar.MAX_AGENTS), names, first
+            self.count("servers", grammar.MAX_SERVERS), self.count("agents", grammar.MAX_AGENTS), self.names, first
         )
+
+    def misfit(self) -> Misfit | None:
+        """The word of the line that does not fit."""
+        if self.number > len(self.lines) + 1:
+            return None
+        line = self.lines[self.number - 1] if self.number <= len(self.lines) else None
+        return fitting.of_line(self.language, self.above, line)
+
+    def fits(self, *words: str) -> bool:
+        """Whether a line of these words would fit in the place of this one."""
+        return not fitting.of_line(self.language, self.above, " ".join(words))
 
     def fault(self) -> Fault | None:
         """What is wrong with the line, if that shows."""
+        found = self.misfit()
         if self.number > len(self.lines):
-            due = self.due()
-            if not due or self.number != len(self.lines) + 1:
-                return None
-            return Fault("S2", 0, f"the script ends, and the line {form_of(self, due)} is due")
+            ended = f"the script ends, and the line {form_of(self, self.due() or '')} is due" if found else ""
+            return Fault(found.code, 0, ended) if found else None
         line = self.lines[self.number - 1]
         words = WORD.findall(line)
-        found = fault_of_first(self, line, words) or fault_of_rest(self, words)
-        return found and told_of_bytes(line, words, found)
+        if not found:
+            return unfit(self, words)
+        if found.expected == "LINE":
+            fault = Fault(found.code, 0, told_of_first(self, line, words))
+        else:
+            fault = told_of_rest(self, words, found)
+        return told_of_bytes(line, words, fault)
 
 
 def form_of(script: Script, first: str) -> str:
@@ -128,32 +147,23 @@ def told_of_bytes(line: str, words: list[str], found: Fault) -> Fault:
     return found
 
 
-def fault_of_first(script: Script, line: str, words: list[str]) -> Fault | None:
+def told_of_first(script: Script, line: str, words: list[str]) -> str:
     """What is wrong with the word with which the line begins, or with the place of such a line."""
     if not words:
-        return Fault("S1", 0, "the line has spaces or tabs alone; an empty line has nothing at all")
-    first, due, part = words[0], script.due(), script.part_of(words[0])
-    if first not in known_of(script.language):
-        return Fault("S1", 0, unknown(script, line, first) + (f"; {form_of(script, due)} is due here" if due else ""))
-    if first == due:
-        return None
+        return "the line has spaces or tabs alone; an empty line has nothing at all"
+    first, due = words[0], script.due()
+    part, above = script.part_of(first), f"it stands above, in line {script.headers.get(first, (0, []))[0]}"
+    if not part:
+        return unknown(script, line, first) + (f"; {form_of(script, due)} is due here" if due else "")
     if due:
-        above = f"it stands above, in line {script.headers[first][0]}, and " if first in script.headers else ""
-        return Fault("S2", 0, f"{above}{form_of(script, due)} is due here")
-    if part == "own":
-        return (
-            Fault("S1", 0, f"{quoted(first)} stands in line {script.together} already")
-            if first == "together" and script.together
-            else None
-        )
+        return f"{above}, and {form_of(script, due)} is due here" if first in script.headers else (
+            f"{form_of(script, due)} is due here")
     if first in script.headers:
-        return Fault("S2", 0, f"it stands above, in line {script.headers[first][0]}")
-    if part == "name" and script.begun:
-        return Fault("S2", 0, f"names stand above the first {OWN[script.language]}, which is line {script.begun}")
-    if part == "option" and (script.begun or any(script.names.values())):
-        last = list(forms.lines_of(script.language, "header"))[-1]
-        return Fault("S2", 0, f"{form_of(script, first)} stands right behind the line {quoted(last)}")
-    return None
+        return above
+    if part == "name":
+        return f"names stand above the first {OWN[script.language]}, which is line {script.begun}"
+    last = list(forms.lines_of(script.language, "header"))[-1]
+    return f"{form_of(script, first)} stands right behind the line {quoted(last)}"
 
 
 def unknown(script: Script, line: str, first: str) -> str:
@@ -175,100 +185,68 @@ def unknown(script: Script, line: str, first: str) -> str:
         return f"the word with which the line begins is missing before {quoted(first)}"
     words = WORD.findall(line)
     may = [script.due()] if script.due() else list(forms.lines_of(script.language, "name", "own"))
-    near = best(script, words, nearest(first, known_of(script.language)), 0, may)
-    missing = [other for other in may if not walked(script, [other, *words])]
-    if missing and not (near in may and not walked(script, [near, *words[1:]])):
+    near = best(script, words, nearest(first, known_of(script.language)), 0)
+    missing = [] if near and script.fits(near, *words[1:]) else [one for one in may if script.fits(one, *words)]
+    if missing:
         return f"{quoted(first)} begins no line; perhaps {either(map(quoted, missing))} is missing before it"
     return f"{quoted(first)} begins no line" + (
         f"; {quoted(near)} is near" if near else f"; {either(known_of(script.language))} do"
     )
 
 
-def best(script: Script, words: list[str], near: list[str], at: int, may: typing.Iterable[str]) -> str | None:
-    """Of words like the one at a place the first that may stand there and with which nothing is wrong any more, else
-    the likest.
-    """
-    fits = (other for other in near if other in may and not walked(script, [*words[:at], other, *words[at + 1 :]]))
+def best(script: Script, words: list[str], near: list[str], at: int) -> str | None:
+    """Of words like the one at a place the first with which the line fits, else the likest."""
+    fits = (other for other in near if script.fits(*words[:at], other, *words[at + 1 :]))
     return next(fits, near[0] if near else None)
 
 
-def walked(script: Script, words: list[str]) -> Fault | None:
-    """What is first found wrong with the words of a line whose first word stands in its place."""
-    line = forms.lines_of(script.language).get(words[0])
-    return filled(script.where(words[0]), line.places.split() if line else [], words, 1, len(words))
+def told_of_word(script: Script, words: list[str], found: Misfit) -> tuple[str, bool]:
+    """What is wrong with the word at a place, and whether it may well belong to another one."""
+    at, place = found.at, found.expected
+    of_line = found.form.split()[0] == words[0]
+    ends = at == len(words) or (words[at] == ";" and not of_line)
+    if place == "OPERATION":
+        if at == len(words) or words[at] == ";":
+            return f"an operation is due {'where the line ends' if at == len(words) else 'before the semicolon'}", False
+        return no_operation(script, words, at), True
+    if place == "END":
+        return f"{quoted(words[at])} is a word too many", True
+    due = f"{place} is due, {grammar.MEANT[place]}"
+    if ends:
+        return f"the {'line' if at == len(words) else 'operation'} ends, and {due}", False
+    wrong = grammar.wrong_with(place, words[at], script.where(words[0]))
+    if wrong and wrong.code == found.code:
+        return wrong.text, wrong.is_misplaced
+    return f"{quoted(words[at])} stands where {due}", True
 
 
-def filled(where: grammar.Where, places: list[str], words: list[str], at: int, end: int) -> Fault | None:
-    """The same, of the words that stand in these places, up to an end."""
-    for place in places:
-        if place == "OPERATIONS":
-            return operations(where, words, at)
-        is_optional, place = place.startswith("["), place.strip("[]")
-        if at == end:
-            return (
-                None
-                if is_optional
-                else Fault("S1", at, f"{ends(words, at)}, and {place} is due, {grammar.MEANT[place]}")
-            )
-        wrong = grammar.wrong_with(place, words[at], where)
-        if wrong:
-            return Fault(wrong.code, at, wrong.text, wrong.is_misplaced)
-        at += 1
-    return (
-        Fault("S1", at, f"{quoted(words[at])} is a word too many" if words[at] is not ANY else "", True)
-        if at < end
-        else None
-    )
-
-
-def ends(words: list[str], at: int) -> str:
-    return "the line ends" if at == len(words) else "the operation ends"
-
-
-def operations(where: grammar.Where, words: list[str], at: int) -> Fault | None:
-    """What is first found wrong with operations."""
-    while True:
-        end = words.index(";", at) if ";" in words[at:] else len(words)
-        found = operation(where, words, at, end)
-        if found or end == len(words):
-            return found
-        at = end + 1
-
-
-def operation(where: grammar.Where, words: list[str], at: int, end: int) -> Fault | None:
-    if at == end:
-        return Fault(
-            "S1", at, f"an operation is due {'where the line ends' if at == len(words) else 'before the semicolon'}"
-        )
-    verb = words[at]
-    if verb not in OPERATIONS:
-        return Fault("S1", at, "", True)
-    found = filled(where, OPERATIONS[verb].places.split(), words, at + 1, end)
-    return found and found._replace(form=OPERATIONS[verb].form())
-
-
-def fault_of_rest(script: Script, words: list[str]) -> Fault | None:
+def told_of_rest(script: Script, words: list[str], found: Misfit) -> Fault:
     """What is wrong with the words behind the first: what is found, or what would explain it better."""
-    found = walked(script, words)
-    if not found:
-        return unheld(script, words)
-    found = found._replace(form=found.form or grammar.form_of(words[0], script.language))
-    if not found.text:
-        found = found._replace(text=no_operation(script, words, found.at))
+    text, is_misplaced = told_of_word(script, words, found)
+    first, *places = found.form.split()
+    form = " ".join([first, *(forms.SHOWN.get(place, place) for place in places)])
+    fault = Fault(found.code, found.at, text, form)
     word, before = words[found.at] if found.at < len(words) else "", words[found.at - 1]
     if found.code == "S1" and (word.startswith("#") or before == "#"):
-        return found._replace(text="a comment stands in a line of its own, which begins with '#'")
-    if found.is_misplaced and found.code == "S1" and any(";" in other and other != ";" for other in (word, before)):
-        glued = next(other for other in (word, before) if ";" in other and other != ";")
-        return found._replace(
+        return fault._replace(text="a comment stands in a line of its own, which begins with '#'")
+    glued = next((other for other in (word, before) if ";" in other and other != ";"), None)
+    if is_misplaced and found.code == "S1" and glued:
+        return fault._replace(
             text=f"{quoted(glued)} has a semicolon; between operations it stands alone, with a space on each side"
         )
-    return shifted(script, words, found) if found.is_misplaced else found
+    return fault._replace(text=text + shifted(script, words, found)) if is_misplaced else fault
+
+
+def unfit(script: Script, words: list[str]) -> Fault | None:
+    """What no form forbids: a second `together`, and a root folder that has no form 1."""
+    if words[:1] == ["together"] and script.together:
+        return Fault("S1", 0, f"{quoted(words[0])} stands in line {script.together} already")
+    return unheld(script, words)
 
 
 def unheld(script: Script, words: list[str]) -> Fault | None:
     """Why a root folder has no form 1."""
-    if words[0] != "old":
+    if words[:1] != ["old"]:
         return None
     root, votes = (script.headers[first][1] for first in ("root", "votes"))
     text = [item.strip() for _, item in grammar.items(root[3]) if item.strip()]
@@ -285,33 +263,42 @@ def unheld(script: Script, words: list[str]) -> Fault | None:
 
 def no_operation(script: Script, words: list[str], at: int) -> str:
     """Why a word that stands where an operation is due is none."""
-    near = best(script, words, nearest(words[at], OPERATIONS), at, OPERATIONS)
-    missing = [verb for verb in OPERATIONS if not walked(script, [*words[:at], verb, *words[at:]])]
-    if words[at].startswith("/") or (missing and not near):
-        return f"{quoted(words[at])} is no operation; perhaps {either(missing or OPERATIONS)} is missing before it"
-    return f"{quoted(words[at])} is no operation; " + (
-        f"{quoted(near)} is near" if near else f"{either(OPERATIONS)} are"
-    )
+    near = best(script, words, nearest(words[at], OPERATIONS), at)
+    told = f"{quoted(words[at])} is no operation; "
+    if near and not words[at].startswith("/"):
+        return f"{told}{quoted(near)} is near"
+    missing = [verb for verb in OPERATIONS if script.fits(*words[:at], verb, *words[at:])]
+    if missing or words[at].startswith("/"):
+        return f"{told}perhaps {either(missing or OPERATIONS)} is missing before it"
+    return f"{told}{either(OPERATIONS)} are"
 
 
-def shifted(script: Script, words: list[str], found: Fault) -> Fault:
-    """A fault, with which one word too many or too few may explain it."""
-    places = range(max(1, found.at - NEAR), found.at + 1)
-    surplus = [place for place in places if not walked(script, [*words[:place], *words[place + 1 :]])]
-    is_last = found.at == len(words) - 1
-    if "is a word too many" in found.text:
-        if found.form.split()[1:2] == ["PATH"] and words[found.at - 1] not in OPERATIONS:
-            return found._replace(
-                text=f"{found.text} behind {quoted(words[found.at - 1])}; a path is one word, without spaces"
-            )
+def begin_of(words: list[str], found: Misfit) -> int:
+    """The place of the first word of the form in which a word does not fit."""
+    places = found.places()
+    if found.form.split()[0] == words[0]:
+        return 0
+    return found.at - 1 - (places.index(found.expected) if found.expected in places else len(places))
+
+
+def shifted(script: Script, words: list[str], found: Misfit) -> str:
+    """What is said of one word too many or too few, which may explain a fault."""
+    begin, at, places = begin_of(words, found), found.at, found.places()
+    surplus = [
+        place for place in range(max(1, begin), at + 1) if script.fits(*words[:place], *words[place + 1 :])
+    ]
+    if found.expected == "END":
+        if places[:1] == ["PATH"] and words[at - 1] not in OPERATIONS:
+            return f" behind {quoted(words[at - 1])}; a path is one word, without spaces"
         others = [quoted(words[place]) for place in surplus[:-1][-4:]]
-        return found._replace(text=found.text + (f", or {either(others)} is" if others else ""))
-    if any(not walked(script, [*words[:place], ANY, *words[place:]]) for place in places):
-        return found._replace(text=f"{found.text}; perhaps a word is missing before it")
-    if surplus and not (is_last and re.fullmatch("[0-9]+", words[found.at])):
+        return f", or {either(others)} is" if others else ""
+    samples = enumerate((fitting.SAMPLES.get(place) for place in places[: at - begin]), begin + 1)
+    if any(script.fits(*words[:place], sample, *words[place:]) for place, sample in samples if sample):
+        return "; perhaps a word is missing before it"
+    if surplus and not (at == len(words) - 1 and re.fullmatch("[0-9]+", words[at])):
         without = either(quoted(words[place]) for place in surplus[-4:])
-        return found._replace(text=f"{found.text}; perhaps a word is too many: without {without} the line has its form")
-    return found
+        return f"; perhaps a word is too many: without {without} the line has its form"
+    return ""
 
 
 def likest(lines: list[str]) -> list[str]:
@@ -333,9 +320,15 @@ def likest(lines: list[str]) -> list[str]:
 
 
 def is_first(name: str, lines: list[str], number: int) -> bool:
-    """Whether nothing is wrong with the lines above, as of a script of this command: it stops at its first fault."""
-    places = [place for place, line in enumerate(lines[: number - 1], 1) if FIRST.match(line)]
-    return not any(Script(name, lines, place).fault() for place in places[:MANY])
+    """Whether nothing is wrong with the lines above, as of a script of this command, which stops at its first fault:
+    of those that begin with one word the first is asked for.
+    """
+    places: dict[str, int] = {}
+    for place, line in enumerate(lines[: number - 1], 1):
+        first = FIRST.match(line)
+        if first:
+            places.setdefault(first[1], place)
+    return all(first in known_of(name) and not Script(name, lines, at).misfit() for first, at in places.items())
 
 
 def found_in(text: str, number: int, code: str, language: str | None = None) -> tuple[str, Fault | None, str]:

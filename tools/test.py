@@ -117,10 +117,10 @@ PARTS = (
     Part("tests of commands", **tried("command_tests")),
     Part("rows", tool("tests/checked-build.py"), [PROGRAM]),
     Part("the table of forms", tool("tests/form-table.py"), [PROGRAM]),
-    Part("examples of FAULTS", tool("tests/explained.py"), [PROGRAM, TRACE]),
+    Part("examples of FAULTS", tool("tests/explained.py"), [PROGRAM, TRACE, FORMS]),
     Part("the words that do not fit", tool("tests/misfits.py", "--cases", "1000"), [PROGRAM, FORMS]),
-    Part("what explain says of damaged scripts", tool("tests/damaged-scripts.py", "--cases", "1000"), [PROGRAM]),
-    Part("command lines of documents", tool("tests/typed.py"), [PROGRAM, TRACE]),
+    Part("what explain says of damaged scripts", tool("tests/damaged-scripts.py", "--cases", "1000"), [PROGRAM, FORMS]),
+    Part("command lines of documents", tool("tests/typed.py"), [PROGRAM, TRACE, FORMS]),
     Part("answers of may", tool("tests/may.py"), [MAY]),
     Part(
         "may against the kernel",
