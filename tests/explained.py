@@ -67,7 +67,7 @@ LIMITS: tuple[tuple[str, str, list[tuple[str, str]], str | None], ...] = (
     ("suite_play/src/language.rt", "LAST_SITE", [], "SITE"),
     ("suite_script/src/votes.rt", "MAX_COLLECTED", [], "MAX_COLLECTED"),
     ("suite_script/src/votes.rt", "MAX_VOTES", [], "MAX_VOTES"),
-    ("suite_script/src/word.rt", "MAX_NUMBERS", [], "MAX_NUMBERS"),
+    ("acl_text/src/caller.rt", "MAX_NUMBERS", [], "MAX_NUMBERS"),
 )
 # A file, the command that reads it, its text, and what is to be told of its fault.
 ON_TERMINAL = (
