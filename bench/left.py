@@ -107,11 +107,7 @@ def timed(program: str, data: bytes) -> tuple[float, bytes]:
 
 
 def main() -> None:
-    read = measure.console.words(__doc__)
-    read.add_argument("program", nargs="?", default=measure.PROGRAM)
-    read.add_argument("other", nargs="?")
-    given = read.parse_args()
-    program, other = given.program, given.other
+    program, other = measure.two_programs(__doc__)
     measure.head("Much that was left behind")
     for title, made, counts in INPUTS:
         print(f"{title:>20}{'seconds':>10}{'growth':>8}" + (f"{'other':>10}{'ratio':>8}" if other else ""))

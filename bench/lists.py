@@ -32,11 +32,7 @@ def timed(program: str, count: int) -> float:
 
 
 def main() -> None:
-    read = measure.console.words(__doc__)
-    read.add_argument("program", nargs="?", default=measure.PROGRAM)
-    read.add_argument("other", nargs="?")
-    given = read.parse_args()
-    program, other = given.program, given.other
+    program, other = measure.two_programs(__doc__)
     measure.head("Lists of a folder, by serve")
     print(f"{'names':>6}{'seconds':>10}" + (f"{'other':>10}{'ratio':>8}" if other else ""))
     for count in COUNTS:

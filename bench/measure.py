@@ -72,6 +72,15 @@ def suites(words: list[str], data: bytes, times: int = 5) -> tuple[int, bytes, f
     return least([PROGRAM, *words], data, times)
 
 
+def two_programs(doc: str) -> tuple[str, str | None]:
+    """The words of a bench: the program that it measures, and perhaps another one beside it."""
+    read = console.words(doc)
+    read.add_argument("program", nargs="?", default=PROGRAM)
+    read.add_argument("other", nargs="?")
+    given = read.parse_args()
+    return given.program, given.other
+
+
 def head(title: str) -> None:
     """Begins a table of figures."""
     idle = least(["/bin/true"], b"")

@@ -11,10 +11,8 @@ import sys
 import time
 import typing
 
-import played  # noqa: F401
 import scratch
 
-import console
 
 ABSENT, FILE, FOLDER = 0, 1, 2
 USER_OBJ, USER, GROUP_OBJ, GROUP, MASK, OTHER = range(1, 7)
@@ -88,11 +86,7 @@ def copies() -> list[bytes]:
 
 
 def main() -> int:
-    read = console.words(__doc__)
-    read.add_argument("cases", nargs="?", type=int, default=1_000_000)
-    read.add_argument("seed", nargs="?", type=int, default=1)
-    words = read.parse_args()
-    cases, seed = words.cases, words.seed
+    cases, seed = scratch.cases_and_seed(__doc__, 1_000_000)
     all_copies = copies()
     program = scratch.built("damaged_copies", ["byte_streams", "suite_prefix"])
     given = "\n".join([f"{seed} {cases}", *(one.hex() for one in all_copies)]) + "\n"

@@ -38,6 +38,7 @@ HEADERS = {**HEADERS, **{f"whole {name}": [] for name in HEADERS}}
 # What stands in a command line of the page for something of the reader's, and what is put there.
 SCRIPT = "examples/play/quorum-lost.script"
 PUT = {
+    "--way K < SCRIPT": "--way 1 < examples/explore/revocation.script",
     "SCRIPT": SCRIPT,
     "FILE": SCRIPT,
     "LIST": "examples/acl/getfacl.txt",

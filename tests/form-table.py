@@ -15,14 +15,11 @@ import typing
 
 import played
 
+import fitting
 import forms
 
-# A word that fits in each place.
-SAMPLES = {
-    "SERVERS": "3", "AGENTS": "2", "VOTES": "1,1,1/2/2", "UID": "1000", "GID": "100", "INIT": "644", "BUDGET": "4096",
-    "QUOTA": "4096", "SLOTS": "16", "OLD": "0,1", "NAME": "lisa", "A": "1", "S": "2", "SITE": "0", "N": "5",
-    "GIDS": "100", "PATH": "/a", "HEX": "6869", "LIST": "u::rw,g::r,o::-", "OPERATIONS": "read /a",
-}
+# A word that fits in each place, whatever fits in the others.
+SAMPLES = {**fitting.SAMPLES, "OPERATIONS": "read /a"}
 LAST = {"servers": int(SAMPLES["SERVERS"]) - 1, "agents": int(SAMPLES["AGENTS"]) - 1}
 
 
@@ -66,17 +63,12 @@ def cases_of(command: str) -> typing.Iterator[Case]:
         at = [one.word for one in rows if one.part == "header"].index(line.word) if line.part == "header" else None
         for text, code in variants(line.word, line.places):
             lines = [*header, text] if at is None else [*header[:at], text, *header[at + 1 :]]
-            yield Case(command, lines, len(lines) if at is None else at + 1, code if fits_below(lines, at) else "?")
+            yield Case(command, lines, len(lines) if at is None else at + 1, code)
     own = next(line for line in rows if line.places.endswith("OPERATIONS"))
     begins = next(variants(own.word, own.places))[0].removesuffix(SAMPLES["OPERATIONS"])
     for operation in forms.OPERATIONS.values():
         for text, code in variants(operation.word, operation.places):
             yield Case(command, [*header, f"{begins}read /b ; {text}"], len(header) + 1, code)
-
-
-def fits_below(lines: list[str], at: int | None) -> bool:
-    """Whether the header below a line fits it: with one server there are no votes of three."""
-    return at is None or not lines[at].startswith("servers 1")
 
 
 def tells(program: str, case: Case) -> str:
@@ -87,22 +79,21 @@ def tells(program: str, case: Case) -> str:
     return done.stdout.strip() if done.returncode == 3 else f"status {done.returncode}" if done.returncode else ""
 
 
+def differing(program: str, case: Case) -> str:
+    """What the program tells otherwise of a case; "" where it tells the same."""
+    wanted = f"fault line {case.number}: {case.code}" if case.code else ""
+    told = tells(program, case)
+    if told == wanted:
+        return ""
+    return f"{case.command}: {case.lines[case.number - 1]!r}: {told or 'no fault'}, wanted {wanted or 'none'}"
+
+
 def main() -> int:
     read = argparse.ArgumentParser(description=__doc__, formatter_class=argparse.RawDescriptionHelpFormatter)
     read.add_argument("program", nargs="?")
     program = played.program(read.parse_args().program)
-    count = wrong = 0
-    for case in (case for command in forms.COMMANDS for case in cases_of(command)):
-        if case.code == "?":
-            continue
-        wanted = f"fault line {case.number}: {case.code}" if case.code else ""
-        told = tells(program, case)
-        count += 1
-        if told != wanted:
-            wrong += 1
-            print(f"{case.command}: {case.lines[case.number - 1]!r}: {told or 'no fault'}, wanted {wanted or 'none'}")
-    print(f"{count} lines, {wrong} differ")
-    return 1 if wrong or not count else 0
+    cases = (case for command in forms.COMMANDS for case in cases_of(command))
+    return played.compared((differing(program, case) for case in cases), "lines")
 
 
 if __name__ == "__main__":

@@ -20,7 +20,6 @@ import lies
 import played
 import scratch
 
-import console
 
 Decided = list[judging.Decision] | None
 # What is told in place of a verdict, by the run, the lists of a case, what was decided, and what is kept.
@@ -206,11 +205,7 @@ def judged(runs: list[Run], tell: Tell | None = None, pairs: Pairs = ()) -> tupl
 
 
 def main() -> int:
-    read = console.words(__doc__)
-    read.add_argument("cases", nargs="?", type=int, default=1000)
-    read.add_argument("seed", nargs="?", type=int, default=1)
-    given = read.parse_args()
-    cases, seed = given.cases, given.seed
+    cases, seed = scratch.cases_and_seed(__doc__, 1000)
     liar, rows = scratch.built("liar", lies.CRATES, lies.MODULES), lies.scripts()
     judging.traced = functools.cache(judging.traced.__wrapped__)
     runs = [

@@ -23,7 +23,6 @@ import judging
 import played
 import scratch
 
-import console
 
 CRATES = [
     "agent_pool",
@@ -203,11 +202,7 @@ def judge_script(liar: str, tally: Tally, cases: int, seed: int, row: Row) -> No
 
 
 def main() -> int:
-    read = console.words(__doc__)
-    read.add_argument("cases", nargs="?", type=int, default=100_000)
-    read.add_argument("seed", nargs="?", type=int, default=1)
-    given = read.parse_args()
-    cases, seed = given.cases, given.seed
+    cases, seed = scratch.cases_and_seed(__doc__, 100_000)
     liar, tally = scratch.built("liar", CRATES, MODULES), Tally()
     for place, row in enumerate(scripts()):
         judge_script(liar, tally, cases // len(scripts()), seed * len(scripts()) + place, row)

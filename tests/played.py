@@ -2,6 +2,7 @@
 import os
 import subprocess
 import sys
+import typing
 
 TOP = os.path.realpath(os.path.join(os.path.dirname(os.path.abspath(__file__)), ".."))
 # What tests import of the tools, before what of tests has the same name: the one edit of where modules are looked for.
@@ -26,3 +27,15 @@ def program(named: str | None = None) -> str:
     if not os.path.exists(path):
         sys.exit(f"there is no program to be played{': ' + path if path else ''}")
     return path
+
+
+def compared(told: typing.Iterable[str], what: str) -> int:
+    """The status of a test: 1 where a comparison says what differs, or there was none. Prints that, and the counts."""
+    count = wrong = 0
+    for text in told:
+        count += 1
+        if text:
+            wrong += 1
+            print(text, flush=True)
+    print(f"{count} {what}, {wrong} differ")
+    return 1 if wrong or not count else 0

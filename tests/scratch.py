@@ -6,6 +6,7 @@ time, as tools/trial.py builds `suites`, and cost the gate nothing. What is buil
 crates that it stands on changes. Times are measured of proved programs (`runs`): those stand in bench/, and `rt run`
 makes them.
 """
+import argparse
 import hashlib
 import os
 import shutil
@@ -115,3 +116,12 @@ def built(program: str, direct: list[str], modules: typing.Sequence[str] = ()) -
     with open(mark, "w", encoding="utf-8") as file:
         file.write(wanted)
     return target
+
+
+def cases_and_seed(doc: str, cases: int) -> tuple[int, int]:
+    """The words of a test whose program tries cases that are drawn by chance: how many, and the seed."""
+    read = argparse.ArgumentParser(description=doc, formatter_class=argparse.RawDescriptionHelpFormatter)
+    read.add_argument("cases", nargs="?", type=int, default=cases)
+    read.add_argument("seed", nargs="?", type=int, default=1)
+    given = read.parse_args()
+    return given.cases, given.seed

@@ -1,4 +1,5 @@
 """What `./suites votes` tells, as tests read it, and votes that are drawn by chance."""
+import argparse
 import collections
 import os
 import random
@@ -14,6 +15,8 @@ SECTION = re.compile(
     r"(read|write|read and write): \d+ of \d+ votes\n    may be lost +(.*)\n    stopped by +([^:]*)\n    blocked"
     r" +(.*)\n    U5 at first +(.*)\n"
 )
+# A check of a test: given its words and chance it says how much it compared, and what differs.
+Check = typing.Callable[[argparse.Namespace, random.Random], tuple[int, list[str]]]
 Told = collections.namedtuple("Told", "lost sets more blocked ends_u5")
 
 
@@ -57,3 +60,20 @@ def run_tool(words: typing.Sequence[str]) -> subprocess.CompletedProcess[str]:
         stderr=subprocess.DEVNULL,
         text=True,
     )
+
+
+def run_checks(read: argparse.ArgumentParser, checks: dict[str, Check]) -> int:
+    """The checks of a test, which takes a seed and the program as words. Prints how much each compared and what
+    differs; the status is 1 where something does, or nothing was compared.
+    """
+    read.add_argument("--seed", type=int, default=1)
+    read.add_argument("program", nargs="?")
+    given = read.parse_args()
+    given.program = played.program(given.program)
+    dice, is_wrong = random.Random(given.seed), False
+    for what, check in checks.items():
+        count, wrong = check(given, dice)
+        print(f"{count} {what}, {len(wrong)} differ")
+        print("".join(f"  {line}\n" for line in wrong[:10]), end="", flush=True)
+        is_wrong = is_wrong or bool(wrong) or not count
+    return 1 if is_wrong else 0

@@ -163,17 +163,8 @@ def check_shapes(given: argparse.Namespace, __: random.Random) -> tuple[int, lis
 
 def main() -> int:
     read = argparse.ArgumentParser(description=__doc__, formatter_class=argparse.RawDescriptionHelpFormatter)
-    read.add_argument("--seed", type=int, default=1)
-    read.add_argument("program", nargs="?")
-    given = read.parse_args()
-    given.program = played.program(given.program)
-    dice, is_wrong = random.Random(given.seed), False
-    for what, check in (("scripts", check_scripts), ("searches", check_moved), ("shapes", check_shapes)):
-        count, wrong = check(given, dice)
-        print(f"{count} {what}, {len(wrong)} differ")
-        print("".join(f"  {line}\n" for line in wrong[:10]), end="", flush=True)
-        is_wrong = is_wrong or bool(wrong)
-    return 1 if is_wrong else 0
+    checks = {"scripts": check_scripts, "searches": check_moved, "shapes": check_shapes}
+    return voted.run_checks(read, checks)
 
 
 if __name__ == "__main__":

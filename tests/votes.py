@@ -368,17 +368,8 @@ def check_faults(given: argparse.Namespace, dice: random.Random) -> tuple[int, l
 def main() -> int:
     read = argparse.ArgumentParser(description=__doc__, formatter_class=argparse.RawDescriptionHelpFormatter)
     read.add_argument("--all", action="store_true")
-    read.add_argument("--seed", type=int, default=1)
-    read.add_argument("program", nargs="?")
-    given = read.parse_args()
-    given.program = played.program(given.program)
-    dice, is_wrong = random.Random(given.seed), False
-    for what, check in (("examples", check_examples), ("tries of play", check_losses), ("words", check_faults)):
-        count, wrong = check(given, dice)
-        print(f"{count} {what}, {len(wrong)} differ")
-        print("".join(f"  {line}\n" for line in wrong[:10]), end="", flush=True)
-        is_wrong = is_wrong or bool(wrong) or not count
-    return 1 if is_wrong else 0
+    checks = {"examples": check_examples, "tries of play": check_losses, "words": check_faults}
+    return voted.run_checks(read, checks)
 
 
 if __name__ == "__main__":

@@ -48,8 +48,10 @@ VOTES = re.compile(
 MAY = re.compile(
     r"(?:\S.* )?[r-][w-][x-] (?:granted|denied by [a-z]+:)|.*\(\d+; groups [\d, ]+\) may (?:not )?[rwx]+: "
 )
+EXPLORED = re.compile(r"(way) \d+ in \d+ of \d+ ends$|(?:not )?(all):? \d+ ways, \d+ worlds$|\d+\.\d+ -$")
 # What begins the line of an outcome: an agent and its job, or a job, and how many requests it took; or a transaction.
-FRONT = re.compile(r"(?:(\d+)\.(\d+) (\d+)|(\d+) (\d+)|(\d+)) (?=answered|denied|refused|undecided|swept)")
+# An outcome of `explore` tells no requests.
+FRONT = re.compile(r"(?:(\d+)\.(\d+)(?: (\d+))?|(\d+) (\d+)|(\d+)) (?=answered|denied|refused|undecided|swept)")
 # The number of what was made, or of a transaction.
 NUMBERED = re.compile(r"\b(?:(made) ([1-9]\d*)|(?:holder|t) (\d+))\b")
 TRACED = re.compile(r"> |= server|nothing happens|\d+ -> s\d+|t \d+ suite|\S*suite \d+ \w+ prefix")
@@ -86,6 +88,9 @@ def codes_in(text: str) -> list[str]:
     status, front = STATUS.match(text), FRONT.match(text)
     if status:
         return [f"status {status[1]}"]
+    explored = EXPLORED.match(text)
+    if explored:
+        return [explored[1] or explored[2] or "way"]
     if MAY.match(text):
         return ["may"]
     if TRACED.match(text) or ENTRY.match(text):
@@ -111,7 +116,8 @@ def worked_out(text: str) -> list[str]:
     front = FRONT.match(text)
     told = []
     if front and front[1]:
-        told.append(f"Job {front[2]} of agent {front[1]}, both counted from 0; it took {counted(front[3])}.")
+        took = f"; it took {counted(front[3])}" if front[3] else ""
+        told.append(f"Job {front[2]} of agent {front[1]}, both counted from 0{took}.")
     elif front and front[4]:
         told.append(f"Job {front[4]} of the script, counted from 0; it took {counted(front[5])}.")
     elif front:

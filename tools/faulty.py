@@ -1,17 +1,22 @@
 """What is wrong with one line of a script, or with one item of a list, that the program found faulty.
 
-The program's line and code are given. The words of that line are gone through from the left (tools/grammar.py), and
-what is found first is told where its code is the program's; where it is another, nothing is told.
+The program's line and code are given. The program `forms` tells the word that does not fit and what is due there
+(tools/fitting.py); what is told of it, and what would mend the line, is laid out here. Whether a changed line fits is
+asked of the program too. Where its code is not the one that was given, nothing is told.
 """
 import re
 import typing
 
+import fitting
 import forms
 import grammar
+from fitting import Misfit
 from forms import COMMANDS, OPERATIONS
-from grammar import ANY, either, nearest, plain, quoted
+from grammar import either, nearest, plain, quoted
 
 WORD = re.compile(r"[^ \t]+")
+# An item of a list from its first byte on, with no white space at its end.
+ITEM = re.compile(r"[^,#\n]*?(?=[ \t\r]*(?:[,#\n]|$))")
 # The word with which a line begins that says something.
 FIRST = re.compile(r"(?!#)[ \t]*([^ \t]+)")
 # So many lines show of which command a script is.
@@ -24,18 +29,18 @@ MARKS = {
 OWN = {"play": "event", "serve": "job", "table": "transaction"}
 # So many bytes of a line are shown.
 WIDTH = 100
-# So far before the word at which a fault shows one is looked for that is too many or missing.
-NEAR = 12
 
 
 class Fault(typing.NamedTuple):
-    """A fault: its code, the place of the word at which it shows, and what it is. `form` is how the line is written."""
+    """A fault: its code, the place of the word at which it shows, and what it is. `form` is how the line is written;
+    `item` is how many bytes of the word stand before the item of a list that is faulty.
+    """
 
     code: str
     at: int
     text: str
-    is_misplaced: bool = False
     form: str = ""
+    item: int | None = None
 
 
 def lines_of(text: str) -> list[str]:
@@ -51,13 +56,16 @@ def known_of(language: str) -> list[str]:
 
 
 class Script:
-    """The lines above the faulty one, all of which the program took, as one of a command's scripts."""
+    """The lines above the faulty one, all of which the program took, as one of a command's scripts. Those are kept on
+    which it depends what fits below them.
+    """
 
     def __init__(self, language: str, lines: list[str], number: int) -> None:
         self.language, self.lines, self.number = language, lines, number
         self.headers: dict[str, tuple[int, list[str]]] = {}
         self.names: grammar.Names = {"user": {}, "group": {}}
         self.begun = self.together = 0
+        self.above: list[str] = []
         for place, line in enumerate(lines[: number - 1], 1):
             first = FIRST.match(line)
             if first:
@@ -65,6 +73,8 @@ class Script:
 
     def keep(self, place: int, line: str, first: str) -> None:
         part = self.part_of(first)
+        if part and not (part == "own" and self.begun):
+            self.above.append(line)
         if part == "own":
             self.begun = self.begun or place
             self.together = self.together or (place if first == "together" else 0)
@@ -73,11 +83,6 @@ class Script:
         elif part == "name" and len(WORD.findall(line)) == 3:
             _, name, number = WORD.findall(line)
             self.names[first][name] = number, place
-
-    def due(self) -> str | None:
-        """The line of the header that is due, if one is."""
-        lines = forms.lines_of(self.language, "header")
-        return next((first for first in lines if first not in self.headers), None)
 
     def part_of(self, first: str) -> str:
         """In which part of a script the lines stand that begin so; nothing where none does."""
@@ -90,22 +95,36 @@ class Script:
         return int(words[1]) if len(words) > 1 and re.fullmatch("[0-9]{1,3}", words[1]) else most
 
     def where(self, first: str) -> grammar.Where:
-        names = {"user": {}, "group": {}} if first == "root" else self.names
         return grammar.Where(
-            self.count("servers", grammar.MAX_SERVERS), self.count("agents", grammar.MAX_AGENTS), names, first
+            self.count("servers", grammar.MAX_SERVERS), self.count("agents", grammar.MAX_AGENTS), self.names, first
         )
+
+    def misfit(self) -> Misfit | None:
+        """The word of the line that does not fit."""
+        if self.number > len(self.lines) + 1:
+            return None
+        line = self.lines[self.number - 1] if self.number <= len(self.lines) else None
+        return fitting.of_line(self.language, self.above, line)
+
+    def fits(self, *words: str) -> bool:
+        """Whether a line of these words would fit in the place of this one."""
+        return not fitting.of_line(self.language, self.above, " ".join(words))
 
     def fault(self) -> Fault | None:
         """What is wrong with the line, if that shows."""
+        found = self.misfit()
         if self.number > len(self.lines):
-            due = self.due()
-            if not due or self.number != len(self.lines) + 1:
-                return None
-            return Fault("S2", 0, f"the script ends, and the line {form_of(self, due)} is due")
+            ended = f"the script ends, and the line {form_of(self, found.due())} is due" if found else ""
+            return Fault(found.code, 0, ended) if found else None
         line = self.lines[self.number - 1]
         words = WORD.findall(line)
-        found = fault_of_first(self, line, words) or fault_of_rest(self, words)
-        return found and told_of_bytes(line, words, found)
+        if not found:
+            return unfit(self, words)
+        if found.expected == "LINE":
+            fault = Fault(found.code, 0, told_of_first(self, line, found.due()))
+        else:
+            fault = told_of_rest(self, words, found)
+        return told_of_bytes(line, words, fault)
 
 
 def form_of(script: Script, first: str) -> str:
@@ -128,36 +147,29 @@ def told_of_bytes(line: str, words: list[str], found: Fault) -> Fault:
     return found
 
 
-def fault_of_first(script: Script, line: str, words: list[str]) -> Fault | None:
+def told_of_first(script: Script, line: str, due: str) -> str:
     """What is wrong with the word with which the line begins, or with the place of such a line."""
+    words = WORD.findall(line)
     if not words:
-        return Fault("S1", 0, "the line has spaces or tabs alone; an empty line has nothing at all")
-    first, due, part = words[0], script.due(), script.part_of(words[0])
-    if first not in known_of(script.language):
-        return Fault("S1", 0, unknown(script, line, first) + (f"; {form_of(script, due)} is due here" if due else ""))
-    if first == due:
-        return None
+        return "the line has spaces or tabs alone; an empty line has nothing at all"
+    first = words[0]
+    part, above = script.part_of(first), f"it stands above, in line {script.headers.get(first, (0, []))[0]}"
+    if not part:
+        return unknown(script, words, due) + (f"; {form_of(script, due)} is due here" if due else "")
     if due:
-        above = f"it stands above, in line {script.headers[first][0]}, and " if first in script.headers else ""
-        return Fault("S2", 0, f"{above}{form_of(script, due)} is due here")
-    if part == "own":
-        return (
-            Fault("S1", 0, f"{quoted(first)} stands in line {script.together} already")
-            if first == "together" and script.together
-            else None
-        )
+        return f"{above}, and {form_of(script, due)} is due here" if first in script.headers else (
+            f"{form_of(script, due)} is due here")
     if first in script.headers:
-        return Fault("S2", 0, f"it stands above, in line {script.headers[first][0]}")
-    if part == "name" and script.begun:
-        return Fault("S2", 0, f"names stand above the first {OWN[script.language]}, which is line {script.begun}")
-    if part == "option" and (script.begun or any(script.names.values())):
-        last = list(forms.lines_of(script.language, "header"))[-1]
-        return Fault("S2", 0, f"{form_of(script, first)} stands right behind the line {quoted(last)}")
-    return None
+        return above
+    if part == "name":
+        return f"names stand above the first {OWN[script.language]}, which is line {script.begun}"
+    last = list(forms.lines_of(script.language, "header"))[-1]
+    return f"{form_of(script, first)} stands right behind the line {quoted(last)}"
 
 
-def unknown(script: Script, line: str, first: str) -> str:
-    """Why no line of the script begins with this word."""
+def unknown(script: Script, words: list[str], due: str) -> str:
+    """Why no line of the script begins with the first of these words."""
+    first = words[0]
     mark = next((mark for mark in MARKS if first.startswith(mark)), None)
     if mark and script.number == 1:
         return f"the file begins with {MARKS[mark]}, which an editor put there; save it as plain ASCII"
@@ -173,102 +185,69 @@ def unknown(script: Script, line: str, first: str) -> str:
         return f"{quoted(first)} begins a line of {either(others)}, and this is a script of {script.language}{option}"
     if re.fullmatch(r"[0-9./,-]+|/.*", first) or first in OPERATIONS:
         return f"the word with which the line begins is missing before {quoted(first)}"
-    words = WORD.findall(line)
-    may = [script.due()] if script.due() else list(forms.lines_of(script.language, "name", "own"))
-    near = best(script, words, nearest(first, known_of(script.language)), 0, may)
-    missing = [other for other in may if not walked(script, [other, *words])]
-    if missing and not (near in may and not walked(script, [near, *words[1:]])):
+    may = [due] if due else list(forms.lines_of(script.language, "name", "own"))
+    near = best(script, words, nearest(first, known_of(script.language)), 0)
+    missing = [] if near and script.fits(near, *words[1:]) else [one for one in may if script.fits(one, *words)]
+    if missing:
         return f"{quoted(first)} begins no line; perhaps {either(map(quoted, missing))} is missing before it"
     return f"{quoted(first)} begins no line" + (
         f"; {quoted(near)} is near" if near else f"; {either(known_of(script.language))} do"
     )
 
 
-def best(script: Script, words: list[str], near: list[str], at: int, may: typing.Iterable[str]) -> str | None:
-    """Of words like the one at a place the first that may stand there and with which nothing is wrong any more, else
-    the likest.
-    """
-    fits = (other for other in near if other in may and not walked(script, [*words[:at], other, *words[at + 1 :]]))
+def best(script: Script, words: list[str], near: list[str], at: int) -> str | None:
+    """Of words like the one at a place the first with which the line fits, else the likest."""
+    fits = (other for other in near if script.fits(*words[:at], other, *words[at + 1 :]))
     return next(fits, near[0] if near else None)
 
 
-def walked(script: Script, words: list[str]) -> Fault | None:
-    """What is first found wrong with the words of a line whose first word stands in its place."""
-    line = forms.lines_of(script.language).get(words[0])
-    return filled(script.where(words[0]), line.places.split() if line else [], words, 1, len(words))
+def told_of_word(script: Script, words: list[str], found: Misfit) -> tuple[str, bool]:
+    """What is wrong with the word at a place, and whether it may well belong to another one."""
+    at, place = found.at, found.expected
+    of_line = found.form.split()[0] == words[0]
+    ends = at == len(words) or (words[at] == ";" and not of_line)
+    if place == "OPERATION":
+        if at == len(words) or words[at] == ";":
+            return f"an operation is due {'where the line ends' if at == len(words) else 'before the semicolon'}", False
+        return no_operation(script, words, at), True
+    if place == "END":
+        return f"{quoted(words[at])} is a word too many", True
+    due = f"{place} is due, {grammar.MEANT[place]}"
+    if ends:
+        return f"the {'line' if at == len(words) else 'operation'} ends, and {due}", False
+    wrong = grammar.wrong_with(place, words[at], script.where(words[0]))
+    if wrong and wrong.code == found.code:
+        return wrong.text, wrong.is_misplaced
+    return f"{quoted(words[at])} stands where {due}", True
 
 
-def filled(where: grammar.Where, places: list[str], words: list[str], at: int, end: int) -> Fault | None:
-    """The same, of the words that stand in these places, up to an end."""
-    for place in places:
-        if place == "OPERATIONS":
-            return operations(where, words, at)
-        is_optional, place = place.startswith("["), place.strip("[]")
-        if at == end:
-            return (
-                None
-                if is_optional
-                else Fault("S1", at, f"{ends(words, at)}, and {place} is due, {grammar.MEANT[place]}")
-            )
-        wrong = grammar.wrong_with(place, words[at], where)
-        if wrong:
-            return Fault(wrong.code, at, wrong.text, wrong.is_misplaced)
-        at += 1
-    return (
-        Fault("S1", at, f"{quoted(words[at])} is a word too many" if words[at] is not ANY else "", True)
-        if at < end
-        else None
-    )
-
-
-def ends(words: list[str], at: int) -> str:
-    return "the line ends" if at == len(words) else "the operation ends"
-
-
-def operations(where: grammar.Where, words: list[str], at: int) -> Fault | None:
-    """What is first found wrong with operations."""
-    while True:
-        end = words.index(";", at) if ";" in words[at:] else len(words)
-        found = operation(where, words, at, end)
-        if found or end == len(words):
-            return found
-        at = end + 1
-
-
-def operation(where: grammar.Where, words: list[str], at: int, end: int) -> Fault | None:
-    if at == end:
-        return Fault(
-            "S1", at, f"an operation is due {'where the line ends' if at == len(words) else 'before the semicolon'}"
-        )
-    verb = words[at]
-    if verb not in OPERATIONS:
-        return Fault("S1", at, "", True)
-    found = filled(where, OPERATIONS[verb].places.split(), words, at + 1, end)
-    return found and found._replace(form=OPERATIONS[verb].form())
-
-
-def fault_of_rest(script: Script, words: list[str]) -> Fault | None:
+def told_of_rest(script: Script, words: list[str], found: Misfit) -> Fault:
     """What is wrong with the words behind the first: what is found, or what would explain it better."""
-    found = walked(script, words)
-    if not found:
-        return unheld(script, words)
-    found = found._replace(form=found.form or grammar.form_of(words[0], script.language))
-    if not found.text:
-        found = found._replace(text=no_operation(script, words, found.at))
+    text, is_misplaced = told_of_word(script, words, found)
+    first, *places = found.form.split()
+    form = " ".join([first, *(forms.SHOWN.get(place, place) for place in places)])
+    fault = Fault(found.code, found.at, text, form, found.item)
     word, before = words[found.at] if found.at < len(words) else "", words[found.at - 1]
     if found.code == "S1" and (word.startswith("#") or before == "#"):
-        return found._replace(text="a comment stands in a line of its own, which begins with '#'")
-    if found.is_misplaced and found.code == "S1" and any(";" in other and other != ";" for other in (word, before)):
-        glued = next(other for other in (word, before) if ";" in other and other != ";")
-        return found._replace(
+        return fault._replace(text="a comment stands in a line of its own, which begins with '#'")
+    glued = next((other for other in (word, before) if ";" in other and other != ";"), None)
+    if is_misplaced and found.code == "S1" and glued:
+        return fault._replace(
             text=f"{quoted(glued)} has a semicolon; between operations it stands alone, with a space on each side"
         )
-    return shifted(script, words, found) if found.is_misplaced else found
+    return fault._replace(text=text + shifted(script, words, found)) if is_misplaced else fault
+
+
+def unfit(script: Script, words: list[str]) -> Fault | None:
+    """What no form forbids: a second `together`, and a root folder that has no form 1."""
+    if words[:1] == ["together"] and script.together:
+        return Fault("S1", 0, f"{quoted(words[0])} stands in line {script.together} already")
+    return unheld(script, words)
 
 
 def unheld(script: Script, words: list[str]) -> Fault | None:
     """Why a root folder has no form 1."""
-    if words[0] != "old":
+    if words[:1] != ["old"]:
         return None
     root, votes = (script.headers[first][1] for first in ("root", "votes"))
     text = [item.strip() for _, item in grammar.items(root[3]) if item.strip()]
@@ -285,33 +264,42 @@ def unheld(script: Script, words: list[str]) -> Fault | None:
 
 def no_operation(script: Script, words: list[str], at: int) -> str:
     """Why a word that stands where an operation is due is none."""
-    near = best(script, words, nearest(words[at], OPERATIONS), at, OPERATIONS)
-    missing = [verb for verb in OPERATIONS if not walked(script, [*words[:at], verb, *words[at:]])]
-    if words[at].startswith("/") or (missing and not near):
-        return f"{quoted(words[at])} is no operation; perhaps {either(missing or OPERATIONS)} is missing before it"
-    return f"{quoted(words[at])} is no operation; " + (
-        f"{quoted(near)} is near" if near else f"{either(OPERATIONS)} are"
-    )
+    near = best(script, words, nearest(words[at], OPERATIONS), at)
+    told = f"{quoted(words[at])} is no operation; "
+    if near and not words[at].startswith("/"):
+        return f"{told}{quoted(near)} is near"
+    missing = [verb for verb in OPERATIONS if script.fits(*words[:at], verb, *words[at:])]
+    if missing or words[at].startswith("/"):
+        return f"{told}perhaps {either(missing or OPERATIONS)} is missing before it"
+    return f"{told}{either(OPERATIONS)} are"
 
 
-def shifted(script: Script, words: list[str], found: Fault) -> Fault:
-    """A fault, with which one word too many or too few may explain it."""
-    places = range(max(1, found.at - NEAR), found.at + 1)
-    surplus = [place for place in places if not walked(script, [*words[:place], *words[place + 1 :]])]
-    is_last = found.at == len(words) - 1
-    if "is a word too many" in found.text:
-        if found.form.split()[1:2] == ["PATH"] and words[found.at - 1] not in OPERATIONS:
-            return found._replace(
-                text=f"{found.text} behind {quoted(words[found.at - 1])}; a path is one word, without spaces"
-            )
+def begin_of(words: list[str], found: Misfit) -> int:
+    """The place of the first word of the form in which a word does not fit."""
+    places = found.places()
+    if found.form.split()[0] == words[0]:
+        return 0
+    return found.at - 1 - (places.index(found.expected) if found.expected in places else len(places))
+
+
+def shifted(script: Script, words: list[str], found: Misfit) -> str:
+    """What is said of one word too many or too few, which may explain a fault."""
+    begin, at, places = begin_of(words, found), found.at, found.places()
+    surplus = [
+        place for place in range(max(1, begin), at + 1) if script.fits(*words[:place], *words[place + 1 :])
+    ]
+    if found.expected == "END":
+        if places[:1] == ["PATH"] and words[at - 1] not in OPERATIONS:
+            return f" behind {quoted(words[at - 1])}; a path is one word, without spaces"
         others = [quoted(words[place]) for place in surplus[:-1][-4:]]
-        return found._replace(text=found.text + (f", or {either(others)} is" if others else ""))
-    if any(not walked(script, [*words[:place], ANY, *words[place:]]) for place in places):
-        return found._replace(text=f"{found.text}; perhaps a word is missing before it")
-    if surplus and not (is_last and re.fullmatch("[0-9]+", words[found.at])):
+        return f", or {either(others)} is" if others else ""
+    samples = enumerate((fitting.SAMPLES.get(place) for place in places[: at - begin]), begin + 1)
+    if any(script.fits(*words[:place], sample, *words[place:]) for place, sample in samples if sample):
+        return "; perhaps a word is missing before it"
+    if surplus and not (at == len(words) - 1 and re.fullmatch("[0-9]+", words[at])):
         without = either(quoted(words[place]) for place in surplus[-4:])
-        return found._replace(text=f"{found.text}; perhaps a word is too many: without {without} the line has its form")
-    return found
+        return f"; perhaps a word is too many: without {without} the line has its form"
+    return ""
 
 
 def likest(lines: list[str]) -> list[str]:
@@ -333,9 +321,15 @@ def likest(lines: list[str]) -> list[str]:
 
 
 def is_first(name: str, lines: list[str], number: int) -> bool:
-    """Whether nothing is wrong with the lines above, as of a script of this command: it stops at its first fault."""
-    places = [place for place, line in enumerate(lines[: number - 1], 1) if FIRST.match(line)]
-    return not any(Script(name, lines, place).fault() for place in places[:MANY])
+    """Whether nothing is wrong with the lines above, as of a script of this command, which stops at its first fault:
+    of those that begin with one word the first is asked for.
+    """
+    places: dict[str, int] = {}
+    for place, line in enumerate(lines[: number - 1], 1):
+        first = FIRST.match(line)
+        if first:
+            places.setdefault(first[1], place)
+    return all(first in known_of(name) and not Script(name, lines, at).misfit() for first, at in places.items())
 
 
 def found_in(text: str, number: int, code: str, language: str | None = None) -> tuple[str, Fault | None, str]:
@@ -373,6 +367,20 @@ def window(line: str, start: int, end: int) -> list[str]:
     return [f"    {shown}", f"    {' ' * len(dots + front)}{'^' * max(1, len(word))}"]
 
 
+def item_span(text: str, place: int) -> tuple[int, int]:
+    """Where an item of a list stands that begins at a place, without the white space at its ends."""
+    begin = place + len(text[place:]) - len(text[place:].lstrip(" \t\r"))
+    found = ITEM.match(text, begin)
+    return (begin, found.end()) if found else (place, place)
+
+
+def spot_of(line: str, fault: Fault) -> tuple[int, int]:
+    """Where a line has the fault: at a word or at an item of it, or behind the last word."""
+    spots = [found.span() for found in WORD.finditer(line)] + [(len(line), len(line))]
+    start, end = spots[fault.at]
+    return (start, end) if fault.item is None else item_span(line[:end], start + fault.item)
+
+
 def sentence(text: str) -> str:
     return f"{text[0].upper()}{text[1:]}."
 
@@ -389,8 +397,7 @@ def of_script(name: str, text: str, number: int, code: str, language: str | None
         ]
     else:
         line = lines[number - 1]
-        spots = [found.span() for found in WORD.finditer(line)] + [(len(line), len(line))]
-        shown = [head, "", *(window(line, *spots[fault.at]) if fault else [f"    {plain(line[:WIDTH])}"])]
+        shown = [head, "", *(window(line, *spot_of(line, fault)) if fault else [f"    {plain(line[:WIDTH])}"])]
     if fault:
         shown += ["", sentence(fault.text), *([f"The form: {fault.form}"] if fault.form else [])]
         if other != language:
@@ -407,14 +414,18 @@ def of_list(name: str, text: str, code: str) -> tuple[list[str], bool]:
         wrong = grammar.fault_of_list(text, None)
         is_found = bool(wrong) and wrong.code == code
         return ([sentence(wrong.text)] if wrong and is_found else mended(name, code, wrong)), is_found
-    listed = list(grammar.items(text))
-    if not 0 < int(place[2]) <= len(listed):
-        return [f"{name} has {len(listed)} items. Was it changed since?"], False
-    line, item = listed[int(place[2]) - 1]
+    at = fitting.item_at(text, int(place[2]))
+    if at is None:
+        return [f"{name} has {len(list(grammar.items(text)))} items. Was it changed since?"], False
+    start, end = item_span(text, at)
+    item, above = text[start:end], text.rfind("\n", 0, start) + 1
+    line = text[above:].partition("\n")[0].rstrip(" \t\r")
     entry = grammar.entry_of(item, {"user": {}, "group": {}} if place[1] == "A10" else None)
     is_found = len(entry) == 2 and entry[0] == place[1] and bool(item.strip())
     told = ["", sentence(entry[1])] if is_found else ["", *mended(name, code, grammar.fault_of_list(text, None))]
-    return [f"Item {place[2]} of {name}, in line {line}:", "", f"    {plain(item.strip())}", *told], is_found
+    count = text.count("\n", 0, start) + 1
+    head = f"Item {place[2]} of {name}, in line {count}:"
+    return [head, "", *window(line, start - above, end - above), *told], is_found
 
 
 def mended(name: str, code: str, wrong: grammar.Wrong | None) -> list[str]:

@@ -1,8 +1,8 @@
 """What may stand in the lines of scripts and in the items of lists, in tables, and what is wrong with a word in its
 place.
 
-It is no second reader of scripts: whether a line has a fault, and which, is said by the program alone. What is found
-here is told only where it has the code that the program printed (tools/faulty.py).
+It is no second reader of scripts: which word of a line has a fault, and which, is said by the programs alone. What is
+found here tells of that word why, and only where it has the code that the program printed (tools/faulty.py).
 """
 import collections
 import difflib
@@ -43,9 +43,6 @@ OF_KIND = {"user": "the owner", "group": "the file's group", "other": "all other
 NO_NAME = re.compile(r"[^\x21-\x7e]|[:,#\\]")
 # So much of a word is told.
 LONG = 60
-# A word that fits in each place: one that may be missing.
-ANY = "\0ANY"
-
 
 # The names of users and of groups, each with its number and the line that says so.
 Names = dict[str, dict[str, tuple[str, int]]]
@@ -375,8 +372,6 @@ WORDS = {
 
 def wrong_with(place: str, word: str, where: Where) -> Wrong | None:
     """What is wrong with a word in a place."""
-    if word is ANY:
-        return None
     return WORDS[place](word, where) if place in WORDS else numbered(place, word, where)
 
 

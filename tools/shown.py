@@ -1,7 +1,8 @@
 #!/usr/bin/env python3
 """Looks whether all that README.md and examples/ show is played by the gate.
 
-Each file of examples/ has to be the input of a row of crates/rows/stdin; each script, command and output that
+Each file of examples/ has to be the input of a row of crates/rows/stdin, and one of examples/explore have its ways in
+tests/explored; each script, command and output that
 README.md shows has to be that of a row, and an output that of the script or the command before it. Each text of help/
 but that of the tools has to be what a row of help prints. The picture and what is shown of `./suites trace` have to be
 those of the trace which the program of crates/trace is to print of the same script (its stdin and stdout). What differs
@@ -22,9 +23,12 @@ import votes
 
 TOP = os.path.join(os.path.dirname(os.path.abspath(__file__)), "..")
 PICTURE, STORY = "docs/revocation.svg", "examples/play/revocation.script"
-HELP, OF_TOOLS = "help", "tools.txt"
+HELP, OF_TOOLS = "help", ("tools.txt", "explore.txt")
 # The commands of which no row can tell the output.
 TOOLS = re.compile(rb"\$ \./suites (?:explain|trace|draw|show|votes|may|--version)\b")
+# Stories of `explore`, and where what it tells of them is kept; tests/explored.py compares.
+STORIES, WAYS = "examples/explore", "tests/explored"
+RUN = re.compile(rb"^# +\./suites (explore[^<]*?) < ", re.M)
 
 
 def content(name: str) -> bytes:
@@ -35,6 +39,15 @@ def content(name: str) -> bytes:
 def rows() -> list[tuple[str, bytes, bytes]]:
     """The rows: words, input and output of each."""
     return [(b" ".join(row["words"]).decode(), row["input"], row["output"]) for row in read_rows.rows()]
+
+
+def stories() -> typing.Iterator[tuple[str, bytes, bytes]]:
+    """The same of the stories of `explore`."""
+    for name in sorted(os.listdir(os.path.join(TOP, STORIES))):
+        given = content(os.path.join(STORIES, name))
+        found, ways = RUN.search(given), os.path.join(WAYS, f"{name.removesuffix('.script')}.ways")
+        if found and os.path.exists(os.path.join(TOP, ways)):
+            yield found[1].decode(), given, content(ways)
 
 
 def blocks(text: bytes) -> typing.Iterator[tuple[int, list[bytes]]]:
@@ -55,7 +68,7 @@ def commands(block: list[bytes]) -> typing.Iterator[tuple[str, str]]:
     """The commands of the program in a block, as words and the name of their input."""
     for line in block:
         match = re.match(r"(?:\$ )?\./suites (.*?) < (\S+)", line.decode())
-        if match and not match[1].startswith("trace"):
+        if match and not match[1].startswith(("trace", "explore --way")):
             yield match[1], match[2]
 
 
@@ -80,7 +93,7 @@ def texts_of_help(known: list[tuple[str, bytes, bytes]]) -> typing.Iterator[str]
     words_of = {"suites": "--help", "help": "help help"}
     for name in sorted(os.listdir(os.path.join(TOP, HELP))):
         words = words_of.get(name[:-4], f"{name[:-4]} --help")
-        if name != OF_TOOLS and content(os.path.join(HELP, name)) != printed.get(words):
+        if name not in OF_TOOLS and content(os.path.join(HELP, name)) != printed.get(words):
             yield f"{HELP}/{name} is not what the row of '{words}' prints"
 
 
@@ -94,7 +107,7 @@ def told_of_votes(block: list[bytes]) -> bytes | None:
 
 def main() -> int:
     console.words(__doc__).parse_args()
-    known = rows()
+    known = [*rows(), *stories()]
     wrong = list(texts_of_help(known))
     inputs = {given for _, given, _ in known}
     for folder, _, names in sorted(os.walk(os.path.join(TOP, "examples"))):

@@ -1,14 +1,14 @@
 #!/usr/bin/env python3
 """./suites --test [--long]
 
-Runs all tests that need no proof, side by side: the rows of crates/rows/stdin through the program that `./suites`
-runs (which it first makes, where there is none), the tests of libraries, runs and commands without their proofs (`rt
-try`), the examples of docs/FAULTS.md, the command lines that README.md and docs/FAULTS.md show, what `./suites votes`
-tells, pictures, random scripts of `play` against the plain table, and the checks of documents. With --long those too
-that take minutes: every program that only tests and measurements have is compiled, allocations are refused, reads and
-writes fail, inputs are cut off, lies are told about runs, and races between threads are looked for: some ten minutes
-more on four free processors. Prints a line for each part as it ends, of a part that fails also what it printed, and
-last how many passed and failed. Status 1 where one failed. The gate (.ci/run) begins with it.
+Runs all tests that need no proof, side by side: the rows of crates/rows/stdin through the program that `./suites` runs
+(which it first makes, where there is none), the tests of libraries, runs and commands without their proofs (`rt try`),
+the examples of docs/FAULTS.md, the command lines that README.md and docs/FAULTS.md show, what `./suites votes` tells,
+pictures, what `explore` tells, random scripts of `play` against the plain table, and the checks of documents. With
+--long those too that take minutes: every program that only tests and measurements have is compiled, allocations are
+refused, reads and writes fail, inputs are cut off, lies are told about runs, and races between threads are looked for:
+some ten minutes more on four free processors. Prints a line for each part as it ends, of a part that fails also what it
+printed, and last how many passed and failed. Status 1 where one failed. The gate (.ci/run) begins with it.
 """
 import os
 import re
@@ -97,7 +97,8 @@ def tried(crate: str) -> dict[str, typing.Any]:
     return {"words": TRY, "folder": os.path.join("crates", crate)}
 
 
-PROGRAM, TRACE, MAY, FORMS = "the program", "the program of trace", "the program of may", "the program of forms"
+PROGRAM, TRACE, MAY = "the program", "the program of trace", "the program of may"
+FORMS, EXPLORE = "the program of forms", "the program of explore"
 # What takes longest stands first, but for what tells at once that something is wrong.
 PARTS = (
     Part("what README shows", tool("tools/shown.py")),
@@ -114,13 +115,15 @@ PARTS = (
     Part(TRACE, tool("tools/choose.py"), program="trace"),
     Part(MAY, tool("tools/choose.py"), program="may"),
     Part(FORMS, tool("tools/choose.py"), program="forms"),
+    Part(EXPLORE, tool("tools/choose.py"), program="explore"),
     Part("tests of commands", **tried("command_tests")),
     Part("rows", tool("tests/checked-build.py"), [PROGRAM]),
     Part("the table of forms", tool("tests/form-table.py"), [PROGRAM]),
-    Part("examples of FAULTS", tool("tests/explained.py"), [PROGRAM, TRACE]),
+    Part("everything that can happen", tool("tests/explored.py"), [PROGRAM, TRACE, EXPLORE]),
+    Part("examples of FAULTS", tool("tests/explained.py"), [PROGRAM, TRACE, FORMS, EXPLORE]),
     Part("the words that do not fit", tool("tests/misfits.py", "--cases", "1000"), [PROGRAM, FORMS]),
-    Part("what explain says of damaged scripts", tool("tests/damaged-scripts.py", "--cases", "1000"), [PROGRAM]),
-    Part("command lines of documents", tool("tests/typed.py"), [PROGRAM, TRACE]),
+    Part("what explain says of damaged scripts", tool("tests/damaged-scripts.py", "--cases", "1000"), [PROGRAM, FORMS]),
+    Part("command lines of documents", tool("tests/typed.py"), [PROGRAM, TRACE, FORMS, EXPLORE]),
     Part("answers of may", tool("tests/may.py"), [MAY]),
     Part(
         "may against the kernel",

@@ -19,7 +19,6 @@ import functools
 import os
 import re
 import shlex
-import shutil
 import subprocess
 import sys
 import tempfile
@@ -27,12 +26,12 @@ import time
 from collections.abc import Iterable, Iterator, Mapping
 from typing import Any, BinaryIO, NoReturn
 
+import beside
 import console
 from known_paths import FEW, Paths, paths
 
 TOOLS = os.path.dirname(os.path.abspath(__file__))
 TOP = os.path.dirname(TOOLS)
-CHOICE = os.path.join(TOP, "out", "trace-choice.sh")
 REQUEST = re.compile(r"  (\d+) -> s(\d+)  (.*?) +: (.*)")
 OUTCOME = re.compile(r"(\d+)\.(\d+) (\d+) (.*)")
 SUITE = re.compile(r"\bsuite (\d+)\b")
@@ -49,39 +48,11 @@ PIECE, PAUSE = 4 << 20, 0.02
 PATIENCE, AGAIN = 2, 0.5
 # What a terminal is told where the program ends so (as `./suites` tells it of the other commands).
 EXPLAINED = {6: "the input is above 16 MiB, or a read or a write failed (./suites explain 'status 6')"}
-ENV = {**os.environ, "SUITES_PROGRAM": "trace"}
+ENV = beside.setting("trace")
 
 
-def kept_choice() -> tuple[str, str] | None:
-    """The kind and the path of the program that was chosen last, where all stands that it was chosen from (`./suites`
-    looks so at the other one): choosing takes longer than playing a story.
-    """
-    with contextlib.suppress(OSError, ValueError, KeyError), open(CHOICE, encoding="utf-8") as file:
-        kept = dict(word.split("=", 1) for word in shlex.split(file.read()))
-        names = [*kept["files"].split("\n"), kept["program"]]
-        is_same_kit = os.environ.get("PATH") == kept["searched"] or shutil.which("rt") == kept["rt"]
-        written = os.fstat(file.fileno()).st_mtime_ns
-        if is_same_kit and all(os.stat(os.path.join(TOP, name)).st_ctime_ns <= written for name in names):
-            return kept["kind"], kept["program"]
-    return None
-
-
-@functools.cache
-def program() -> str:
-    """The program `trace`: the proved one where it is that of the sources, else a checked build."""
-    choice = kept_choice()
-    if not choice:
-        words = [sys.executable, os.path.join(TOOLS, "choose.py")]
-        chosen = subprocess.run(words, env=ENV, stdin=subprocess.DEVNULL, stdout=subprocess.PIPE, text=True)
-        if chosen.returncode != 0:
-            sys.exit(chosen.returncode)
-        kind, path = chosen.stdout.split()
-        choice = kind, path
-    kind, path = choice
-    if kind == "checked":
-        text = "checked build of trace, not proved yet; ./suites --prove trace proves and builds it"
-        console.say_once_a_day(os.path.join(TOP, "out", "trace-told"), text)
-    return os.path.join(TOP, path)
+# The path of the program `trace`.
+program = functools.partial(beside.program, "trace")
 
 
 class Progress:

@@ -2,11 +2,12 @@
 
 The sentences are those of the table of forms and of a table of README.md, so that each stands once.
 """
+import itertools
 import os
 import re
 import textwrap
 
-import faulty
+import fitting
 import forms
 import grammar
 
@@ -82,11 +83,12 @@ def told_words(first: str, form: list[str], given: list[str]) -> list[tuple[str,
     return rows
 
 
-def fault_in(language: str, given: list[str]) -> faulty.Fault | None:
-    """What is wrong with the words of a line by itself; names and sizes are not known."""
-    script = faulty.Script(language, [], 1)
-    found = faulty.walked(script, given)
-    return None if found and found.code.startswith("A10") else found
+def has_fault(language: str, given: list[str]) -> bool:
+    """Whether a line of these words does not fit by itself; names and sizes are not known."""
+    header = fitting.header(language)
+    above = itertools.takewhile(lambda line: line.split()[0] != given[0], header)
+    found = fitting.of_line(language, list(above), " ".join(given))
+    return bool(found) and not found.code.startswith("A10")
 
 
 def own_line(text: str) -> str | None:
@@ -94,11 +96,11 @@ def own_line(text: str) -> str | None:
     given = text.split()
     for language in forms.COMMANDS:
         line = forms.lines_of(language).get(given[0])
-        if line and (len(given) > 1 or not line.places) and not fault_in(language, given):
+        if line and (len(given) > 1 or not line.places) and not has_fault(language, given):
             head = f"A line of a script of `{language}`: {line.does}."
             return shown(head, told_words(given[0], line.places.split(), given[1:]))
     if given[0] in forms.OPERATIONS and len(given) > 1 and given[1].startswith("/"):
-        if not fault_in("table", ["do", "1", "1", *given]):
+        if not has_fault("table", ["do", "1", "1", *given]):
             return shown("An operation of a transaction.", told_words("do", ["OPERATIONS"], given))
     return None
 

@@ -25,6 +25,15 @@ room-slice_split p (byte ∷ bytes) =
           rw (slice_split-cons_no p byte bytes other, some.2) (omega (arith, e))
     ]
 
+-- a part, its separator and what follows are all bytes
+pub cut_length : (separator : ℕ) (bytes item next : List ℕ) → parts separator bytes ≡ item ∷ parts separator next → length bytes ≡ length item + 1 + length next
+unfolding room
+cut_length separator bytes item next cut =
+    let whole = room-slice_split (λ b. eqb b separator) bytes in
+    let rest = room-slice_split (λ b. eqb b separator) next in
+    let same : room (parts separator bytes) ≡ length item + 1 + room (parts separator next) = ap room cut in
+    omega (arith, whole, rest, same)
+
 -- there are as many parts as separators, and one
 few_parts : (p : ℕ → Bool) (bytes : List ℕ) → length (slice_split p bytes) ≤ length bytes + 1
 few_parts p [] = omega arith

@@ -3,6 +3,7 @@ pub mod NameLookups
 pub mod Numbers
 pub mod FieldLists
 pub mod ItemCounts
+pub mod ItemPlaces
 pub mod Spelling
 pub mod Taking
 pub mod Appending

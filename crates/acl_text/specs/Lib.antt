@@ -1,4 +1,5 @@
 pub mod Layout
+pub mod Places
 pub mod Qualifiers
 pub mod Tables
 pub mod Keywords

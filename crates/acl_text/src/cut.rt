@@ -17,7 +17,7 @@ fn place_of(bytes: &[u8], byte: u8) -> usize
 }
 
 /// A text's first line, and what stands after its end where it has one. The end may be far away.
-fn cut_line(text: &[u8]) -> (&[u8], Option<&[u8]>)
+pub(crate) fn cut_line(text: &[u8]) -> (&[u8], Option<&[u8]>)
     ensures { parts line_feed text.now ≡ result.0.now ∷ parts_left line_feed result.1 }
 {
     match memchr(b'\n', text) {
@@ -39,7 +39,7 @@ pub(crate) fn cut(bytes: &[u8], separator: u8) -> (&[u8], Option<&[u8]>)
 }
 
 /// A line without its comment.
-fn uncommented(line: &[u8]) -> &[u8]
+pub(crate) fn uncommented(line: &[u8]) -> &[u8]
     ensures { result.now ≡ uncommented line.now }
 {
     match memchr(b'#', line) {

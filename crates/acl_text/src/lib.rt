@@ -19,17 +19,17 @@
 //! **Promises.** `read_acl` gives the lists that a text spells, or its fault (`Spells`, `fault`). Two lists have
 //! one long text (`write_acl`, `append_acl`) and one short text (`write_short`, `append_short`), in canonical order
 //! and with numbers. That each spells its lists is a law (`long_text_spells_its_lists`,
-//! `short_text_spells_its_lists`). `Names` takes names of 1 to 64 bytes that are not digits alone, each once.
-//! `read_caller` gives the caller whose groups a text numbers (`caller_in`). `push_text_code` writes the code of a
-//! fault, and `append_decider` what decided a denial.
+//! `short_text_spells_its_lists`). `item_place` tells where an item begins, by the number that a fault tells. `Names`
+//! takes names of 1 to 64 bytes that are not digits alone, each once. `read_caller` gives the caller whose groups a
+//! text numbers (`caller_in`). `push_text_code` writes the code of a fault, and `append_decider` what decided a denial.
 //!
 //! **The caller owes** nothing.
 //!
-//! **Files**: `keyword`, `qualifier`, `cut`, `item`, `keys`, `names`, `read`, `code`, `write`, `caller`,
+//! **Files**: `keyword`, `qualifier`, `cut`, `place`, `item`, `keys`, `names`, `read`, `code`, `write`, `caller`,
 //! `laws`.
 //!
-//! **Definitions** (`specs/`): `Layout`, `Keywords`, `Qualifiers`, `Tables`, `Sides`, `Grammar`, `Faults`, `Texts`,
-//! `Codes`, `Writing`, `Callers`, `Laws`. `Items` says how an item is written; `items_read_as_written` ties it to
+//! **Definitions** (`specs/`): `Layout`, `Places`, `Keywords`, `Qualifiers`, `Tables`, `Sides`, `Grammar`, `Faults`,
+//! `Texts`, `Codes`, `Writing`, `Callers`, `Laws`. `Items` says how an item is written; `items_read_as_written` ties it to
 //! `Grammar`, so that one of the two need not be believed.
 #![tactic(auto)]
 
@@ -41,6 +41,7 @@ mod keys;
 mod keyword;
 mod laws;
 mod names;
+mod place;
 mod qualifier;
 mod read;
 mod write;
@@ -52,6 +53,7 @@ pub use laws::{
     what_is_spelled_is_read,
 };
 pub use names::{MAX_NAME, NameError, Names};
+pub use place::item_place;
 pub use read::{TextFault, read_acl};
 pub use write::{
     append_acl, append_decider, append_short, append_tag, permission_text, write_acl, write_short,

@@ -7,6 +7,7 @@ use Rattle.server_lock.specs.Counts.{passes_by}
 use Rattle.server_lock.specs.Passes.{Held, after_item}
 use Rattle.run_certify.specs.declared.entry.Entry.{Entry}
 use Rattle.run_certify.specs.declared.entry.Entry.TheVariants.{Begun, Asked, Lacked, Forgot, Ended}
+use Rattle.agent_pool.specs.declared.work.Halt.TheVariants.{Lacked as NoMemory}
 use Rattle.agent_pool.specs.declared.work.SeatedAgent.{SeatedAgent}
 use Rattle.agent_pool.specs.declared.work.Worked.{Worked}
 use Rattle.agent_pool.specs.declared.pool_context.NamedJob.{NamedJob}
@@ -99,7 +100,7 @@ went_one jobs old left new p s w sat is =
         rest = longer.rest;
         entries = longer.entries ∙ ap (λ (q : Played). q.entries ++ longer.rest) sits;
       };
-      leads = subst (λ (q : Played). Leads q.agent.fixed (at_rest q.agent.state) longer.rest (at_rest w.player.agent.state)) sits (sat.work.leads sat.ran);
+      leads = subst (λ (q : Played). Leads q.agent.fixed (at_rest q.agent.state) longer.rest (at_rest w.player.agent.state)) sits (sat.work.leads (λ lacked. let bad : None ≡ Some NoMemory = sym sat.ran ∙ lacked in cc));
       others = passes_for (number_of p) left;
       pass = s.pass;
       later = w.pass;

@@ -6,7 +6,7 @@ use Rattle.std.proofs.lemmas.Option.{same_Some, slice_get_within}
 use Rattle.std.proofs.lemmas.List.Elements.{All-cons, All-nil, Contains-append_cases, Contains-append_left, Contains-append_right}
 use Rattle.server_lock.specs.Passes.{Held}
 use Rattle.agent_pool.specs.declared.fault.PoolFault.{PoolFault}
-use Rattle.agent_pool.specs.declared.fault.PoolFault.TheVariants.{Double, Memory, Missing, Stranger}
+use Rattle.agent_pool.specs.declared.fault.PoolFault.TheVariants.{Double, Memory, Missing}
 use Rattle.agent_pool.specs.declared.outcome.JobOutcome.{JobOutcome}
 use Rattle.agent_pool.specs.declared.pool.Pool.{Pool}
 use Rattle.agent_pool.specs.declared.work.Done.{Done}
@@ -15,9 +15,9 @@ use Rattle.agent_pool.specs.declared.work.Halt.TheVariants.{Lacked, Strange, Stu
 use Rattle.agent_pool.specs.declared.work.SeatedAgent.{SeatedAgent}
 use Rattle.agent_pool.specs.declared.work.Worked.{Worked}
 use Rattle.agent_pool.specs.declared.pool_context.NamedJob.{NamedJob}
-use Rattle.agent_pool.specs.Gathers.{Gathers, HaveOne, IsDouble, IsHandedBack, IsMissing, NoneFailed, TellsOf, first_strange, first_stuck, lacked_or, lacks_memory, places, places_by, strange_or, stuck_or}
-use Rattle.agent_pool.specs.Pools.{IsFaultOf, job_numbers}
+use Rattle.agent_pool.specs.Gathers.{Gathers, HaveOne, IsDouble, IsMissing, NoneFailed, TellsOf, first_strange, first_stuck, lacked_or, lacks_memory, places, places_by, strange_or, stuck_or}
 use Rattle.agent_pool.specs.Seats.{AreDistinct, passes_for}
+use Rattle.agent_pool.specs.Taken.{IsHandedBack}
 use Rattle.agent_pool.specs.Transcripts.{Played, number_of}
 use Rattle.agent_pool.specs.code.Filled.{AreNone, IsPut}
 use Rattle.agent_pool.specs.code.Gathering.{AllRan, AreSeen, AreWithin, IsEmpty, IsTaken, IsWithin}
@@ -25,7 +25,6 @@ use Rattle.agent_pool.specs.code.Seated.{IsSeated}
 use Rattle.agent_pool.specs.code.Starts.{IsWorkOf}
 use Rattle.agent_pool.specs.code.Working.{AllDone, IsHalted, IsWorked}
 use Rattle.agent_pool.proofs.Apart.{none_at, put_cases, same_or, set_apart, set_here}
-use Rattle.agent_pool.proofs.Works.{number_there}
 use Rattle.agent_pool.proofs.Zips.{zip_then}
 
 -- ---- lists of places
@@ -220,35 +219,13 @@ strange_one jobs p (Some Lacked) a place halted is = inr is
 strange_one jobs p (Some (Stuck job)) a place halted is = inr is
 strange_one jobs p (Some (Strange q)) a place halted is = inl (subst (λ n. length jobs ≤ n) (same_Some q place is) halted)
 
-strange_is : (jobs : List NamedJob) (seats : List SeatedAgent) (worked : List Worked) (place : ℕ) → AllZip (IsWorkOf jobs) seats worked → first_strange worked ≡ Some place → length jobs ≤ place
+pub strange_is : (jobs : List NamedJob) (seats : List SeatedAgent) (worked : List Worked) (place : ℕ) → AllZip (IsWorkOf jobs) seats worked → first_strange worked ≡ Some place → length jobs ≤ place
 strange_is jobs seats [] place all is = cc
 strange_is jobs [] (w ∷ worked) place all is = absurd all
 strange_is jobs (s ∷ seats) (w ∷ worked) place all is =
     ⊎_elim (λ (far : length jobs ≤ place). far) (λ (later : first_strange worked ≡ Some place). strange_is jobs seats worked place all.1 later) (strange_one jobs w.player w.halt (first_strange worked) place all.0.halted is)
 
-stuck_one : (jobs : List NamedJob) (p : Played) (h : Option Halt) (a : Option ℕ) (job : ℕ) → IsHalted jobs p h → stuck_or h a ≡ Some job → Contains (job_numbers jobs) job ⊎ (a ≡ Some job)
-stuck_one jobs p None a job halted is = inr is
-stuck_one jobs p (Some Lacked) a job halted is = inr is
-stuck_one jobs p (Some (Strange place)) a job halted is = inr is
-stuck_one jobs p (Some (Stuck n)) a job halted is = inl (subst (λ m. Contains (job_numbers jobs) m) (same_Some n job is) halted)
-
-stuck_is : (jobs : List NamedJob) (seats : List SeatedAgent) (worked : List Worked) (job : ℕ) → AllZip (IsWorkOf jobs) seats worked → first_stuck worked ≡ Some job → Contains (job_numbers jobs) job
-stuck_is jobs seats [] job all is = cc
-stuck_is jobs [] (w ∷ worked) job all is = absurd all
-stuck_is jobs (s ∷ seats) (w ∷ worked) job all is =
-    ⊎_elim (λ (has : Contains (job_numbers jobs) job). has) (λ (later : first_stuck worked ≡ Some job). stuck_is jobs seats worked job all.1 later) (stuck_one jobs w.player w.halt (first_stuck worked) job all.0.halted is)
-
--- ---- what is told
-
-pub tells_fault : (jobs : List NamedJob) (seats : List SeatedAgent) (worked : List Worked) (fault : PoolFault) → AllZip (IsWorkOf jobs) seats worked → TellsOf jobs worked fault → IsFaultOf jobs fault
-tells_fault jobs seats worked Memory all tells = tt
-tells_fault jobs seats worked (Stranger place) all tells = strange_is jobs seats worked place all tells.1
-tells_fault jobs seats worked (Double job) all tells =
-    ⊎_elim (λ (d : IsDouble jobs (places worked) job). subst (λ n. Contains (job_numbers jobs) n) (sym d.of) (number_there jobs d.place d.named d.there))
-    (λ (s : HaveOne jobs (places worked) × (first_stuck worked ≡ Some job)). stuck_is jobs seats worked job all s.1) tells.1
-tells_fault jobs seats worked (Missing job) all tells =
-    let is = tells.2 in
-    subst (λ n. Contains (job_numbers jobs) n) (sym is.of) (number_there jobs is.place is.named is.there)
+-- ---- what is handed back
 
 pub handed_back : (jobs : List NamedJob) (old left : List Held) (players : List Played) (seats : List SeatedAgent) (worked : List Worked) → AllZip (IsSeated old left) players seats → AllZip (IsWorkOf jobs) seats worked
     → AllZip (IsHandedBack jobs old) players worked

@@ -1,5 +1,5 @@
 -- What holds of a thread's work, as it goes on.
-use Rattle.std.proofs.Common.{◌≡◌, ℕ, zero, suc, ◌+◌, ◌≤◌, List, [], ◌∷◌, ◌++◌, true, false, length, refl, ap, ◌∙◌, sym, subst, arith, append_assoc, append-nil}
+use Rattle.std.proofs.Common.{◌≡◌, ◌≢◌, ℕ, zero, suc, ◌+◌, ◌≤◌, List, [], ◌∷◌, ◌++◌, true, false, length, refl, ap, ◌∙◌, sym, subst, arith, append_assoc, append-nil}
 use Rattle.std.specs.Prelude.{is_some, slice_get, Contains, Option, Some, None}
 use Rattle.std.proofs.lemmas.List.{length-append}
 use Rattle.std.proofs.lemmas.Option.{same_Some}
@@ -11,6 +11,7 @@ use Rattle.run_certify.specs.declared.entry.Entry.TheVariants.{Begun}
 use Rattle.agent_pool.specs.declared.asking.Came.TheVariants as came
 use Rattle.agent_pool.specs.declared.work.Done.{Done}
 use Rattle.agent_pool.specs.declared.work.Halt.{Halt}
+use Rattle.agent_pool.specs.declared.work.Halt.TheVariants.{Lacked}
 use Rattle.agent_pool.specs.declared.work.SeatedAgent.{SeatedAgent}
 use Rattle.agent_pool.specs.declared.work.Worked.{Worked}
 use Rattle.agent_pool.specs.declared.pool_context.NamedJob.{NamedJob}
@@ -88,14 +89,17 @@ works_first jobs seat w player pass none ran idle = record {
   next = 0;
   order = subst (λ ds. RiseInPlace 0 ds 0) (sym none) (omega arith);
   halted = subst (λ h. IsHalted jobs w.player h) (sym ran) (subst (λ (p : Played). IsIdle p) (sym player) idle);
-  leads = λ all. ap (λ (p : Played). at_rest p.agent.state) player;
+  leads = λ other. ap (λ (p : Played). at_rest p.agent.state) player;
   once = λ all. let same = ap (λ (p : Played). begins p.entries) player in let few = ap length none in omega arith;
 }
 
+not_lacked : (halt : Option Halt) → halt ≡ None → halt ≢ Some Lacked
+not_lacked halt none is = let bad : None ≡ Some Lacked = sym none ∙ is in cc
+
 -- the agent went on, and runs nothing more
-pub works_longer : (jobs : List NamedJob) (seat : SeatedAgent) (w v : Worked) (why : Halt) (longer : IsLonger w.player v.player) → IsWorkOf jobs seat w → GoesOn longer.rest w.pass v.pass → v.done.items ≡ w.done.items → v.halt ≡ Some why
-    → IsHalted jobs v.player (Some why) → IsWorkOf jobs seat v
-works_longer jobs seat w v why longer old went same is halted =
+pub works_longer : (jobs : List NamedJob) (seat : SeatedAgent) (w v : Worked) (why : Halt) (longer : IsLonger w.player v.player) → IsWorkOf jobs seat w → w.halt ≡ None → GoesOn longer.rest w.pass v.pass → v.done.items ≡ w.done.items → v.halt ≡ Some why
+    → IsHalted jobs v.player (Some why) → (why ≢ Lacked → Leads w.player.agent.fixed (at_rest w.player.agent.state) longer.rest (at_rest v.player.agent.state)) → IsWorkOf jobs seat v
+works_longer jobs seat w v why longer old before went same is halted led =
     let more = begins-append w.player.entries longer.rest in
     let there = ap begins longer.entries in
     record {
@@ -106,13 +110,13 @@ works_longer jobs seat w v why longer old went same is halted =
       next = old.next;
       order = subst (λ ds. RiseInPlace 0 ds old.next) (sym same) old.order;
       halted = subst (λ h. IsHalted jobs v.player h) (sym is) halted;
-      leads = λ all. let bad : Some why ≡ None = sym is ∙ all in absurd (cc);
+      leads = λ other. leads_longer seat.player w.player v.player old.longer longer (old.leads (not_lacked w.halt before)) (led (λ e. other (is ∙ ap (λ (h : Halt). Some h) e)));
       once = λ all. let bad : Some why ≡ None = sym is ∙ all in cc;
     }
 
 -- it runs nothing more, and did nothing since
-pub works_stop : (jobs : List NamedJob) (seat : SeatedAgent) (w v : Worked) (why : Halt) → IsWorkOf jobs seat w → v.player ≡ w.player → v.pass ≡ w.pass → v.done.items ≡ w.done.items → v.halt ≡ Some why → IsHalted jobs w.player (Some why) → IsWorkOf jobs seat v
-works_stop jobs seat w v why old player pass same is halted =
+pub works_stop : (jobs : List NamedJob) (seat : SeatedAgent) (w v : Worked) (why : Halt) → IsWorkOf jobs seat w → w.halt ≡ None → v.player ≡ w.player → v.pass ≡ w.pass → v.done.items ≡ w.done.items → v.halt ≡ Some why → IsHalted jobs w.player (Some why) → IsWorkOf jobs seat v
+works_stop jobs seat w v why old before player pass same is halted =
     works_longer jobs seat w v why
     (record {
       fixed = ap (λ (p : Played). p.agent.fixed) player;
@@ -120,7 +124,7 @@ works_stop jobs seat w v why old player pass same is halted =
       rest = [];
       entries = ap (λ (p : Played). p.entries) player ∙ sym (append-nil w.player.entries);
     })
-    old pass same is (subst (λ (p : Played). IsHalted jobs p (Some why)) (sym player) halted)
+    old before pass same is (subst (λ (p : Played). IsHalted jobs p (Some why)) (sym player) halted) (λ n. ap (λ (p : Played). at_rest p.agent.state) player)
 
 pub not_some : (halt : Option Halt) → is_some halt ≡ false → halt ≡ None
 not_some None none = refl
@@ -144,7 +148,7 @@ works_more servers jobs seat w v d named old did same there before ran order =
       next = d.place + 1;
       order = subst (λ ds. RiseInPlace 0 ds (d.place + 1)) (sym same) (place_more 0 d.place w.done.items d order (omega arith));
       halted = subst (λ h. IsHalted jobs v.player h) (sym ran) did.ran.3;
-      leads = λ all. leads_longer seat.player w.player v.player old.longer longer (old.leads before) (did.leads (λ e. cc));
+      leads = λ other. leads_longer seat.player w.player v.player old.longer longer (old.leads (not_lacked w.halt before)) (did.leads (λ e. cc));
       once = λ all.
           let all_done = ap length same ∙ length-append w.done.items (d ∷ []) in
           let were = old.once before in

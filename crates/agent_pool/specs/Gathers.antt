@@ -1,18 +1,13 @@
 -- What is told of what agents handed back.
 use Rattle.std.specs.Prelude.{◌≡◌, ◌⊎◌, ℕ, ◌<◌, Bool, true, false, List, [], ◌∷◌, ◌++◌, length, map, Contains, slice_get, Option, Some, None, Result, Ok, Err}
-use Rattle.std.specs.List.{AllZip}
-use Rattle.server_lock.specs.Passes.{Held}
 use Rattle.agent_pool.specs.declared.fault.PoolFault.{PoolFault}
 use Rattle.agent_pool.specs.declared.fault.PoolFault.TheVariants.{Double, Memory, Missing, Stranger}
-use Rattle.agent_pool.specs.declared.pool.Pool.{Pool}
 use Rattle.agent_pool.specs.declared.work.Done.{Done}
 use Rattle.agent_pool.specs.declared.work.Halt.{Halt}
 use Rattle.agent_pool.specs.declared.work.Halt.TheVariants.{Lacked, Strange, Stuck}
 use Rattle.agent_pool.specs.declared.work.Worked.{Worked}
 use Rattle.agent_pool.specs.declared.pool_context.NamedJob.{NamedJob}
-use Rattle.agent_pool.specs.Seats.{AreDistinct, passes_for}
-use Rattle.agent_pool.specs.Transcripts.{Played, number_of}
-use Rattle.agent_pool.specs.code.Working.{IsWorked}
+use Rattle.agent_pool.specs.Seats.{AreDistinct}
 
 -- ---- why agents ran no more
 
@@ -103,17 +98,3 @@ TellsOf jobs worked (Missing job) = NoneFailed worked × AreDistinct (places wor
 abbrev pub Gathers : {A : Type 0} → List NamedJob → List Worked → Result A PoolFault → Type 0
 Gathers jobs worked (Err fault) = TellsOf jobs worked fault
 Gathers jobs worked (Ok pool) = NoneFailed worked × HaveOne jobs (places worked) × (first_stuck worked ≡ None)
-
--- an agent handed this back: it went on from where it was, with its pass
-abbrev pub IsHandedBack : List NamedJob → List Held → Played → Worked → Type 0
-IsHandedBack jobs passes was worked = (pass : Held) × Contains (passes_for (number_of was) passes) pass × IsWorked jobs was pass worked
-
--- it is answered so of what the agents handed back, one of each
-pub record GathersSome (jobs : List NamedJob) (was : List Played) (passes : List Held) (result : Result Pool PoolFault) : Type 0 where
-  pub worked : List Worked
-  pub each : AllZip (IsHandedBack jobs passes) was worked
-  pub gathers : Gathers jobs worked result
-
--- the same, or memory was refused before the first of them began, or no thread could be started
-abbrev pub GathersOrLacks : List NamedJob → List Played → List Held → Result Pool PoolFault → Type 0
-GathersOrLacks jobs was passes result = (result ≡ Err Memory) ⊎ GathersSome jobs was passes result

@@ -61,9 +61,9 @@ pub record IsPoolOf (jobs : List NamedJob) (was : List Played) (passes : List He
 abbrev pub job_numbers : List NamedJob → List ℕ
 job_numbers jobs = map (λ (named : NamedJob). named.number) jobs
 
--- what a fault tells of the jobs that were handed in
+-- what a fault tells of the jobs that were handed in: none was taken twice, and nothing else than them was taken
 abbrev pub IsFaultOf : List NamedJob → PoolFault → Type 0
 IsFaultOf jobs Memory = Unit {0}
-IsFaultOf jobs (Double job) = Contains (job_numbers jobs) job
-IsFaultOf jobs (Stranger place) = length jobs ≤ place
+IsFaultOf jobs (Double job) = ⊥
+IsFaultOf jobs (Stranger place) = ⊥
 IsFaultOf jobs (Missing job) = Contains (job_numbers jobs) job

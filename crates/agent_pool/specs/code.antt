@@ -6,3 +6,4 @@ pub mod Starts
 pub mod Slots
 pub mod Filled
 pub mod Gathering
+pub mod Back

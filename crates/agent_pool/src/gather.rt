@@ -6,7 +6,7 @@ ghost use Rattle.std.specs.List.{AllZip};
 ghost use Rattle.agent_pool.specs.declared.fault.PoolFault.TheVariants.{Double, Missing};
 ghost use Rattle.agent_pool.specs.Gathers.{Gathers, IsDouble, first_strange, first_stuck, lacks_memory, places, places_by};
 ghost use Rattle.agent_pool.specs.code.Gathering.{AreGathered, AreSeen, AreWithin, HasRoom, IsEmpty, IsGathered, IsTaken, IsWithin};
-ghost use Rattle.agent_pool.specs.Pools.{AreApart, AreInOrder, AreOutcomes, IsFaultOf, IsOf};
+ghost use Rattle.agent_pool.specs.Pools.{AreApart, AreInOrder, AreOutcomes, IsOf};
 ghost use Rattle.agent_pool.specs.code.Filled.{AreInOrderIn, AreNone, AreWorks, IsFilled, IsPut, KeepFilled, StayInOrder};
 ghost use Rattle.agent_pool.specs.code.Filled.{done_in, filled_in, passes_of, players_of, sitting};
 ghost use Rattle.agent_pool.specs.Seats.{AreDistinct, numbers_of};
@@ -57,7 +57,6 @@ pub(crate) fn gather(
     requires passes { vec_len passes + vec_len worked ≤ vec_capacity passes }
     ensures gathers { Gathers jobs.now worked.items result }
     ensures pool { IfOk result (IsGathered jobs.now worked.items passes.items) }
-    ensures fault { IfErr result (IsFaultOf jobs.now) }
 {
     let Room { slots, agents } = room;
     match outcomes_in(jobs, worked.as_slice(), slots) {

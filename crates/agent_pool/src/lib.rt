@@ -10,7 +10,9 @@
 //!
 //! Else the fault is what gathering finds in what the agents handed back (`GathersOrLacks`), the first of these.
 //! Memory: an agent was out of memory, or none could begin. Stranger: an agent took a place beyond the jobs.
-//! Double: a second outcome of a job. Missing: no outcome of a job.
+//! Double: a second outcome of a job. Missing: no outcome of a job. The agents took each job once, and no others
+//! (`AreTaken`): so no pool answers Stranger or Double, and Missing only where an agent got stuck (`HasReason`), which
+//! cannot begin the job that it took, or cannot go on with it.
 //!
 //! No clause says that a call returns, that threads run at once, or which agent takes a job. Whether transcripts
 //! and histories are those of one run, `certify` judges.
@@ -20,6 +22,7 @@
 //!
 //! Jobs go through one channel (`crossbeam_channel`), under a rule that every step of every thread keeps
 //! (`IsEachOnce`). What was put is the jobs, each once, and then end marks, and each thread takes jobs in their order.
+//! What a thread took stands in its pass, which goes back to the one that puts: so all that was taken is what was put.
 //! A thread writes down what its agent is told before the agent takes it. What a thread hands back is known by its
 //! promise (`IsWorked`), which std gives at the join. An agent that is out of memory goes on taking and runs nothing,
 //! so nobody waits for it in vain.
@@ -27,7 +30,7 @@
 //! **Files**: `line` (the channel and its rule), `player`, `outcome`, `fault`, `passes`, `ready`, `pool_context`,
 //! `asking`, `work`, `start`, `slots`, `gather`, `pool`.
 //!
-//! **Definitions** (`specs/`): `Line`, `Transcripts`, `Endings`, `Seats`, `Gathers`, `Pools`.
+//! **Definitions** (`specs/`): `Line`, `Transcripts`, `Endings`, `Seats`, `Gathers`, `Taken`, `Pools`.
 #![tactic(auto)]
 
 mod asking;

@@ -6,7 +6,7 @@ ghost use Rattle.std.specs.List.{AllZip};
 ghost use Rattle.crossbeam_channel.specs.Claims.{view, IsSeatAt};
 ghost use Rattle.crossbeam_channel.specs.Ends.{sends_on, receives_on};
 ghost use Rattle.agent_pool.specs.Line.{feeder};
-ghost use Rattle.agent_pool.specs.Gathers.{GathersOrLacks};
+ghost use Rattle.agent_pool.specs.Taken.{AreTaken, GathersOrLacks};
 ghost use Rattle.agent_pool.specs.Pools.{IsFaultOf, IsPoolOf};
 ghost use Rattle.agent_pool.specs.code.Filled.{AreIdle};
 ghost use Rattle.agent_pool.specs.Seats.{AreReady};
@@ -14,12 +14,12 @@ ghost use Rattle.agent_pool.specs.code.Starts.{IsWorkOf};
 
 use crate::fault::PoolFault;
 use crate::gather::{Room, gather};
-use crate::line::{EachOnce, Hand, Item, Sender, Taking, Ticket, feed};
+use crate::line::{EachOnce, Hand, Item, Taking, feed};
 use crate::outcome::JobOutcome;
 use crate::passes::seats;
 use crate::player::Player;
 use crate::pool_context::{NamedJob, PoolContext};
-use crate::start::{Start, begin_thread, join_all};
+use crate::start::{Giver, Start, begin_thread, join_all};
 use crate::work::{SeatedAgent, Worked};
 use crossbeam_channel::bounded_with;
 use server_lock::{Gate, Pass, Servers};
@@ -61,7 +61,7 @@ pub fn run_pool<R: Threads + Wait + Sync, G: Gate + Sync>(
     requires ready { AreReady passes.items agents.items }
     ensures pool { IfOk result (λ pool. IsPoolOf jobs.now agents.items passes.items pool) }
     ensures fault { IfErr result (IsFaultOf jobs.now) }
-    ensures gathers { GathersOrLacks jobs.now agents.items passes.items result }
+    ensures gathers { GathersOrLacks servers.now.servers jobs.now agents.items passes.items result }
 {
     let mut passes = passes;
     let room = Room::new(alloc, jobs.len(), agents.len())?;
@@ -82,13 +82,6 @@ pub fn run_pool<R: Threads + Wait + Sync, G: Gate + Sync>(
     gather(jobs, worked, passes, room)
 }
 
-/// The end of the channel into which jobs go, with the pass of the one that puts.
-#[derive(Drop)]
-struct Giver {
-    sender: Sender,
-    ticket: Ticket,
-}
-
 /// What the agents did, in threads that have ended. Where none could be started, that is an error.
 fn work_in_threads<R: Threads + Wait + Sync, G: Gate + Sync>(
     rt: &R,
@@ -99,7 +92,8 @@ fn work_in_threads<R: Threads + Wait + Sync, G: Gate + Sync>(
     requires seat { IsSeatAt (sends_on giver.sender) giver.ticket × (view giver.ticket ≡ feeder 0 0 0) }
     requires same { receives_on context.now.receiver.now ≡ sends_on giver.sender }
     requires idle { AreIdle seats.items }
-    ensures { IfOk result (λ worked. AllZip (IsWorkOf context.now.jobs.now) seats.items worked.items) }
+    ensures work { IfOk result (λ worked. AllZip (IsWorkOf context.now.jobs.now) seats.items worked.items) }
+    ensures taken { IfOk result (λ worked. AreTaken context.now.servers.now.servers context.now.jobs.now worked.items) }
 {
     let (alloc, gate, servers) = (context.alloc, context.gate, context.servers);
     let (jobs, receiver) = (context.jobs, context.receiver);
@@ -111,7 +105,8 @@ fn work_in_threads<R: Threads + Wait + Sync, G: Gate + Sync>(
             requires seat { IsSeatAt (sends_on sender) ticket × (view ticket ≡ feeder 0 0 0) }
             requires same { receives_on receiver.now ≡ sends_on sender }
             requires idle { AreIdle seats.items }
-            ensures { IfOk result (λ worked. AllZip (IsWorkOf jobs.entry.now) seats.items worked.items) }
+            ensures { IfOk result (λ worked. AllZip (IsWorkOf jobs.entry.now) seats.items worked.items
+                × AreTaken servers.entry.now.servers jobs.entry.now worked.items) }
         {
             let context = PoolContext {
                 alloc,
@@ -125,8 +120,8 @@ fn work_in_threads<R: Threads + Wait + Sync, G: Gate + Sync>(
     )
 }
 
-/// The same, in a scope. The end of the channel is let go before the threads are joined: so each of them ends, also where
-/// an item was not passed on.
+/// The same, in a scope. All jobs are put, and an end mark for each thread that was started, before the threads are joined:
+/// so each of them ends.
 fn in_scope<'s, E, R: Threads + Wait + Sync, G: Gate + Sync>(
     rt: &'s R,
     scope: &Scope<'s, E>,
@@ -137,7 +132,8 @@ fn in_scope<'s, E, R: Threads + Wait + Sync, G: Gate + Sync>(
     requires seat { IsSeatAt (sends_on giver.sender) giver.ticket × (view giver.ticket ≡ feeder 0 0 0) }
     requires same { receives_on context.now.receiver.now ≡ sends_on giver.sender }
     requires idle { AreIdle seats.items }
-    ensures { IfOk result (λ worked. AllZip (IsWorkOf context.now.jobs.now) seats.items worked.items) }
+    ensures work { IfOk result (λ worked. AllZip (IsWorkOf context.now.jobs.now) seats.items worked.items) }
+    ensures taken { IfOk result (λ worked. AreTaken context.now.servers.now.servers context.now.jobs.now worked.items) }
 {
     let Giver { sender, mut ticket } = giver;
     let mut starts = Vec::with_capacity(context.alloc, seats.len())?;
@@ -154,7 +150,6 @@ fn in_scope<'s, E, R: Threads + Wait + Sync, G: Gate + Sync>(
     if started == 0 {
         return Err(AllocError);
     }
-    let _fed = feed(rt, &sender, &mut ticket, context.jobs.len(), started);
-    drop(sender);
-    Ok(join_all(rt, starts, room))
+    feed(rt, &sender, &mut ticket, context.jobs.len(), started);
+    join_all(rt, context, Giver { sender, ticket }, starts, room)
 }

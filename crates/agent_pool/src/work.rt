@@ -1,12 +1,16 @@
 //! What a thread does: it takes jobs, and has its agent carry them out.
 
-ghost use Rattle.std.specs.Prelude.{◌≡◌, ◌≤◌, ◌+◌, [], List, false, length, Some};
+ghost use Rattle.std.specs.Prelude.{◌≡◌, ◌≢◌, ◌+◌, ◌++◌, ◌∷◌, [], List, ℕ, length, None, Some};
 ghost use Rattle.crossbeam_channel.specs.Claims.{view, IsSeatAt};
 ghost use Rattle.crossbeam_channel.specs.Ends.{receives_on};
+ghost use Rattle.agent_pool.specs.Line.{taker};
+ghost use Rattle.agent_pool.specs.Taken.{Took};
+ghost use Rattle.agent_pool.specs.code.Back.{IsBack};
 ghost use Rattle.agent_pool.specs.code.Starts.{IsWorkOf};
 ghost use Rattle.agent_pool.specs.code.Steps.{DidJob, DidMore};
 ghost use Rattle.agent_pool.specs.code.Working.{RiseInPlace};
 ghost use Rattle.agent_pool.specs.Transcripts.{IsIdle};
+ghost use Rattle.agent_pool.specs.declared.asking.Came.TheVariants.{On};
 
 use crate::asking::{Came, Ran};
 use crate::line::{Item, Ticket, take};
@@ -51,12 +55,39 @@ pub struct Worked {
     pub halt: Option<Halt>,
 }
 
+/// What a thread hands back: what its agent did, what it knows of the channel, and whether it took an end mark.
+#[derive(Drop)]
+pub(crate) struct Returned {
+    pub(crate) worked: Worked,
+    pub(crate) ticket: Ticket,
+    pub(crate) ended: bool,
+}
+
+impl Returned {
+    /// Nothing was taken, and nothing done.
+    pub(crate) fn new(alloc: Global, seat: SeatedAgent, ticket: Ticket) -> Returned
+        requires idle { IsIdle seat.player }
+        requires ticket { view ticket ≡ taker }
+        ensures work { (jobs : List NamedJob) → IsWorkOf jobs seat result.worked }
+        ensures none { result.worked.done.items ≡ [] }
+        ensures ticket { result.ticket ≡ ticket }
+        ensures back { (servers : ℕ) (jobs : List NamedJob) → IsBack servers jobs result }
+    {
+        Returned {
+            worked: Worked::new(alloc, seat),
+            ticket,
+            ended: false,
+        }
+    }
+}
+
 impl Worked {
     /// It did nothing yet, whatever jobs there are.
-    pub(crate) fn new(alloc: Global, seat: SeatedAgent) -> Worked
+    fn new(alloc: Global, seat: SeatedAgent) -> Worked
         requires { IsIdle seat.player }
         ensures work { (jobs : List NamedJob) → IsWorkOf jobs seat result }
         ensures none { result.done.items ≡ [] }
+        ensures runs { result.halt ≡ None }
     {
         let SeatedAgent { player, pass } = seat;
         Worked {
@@ -100,6 +131,8 @@ impl Worked {
         requires behind { RiseInPlace 0 self.done.items place }
         ensures work { IsWorkOf context.now.jobs.now was.now.value result }
         ensures order { RiseInPlace 0 result.done.items (place + 1) }
+        ensures took { (taken : List ℕ) → Took context.now.servers.now.servers context.now.jobs.now self taken
+            → Took context.now.servers.now.servers context.now.jobs.now result (taken ++ place ∷ []) }
     {
         if self.halt.is_some() {
             return self;
@@ -128,7 +161,8 @@ impl Worked {
                 };
             }
             Came::Lacked => Halt::Lacked,
-            Came::Stuck | Came::On => Halt::Stuck(named.number),
+            Came::Stuck => Halt::Stuck(named.number),
+            Came::On => unreachable!(),
         };
         Worked {
             player,
@@ -147,7 +181,8 @@ fn run<R: Wait, G: Gate>(
     pass: Pass,
     named: &NamedJob,
 ) -> (Pass, Came)
-    ensures { DidJob context.now.servers.now.servers named.now.job player.old player.new pass result.0 result.1 }
+    ensures over { result.1 ≢ On }
+    ensures did { DidJob context.now.servers.now.servers named.now.job player.old player.new pass result.0 result.1 }
 {
     match player.begin(&named.job) {
         Ok(true) => {}
@@ -165,7 +200,8 @@ fn go_on<R: Wait, G: Gate>(
     player: &mut Player,
     pass: Pass,
 ) -> (Pass, Came)
-    ensures { DidMore context.now.servers.now.servers (length player.old.entries) player.old player.new pass result.0 result.1 }
+    ensures over { result.1 ≢ On }
+    ensures did { DidMore context.now.servers.now.servers (length player.old.entries) player.old player.new pass result.0 result.1 }
 {
     let begun = player.entries().len();
     let mut current = pass;
@@ -177,28 +213,39 @@ fn go_on<R: Wait, G: Gate>(
             _ => return (current, came),
         }
     }
-    (current, Came::On)
+    unreachable!()
 }
 
 /// Takes jobs until an end mark comes.
 pub(crate) fn work<R: Wait, G: Gate>(
     rt: &R,
     context: &PoolContext<'_, G>,
-    mut ticket: Ticket,
+    ticket: Ticket,
     seat: SeatedAgent,
-) -> Worked
-    requires ticket { IsSeatAt (receives_on context.now.receiver.now) ticket × ((view ticket).puts ≡ false) }
+) -> Returned
+    requires ticket { IsSeatAt (receives_on context.now.receiver.now) ticket × (view ticket ≡ taker) }
     requires idle { IsIdle seat.player }
-    ensures { IsWorkOf context.now.jobs.now seat result }
+    ensures work { IsWorkOf context.now.jobs.now seat result.worked }
+    ensures seat { IsSeatAt (receives_on context.now.receiver.now) result.ticket }
+    ensures back { IsBack context.now.servers.now.servers context.now.jobs.now result }
 {
     let was = Snapshot::of(&seat);
-    let mut worked = Worked::new(context.alloc, seat);
+    let Returned {
+        mut worked,
+        mut ticket,
+        ..
+    } = Returned::new(context.alloc, seat, ticket);
     for _ in rt.forever() {
         match take(rt, context.receiver, &mut ticket) {
-            Ok(Item::Job(place)) => worked = worked.carry_out(rt, context, place, &was),
-            Ok(Item::End) => break,
-            Err(_) => break,
+            Item::Job(place) => worked = worked.carry_out(rt, context, place, &was),
+            Item::End => {
+                return Returned {
+                    worked,
+                    ticket,
+                    ended: true,
+                };
+            }
         }
     }
-    worked
+    unreachable!()
 }

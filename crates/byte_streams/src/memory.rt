@@ -1,6 +1,7 @@
 //! Streams over memory.
 
-ghost use Rattle.std.specs.Prelude.{◌≡◌, Some, []};
+ghost use Rattle.std.specs.Prelude.{◌≡◌, ◌↔◌, ◌<◌, ◌≤◌, false, None, Some, [], length, take, is_ok, IfOk, OnOk, if◌then◌else◌};
+ghost use Rattle.byte_streams.specs.Streams.{Takes, Adds, one_more};
 
 use crate::traits::{ByteIn, ByteOut, ReadFailed, WriteFailed};
 use std::alloc::Global;
@@ -19,6 +20,7 @@ impl<'a> MemoryIn<'a> {
     pub fn new(bytes: &'a [u8]) -> MemoryIn<'a>
         ensures bytes { ⟦<MemoryIn<'a> as ByteIn>⟧.rest result ≡ Some bytes.now }
         ensures failures { ⟦<MemoryIn<'a> as ByteIn>⟧.failed_reads result ≡ 0 }
+        ensures failing { result.failing ≡ None }
     {
         MemoryIn {
             bytes,
@@ -32,6 +34,7 @@ impl<'a> MemoryIn<'a> {
     pub fn failing_at(bytes: &'a [u8], call: u64) -> MemoryIn<'a>
         ensures bytes { ⟦<MemoryIn<'a> as ByteIn>⟧.rest result ≡ Some bytes.now }
         ensures failures { ⟦<MemoryIn<'a> as ByteIn>⟧.failed_reads result ≡ 0 }
+        ensures failing { (result.failing ≡ Some call) × (result.calls ≡ 0) }
     {
         MemoryIn {
             bytes,
@@ -47,7 +50,14 @@ impl<'a> ByteIn for MemoryIn<'a> {
 
     ghost failed_reads = { λ stream. stream.failures };
 
-    fn read(&mut self, buffer: &mut [u8]) -> Result<usize, ReadFailed> {
+    fn read(&mut self, buffer: &mut [u8]) -> Result<usize, ReadFailed>
+        requires { 0 < length buffer.old }
+        ensures fits { IfOk result (λ count. count ≤ length buffer.old) }
+        ensures bytes { IfOk result (λ count. Takes (Some self.old.bytes.now) count (take count buffer.new) (Some self.new.bytes.now)) }
+        ensures failures { self.new.failures ≡ (if is_ok result then self.old.failures else one_more self.old.failures) }
+        ensures fails { (is_ok result ≡ false) ↔ (self.old.failing ≡ Some self.old.calls) }
+        ensures calls { (self.new.failing ≡ self.old.failing) × (self.new.calls ≡ one_more self.old.calls) }
+    {
         let call = self.calls;
         self.calls = call.saturating_add(1);
         if self.failing == Some(call) {
@@ -80,6 +90,7 @@ impl MemoryOut {
     pub fn new(alloc: Global) -> MemoryOut
         ensures bytes { ⟦<MemoryOut as ByteOut>⟧.written result ≡ Some [] }
         ensures failures { ⟦<MemoryOut as ByteOut>⟧.failed_writes result ≡ 0 }
+        ensures failing { result.failing ≡ None }
     {
         MemoryOut {
             bytes: Vec::new(alloc),
@@ -93,6 +104,7 @@ impl MemoryOut {
     pub fn failing_at(alloc: Global, call: u64) -> MemoryOut
         ensures bytes { ⟦<MemoryOut as ByteOut>⟧.written result ≡ Some [] }
         ensures failures { ⟦<MemoryOut as ByteOut>⟧.failed_writes result ≡ 0 }
+        ensures failing { (result.failing ≡ Some call) × (result.calls ≡ 0) }
     {
         MemoryOut {
             bytes: Vec::new(alloc),
@@ -115,7 +127,12 @@ impl ByteOut for MemoryOut {
 
     ghost failed_writes = { λ stream. stream.failures };
 
-    fn write(&mut self, piece: &[u8]) -> Result<(), WriteFailed> {
+    fn write(&mut self, piece: &[u8]) -> Result<(), WriteFailed>
+        ensures bytes { OnOk result (Adds (Some self.old.bytes.items) piece.now (Some self.new.bytes.items)) }
+        ensures failures { self.new.failures ≡ (if is_ok result then self.old.failures else one_more self.old.failures) }
+        ensures fails { self.old.failing ≡ Some self.old.calls → is_ok result ≡ false }
+        ensures calls { (self.new.failing ≡ self.old.failing) × (self.new.calls ≡ one_more self.old.calls) }
+    {
         let call = self.calls;
         self.calls = call.saturating_add(1);
         if self.failing != Some(call) && self.bytes.extend_from_slice(piece).is_ok() {

@@ -1,7 +1,7 @@
 //! Reading a stream to its end.
 
 ghost use Rattle.std.specs.Prelude.{◌≡◌, ◌≤◌, ◌<◌, ◌^◌, IfOk, OnOk, IfErr};
-ghost use Rattle.byte_streams.specs.Whole.{IsWhole, Explains};
+ghost use Rattle.byte_streams.specs.Whole.{IsWhole, Explains, RanOut};
 
 use crate::traits::ByteIn;
 use std::alloc::{AllocError, AllocFailed, Global};
@@ -39,6 +39,8 @@ pub fn read_all<I: ByteIn>(
     requires { limit < 2 ^ 62 }
     ensures ok { IfOk result (λ bytes. IsWhole (I.rest stream.old) limit bytes.items) }
     ensures err { IfErr result (λ error. Explains error (I.rest stream.old) limit
+        (I.failed_reads stream.old) (I.failed_reads stream.new)) }
+    ensures memory { IfErr result (λ error. RanOut error (I.rest stream.old) limit (I.rest stream.new)
         (I.failed_reads stream.old) (I.failed_reads stream.new)) }
     ensures kept { OnOk result (I.failed_reads stream.new ≡ I.failed_reads stream.old) }
 {

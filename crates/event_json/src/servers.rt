@@ -34,8 +34,7 @@ impl Before {
     /// From now on it is what the server of this number has.
     pub fn look(&mut self, number: u8, server: &Server) -> Result<(), AllocError> {
         self.number = number;
-        self.locks.clear();
-        self.locks.extend_from_slice(server.locks())?;
+        self.locks = server.locks()?;
         self.denials = server.audit().len();
         Ok(())
     }
@@ -50,9 +49,10 @@ impl Before {
         request: &Request,
     ) -> Result<(), AllocError> {
         push_up(text, self.number, server)?;
-        if server.locks() != self.locks.as_slice() {
+        let locks = server.locks()?;
+        if locks != self.locks {
             text.extend_from_slice(b",\"locks\":")?;
-            push_locks(text, server.locks())?;
+            push_locks(text, &locks)?;
         }
         if let Request::Finish { t, .. } = request {
             text.extend_from_slice(b",\"copies\":[")?;
@@ -102,7 +102,7 @@ pub fn push_server(
 ) -> Result<(), AllocError> {
     push_up(text, number, server)?;
     text.extend_from_slice(b",\"locks\":")?;
-    push_locks(text, server.locks())?;
+    push_locks(text, &server.locks()?)?;
     text.extend_from_slice(b",\"copies\":[")?;
     let mut between: &[u8] = b"";
     for (suite, copy) in server.copies() {

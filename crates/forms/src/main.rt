@@ -10,9 +10,16 @@
 //! - `operation WORD PLACES DOES`.
 //!
 //! With the words COMMAND and NUMBER it reads a script, whose lines above that number have no fault. Of that line it
-//! prints `WORD CODE EXPECTED FORM`: the number of the first word that does not fit, the code of the fault, the place
-//! where the word stands (or `END`, `OPERATION`, `LINE`), and the form that has this place. A hyphen stands for what
-//! there is not.
+//! prints `WORD CODE EXPECTED FORM ITEM`: the number of the first word that does not fit, the code of the fault, the
+//! place where the word stands (or `END`, `OPERATION`, `LINE`), the form that has this place, and of a list's faulty
+//! item how many bytes of the word stand before it. A hyphen stands for what there is not.
+//!
+//! With the words `list` and NUMBER it reads a list, and prints how many bytes stand before the item of that number.
+//!
+//! **Promises.** Of a line that stands in its place, what is printed begins with the word and the code of the
+//! definition (`of_form`: `line_misfit` of `suite_script`), and the place is that of the item (`item_in`).
+//!
+//! **Definitions** (`specs/`): `Finding`.
 //!
 //! **Files**: `places` (their names), `table`, `reading` (the lines of a script), `finding` (what is printed of one).
 #![tactic(auto)]
@@ -26,7 +33,7 @@ use byte_streams::{
     ByteIn, ByteOut, COMMAND_LINE, DONE, MAX_INPUT, NO_STREAM, ReadError, SystemIn, SystemOut,
     Wanted, finish, lack_memory, read_all, read_wanted,
 };
-use finding::found_in;
+use finding::{found_in, item_found};
 use script_text::read_number;
 use std::alloc::Global;
 use std::env::Env;
@@ -40,16 +47,19 @@ const HELP: &[u8] =
 
   forms                          the table: places, lines of each command, operations
   forms COMMAND NUMBER < SCRIPT  what keeps the line of this number from its form:
-                                 WORD CODE EXPECTED FORM, with a hyphen for what there is not
+                                 WORD CODE EXPECTED FORM ITEM, with a hyphen for what there
+                                 is not; ITEM is how many bytes of the word stand before the
+                                 item of a list that has the fault
+  forms list NUMBER < LIST       how many bytes stand before the item of this number
 
 COMMAND is play, serve or table.
 ";
 
-/// What is asked of a script: of which command it is, and of which of its lines.
+/// What is asked: of a script of some command what keeps a line from its form, or of a list where an item begins.
 #[derive(Clone, Copy)]
-struct Question {
-    forms: Forms,
-    number: u64,
+enum Question {
+    Line(Forms, u64),
+    Item(u64),
 }
 
 fn main(rt: HostRuntime) -> ExitCode {
@@ -77,25 +87,34 @@ fn main(rt: HostRuntime) -> ExitCode {
 fn asked<R: Env>(rt: &R) -> Option<Question> {
     let mut word = [0; 24];
     let length = rt.arg(1, &mut word).ok()?;
-    let forms = lines_of(word.get(..length)?)?;
+    let command = lines_of(word.get(..length)?);
+    let is_list = word.get(..length)? == b"list".as_slice();
     let length = rt.arg(2, &mut word).ok()?;
     let number = read_number(word.get(..length)?, u64::MAX)?;
-    Some(Question { forms, number })
+    match command {
+        Some(forms) => Some(Question::Line(forms, number)),
+        None if is_list => Some(Question::Item(number)),
+        None => None,
+    }
 }
 
-/// Answers a question about the script that a reader gives.
+/// Answers a question about the script or the list that a reader gives.
 fn answer<I: ByteIn, O: ByteOut>(
     alloc: Global,
     question: Question,
     reader: &mut I,
     writer: &mut O,
 ) -> u8 {
-    let script = match read_all(alloc, reader, MAX_INPUT) {
-        Ok(script) => script,
+    let given = match read_all(alloc, reader, MAX_INPUT) {
+        Ok(given) => given,
         Err(ReadError::Memory) => return lack_memory(writer),
         Err(_) => return NO_STREAM,
     };
-    match found_in(alloc, question.forms, &script, question.number) {
+    let told = match question {
+        Question::Line(forms, number) => found_in(alloc, forms, &given, number),
+        Question::Item(number) => item_found(alloc, &given, number),
+    };
+    match told {
         Ok(text) => finish(writer, &text, DONE),
         Err(_) => lack_memory(writer),
     }

@@ -1,6 +1,15 @@
 //! The names of places, and what stands in each.
 
+use script_text::push_number;
+use std::alloc::AllocError;
+use suite_prefix::{MAX_AGENTS, MAX_CACHE, MAX_SLOTS};
 use suite_script::Place;
+use vote_core::MAX_SERVERS;
+
+/// The last site of an agent, and the most steps of a line.
+const LAST_SITE: u64 = 15;
+
+const MAX_STEPS: u64 = 1_000_000;
 
 /// The places, of those with one name one.
 pub(crate) const PLACES: [Place; 19] = [
@@ -50,22 +59,29 @@ pub(crate) fn name(place: Place) -> &'static [u8] {
     }
 }
 
-/// The least and the most of a number in its place, and the code of one beyond; a hyphen for each where it is none.
-pub(crate) fn limits(place: Place) -> &'static [u8] {
+/// Adds the least and the most of a number in its place, and the code of one beyond; a hyphen for each where it is none.
+/// The last site and the most steps are those that `Scope::misfit` knows; `tests/form-table.py` plays them.
+pub(crate) fn push_limits(text: &mut Vec<u8>, place: Place) -> Result<(), AllocError> {
     match place {
-        Place::Servers => b"1\t32\tG1",
-        Place::Agents => b"1\t64\tG1",
-        Place::Uid => b"0\t4294967295\tS1",
-        Place::Gid => b"0\t4294967295\tS1",
-        Place::Budget => b"0\t268435456\tG3",
-        Place::Quota => b"0\t268435456\tG3",
-        Place::Slots => b"0\t4096\tG3",
-        Place::Agent => b"0\tagents\tS1",
-        Place::Server => b"0\tservers\tS1",
-        Place::Site => b"0\t15\tS1",
-        Place::Steps => b"0\t1000000\tS1",
-        _ => b"-\t-\t-",
+        Place::Servers => push_range(text, 1, MAX_SERVERS as u64, b"G1"),
+        Place::Agents => push_range(text, 1, MAX_AGENTS as u64, b"G1"),
+        Place::Uid | Place::Gid => push_range(text, 0, u64::from(u32::MAX), b"S1"),
+        Place::Budget | Place::Quota => push_range(text, 0, MAX_CACHE as u64, b"G3"),
+        Place::Slots => push_range(text, 0, MAX_SLOTS as u64, b"G3"),
+        Place::Agent => text.extend_from_slice(b"0\tagents\tS1"),
+        Place::Server => text.extend_from_slice(b"0\tservers\tS1"),
+        Place::Site => push_range(text, 0, LAST_SITE, b"S1"),
+        Place::Steps => push_range(text, 0, MAX_STEPS, b"S1"),
+        _ => text.extend_from_slice(b"-\t-\t-"),
     }
+}
+
+fn push_range(text: &mut Vec<u8>, least: u64, most: u64, code: &[u8]) -> Result<(), AllocError> {
+    push_number(text, least)?;
+    text.push(b'\t')?;
+    push_number(text, most)?;
+    text.push(b'\t')?;
+    text.extend_from_slice(code)
 }
 
 /// What stands in a place.

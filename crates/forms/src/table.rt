@@ -1,6 +1,6 @@
 //! The table of forms, as it is printed.
 
-use crate::places::{PLACES, limits, meaning, name};
+use crate::places::{PLACES, meaning, name, push_limits};
 use std::alloc::{AllocError, Global};
 use suite_script::{Ending, Form, Forms, PLAY_LINES, SERVE_LINES, TABLE_LINES, VERBS};
 
@@ -18,10 +18,10 @@ pub(crate) fn lines_of(command: &[u8]) -> Option<Forms> {
 pub(crate) fn table(alloc: Global) -> Result<Vec<u8>, AllocError> {
     let mut text = Vec::new(alloc);
     for place in PLACES.iter() {
-        push_fields(
-            &mut text,
-            &[b"place", name(*place), limits(*place), meaning(*place)],
-        )?;
+        push_fields(&mut text, &[b"place", name(*place), b""])?;
+        push_limits(&mut text, *place)?;
+        text.push(b'\t')?;
+        text.extend_from_slice(meaning(*place))?;
         text.push(b'\n')?;
     }
     push_command(&mut text, b"play", PLAY_LINES)?;

@@ -57,27 +57,28 @@ use Rattle.law_run_recovers.proofs.AmongAt.{IsCalm, IsSpared, HasWhereOpen}
 
 -- ---- lists
 
-abbrev head_or : {X : Type 0} → X → List X → X
+abbrev pub head_or : {X : Type 0} → X → List X → X
 head_or x [] = x
 head_or x (y ∷ ys) = y
 
-abbrev tail_or : {X : Type 0} → List X → List X
+abbrev pub tail_or : {X : Type 0} → List X → List X
 tail_or [] = []
 tail_or (y ∷ ys) = ys
 
-nil_cons : {X : Type 0} (xs : List X) (x : X) (ys : List X) → [] ≡ xs ++ x ∷ ys → ⊥
+pub nil_cons : {X : Type 0} (xs : List X) (x : X) (ys : List X) → [] ≡ xs ++ x ∷ ys → ⊥
 nil_cons [] x ys is = cc
 nil_cons (y ∷ xs) x ys is = cc
 
 -- a list with one more behind is parted there, or before
-pub parted : {X : Type 0} (xs : List X) (x : X) (front : List X) (y : X) (back : List X) → xs ++ x ∷ [] ≡ front ++ y ∷ back → ((front ≡ xs) × (y ≡ x)) ⊎ ((rest : List X) × (xs ≡ front ++ y ∷ rest))
-parted [] x [] y back is = inl (refl, sym (ap (head_or x) is))
+pub parted : {X : Type 0} (xs : List X) (x : X) (front : List X) (y : X) (back : List X) → xs ++ x ∷ [] ≡ front ++ y ∷ back
+    → ((front ≡ xs) × (y ≡ x) × (back ≡ [])) ⊎ ((rest : List X) × (xs ≡ front ++ y ∷ rest) × (back ≡ rest ++ x ∷ []))
+parted [] x [] y back is = inl (refl, sym (ap (head_or x) is), sym (ap tail_or is))
 parted [] x (z ∷ front) y back is = absurd (nil_cons front y back (ap tail_or is))
-parted (w ∷ xs) x [] y back is = inr (xs, ap (λ z. z ∷ xs) (ap (head_or w) is))
+parted (w ∷ xs) x [] y back is = inr (xs, ap (λ z. z ∷ xs) (ap (head_or w) is), sym (ap tail_or is))
 parted (w ∷ xs) x (z ∷ front) y back is =
     ⊎_elim
-    (λ here. inl (ap (λ z. z ∷ front) (sym (ap (head_or w) is)) ∙ ap (λ front. w ∷ front) here.0, here.1))
-    (λ before. inr (before.0, ap (λ z. z ∷ xs) (ap (head_or w) is) ∙ ap (λ xs. z ∷ xs) before.1))
+    (λ here. inl (ap (λ z. z ∷ front) (sym (ap (head_or w) is)) ∙ ap (λ front. w ∷ front) here.0, here.1, here.2))
+    (λ before. inr (before.0, ap (λ z. z ∷ xs) (ap (head_or w) is) ∙ ap (λ xs. z ∷ xs) before.1, before.2))
     (parted xs x front y back (ap tail_or is))
 
 -- ---- a crash
@@ -178,6 +179,14 @@ module _ (given : Opening) (events later : List Event) (agent t : ℕ) (caller :
       of (Some (RunningSweep sweep_run)) at stands busy = absurd stands
       of (Some (Running txn_run)) at stands busy = record { txn_run = txn_run; running = at; at = stands }
 
+  runs_of : (so_far : List Event) (c : Course so_far) → runs t c.here.agent.doing ≡ true
+  runs_of so_far c =
+      let r = runs_it so_far c in
+      ap (runs t) r.running ∙ eq-eqb r.txn_run.task.t t (ap (λ (task : Task). task.t) r.at.0 ∙ number given events later agent t caller site ops actor goes)
+
+  pub course_runs : (so_far : List Event) (c : Course so_far) → is_running (world_after given events agent caller site ops so_far) agent t ≡ true
+  course_runs so_far c = ap (running_in t) c.there ∙ runs_of so_far c
+
   pub next_is : (so_far : List Event) (event : Event) → world_after given events agent caller site ops (so_far ++ event ∷ []) ≡ (step (fixed_of given) (world_after given events agent caller site ops so_far) event).world
   next_is so_far event = after_append (fixed_of given) so_far (event ∷ []) (begun_world given events agent caller site ops)
 
@@ -189,13 +198,8 @@ module _ (given : Opening) (events later : List Event) (agent t : ℕ) (caller :
     pub split_on : later ≡ (so_far ++ event ∷ []) ++ rest
     split_on = split ∙ sym (append_assoc so_far (event ∷ []) rest)
 
-    runs_here : runs t c.here.agent.doing ≡ true
-    runs_here =
-        let r = runs_it so_far c in
-        ap (runs t) r.running ∙ eq-eqb r.txn_run.task.t t (ap (λ (task : Task). task.t) r.at.0 ∙ number given events later agent t caller site ops actor goes)
-
     pub running_now : is_running (world_after given events agent caller site ops so_far) agent t ≡ true
-    running_now = ap (running_in t) c.there ∙ runs_here
+    running_now = course_runs so_far c
 
     pub calm : (hinders_itself given agent (world_after given events agent caller site ops so_far) event || robs given agent t (world_after given events agent caller site ops so_far) event) ≡ false
     calm = goes.free_hand so_far rest event split running_now
@@ -214,7 +218,7 @@ module _ (given : Opening) (events later : List Event) (agent t : ℕ) (caller :
     runs_apart apart =
         ap (λ w. is_running w agent t) (next_is so_far event) ∙ ap (running_in t) apart.now
         ∙ ⊎_elim (λ same. ap (λ (a : Agent). runs t a.doing) same) (λ gone. ap (λ (a : Agent). runs t a.doing) gone.1) apart.is
-        ∙ runs_here
+        ∙ runs_of so_far c
 
     no_crash : (server : ℕ) → event ≡ Crash server → (what : Served) → (step (fixed_of given) (world_after given events agent caller site ops so_far) (Crash server)).done.served ≡ Some what
         → answers given events later agent t caller site ops actor goes what.server ≡ true → ⊥
@@ -278,7 +282,7 @@ module _ (given : Opening) (events later : List Event) (agent t : ℕ) (caller :
     pub spared_on : IsSpared given events later agent t caller site ops actor goes (so_far ++ event ∷ [])
     spared_on front back other is work = of (parted so_far event front other back is)
       where
-        of : ((front ≡ so_far) × (other ≡ event)) ⊎ ((rest : List Event) × (so_far ≡ front ++ other ∷ rest)) → IsCalm given events later agent t caller site ops actor goes front other
+        of : ((front ≡ so_far) × (other ≡ event) × (back ≡ [])) ⊎ ((rest : List Event) × (so_far ≡ front ++ other ∷ rest) × (back ≡ rest ++ event ∷ [])) → IsCalm given events later agent t caller site ops actor goes front other
         of (inl here) =
             subst (λ front. IsCalm given events later agent t caller site ops actor goes front other) (sym here.0)
             (subst (λ other. IsCalm given events later agent t caller site ops actor goes so_far other) (sym here.1) calm_now)

@@ -1,20 +1,28 @@
 -- What was decided of a transaction that goes among locks that stay had its home up and its votes open, whether or not its agent went on to the end.
-use Rattle.std.proofs.Common.{◌≡◌, ◌⊎◌, inl, inr, ⊎_elim, ℕ, ◌<◌, true, List, [], ◌∷◌, ◌++◌, append_assoc, Option, Some, None, is_some, Ok, Err, refl, sym, ap, subst, ◌∙◌, arith}
-use Rattle.std.specs.Prelude.{◌==◌, ◌&&◌, find, Contains}
+use Rattle.std.proofs.Common.{◌≡◌, ◌⊎◌, inl, inr, ⊎_elim, ℕ, ◌<◌, true, List, [], ◌∷◌, ◌++◌, append_assoc, Option, Some, None, is_some, Result, Ok, Err, refl, sym, ap, subst, ◌∙◌, arith}
+use Rattle.std.specs.Prelude.{◌+◌, ◌*◌, ◌==◌, ◌&&◌, find, Contains}
 use Rattle.std.specs.List.{list_any, cons_option}
-use Rattle.std.proofs.lemmas.Bool.{false≢true, eqb-true, or_cases}
+use Rattle.std.proofs.lemmas.Bool.{false≢true, eqb-true, eq-eqb, or_cases}
 use Rattle.std.proofs.lemmas.Option.{none-some, same_Some}
 use Rattle.acl_core.specs.Identity.{Identity}
 use Rattle.suite_prefix.specs.SettingsRules.{Opening}
+use Rattle.suite_prefix.specs.declared.lock_mode.LockMode.{LockMode}
+use Rattle.suite_prefix.specs.LockModes.{serves}
+use Rattle.file_ops.specs.declared.answer.Answer.{Answer}
+use Rattle.file_ops.specs.declared.refusal.Refusal.{Refusal}
 use Rattle.file_ops.specs.declared.operation.Op.{Op}
-use Rattle.rep_core.proofs.Members.{Has, has_from}
+use Rattle.rep_core.proofs.Members.{Has, has_from, has_any}
 use Rattle.rep_core.specs.declared.request.Request.{Request}
 use Rattle.rep_core.specs.declared.request.Request.TheVariants as request
+use Rattle.txn_core.specs.declared.ending.Ending.{Ending}
+use Rattle.txn_core.specs.declared.ending.Ending.TheVariants.{Answered, Refused, Swept, Undecided}
 use Rattle.txn_core.specs.declared.job.Job.TheVariants.{Transaction}
+use Rattle.txn_core.specs.Suites.{ReadPoint, Suite, suite_of}
 use Rattle.txn_core.specs.Doing as doing
 use Rattle.txn_core.specs.Doing.{Running, home_of}
 use Rattle.txn_core.specs.Transactions.{request_in, decision_of}
 use Rattle.txn_core.specs.Agents.{Agent, fixed_of, next_in, next_of}
+use Rattle.run_core.specs.declared.done.EndedJob.{EndedJob}
 use Rattle.run_core.specs.declared.event.Event.{Event}
 use Rattle.run_core.specs.declared.event.Event.TheVariants.{Begin, Step}
 use Rattle.run_core.specs.Worlds.{Actor, World, server_at, actor_at, asks_at, asks, steps_once, step}
@@ -22,18 +30,23 @@ use Rattle.run_core.specs.Runs.{run}
 use Rattle.run_core.specs.Decisions.{Decided, decided, decided_by, decisions, decisions_from, task_of, task_at}
 use Rattle.run_core.specs.TableOfRun.{table_of}
 use Rattle.law_runs.specs.Answers.{IsAnsweredAsKnown}
-use Rattle.law_runs.proofs.Agents.{Runs, IsAt, same_place}
+use Rattle.law_runs.proofs.Agents.{Runs, IsAt, EndStands, same_place}
 use Rattle.law_runs.proofs.Answering.{answers_follow_knowledge}
 use Rattle.law_runs.proofs.Conclusions.{holds_of}
+use Rattle.law_runs.proofs.Standing.{In}
 use Rattle.law_runs.proofs.Worlds.{agent_of, agent_at}
+use Rattle.law_run_alone.specs.Undisturbed.{is_decided}
 use Rattle.law_run_recovers.specs.Standing.{is_up}
 use Rattle.law_run_recovers.specs.Unmet.{world_after}
-use Rattle.law_run_recovers.specs.Among.{GoesAmongLocks, first_wanting, has_votes_open, AmongLocksHadVotesOpen, AmongLocksAreAnsweredAsBegun}
+use Rattle.law_run_recovers.specs.Among.{GoesAmongLocks, first_wanting, has_votes_open, is_gathered, GathersItsAsks, AmongLocksHadVotesOpen, AmongLocksAreAnsweredAsBegun, AmongLocksGatherTheirAsks}
+use Rattle.law_run_recovers.specs.Demands.{has_asked, locks_asked}
+use Rattle.law_run_recovers.specs.Near.{asks_for}
 use Rattle.law_run_recovers.specs.OpenDemands.{wants}
 use Rattle.law_run_recovers.specs.Laws.{answer_on}
-use Rattle.law_run_recovers.specs.Local.{UnmetHadVotesUp}
+use Rattle.law_run_recovers.specs.Local.{EndsThen, WasDecidedThen, UnmetHadVotesUp}
 use Rattle.law_run_recovers.proofs.AmongLaws.{none_in, all_is, first_same, rows_met, among_had}
 use Rattle.law_run_recovers.proofs.Apart.{event_apart}
+use Rattle.law_run_recovers.proofs.Asking.{held_if, held_in}
 use Rattle.law_run_recovers.proofs.AtDecision.{decides_up}
 use Rattle.law_run_recovers.proofs.Deciding.{answer_as, decides_answer}
 use Rattle.law_run_recovers.proofs.HadVotes.{decided_since, stood_since}
@@ -44,6 +57,7 @@ use Rattle.law_run_recovers.proofs.Stands.{unmet, wants_of, HasAll}
 use Rattle.law_run_recovers.proofs.Took.{own_took}
 use Rattle.law_run_recovers.proofs.AmongCourse.{Course, StandsIn, PhaseIn, runs_it, next_is, unhindered, running_now, apart_on}
 use Rattle.law_run_recovers.proofs.AmongEnds.{Over, small_at, over_on, over_now}
+use Rattle.law_run_recovers.proofs.AmongOver.{ended_has}
 use Rattle.law_run_recovers.proofs.AmongStep.{first_course, own_on}
 use Rattle.law_run_recovers.proofs.UnmetLaws.{open_is_more}
 
@@ -139,7 +153,7 @@ module _ (given : Opening) (events later : List Event) (agent t : ℕ) (caller :
         (subst (λ doing. decided_by (world_after given events agent caller site ops so_far) (task_of doing) (asks_at (fixed_of given) (world_after given events agent caller site ops so_far) agent so.actor what (server_at (world_after given events agent caller site ops so_far) home)).done.served ≡ Some one) so.running served_so)
 
     all_had : Course given events later agent t caller site ops actor goes so_far
-        → HasAll (fixed_of given) (run given events) (sight given events later agent t caller site ops actor goes) (table_of given events) (its given events later agent t caller site ops actor goes) actor.agent.cache (answer_as so.outcome)
+        → HasAll (fixed_of given) (run given events) (sight given events later agent t caller site ops actor goes) (table_of given events) (its given events later agent t caller site ops actor goes) actor.agent.cache so.txn_run.suites (answer_as so.outcome)
     all_had c =
         let same = same_Some c.here so.actor (sym c.there ∙ here) in
         let stands : StandsIn given events later agent t caller site ops actor goes c.here.agent.cache (Some (Running so.txn_run)) =
@@ -147,16 +161,44 @@ module _ (given : Opening) (events later : List Event) (agent t : ℕ) (caller :
         as_all (subst (PhaseIn given events later agent t caller site ops actor goes so.txn_run.suites c.here.agent.cache) so.deciding stands.1)
       where
         as_all : PhaseIn given events later agent t caller site ops actor goes so.txn_run.suites c.here.agent.cache (doing.Deciding so.outcome)
-            → HasAll (fixed_of given) (run given events) (sight given events later agent t caller site ops actor goes) (table_of given events) (its given events later agent t caller site ops actor goes) actor.agent.cache (answer_as so.outcome)
+            → HasAll (fixed_of given) (run given events) (sight given events later agent t caller site ops actor goes) (table_of given events) (its given events later agent t caller site ops actor goes) actor.agent.cache so.txn_run.suites (answer_as so.outcome)
         as_all has = of so.outcome has
           where
             of : (outcome : doing.Proposal) → PhaseIn given events later agent t caller site ops actor goes so.txn_run.suites c.here.agent.cache (doing.Deciding outcome)
-                → HasAll (fixed_of given) (run given events) (sight given events later agent t caller site ops actor goes) (table_of given events) (its given events later agent t caller site ops actor goes) actor.agent.cache (answer_as outcome)
+                → HasAll (fixed_of given) (run given events) (sight given events later agent t caller site ops actor goes) (table_of given events) (its given events later agent t caller site ops actor goes) actor.agent.cache so.txn_run.suites (answer_as outcome)
             of (Ok granted) has = has
             of (Err refusal) has = has
 
     course_answered : Course given events later agent t caller site ops actor goes so_far → one.answer ≡ answer_on (table_of given events) t caller ops
     course_answered c = answer_so ∙ (all_had c).answer_is ∙ ap (λ n. answer_on (table_of given events) n caller ops) (number given events later agent t caller site ops actor goes)
+
+    -- and has gathered what it asks for
+    course_gathered : Course given events later agent t caller site ops actor goes so_far → (z : ℕ) (mode : LockMode) → is_gathered mode (suite_of so.txn_run.suites z) ≡ has_asked (asks_for given events t caller ops) z mode
+    course_gathered c z mode =
+        held_so (suite_of so.txn_run.suites z) ∙ (all_had c).gathered z mode ∙ ap (λ n. has_asked (locks_asked (table_of given events) n caller ops) z mode) (number given events later agent t caller site ops actor goes)
+      where
+        of_first : (suite : Suite) (first : Option ReadPoint) → (is_some first && serves suite.mode mode) ≡ held_if suite mode first
+        of_first suite (Some point) = refl
+        of_first suite None = refl
+
+        held_so : (found : Option Suite) → is_gathered mode found ≡ held_in mode found
+        held_so (Some suite) = of_first suite suite.first
+        held_so None = refl
+
+    gathers_so : Course given events later agent t caller site ops actor goes so_far → GathersItsAsks given events later agent t caller site ops
+    gathers_so c = record {
+      before = so_far;
+      after = rest;
+      parts = split ∙ ap (λ event. so_far ++ event ∷ rest) (so.step ∙ ap Step own);
+      one = one;
+      decides = ap (λ event. decided (fixed_of given) (run given (events ++ Begin agent (Transaction caller site ops) ∷ so_far)) event) (sym (so.step ∙ ap Step own)) ∙ ap (λ w. decided (fixed_of given) w event) (sym same_run) ∙ is;
+      of_it = of_it;
+      at_decision = so.actor;
+      there = ap (actor_at (run given (events ++ Begin agent (Transaction caller site ops) ∷ so_far))) (sym own) ∙ so.there;
+      txn_run = so.txn_run;
+      running = so.running;
+      suites = course_gathered c;
+    }
 
     course_had : Course given events later agent t caller site ops actor goes so_far → HadAll
     course_had c =
@@ -185,6 +227,9 @@ module _ (given : Opening) (events later : List Event) (agent t : ℕ) (caller :
     pub had_then : State so_far → HadAll
     had_then state = ⊎_elim (λ c. course_had c) (λ over. absurd (over_not over)) state
 
+    pub gathered_then : State so_far → GathersItsAsks given events later agent t caller site ops
+    gathered_then state = ⊎_elim (λ c. gathers_so c) (λ over. absurd (over_not over)) state
+
     pub answered_then : State so_far → one.answer ≡ answer_on (table_of given events) t caller ops
     answered_then state = ⊎_elim (λ c. course_answered c) (λ over. absurd (over_not over)) state
 
@@ -211,26 +256,55 @@ module _ (given : Opening) (events later : List Event) (agent t : ℕ) (caller :
       (stood_since given events later agent t caller site ops actor goes.can goes.there (its_begin given events later agent t caller site ops actor goes.can goes.there goes.begins).0 one
       (has_from (decisions given (events ++ Begin agent (Transaction caller site ops) ∷ later)) one there) of_it) of_it
 
-  decided_in : (rest so_far : List Event) → later ≡ so_far ++ rest → State so_far → list_any (λ (one : Decided). one.t == t) (decisions_from (fixed_of given) (world_after given events agent caller site ops so_far) rest) ≡ true → HadAll
-  decided_in [] so_far split state some = absurd (false≢true some)
-  decided_in (event ∷ rest) so_far split state some =
-      of (decided (fixed_of given) (world_after given events agent caller site ops so_far) event) refl
-      (λ some. decided_in rest (so_far ++ event ∷ []) (split ∙ sym (append_assoc so_far (event ∷ []) rest)) (state_on so_far rest event split state)
-      (subst (λ w. list_any (λ (one : Decided). one.t == t) (decisions_from (fixed_of given) w rest) ≡ true) (sym (next_is given events later agent t caller site ops actor goes so_far event)) some)) some
-    where
-      of : (found : Option Decided) → decided (fixed_of given) (world_after given events agent caller site ops so_far) event ≡ found
-          → (list_any (λ (one : Decided). one.t == t) (decisions_from (fixed_of given) (step (fixed_of given) (world_after given events agent caller site ops so_far) event).world rest) ≡ true → HadAll)
-          → list_any (λ (one : Decided). one.t == t) (cons_option found (decisions_from (fixed_of given) (step (fixed_of given) (world_after given events agent caller site ops so_far) event).world rest)) ≡ true → HadAll
-      of None is go some = go some
-      of (Some one) is go some = ⊎_elim
-          (λ now. had_then so_far rest event split one is (eqb-true one.t t now) state)
-          go
-          (or_cases (one.t == t) (list_any (λ (one : Decided). one.t == t) (decisions_from (fixed_of given) (step (fixed_of given) (world_after given events agent caller site ops so_far) event).world rest)) some)
+  -- what is so in the step in which it is decided, wherever that is
+  module _ (P : Type 0) (each : (so_far rest : List Event) (event : Event) → later ≡ so_far ++ event ∷ rest → (one : Decided) → decided (fixed_of given) (world_after given events agent caller site ops so_far) event ≡ Some one → one.t ≡ t → State so_far → P) where
+    decided_in : (rest so_far : List Event) → later ≡ so_far ++ rest → State so_far → list_any (λ (one : Decided). one.t == t) (decisions_from (fixed_of given) (world_after given events agent caller site ops so_far) rest) ≡ true → P
+    decided_in [] so_far split state some = absurd (false≢true some)
+    decided_in (event ∷ rest) so_far split state some =
+        of (decided (fixed_of given) (world_after given events agent caller site ops so_far) event) refl
+        (λ some. decided_in rest (so_far ++ event ∷ []) (split ∙ sym (append_assoc so_far (event ∷ []) rest)) (state_on so_far rest event split state)
+        (subst (λ w. list_any (λ (one : Decided). one.t == t) (decisions_from (fixed_of given) w rest) ≡ true) (sym (next_is given events later agent t caller site ops actor goes so_far event)) some)) some
+      where
+        of : (found : Option Decided) → decided (fixed_of given) (world_after given events agent caller site ops so_far) event ≡ found
+            → (list_any (λ (one : Decided). one.t == t) (decisions_from (fixed_of given) (step (fixed_of given) (world_after given events agent caller site ops so_far) event).world rest) ≡ true → P)
+            → list_any (λ (one : Decided). one.t == t) (cons_option found (decisions_from (fixed_of given) (step (fixed_of given) (world_after given events agent caller site ops so_far) event).world rest)) ≡ true → P
+        of None is go some = go some
+        of (Some one) is go some = ⊎_elim
+            (λ now. each so_far rest event split one is (eqb-true one.t t now) state)
+            go
+            (or_cases (one.t == t) (list_any (λ (one : Decided). one.t == t) (decisions_from (fixed_of given) (step (fixed_of given) (world_after given events agent caller site ops so_far) event).world rest)) some)
+
+    decided_where : list_any (λ (one : Decided). one.t == t) (decisions given (events ++ Begin agent (Transaction caller site ops) ∷ later)) ≡ true → P
+    decided_where some =
+        decided_in later [] refl (inl (first_course given events later agent t caller site ops actor goes))
+        (decided_since given events later agent t caller site ops actor goes.can goes.there (its_begin given events later agent t caller site ops actor goes.can goes.there goes.begins).0 some)
 
   pub stood_had : list_any (λ (one : Decided). one.t == t) (decisions given (events ++ Begin agent (Transaction caller site ops) ∷ later)) ≡ true → HadAll
-  stood_had some =
-      decided_in later [] refl (inl (first_course given events later agent t caller site ops actor goes))
-      (decided_since given events later agent t caller site ops actor goes.can goes.there (its_begin given events later agent t caller site ops actor goes.can goes.there goes.begins).0 some)
+  stood_had some = decided_where HadAll had_then some
+
+  pub stood_gathered : list_any (λ (one : Decided). one.t == t) (decisions given (events ++ Begin agent (Transaction caller site ops) ∷ later)) ≡ true → GathersItsAsks given events later agent t caller site ops
+  stood_gathered some = decided_where (GathersItsAsks given events later agent t caller site ops) gathered_then some
+
+  -- what ended decided stands among the decisions
+  ended_stands : (job : EndedJob) → EndsThen given events later agent t caller site ops job → is_decided job.ending ≡ true → list_any (λ (one : Decided). one.t == t) (decisions given (events ++ Begin agent (Transaction caller site ops) ∷ later)) ≡ true
+  ended_stands job ends = of job.ending ((holds_of given goes.can.accepted (events ++ Begin agent (Transaction caller site ops) ∷ later)).over job (ended_has given events later agent t caller site ops actor goes job ends)).stands
+    where
+      stands : (answer : Result (List Answer) Refusal) → In (decisions given (events ++ Begin agent (Transaction caller site ops) ∷ later)) (64 * job.count + job.agent) answer → list_any (λ (one : Decided). one.t == t) (decisions given (events ++ Begin agent (Transaction caller site ops) ∷ later)) ≡ true
+      stands answer is =
+          has_any (λ (one : Decided). one.t == t) (decisions given (events ++ Begin agent (Transaction caller site ops) ∷ later)) is.decision is.there (eq-eqb is.decision.t t (is.of_it ∙ ends.of_it))
+
+      of : (ended : Ending) → EndStands (decisions given (events ++ Begin agent (Transaction caller site ops) ∷ later)) (64 * job.count + job.agent) ended → is_decided ended ≡ true
+          → list_any (λ (one : Decided). one.t == t) (decisions given (events ++ Begin agent (Transaction caller site ops) ∷ later)) ≡ true
+      of (Answered answers) is decided' = stands (Ok answers) is
+      of (Refused refusal) is decided' = stands (Err refusal) is
+      of (Swept broken finished left) is decided' = absurd (false≢true decided')
+      of (Undecided cause) is decided' = absurd (false≢true decided')
+
+  pub was_gathered : WasDecidedThen given events later agent t caller site ops → GathersItsAsks given events later agent t caller site ops
+  was_gathered was = ⊎_elim (λ some. stood_gathered some) (λ it. stood_gathered (ended_stands it.0 it.1 it.2)) was
+
+pub among_locks_gather_their_asks : AmongLocksGatherTheirAsks
+among_locks_gather_their_asks given events later agent t caller site ops actor goes was = was_gathered given events later agent t caller site ops actor goes was
 
 pub among_locks_are_answered_as_begun : AmongLocksAreAnsweredAsBegun
 among_locks_are_answered_as_begun given events later agent t caller site ops actor goes one there of_it = answered_begun given events later agent t caller site ops actor goes one there of_it

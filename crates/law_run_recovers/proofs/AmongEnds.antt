@@ -26,7 +26,7 @@ use Rattle.law_run_recovers.specs.Among.{GoesAmongLocks}
 use Rattle.law_run_recovers.proofs.Apart.{event_apart, who_ends}
 use Rattle.law_run_recovers.proofs.Keeps.{run_at}
 use Rattle.law_run_recovers.proofs.NearGround.{number}
-use Rattle.law_run_recovers.proofs.Took.{own_took}
+use Rattle.law_run_recovers.proofs.Took.{OwnTook, own_took}
 use Rattle.law_run_recovers.proofs.AmongCourse.{Course, Right, runs_it, next_is, unhindered, apart_on}
 use Rattle.law_run_recovers.proofs.AmongStep.{begun, first_course, ends_right, own_on}
 
@@ -91,7 +91,16 @@ module _ (given : Opening) (events later : List Event) (agent t : ℕ) (caller :
       let small_own = small_at so_far agent c.here.agent (ap agent_of c.there) in
       other one is (same_place one.count actor.agent.count one.agent agent (number ∙ sym (begun given events later agent t caller site ops actor goes).0) small_now small_own).1
 
-  ends_in : (rest so_far : List Event) → later ≡ so_far ++ rest → Course given events later agent t caller site ops actor goes so_far ⊎ Over so_far → (one : EndedJob) → Has (outcomes (dones (fixed_of given) (world_after given events agent caller site ops so_far) rest)) one → number_of one ≡ t → Right given events later agent t caller site ops actor goes one.ending
+  -- in which step of its own it ended
+  pub record EndsWhere (one : EndedJob) : Type 0 where
+    pub so_far : List Event
+    pub rest : List Event
+    pub split : later ≡ so_far ++ Step agent ∷ rest
+    pub course : Course given events later agent t caller site ops actor goes so_far
+    pub took : OwnTook (fixed_of given) (world_after given events agent caller site ops so_far) agent course.here course.there (step (fixed_of given) (world_after given events agent caller site ops so_far) (Step agent))
+    pub is : (step (fixed_of given) (world_after given events agent caller site ops so_far) (Step agent)).done.outcome ≡ Some one
+
+  ends_in : (rest so_far : List Event) → later ≡ so_far ++ rest → Course given events later agent t caller site ops actor goes so_far ⊎ Over so_far → (one : EndedJob) → Has (outcomes (dones (fixed_of given) (world_after given events agent caller site ops so_far) rest)) one → number_of one ≡ t → EndsWhere one
   ends_in [] so_far split state one has numbered = absurd has
   ends_in (event ∷ rest) so_far split state one has numbered =
       ⊎_elim
@@ -101,34 +110,39 @@ module _ (given : Opening) (events later : List Event) (agent t : ℕ) (caller :
       (λ has. ends_in rest (so_far ++ event ∷ []) (split ∙ sym (append_assoc so_far (event ∷ []) rest)) (inr (over_on so_far event over)) one has numbered) (step (fixed_of given) (world_at so_far) event).done.outcome refl has)
       state
     where
-      goes_later : ((step (fixed_of given) (world_after given events agent caller site ops so_far) event).done.outcome ≡ Some one → Right given events later agent t caller site ops actor goes one.ending)
-          → (Has (outcomes (dones (fixed_of given) (world_after given events agent caller site ops (so_far ++ event ∷ [])) rest)) one → Right given events later agent t caller site ops actor goes one.ending)
+      goes_later : ((step (fixed_of given) (world_after given events agent caller site ops so_far) event).done.outcome ≡ Some one → EndsWhere one)
+          → (Has (outcomes (dones (fixed_of given) (world_after given events agent caller site ops (so_far ++ event ∷ [])) rest)) one → EndsWhere one)
           → (found : Option EndedJob) → (step (fixed_of given) (world_after given events agent caller site ops so_far) event).done.outcome ≡ found
-          → Has (cons_option found (outcomes (dones (fixed_of given) (step (fixed_of given) (world_after given events agent caller site ops so_far) event).world rest))) one → Right given events later agent t caller site ops actor goes one.ending
+          → Has (cons_option found (outcomes (dones (fixed_of given) (step (fixed_of given) (world_after given events agent caller site ops so_far) event).world rest))) one → EndsWhere one
       goes_later here go None is has = go (subst (λ w. Has (outcomes (dones (fixed_of given) w rest)) one) (sym (next_is given events later agent t caller site ops actor goes so_far event)) has)
       goes_later here go (Some other) is has =
           ⊎_elim (λ same. here (is ∙ ap (λ o. Some o) same)) (λ has. go (subst (λ w. Has (outcomes (dones (fixed_of given) w rest)) one) (sym (next_is given events later agent t caller site ops actor goes so_far event)) has)) has
 
-      by : Course given events later agent t caller site ops actor goes so_far → (Course given events later agent t caller site ops actor goes (so_far ++ event ∷ []) ⊎ Over (so_far ++ event ∷ []) → Has (outcomes (dones (fixed_of given) (world_after given events agent caller site ops (so_far ++ event ∷ [])) rest)) one → Right given events later agent t caller site ops actor goes one.ending) → Right given events later agent t caller site ops actor goes one.ending
+      by : Course given events later agent t caller site ops actor goes so_far → (Course given events later agent t caller site ops actor goes (so_far ++ event ∷ []) ⊎ Over (so_far ++ event ∷ []) → Has (outcomes (dones (fixed_of given) (world_after given events agent caller site ops (so_far ++ event ∷ [])) rest)) one → EndsWhere one) → EndsWhere one
       by c go = ⊎_elim
           (λ apart.
           goes_later (λ is. absurd (not_ended so_far rest event split c apart.0.other one is numbered)) (go (inl (apart_on given events later agent t caller site ops actor goes so_far rest event split c apart.0 apart.1).0)) (step (fixed_of given) (world_at so_far) event).done.outcome refl has)
           (λ own. own_step own.0 own.1)
           (event_apart given agent (world_at so_far) c.here c.there c.busy event (unhindered given events later agent t caller site ops actor goes so_far rest event split c))
         where
-          own_step : event ≡ Step agent → is_some (step (fixed_of given) (world_after given events agent caller site ops so_far) event).done.served ≡ true → Right given events later agent t caller site ops actor goes one.ending
+          own_step : event ≡ Step agent → is_some (step (fixed_of given) (world_after given events agent caller site ops so_far) event).done.served ≡ true → EndsWhere one
           own_step is served =
               let split' : later ≡ so_far ++ Step agent ∷ rest = split ∙ ap (λ event. so_far ++ event ∷ rest) is in
               let took = own_took (fixed_of given) (world_at so_far) agent c.here c.there (subst (λ event. is_some (step (fixed_of given) (world_after given events agent caller site ops so_far) event).done.served ≡ true) is served) in
               let r = runs_it given events later agent t caller site ops actor goes so_far c in
               let on = own_on given events later agent t caller site ops actor goes so_far rest split' c r took in
-              let here : (step (fixed_of given) (world_after given events agent caller site ops so_far) event).done.outcome ≡ Some one → Right given events later agent t caller site ops actor goes one.ending =
-              λ ends. ends_right given events later agent t caller site ops actor goes so_far rest split' c r took one (ap (λ event. (step (fixed_of given) (world_after given events agent caller site ops so_far) event).done.outcome) (sym is) ∙ ends) in
+              let here : (step (fixed_of given) (world_after given events agent caller site ops so_far) event).done.outcome ≡ Some one → EndsWhere one =
+              λ ends. record { so_far = so_far; rest = rest; split = split'; course = c; took = took; is = ap (λ event. (step (fixed_of given) (world_after given events agent caller site ops so_far) event).done.outcome) (sym is) ∙ ends } in
               let state : Course given events later agent t caller site ops actor goes (so_far ++ event ∷ []) ⊎ Over (so_far ++ event ∷ []) =
               subst (λ event. Course given events later agent t caller site ops actor goes (so_far ++ event ∷ []) ⊎ Over (so_far ++ event ∷ [])) (sym is) (⊎_elim (λ on. inl on.0) (λ ended. inr (over_now so_far (Step agent) ended.0 ended.1 ended.2)) on) in
               goes_later here (go state) (step (fixed_of given) (world_at so_far) event).done.outcome refl has
 
+  pub ends_where : (one : EndedJob) → Contains (outcomes (dones (fixed_of given) (begun_world given events agent caller site ops) later)) one → number_of one ≡ t → EndsWhere one
+  ends_where one there number =
+      ends_in later [] refl (inl (first_course given events later agent t caller site ops actor goes)) one (has_from (outcomes (dones (fixed_of given) (begun_world given events agent caller site ops) later)) one there) number
+
   -- it ends so
   pub among_ends : (one : EndedJob) → Contains (outcomes (dones (fixed_of given) (begun_world given events agent caller site ops) later)) one → number_of one ≡ t → Right given events later agent t caller site ops actor goes one.ending
   among_ends one there number =
-      ends_in later [] refl (inl (first_course given events later agent t caller site ops actor goes)) one (has_from (outcomes (dones (fixed_of given) (begun_world given events agent caller site ops) later)) one there) number
+      let e = ends_where one there number in
+      ends_right given events later agent t caller site ops actor goes e.so_far e.rest e.split e.course (runs_it given events later agent t caller site ops actor goes e.so_far e.course) e.took one e.is

@@ -6,11 +6,9 @@ use Rattle.std.proofs.lemmas.Bool.{false≢true, and_parts, eq-eqb}
 use Rattle.std.proofs.lemmas.Option.{none-some, same_Some}
 use Rattle.sorted_map.specs.SortedMap.{IsOrdered}
 use Rattle.acl_core.specs.Identity.{Identity}
-use Rattle.vote_core.specs.Quorums.{Configuration}
 use Rattle.suite_prefix.specs.SettingsRules.{Opening}
 use Rattle.suite_prefix.specs.declared.copies.Replica.{Replica}
 use Rattle.suite_prefix.specs.declared.lock_mode.LockMode.{LockMode}
-use Rattle.suite_prefix.specs.declared.lock_mode.LockMode.TheVariants.{Exclusive}
 use Rattle.file_ops.specs.declared.operation.Op.{Op}
 use Rattle.rep_core.specs.declared.request.Request.{Request}
 use Rattle.rep_core.specs.declared.request.Request.TheVariants as request
@@ -21,9 +19,9 @@ use Rattle.rep_core.specs.declared.reply.Verdict.{Verdict}
 use Rattle.rep_core.specs.Service.{reply_of, held, verdict_of}
 use Rattle.rep_core.specs.Serving.{answer_of}
 use Rattle.rep_core.specs.State.{State}
-use Rattle.rep_core.proofs.Members.{Has, contains_from}
+use Rattle.rep_core.proofs.Members.{Has}
 use Rattle.suite_collect.specs.Telling.{newest}
-use Rattle.suite_collect.specs.Collecting.{Collector, Asked, Poll, Upgrade, counted, wanted, votes_or, mode_or, request_for, mode_asked, mode_of}
+use Rattle.suite_collect.specs.Collecting.{Collector, Asked, Poll, Upgrade, counted, votes_or, request_for, mode_asked, mode_of}
 use Rattle.weak_cache.specs.Entries.{Cache}
 use Rattle.txn_core.specs.declared.ending.Ending.{Ending}
 use Rattle.txn_core.specs.declared.job.Job.TheVariants.{Transaction}
@@ -59,12 +57,10 @@ use Rattle.law_runs.proofs.Worlds.{agent_of}
 use Rattle.law_run_alone.proofs.Named.{no_lock}
 use Rattle.law_run_alone.proofs.Unswept.{is_resolve, never_resolves}
 use Rattle.law_run_recovers.specs.Standing.{is_up, locks_in}
-use Rattle.law_run_recovers.specs.Demands.{locks_asked, votes_set}
 use Rattle.law_run_recovers.specs.Near.{asks_for}
 use Rattle.law_run_recovers.specs.Unmet.{runs, running_in, world_after}
 use Rattle.law_run_recovers.specs.Among.{GoesAmongLocks}
-use Rattle.law_run_recovers.proofs.Asked.{onto_left, onto_so_far, asked_exclusive, next_vote, next_mode}
-use Rattle.law_run_recovers.proofs.Asking.{onto}
+use Rattle.law_run_recovers.proofs.Asked.{onto_left, next_vote}
 use Rattle.law_run_recovers.proofs.Ends.{early_open, early_asks, fetch_is, ending_in}
 use Rattle.law_run_recovers.proofs.Executes.{begin_stands}
 use Rattle.law_run_recovers.proofs.Heard.{LockRight, RightFor, MayExecute, AsksFor, asks_for as asked_by, reply_stands}
@@ -73,10 +69,11 @@ use Rattle.law_run_recovers.proofs.NearGround.{its, opens, first_asked, opens_fi
 use Rattle.law_run_recovers.proofs.Open.{its_begin, begun_there, begun_servers, begun_runs}
 use Rattle.law_run_recovers.proofs.Polled.{Answers}
 use Rattle.law_run_recovers.proofs.Serves.{On}
-use Rattle.law_run_recovers.proofs.Stands.{AfterStands, StepStands, asks_of, locks_on, sets_on}
+use Rattle.law_run_recovers.proofs.Stands.{AfterStands, StepStands, asks_of, locks_on}
 use Rattle.law_run_recovers.proofs.Still.{IsOpen, IsOpenPhase}
 use Rattle.law_run_recovers.proofs.Took.{OwnTook}
 use Rattle.law_run_recovers.proofs.AmongAt.{HasWhereOpen, lock_right, fetch_right, prepare_right, decide_right}
+use Rattle.law_run_recovers.proofs.AmongAsks.{gather_asks, widen_asks, set_there}
 use Rattle.law_run_recovers.proofs.AmongCourse.{Course, RunsIt, PhaseIn, StandsIn, Right, same_service, next_is, NewOpen, spared_on, locks_on as answered_on}
 use Rattle.law_run_recovers.proofs.Widened.{same_mode}
 use Rattle.law_run_recovers.proofs.AmongKnows.{knows_begun}
@@ -189,7 +186,7 @@ module _ (given : Opening) (events later : List Event) (agent t : ℕ) (caller :
     asks_so : (asked : Request) → took.asked.1 ≡ asked → next_of (fixed_of given) c.here.agent ≡ Some (took.asked.0, asked)
     asks_so asked is = took.next ∙ ap (λ asked. Some (took.asked.0, asked)) is
 
-    request_is : request_in (fixed_of given) its_task r.txn_run.suites r.txn_run.phase ≡ Some (took.asked.0, took.asked.1)
+    pub request_is : request_in (fixed_of given) its_task r.txn_run.suites r.txn_run.phase ≡ Some (took.asked.0, took.asked.1)
     request_is = subst (λ task. request_in (fixed_of given) task r.txn_run.suites r.txn_run.phase ≡ Some (took.asked.0, took.asked.1)) r.at.0 (sym (ap (next_in (fixed_of given)) r.running) ∙ took.next)
 
     work_in : IsOpenPhase r.txn_run.phase → IsAtWork (world_after given events agent caller site ops so_far) agent t
@@ -206,35 +203,13 @@ module _ (given : Opening) (events later : List Event) (agent t : ℕ) (caller :
         (lock_right given events later agent t caller site ops actor goes so_far (Step agent ∷ rest) split work c.spared c.locks took.asked.0 took.st took.at c.here r.txn_run c.there r.running number_here z question (asks_so (request_for t z question) is) near
         (subst (λ mode. Contains (asks_for given events t caller ops) (z, mode)) modes has))
 
-    -- what it has on the table by its number
-    asked_there : (one : ℕ × LockMode) → Has (locks_on (table_of given events) its_task) one → Contains (asks_for given events t caller ops) one
-    asked_there one has = contains_from (asks_for given events t caller ops) one (subst (λ n. Has (locks_asked (table_of given events) n caller ops) one) (number given events later agent t caller site ops actor goes) has)
-
-    set_there : (one : ℕ × Configuration) → Has (sets_on (table_of given events) its_task) one → Contains (votes_set (table_of given events) t caller ops) one
-    set_there one has = contains_from (votes_set (table_of given events) t caller ops) one (subst (λ n. Has (votes_set (table_of given events) n caller ops) one) (number given events later agent t caller site ops actor goes) has)
-
-    gather_asks : (now : Cache) (suites : Suites) (z : ℕ) (at : PhaseIn given events later agent t caller site ops actor goes suites now (Gathering z)) (asks : AsksFor its_task.t z at.0.suite.collector took.asked.0 took.asked.1)
-        → Contains (asks_for given events t caller ops) (z, mode_asked asks.question)
-    gather_asks now suites z at asks =
-        let g = at.0 in
-        let mode : mode_asked asks.question ≡ g.mode = next_mode g.suite.collector took.asked.0 asks.question asks.is ∙ ap wanted g.found.reached.is ∙ ap (λ (c : Collector). c.mode) (sym g.found.reached.is) ∙ g.mode_is in
-        subst (λ mode. Contains (asks_for given events t caller ops) (z, mode)) (sym mode)
-        (asked_there (z, g.mode) (subst (λ locks. Has locks (z, g.mode)) (sym (g.asks.order ∙ ap (onto g.asked) g.next_is)) (onto_left g.asked _ (z, g.mode) (inl refl))))
-
-    widen_asks : (now : Cache) (suites : Suites) (z : ℕ) (left : List ℕ) (granted : Granted) (at : PhaseIn given events later agent t caller site ops actor goes suites now (doing.Widening (z ∷ left) granted)) (asks : AsksFor its_task.t z at.suite.collector took.asked.0 took.asked.1)
-        → Contains (asks_for given events t caller ops) (z, mode_asked asks.question)
-    widen_asks now suites z left granted at asks =
-        let mode : mode_asked asks.question ≡ Exclusive = next_mode at.suite.collector took.asked.0 asks.question asks.is ∙ ap (λ o. mode_or o at.suite.collector.mode) at.widening_is in
-        subst (λ mode. Contains (asks_for given events t caller ops) (z, mode)) (sym mode)
-        (asked_there (z, Exclusive) (subst (λ locks. Has locks (z, Exclusive)) (sym at.sets.all) (onto_so_far at.sets.so_far [] (z, Exclusive) (asked_exclusive at.sets.so_far z (at.sets.exclusive (z, at.votes) (inl refl))))))
-
     right_for : (now : Cache) (suites : Suites) (phase : Phase) → PhaseIn given events later agent t caller site ops actor goes suites now phase → (IsOpenPhase phase → IsAtWork (world_after given events agent caller site ops so_far) agent t)
         → request_in (fixed_of given) its_task suites phase ≡ Some (took.asked.0, took.asked.1) → RightFor (fixed_of given) (run given events) (sight given events later agent t caller site ops actor goes) its_task phase took.asked.0 took.asked.1 said
     right_for now suites (Gathering z) at work asks' =
         let g = at.0 in
         let asks = asked_by its_task z g.suite.collector took.asked.0 took.asked.1 (sym (ap (asked_for its_task z) g.there) ∙ asks') in
         let vote = next_vote g.suite.collector took.asked.0 asks.question asks.is in
-        lock_here z g.suite.collector (work tt) asks (g.found.reached.going.known.1 took.asked.0 (subst (λ (c : Collector). has_vote (counted c) took.asked.0 ≡ true) g.found.reached.is vote)) (gather_asks now suites z at asks)
+        lock_here z g.suite.collector (work tt) asks (g.found.reached.going.known.1 took.asked.0 (subst (λ (c : Collector). has_vote (counted c) took.asked.0 ≡ true) g.found.reached.is vote)) (gather_asks given events later agent t caller site ops actor goes took.asked.0 took.asked.1 now suites z at asks)
     right_for now suites (Fetching z) at work asks' =
         let is : took.asked.1 ≡ request.Fetch t z = fetch_is its_task z (suite_of suites z) took.asked.0 took.asked.1 asks' ∙ ap (λ n. request.Fetch n z) (number given events later agent t caller site ops actor goes) in
         ap (λ asked. is_some (given_in (reply_of took.st asked))) is
@@ -245,8 +220,8 @@ module _ (given : Opening) (events later : List Event) (agent t : ℕ) (caller :
         let vote = next_vote at.suite.collector took.asked.0 asks.question asks.is in
         let count' : counted at.suite.collector ≡ at.votes = ap (λ o. votes_or o (newest at.suite.collector.start at.suite.collector.told)) at.widening_is ∙ at.votes_are in
         lock_here z at.suite.collector (work tt) asks
-        (goes.are_near.set (z, at.votes) took.asked.0 (set_there (z, at.votes) (subst (λ sets. Has sets (z, at.votes)) (sym at.sets.sets) (onto_left at.done _ (z, at.votes) (inl refl)))) (subst (λ votes. has_vote votes took.asked.0 ≡ true) count' vote))
-        (widen_asks now suites z left granted at asks)
+        (goes.are_near.set (z, at.votes) took.asked.0 (set_there given events later agent t caller site ops actor goes (z, at.votes) (subst (λ sets. Has sets (z, at.votes)) (sym at.sets.sets) (onto_left at.done _ (z, at.votes) (inl refl)))) (subst (λ votes. has_vote votes took.asked.0 ≡ true) count' vote))
+        (widen_asks given events later agent t caller site ops actor goes took.asked.0 took.asked.1 now suites z left granted at asks)
     right_for now suites (Preparing [] outcome) at work asks' = absurd (none-some (took.asked.0, took.asked.1) asks')
     right_for now suites (Preparing (server ∷ left) outcome) at work asks' =
         let parts = parts_at suites (changes_of outcome) server in
@@ -268,7 +243,7 @@ module _ (given : Opening) (events later : List Event) (agent t : ℕ) (caller :
         by false is up down = inr (is, down is)
     right_for now suites (Finishing left v ended) at work asks' = tt
 
-    right_here : RightFor (fixed_of given) (run given events) (sight given events later agent t caller site ops actor goes) its_task r.txn_run.phase took.asked.0 took.asked.1 said
+    pub right_here : RightFor (fixed_of given) (run given events) (sight given events later agent t caller site ops actor goes) its_task r.txn_run.phase took.asked.0 took.asked.1 said
     right_here = right_for c.here.agent.cache r.txn_run.suites r.txn_run.phase r.at.1 work_in request_is
 
     -- ---- where it was told of a lock, it was answered
@@ -285,13 +260,13 @@ module _ (given : Opening) (events later : List Event) (agent t : ℕ) (caller :
         → opens given events later agent t caller site ops actor goes suite (first_asked given events later agent t caller site ops actor goes suite) took.asked.0 ≡ true
     polls_answered (Gathering z) at asks' right u suite mode poll copy is =
         let asks = asked_by its_task z at.0.suite.collector took.asked.0 took.asked.1 (sym (ap (asked_for its_task z) at.0.there) ∙ asks') in
-        open_so z took.asked.1 asks.question (gather_asks c.here.agent.cache r.txn_run.suites z at asks) asks.asked_is
+        open_so z took.asked.1 asks.question (gather_asks given events later agent t caller site ops actor goes took.asked.0 took.asked.1 c.here.agent.cache r.txn_run.suites z at asks) asks.asked_is
         (subst (Answers (fixed_of given) (run given events) (sight given events later agent t caller site ops actor goes) z asks.question took.asked.0) is (right asks.question asks.asked_is)).0 u suite mode poll
     polls_answered (Fetching z) at asks' right u suite mode poll copy is = absurd (false≢true (ap (λ said. is_some (given_in said)) (sym is) ∙ right))
     polls_answered (doing.Widening [] granted) at asks' right u suite mode poll copy is = absurd at
     polls_answered (doing.Widening (z ∷ left) granted) at asks' right u suite mode poll copy is =
         let asks = asked_by its_task z at.suite.collector took.asked.0 took.asked.1 (sym (ap (asked_for its_task z) at.there) ∙ asks') in
-        open_so z took.asked.1 asks.question (widen_asks c.here.agent.cache r.txn_run.suites z left granted at asks) asks.asked_is
+        open_so z took.asked.1 asks.question (widen_asks given events later agent t caller site ops actor goes took.asked.0 took.asked.1 c.here.agent.cache r.txn_run.suites z left granted at asks) asks.asked_is
         (subst (Answers (fixed_of given) (run given events) (sight given events later agent t caller site ops actor goes) z asks.question took.asked.0) is (right asks.question asks.asked_is)).0 u suite mode poll
     polls_answered (Preparing left outcome) at asks' right u suite mode poll copy is = absurd (false≢true (ap is_prepared (sym is) ∙ right))
     polls_answered (Deciding outcome) at asks' right u suite mode poll copy is =
@@ -347,7 +322,7 @@ module _ (given : Opening) (events later : List Event) (agent t : ℕ) (caller :
     abbrev told_then : List agents.Event
     told_then = c.told ++ agents.Take (Replied (reply_of took.st took.asked.1)) ∷ []
 
-    is_then : took.new.agent ≡ after_all (fixed_of given) (begin (fixed_of given) actor.agent (Transaction caller site ops)) (c.told ++ agents.Take (Replied (reply_of took.st took.asked.1)) ∷ [])
+    pub is_then : took.new.agent ≡ after_all (fixed_of given) (begin (fixed_of given) actor.agent (Transaction caller site ops)) (c.told ++ agents.Take (Replied (reply_of took.st took.asked.1)) ∷ [])
     is_then = took.took ∙ ap (λ a. (take (fixed_of given) a (Replied said)).agent) c.is ∙ sym (after-append (fixed_of given) (begin (fixed_of given) actor.agent (Transaction caller site ops)) c.told (agents.Take (Replied said)))
 
     module _ (may : MayExecute r.txn_run.phase) (more : TransactionRun) (is : (step_of its_task).after ≡ GoesOn more) where
@@ -397,7 +372,7 @@ module _ (given : Opening) (events later : List Event) (agent t : ℕ) (caller :
     -- it goes on, and was told this; or it is idle, and its job has ended
     abbrev pub OwnOn : Type 0
     OwnOn = ((on : Course given events later agent t caller site ops actor goes (so_far ++ Step agent ∷ [])) × (on.told ≡ c.told ++ agents.Take (Replied (reply_of took.st took.asked.1)) ∷ []))
-        ⊎ ((one : EndedJob) × ((step (fixed_of given) (world_after given events agent caller site ops so_far) (Step agent)).done.outcome ≡ Some one) × (number_of one ≡ t))
+        ⊎ ((one : EndedJob) × ((step (fixed_of given) (world_after given events agent caller site ops so_far) (Step agent)).done.outcome ≡ Some one) × (number_of one ≡ t) × (is_idle took.new.agent.doing ≡ true))
 
     pub own_on : OwnOn
     own_on = of (step_of r.txn_run.task).after refl
@@ -424,7 +399,7 @@ module _ (given : Opening) (events later : List Event) (agent t : ℕ) (caller :
           refl,
         )
         of (Ends ended) is =
-            inr (the_one, took.ended ∙ ap (outcome_of agent c.here) (ap (λ (taken : Taken). taken.ending) taken ∙ ap end_of is), number_ended the_one refl refl)
+            inr (the_one, took.ended ∙ ap (outcome_of agent c.here) (ap (λ (taken : Taken). taken.ending) taken ∙ ap end_of is), number_ended the_one refl refl, ap (λ (a : Agent). is_idle a.doing) here_is ∙ ap (λ after. is_idle (left Running after)) is)
           where
             the_one : EndedJob
             the_one = record { agent = agent; count = c.here.agent.count - 1; steps = one_more c.here.steps; ending = ended }

@@ -1,6 +1,7 @@
 -- What a transaction asks for in its order: what it has asked for so far, and what is asked next.
 use Rattle.std.proofs.Common.{◌≡◌, inl, inr, ℕ, Bool, true, false, cond, List, [], ◌∷◌, ◌++◌, Option, Some, None, refl, sym, ap, ◌∙◌, arith}
 use Rattle.std.specs.Prelude.{◌==◌, ◌&&◌, ◌||◌, not, find, map}
+use Rattle.std.specs.List.{list_any}
 use Rattle.std.specs.Ordering.{nat_cmp}
 use Rattle.std.proofs.lemmas.Bool.{false≢true}
 use Rattle.std.proofs.lemmas.Bool.Decides.{nat_tests}
@@ -26,6 +27,17 @@ use Rattle.law_run_recovers.specs.Demands.{has_asked, not_asked}
 abbrev pub onto : {X : Type 0} → List X → List X → List X
 onto [] left = left
 onto (x ∷ so_far) left = onto so_far (x ∷ left)
+
+turned : (a b c : Bool) → (b || (a || c)) ≡ ((a || b) || c)
+turned true true c = refl
+turned true false c = refl
+turned false true c = refl
+turned false false c = refl
+
+-- a test that one of both passes
+pub any_onto : {X : Type 0} (p : X → Bool) (so_far left : List X) → list_any p (onto so_far left) ≡ (list_any p so_far || list_any p left)
+any_onto p [] left = refl
+any_onto p (x ∷ so_far) left = any_onto p so_far (x ∷ left) ∙ turned (p x) (list_any p so_far) (list_any p left)
 
 -- where none that came so far passes a test, the first that does is among what is left
 pub find_past : {X Y : Type 0} (g : X → Y) (f : Y → Bool) (so_far left : List X) (later : List Y) → ((x : X) → Has so_far x → f (g x) ≡ false) → find f (map g (onto so_far left) ++ later) ≡ find f (map g left ++ later)

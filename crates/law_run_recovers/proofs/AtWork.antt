@@ -159,7 +159,7 @@ early w t (Some (Running txn_run)) open' stands = of txn_run.phase open' stands
     of (Deciding outcome) open' stands = stands
     of (Finishing left v ended) open' stands = absurd open'
 
-mine_where : (t : ℕ) (doing : Option Doing) → runs t doing ≡ true → IsMine t doing
+pub mine_where : (t : ℕ) (doing : Option Doing) → runs t doing ≡ true → IsMine t doing
 mine_where t None is = tt
 mine_where t (Some (RunningSweep sweep_run)) is = absurd (false≢true is)
 mine_where t (Some (Running txn_run)) is = eqb-true txn_run.task.t t is

@@ -44,7 +44,7 @@ use Rattle.txn_core.proofs.Locks.{are_nil}
 use Rattle.run_core.specs.Worlds.{World}
 use Rattle.law_run_recovers.specs.Demands.{is_met, MayStart, has_asked, not_asked, changes_on}
 use Rattle.law_run_recovers.specs.OpenDemands.{mode_or, first_mode}
-use Rattle.law_run_recovers.proofs.Asking.{onto, first_hold, first_new, none_left, held_in, held_if, held_is}
+use Rattle.law_run_recovers.proofs.Asking.{onto, any_onto, first_hold, first_new, none_left, held_in, held_if, held_is}
 use Rattle.law_run_recovers.proofs.Led.{reached_first, reached_raise}
 use Rattle.law_run_recovers.proofs.VotesSet.{as_set, sets, votes_of, same_votes, changes_ordered, IsSet, set_by}
 use Rattle.law_run_recovers.proofs.Polled.{Sight, serves_all}
@@ -321,6 +321,15 @@ module _ (fixed : Fixed) (world : World) (sight : Sight) (table : PlainTable) (t
       all_had : (other : ℕ × LockMode) → Has ready.asked other → not (is_met (demand_of sight (of_lock fixed world sight (starts fixed world sight table task cache suites) other))) ≡ false
       all_had other has = had_met fixed world sight table task cache suites other (ready.asks.had other has)
 
+      all_modes : (z : ℕ) (mode : LockMode) → held_in mode (suite_of suites z) ≡ has_asked (locks_on table task) z mode
+      all_modes z mode =
+          let is_it : ℕ × LockMode → Bool = λ one. (one.0 == z) && serves one.1 mode in
+          ready.asks.modes z mode ∙ sym (ap (λ locks. has_asked locks z mode) all_asked ∙ any_onto is_it ready.asked [] ∙ no_more (list_any is_it ready.asked))
+        where
+          no_more : (b : Bool) → (b || false) ≡ b
+          no_more true = refl
+          no_more false = refl
+
       refused_stands : (refusal : Refusal) → result_on table task ≡ Err refusal → Good (prepare task now suites (Err refusal) (locked_at suites))
       refused_stands refusal is =
           let start = starts fixed world sight table task cache suites in
@@ -329,6 +338,7 @@ module _ (fixed : Fixed) (world : World) (sight : Sight) (table : PlainTable) (t
             from = may_start fixed world sight table task cache suites ready.asks.right;
             none = none_short fixed world sight table task cache start ready.asked [] all_asked all_had (ap (λ result. votes_of (changes_on table.rows result)) is) (λ other has. absurd has);
             answer_is = sym (ap given_by is) ∙ answer_on_table table task;
+            gathered = all_modes;
           })
 
       granted_stands : (ended : Ended (List Answer)) → result_on table task ≡ Ok ended → AgreesWith (known_of suites) (row_of table.rows)
@@ -348,6 +358,8 @@ module _ (fixed : Fixed) (world : World) (sight : Sight) (table : PlainTable) (t
             there = λ one has. set_there one (set_by made ordered one has);
             locked = λ one has. any_wider ready.asked one.0 (sym (ready.asks.modes one.0 Exclusive) ∙ set_held one (set_by made ordered one has));
             exclusive = λ one has. sym (ready.asks.modes one.0 Exclusive) ∙ set_held one (set_by made ordered one has);
+            modes = all_modes;
+            whole = λ one has suite is. let whole = ready.whole one.0 suite is in (whole.mode_is, whole.had);
           }))
         where
           made : List (ℕ × Change)

@@ -1,5 +1,5 @@
 -- What a transaction makes of a reply that is right: it stands as before, or ends as it should.
-use Rattle.std.proofs.Common.{◌≡◌, ◌⊎◌, ⊎_elim, ℕ, true, false, cond, List, [], ◌∷◌, Option, Some, None, is_some, Ok, Err, refl, sym, ap, subst, ◌∙◌}
+use Rattle.std.proofs.Common.{◌≡◌, inl, ◌⊎◌, ⊎_elim, ℕ, true, false, cond, List, [], ◌∷◌, Option, Some, None, is_some, Ok, Err, refl, sym, ap, subst, ◌∙◌}
 use Rattle.std.specs.Prelude.{option_map}
 use Rattle.std.proofs.lemmas.Bool.{false≢true}
 use Rattle.std.proofs.lemmas.Cmp.{nat_cmp_total}
@@ -23,7 +23,7 @@ use Rattle.weak_cache.specs.Entries.{Cache}
 use Rattle.weak_cache.specs.Cache.{put}
 use Rattle.txn_core.specs.declared.ending.Ending.TheVariants.{Undecided}
 use Rattle.txn_core.specs.declared.ending.Cause.TheVariants.{Lost}
-use Rattle.txn_core.specs.Suites.{ReadPoint, Suite, Suites, suite_of, with_suite, known_of, settled}
+use Rattle.txn_core.specs.Suites.{ReadPoint, Suite, Suites, suite_of, with_suite, known_of, first_or, settled}
 use Rattle.txn_core.specs.Doing as doing
 use Rattle.txn_core.specs.Doing.{Fixed, Task, Granted, Phase, Gathering, Fetching, Preparing, Deciding, Finishing, TransactionRun, GoesOn, home_of}
 use Rattle.txn_core.specs.Transactions as txn_run
@@ -39,7 +39,7 @@ use Rattle.law_run_recovers.proofs.Led.{reached_told}
 use Rattle.law_run_recovers.proofs.Polled.{Sight, Answers, hears}
 use Rattle.law_run_recovers.proofs.Widened.{WidenedShort, start_stays, same_said, same_mode, right_more}
 use Rattle.law_run_recovers.proofs.Hinting.{hint_put}
-use Rattle.law_run_recovers.proofs.Stands.{Ground, asks_of, locks_on, of_votes, demand_of, answer_to, EndsAs, EndsRight, IsRight, asked_with, Hints, HasAll, answer_in, Sets, IsWidening, IsFound, found_right, IsWhole, IsReady, IsGathering, PhaseStands, StepStands, told_stands, prepare_stands}
+use Rattle.law_run_recovers.proofs.Stands.{IsKept, held_same, Ground, asks_of, locks_on, of_votes, demand_of, answer_to, EndsAs, EndsRight, IsRight, asked_with, Hints, HasAll, answer_in, Sets, IsWidening, IsFound, found_right, IsWhole, IsReady, IsGathering, PhaseStands, StepStands, told_stands, prepare_stands}
 use Rattle.law_run_recovers.proofs.Widens.{by_short, by_current, sets_with, sets_on, set_short, widen_stands}
 use Rattle.law_run_recovers.proofs.Gathered.{gathering_short, settled_ready}
 use Rattle.law_run_recovers.proofs.Executes.{none_with, hinted_with, content_ready, execute_stands}
@@ -237,9 +237,20 @@ module _ (fixed : Fixed) (world : World) (sight : Sight) (table : PlainTable) (t
       right = right_more fixed world sight number w.suite.collector was.right said one (answers_it fixed world sight task.t number w.suite server asked said asks so) told;
     }
 
-    sets_now : (new : Suite) → new.collector.start ≡ w.suite.collector.start → IsRight fixed world sight table task cache number new → Sets fixed world sight table task cache (with_suite number new suites) w.done ((number, w.votes) ∷ w.later) granted
-    sets_now new start right =
+    was_kept : IsKept w.suite
+    was_kept = w.sets.whole (number, w.votes) (inl refl) w.suite w.there
+
+    sets_now : (new : Suite) → new.collector.start ≡ w.suite.collector.start → IsRight fixed world sight table task cache number new → new.mode ≡ w.suite.mode → new.first ≡ w.suite.first → new.mode ≡ new.collector.mode → Sets fixed world sight table task cache (with_suite number new suites) w.done ((number, w.votes) ∷ w.later) granted
+    sets_now new start right mode first kept =
         sets_with fixed world sight table task cache suites number new w.done ((number, w.votes) ∷ w.later) granted w.sets right (λ old there. start ∙ ap (λ (suite : Suite). suite.collector.start) (same_Some w.suite old (sym w.there ∙ there)))
+        (λ asked. held_same new w.suite asked mode first ∙ ap (held_in asked) (sym w.there)) (kept, ap is_some first ∙ was_kept.1)
+
+    told_kept : (one : Told) → w.suite.mode ≡ (tell one w.suite.collector).mode
+    told_kept one = was_kept.0 ∙ sym (mode_stays w.suite.collector one)
+
+    first_kept : (first : Option ReadPoint) (new : ReadPoint) → is_some first ≡ true → first_or first new ≡ first
+    first_kept (Some point) new some = refl
+    first_kept None new some = absurd (false≢true some)
 
     abbrev phase : Phase
     phase = doing.Widening (number ∷ left) granted
@@ -252,7 +263,7 @@ module _ (fixed : Fixed) (world : World) (sight : Sight) (table : PlainTable) (t
         done = w.done;
         later = w.later;
         left_is = w.left_is;
-        sets = sets_now (told_one one) (start_stays w.suite.collector one) (told_right one told);
+        sets = sets_now (told_one one) (start_stays w.suite.collector one) (told_right one told) refl refl (told_kept one);
         suite = told_one one;
         there = is_there suites number (told_one one);
         widening = record w.widening { told = one ∷ w.widening.told };
@@ -263,7 +274,7 @@ module _ (fixed : Fixed) (world : World) (sight : Sight) (table : PlainTable) (t
     widened_stands one told (Short had wanting busy) is =
         let more = with_suite number (told_one one) suites in
         told_stands fixed world sight table task cache Was ground now more verdict.Aborted (Undecided (short_cause number had wanting busy)) (locked_at more)
-        (set_short fixed world sight table task cache more w.done w.later (number, w.votes) granted (sets_now (told_one one) (start_stays w.suite.collector one) (told_right one told)) had wanting busy
+        (set_short fixed world sight table task cache more w.done w.later (number, w.votes) granted (sets_now (told_one one) (start_stays w.suite.collector one) (told_right one told) refl refl (told_kept one)) had wanting busy
         (subst (λ votes. WidenedShort fixed world sight number votes had wanting busy) w.votes_are (by_short fixed world sight number (tell one w.suite.collector) (record w.widening { told = one ∷ w.widening.told }) (more_widening one) (told_right one told).right had wanting busy is)))
     widened_stands one told (Current prefix dver members) is =
         let last = settled prefix dver members (told_one one) in
@@ -272,7 +283,7 @@ module _ (fixed : Fixed) (world : World) (sight : Sight) (table : PlainTable) (t
         subst (λ votes. is_met (demand_of sight (of_votes (number, votes))) ≡ true) w.votes_are (by_current fixed world sight number (tell one w.suite.collector) (record w.widening { told = one ∷ w.widening.told }) (more_widening one) right.right prefix dver members is) in
         subst (λ left. Good (widen_all task now (with_suite number last suites) granted left)) w.left_is
         (widen_stands fixed world sight table task cache Was ground w.later now (with_suite number last suites) ((number, w.votes) ∷ w.done) granted
-        (sets_on fixed world sight table task cache (with_suite number last suites) w.done w.later (number, w.votes) granted (sets_now last (start_stays w.suite.collector one) (record { may = right.may; right = right.right })) met))
+        (sets_on fixed world sight table task cache (with_suite number last suites) w.done w.later (number, w.votes) granted (sets_now last (start_stays w.suite.collector one) (record { may = right.may; right = right.right }) (sym (told_kept one)) (first_kept w.suite.first _ was_kept.1) refl) met))
 
     widens : Good (hear task now suites phase number w.suite server asked (txn_run.said_to asked said) widen_on)
     widens = subst Good (sym (heard_now.is task now suites phase widen_on)) (widened_stands heard_now.one heard_now.told (next (tell heard_now.one w.suite.collector)) refl)
@@ -306,10 +317,10 @@ module _ (fixed : Fixed) (world : World) (sight : Sight) (table : PlainTable) (t
 
   -- ---- the home says how it ended
 
-  decides : (outcome : doing.Proposal) → HasAll fixed world sight table task cache (answer_in fixed world sight table task cache outcome) → (server : ℕ) → server ≡ home_of fixed.service task.t → (said : Reply)
+  decides : (suites : Suites) (outcome : doing.Proposal) → HasAll fixed world sight table task cache suites (answer_in fixed world sight table task cache outcome) → (server : ℕ) → server ≡ home_of fixed.service task.t → (said : Reply)
       → ((is_up world server ≡ true) × (said ≡ reply.Verdict (verdict_of (decision_of task outcome)))) ⊎ ((is_up world server ≡ false) × (said ≡ reply.Down))
       → EndsRight fixed world sight table task cache (txn_run.ending_by (verdict_in said verdict.Aborted) (cause_of_abort said))
-  decides outcome all server home said right = record {
+  decides suites outcome all server home said right = record {
     start = all.start;
     from = all.from;
     ends = subst (EndsAs fixed world sight table task cache (txn_run.ending_by (verdict_in said verdict.Aborted) (cause_of_abort said))) (sym all.none) (⊎_elim
@@ -349,6 +360,6 @@ module _ (fixed : Fixed) (world : World) (sight : Sight) (table : PlainTable) (t
       subst (λ b. Good (cond b (prepare task now suites outcome left) (give_up task now suites (Lost server)))) (sym right) (prepare_stands fixed world sight table task cache Was ground now suites outcome left all)
   reply_stands now suites (Deciding outcome) all server asked request said right knows =
       told_stands fixed world sight table task cache Was ground now suites (verdict_in said verdict.Aborted) (txn_run.ending_by (verdict_in said verdict.Aborted) (cause_of_abort said)) (locked_at suites)
-      (decides outcome all server (sym (ap (λ (asked : ℕ × Request). asked.0) (same_Some _ (server, asked) request))) said right)
+      (decides suites outcome all server (sym (ap (λ (asked : ℕ × Request). asked.0) (same_Some _ (server, asked) request))) said right)
   reply_stands now suites (Finishing [] v ended) ends server asked request said right knows = ends
   reply_stands now suites (Finishing (first ∷ left) v ended) ends server asked request said right knows = told_stands fixed world sight table task cache Was ground now suites v ended left ends

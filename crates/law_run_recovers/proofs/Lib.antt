@@ -70,8 +70,12 @@ pub mod Asked
 pub mod AmongAt
 pub mod AmongKnows
 pub mod AmongCourse
+pub mod AmongAsks
 pub mod AmongStep
 pub mod AmongEnds
+pub mod Asker
+pub mod AmongOver
+pub mod AmongLeft
 pub mod AmongLaws
 pub mod UnmetLaws
 pub mod AmongDecided
@@ -79,3 +83,12 @@ pub mod Names
 pub mod AmongTime
 pub mod AmongLocks
 pub mod Histories
+pub mod Owned
+pub mod Sides
+pub mod BesideUnmet
+pub mod BesideAll
+pub mod BesideNext
+pub mod BesideSides
+pub mod BesideFree
+pub mod BesideLaws
+pub mod BesideWorked

@@ -16,6 +16,7 @@ use Rattle.law_run_recovers.specs.Promises.{IsAvailable, Lends}
 use Rattle.law_run_recovers.proofs.Again.{one_of_them_is_decided}
 use Rattle.law_run_recovers.proofs.AmongLaws.{among_locks_end_by_votes, among_locks_are_decided_where_votes_are}
 use Rattle.law_run_recovers.proofs.Counts.{they_end_in_time}
+use Rattle.law_run_recovers.proofs.BesideLaws.{side_by_side_are_decided, side_by_side_end_in_time, side_by_side_are_told_freely}
 use Rattle.law_run_recovers.proofs.Blocking.{blocked_by_doubts, some_server_blocks, one_crash_blocks}
 use Rattle.law_run_recovers.proofs.Calm.{sweeps_keep_effects}
 use Rattle.law_run_recovers.proofs.Ends.{ends_are_by_votes}
@@ -29,8 +30,9 @@ use Rattle.law_run_recovers.proofs.Rows.{met_demands_are_rows}
 use Rattle.law_run_recovers.proofs.Stored.{all_is_stored}
 use Rattle.law_run_recovers.proofs.Swept.{sweeps_leave_doubts}
 use Rattle.law_run_recovers.proofs.Taken.{taken_away_are_never_decided}
-use Rattle.law_run_recovers.proofs.AmongDecided.{among_locks_had_votes_open, among_locks_are_answered_as_begun, unmet_had_votes_up}
+use Rattle.law_run_recovers.proofs.AmongDecided.{among_locks_had_votes_open, among_locks_are_answered_as_begun, among_locks_gather_their_asks, unmet_had_votes_up}
 use Rattle.law_run_recovers.proofs.UnmetLaws.{unmet_end_by_votes, unmet_are_decided_where_votes_are}
+use Rattle.law_run_recovers.proofs.AmongLeft.{among_locks_leave_no_lock}
 use Rattle.law_run_recovers.proofs.AmongTime.{among_locks_end_in_time, unmet_end_in_time}
 use Rattle.law_run_recovers.proofs.Unmoved.{decided_where_votes_are}
 
@@ -50,6 +52,11 @@ available sites given events can = record {
   among_had_votes = among_locks_had_votes_open given events;
   among_where_votes = among_locks_are_decided_where_votes_are given events;
   among_answers = among_locks_are_answered_as_begun given events;
+  among_gathers = among_locks_gather_their_asks given events;
+  among_leaves = among_locks_leave_no_lock given events;
+  beside_decided = side_by_side_are_decided given events;
+  beside_in_time = side_by_side_end_in_time given events;
+  beside_told = side_by_side_are_told_freely given events;
   finished = finished_before_at_server given events can;
   changes_met = changes_are_met_at_server given events can;
   homes = homes_go_round given;

@@ -41,7 +41,7 @@ use Rattle.law_run_recovers.specs.Standing.{is_up}
 use Rattle.law_run_recovers.specs.Demands.{Demand, demand_by, is_met, newer_by, led_to_by, has_asked, not_asked, locks_asked, votes_set, MayStart, MayStartAll}
 use Rattle.law_run_recovers.specs.Laws.{ending_by, answer_on}
 use Rattle.law_run_recovers.specs.OpenDemands.{Want, first_mode}
-use Rattle.law_run_recovers.proofs.Asking.{onto, find_past, held_in}
+use Rattle.law_run_recovers.proofs.Asking.{onto, find_past, held_if, held_in}
 use Rattle.law_run_recovers.proofs.Led.{Rules, Reached}
 use Rattle.law_run_recovers.proofs.Polled.{Sight, finds_at, serves_all, AllRight, all_wider, AllBelow, Refusing}
 use Rattle.law_run_recovers.proofs.VotesSet.{IsSet}
@@ -91,6 +91,18 @@ unmet sight want = not (is_met (demand_of sight want))
 -- all that it wants, in its order
 abbrev pub wants_of : Fixed → World → Sight → PlainTable → ℕ → Identity → List Op → (ℕ → Prefix) → List Want
 wants_of fixed world sight table t caller ops start = map (of_lock fixed world sight start) (locks_asked table t caller ops) ++ map of_votes (votes_set table t caller ops)
+
+-- a suite that had a Current, and is held in its collector's mode
+abbrev pub IsKept : Suite → Type 0
+IsKept suite = (suite.mode ≡ suite.collector.mode) × (is_some suite.first ≡ true)
+
+-- one of the same mode and first Current is held as it was
+pub held_same : (new old : Suite) (mode : LockMode) → new.mode ≡ old.mode → new.first ≡ old.first → held_in mode (Some new) ≡ held_in mode (Some old)
+held_same new old mode same first = ap (held_if new mode) first ∙ of old.first
+  where
+    of : (first : Option ReadPoint) → held_if new mode first ≡ held_if old mode first
+    of (Some point) = ap (λ have. serves have mode) same
+    of None = refl
 
 -- ---- how it ends
 
@@ -230,12 +242,17 @@ module _ (fixed : Fixed) (world : World) (sight : Sight) (table : PlainTable) (t
 
   -- ---- once all that it needs is known
 
-  -- all that it demands is met; this is the answer
-  pub record HasAll (answer : Result (List Answer) Refusal) : Type 0 where
+  -- it has gathered just what it asks for, in these modes
+  abbrev pub Gathers : Suites → Type 0
+  Gathers suites = (z : ℕ) (mode : LockMode) → held_in mode (suite_of suites z) ≡ has_asked (locks_on table task) z mode
+
+  -- all that it demands is met, and no other suite is gathered; this is the answer
+  pub record HasAll (suites : Suites) (answer : Result (List Answer) Refusal) : Type 0 where
     pub start : ℕ → Prefix
     pub from : MayStartAll fixed cache task.site start
     pub none : find (unmet sight) (wants_of fixed world sight table task.t task.caller task.ops start) ≡ None
     pub answer_is : answer ≡ answer_to table task
+    pub gathered : Gathers suites
 
   abbrev pub answer_in : doing.Proposal → Result (List Answer) Refusal
   answer_in (Ok granted) = Ok granted.answers
@@ -254,6 +271,8 @@ module _ (fixed : Fixed) (world : World) (sight : Sight) (table : PlainTable) (t
     pub there : (one : ℕ × Configuration) → Has left one → is_some (suite_of suites one.0) ≡ true
     pub locked : (one : ℕ × Configuration) → Has left one → list_any (λ (lock : ℕ × LockMode). lock.0 == one.0) so_far ≡ true
     pub exclusive : (one : ℕ × Configuration) → Has left one → has_asked so_far one.0 Exclusive ≡ true
+    pub modes : Gathers suites
+    pub whole : (one : ℕ × Configuration) → Has left one → (suite : Suite) → suite_of suites one.0 ≡ Some suite → IsKept suite
 
   -- the first of them now
   pub record IsWidening (suites : Suites) (number : ℕ) (left : List ℕ) (granted : Granted) : Type 0 where
@@ -327,8 +346,8 @@ module _ (fixed : Fixed) (world : World) (sight : Sight) (table : PlainTable) (t
     PhaseStands suites now (Fetching number) = IsReady suites × Hints suites now
     PhaseStands suites now (doing.Widening [] granted) = ⊥
     PhaseStands suites now (doing.Widening (number ∷ left) granted) = IsWidening suites number left granted
-    PhaseStands suites now (Preparing left outcome) = HasAll (answer_in outcome)
-    PhaseStands suites now (Deciding outcome) = HasAll (answer_in outcome)
+    PhaseStands suites now (Preparing left outcome) = HasAll suites (answer_in outcome)
+    PhaseStands suites now (Deciding outcome) = HasAll suites (answer_in outcome)
     PhaseStands suites now (Finishing left v ended) = EndsRight ended
 
     abbrev pub AfterStands : Cache → After TransactionRun → Type 0
@@ -342,6 +361,6 @@ module _ (fixed : Fixed) (world : World) (sight : Sight) (table : PlainTable) (t
     told_stands now suites v ended [] right = right
     told_stands now suites v ended (server ∷ servers) right = (refl, right)
 
-    pub prepare_stands : (now : Cache) (suites : Suites) (outcome : doing.Proposal) (servers : List ℕ) → HasAll (answer_in outcome) → StepStands (prepare task now suites outcome servers)
+    pub prepare_stands : (now : Cache) (suites : Suites) (outcome : doing.Proposal) (servers : List ℕ) → HasAll suites (answer_in outcome) → StepStands (prepare task now suites outcome servers)
     prepare_stands now suites outcome [] all = (refl, all)
     prepare_stands now suites outcome (server ∷ servers) all = (refl, all)

@@ -1,9 +1,11 @@
 -- A transaction that sets votes: one suite after the other is widened to them.
 use Rattle.std.proofs.Common.{◌≡◌, inl, inr, ⊎_elim, ℕ, Bool, true, false, cond, List, [], ◌∷◌, ◌++◌, Option, Some, None, is_some, Ok, refl, sym, ap, subst, ◌∙◌}
 use Rattle.std.specs.Prelude.{◌==◌, not, map}
-use Rattle.std.proofs.lemmas.Bool.{false≢true}
+use Rattle.std.proofs.lemmas.Bool.{false≢true, eqb-true}
+use Rattle.std.proofs.lemmas.Option.{same_Some}
 use Rattle.vote_core.specs.Quorums.{Configuration}
 use Rattle.suite_prefix.specs.declared.copies.Prefix.{Prefix}
+use Rattle.suite_prefix.specs.declared.lock_mode.LockMode.{LockMode}
 use Rattle.suite_prefix.specs.declared.lock_mode.LockMode.TheVariants.{Exclusive}
 use Rattle.rep_core.specs.declared.reply.Verdict.TheVariants as verdict
 use Rattle.file_ops.specs.Rows.{PlainTable}
@@ -21,7 +23,9 @@ use Rattle.law_run_recovers.specs.Demands.{is_met}
 use Rattle.law_run_recovers.proofs.Polled.{Sight, AllRight}
 use Rattle.law_run_recovers.proofs.Widened.{WidenedShort, widened_short, widened_current}
 use Rattle.law_run_recovers.proofs.VotesSet.{IsSet}
-use Rattle.law_run_recovers.proofs.Stands.{Ground, locks_on, of_votes, demand_of, EndsRight, ends_short, short_votes, none_short, IsRight, had_met, starts, may_start, SameStart, had_with, HasAll, Sets, StepStands, told_stands, prepare_stands}
+use Rattle.rep_core.proofs.Members.{Has}
+use Rattle.law_run_recovers.proofs.Asking.{held_in}
+use Rattle.law_run_recovers.proofs.Stands.{IsKept, held_same, Ground, locks_on, of_votes, demand_of, EndsRight, ends_short, short_votes, none_short, IsRight, had_met, starts, may_start, SameStart, had_with, HasAll, Sets, StepStands, told_stands, prepare_stands}
 
 -- ---- a collector that is widened
 
@@ -45,8 +49,8 @@ module _ (fixed : Fixed) (world : World) (sight : Sight) (table : PlainTable) (t
   Setting suites done left granted = Sets fixed world sight table task cache suites done left granted
 
   pub sets_with : (suites : Suites) (number : ℕ) (new : Suite) (done left : List (ℕ × Configuration)) (granted : Granted) → Setting suites done left granted → IsRight fixed world sight table task cache number new
-      → SameStart fixed world sight table task cache suites number new → Setting (with_suite number new suites) done left granted
-  sets_with suites number new done left granted s right same = record {
+      → SameStart fixed world sight table task cache suites number new → ((mode : LockMode) → held_in mode (Some new) ≡ held_in mode (suite_of suites number)) → IsKept new → Setting (with_suite number new suites) done left granted
+  sets_with suites number new done left granted s right same held kept = record {
     right = each_with (IsRight fixed world sight table task cache) number suites new (each_but (IsRight fixed world sight table task cache) number suites s.right) right;
     so_far = s.so_far;
     had = λ one has. had_with fixed world sight table task cache suites number new one same (s.had one has);
@@ -58,8 +62,18 @@ module _ (fixed : Fixed) (world : World) (sight : Sight) (table : PlainTable) (t
     locked = s.locked;
     exclusive = s.exclusive;
     there = λ one has. ap is_some (with_at number new suites one.0) ∙ of one (number == one.0) (s.there one has);
+    modes = λ z mode. ap (held_in mode) (with_at number new suites z) ∙ held_so z mode (number == z) refl ∙ s.modes z mode;
+    whole = λ one has suite is. kept_so one has suite (number == one.0) (sym (with_at number new suites one.0) ∙ is);
   }
     where
+      held_so : (z : ℕ) (mode : LockMode) (b : Bool) → (number == z) ≡ b → held_in mode (cond b (Some new) (suite_of suites z)) ≡ held_in mode (suite_of suites z)
+      held_so z mode true is = held mode ∙ ap (λ z. held_in mode (suite_of suites z)) (eqb-true number z is)
+      held_so z mode false is = refl
+
+      kept_so : (one : ℕ × Configuration) → Has left one → (suite : Suite) (b : Bool) → cond b (Some new) (suite_of suites one.0) ≡ Some suite → IsKept suite
+      kept_so one has suite true is = subst IsKept (same_Some new suite is) kept
+      kept_so one has suite false is = s.whole one has suite is
+
       of : (one : ℕ × Configuration) (b : Bool) → is_some (suite_of suites one.0) ≡ true → is_some (cond b (Some new) (suite_of suites one.0)) ≡ true
       of one true some = refl
       of one false some = some
@@ -78,15 +92,18 @@ module _ (fixed : Fixed) (world : World) (sight : Sight) (table : PlainTable) (t
     there = λ other has. s.there other (inr has);
     locked = λ other has. s.locked other (inr has);
     exclusive = λ other has. s.exclusive other (inr has);
+    modes = s.modes;
+    whole = λ other has. s.whole other (inr has);
   }
 
   -- all are
-  pub all_set : (suites : Suites) (done : List (ℕ × Configuration)) (granted : Granted) → Setting suites done [] granted → HasAll fixed world sight table task cache (Ok granted.answers)
+  pub all_set : (suites : Suites) (done : List (ℕ × Configuration)) (granted : Granted) → Setting suites done [] granted → HasAll fixed world sight table task cache suites (Ok granted.answers)
   all_set suites done granted s = record {
     start = starts fixed world sight table task cache suites;
     from = may_start fixed world sight table task cache suites s.right;
     none = none_short fixed world sight table task cache (starts fixed world sight table task cache suites) s.so_far done s.all (λ other has. had_met fixed world sight table task cache suites other (s.had other has)) s.sets (λ other has. ap not (s.met other has));
     answer_is = s.answer_is;
+    gathered = s.modes;
   }
 
   -- one is not
@@ -136,7 +153,9 @@ module _ (fixed : Fixed) (world : World) (sight : Sight) (table : PlainTable) (t
                 start_in None = suite.collector.start
 
             sets : Setting more done (one ∷ later) granted
-            sets = sets_with suites one.0 (widened granted.changes one.0 suite) done (one ∷ later) granted s right same
+            sets =
+                sets_with suites one.0 (widened granted.changes one.0 suite) done (one ∷ later) granted s right same
+                (λ mode. held_same (widened granted.changes one.0 suite) suite mode refl refl ∙ ap (held_in mode) (sym is)) (s.whole one (inl refl) suite is)
 
             there' : suite_of more one.0 ≡ Some (widened granted.changes one.0 suite)
             there' = with_at one.0 (widened granted.changes one.0 suite) suites one.0 ∙ ap (λ b. cond b (Some (widened granted.changes one.0 suite)) (suite_of suites one.0)) (self one.0)

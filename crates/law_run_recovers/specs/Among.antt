@@ -1,32 +1,35 @@
 -- What is promised to a transaction in whose way nothing comes or goes: locks that others left stay as they are. Laws of Local, by a weaker premise; its
 -- demands go by the servers that are open to it.
-use Rattle.std.specs.Prelude.{◌≡◌, ◌⊎◌, ℕ, ◌<◌, nat_lt, Bool, true, false, ◌&&◌, ◌||◌, not, List, ◌∷◌, ◌++◌, find, Contains, Option, Some, None}
+use Rattle.std.specs.Prelude.{◌≡◌, ◌⊎◌, ℕ, ◌<◌, nat_lt, Bool, true, false, ◌&&◌, ◌||◌, not, is_some, List, ◌∷◌, ◌++◌, find, Contains, Option, Some, None}
 use Rattle.acl_core.specs.Identity.{Identity}
 use Rattle.vote_core.specs.Quorums.{Representative}
 use Rattle.suite_prefix.specs.SettingsRules.{Opening}
 use Rattle.suite_prefix.specs.declared.copies.Prefix.{Prefix}
 use Rattle.suite_prefix.specs.declared.lock_mode.LockMode.{LockMode}
+use Rattle.suite_prefix.specs.LockModes.{serves}
 use Rattle.file_ops.specs.declared.operation.Op.{Op}
 use Rattle.txn_core.specs.declared.ending.Ending.{Ending}
 use Rattle.txn_core.specs.declared.ending.Ending.TheVariants.{Undecided}
 use Rattle.txn_core.specs.declared.ending.Cause.TheVariants.{Busy, Unavailable}
 use Rattle.txn_core.specs.declared.job.Job.TheVariants.{Transaction}
-use Rattle.txn_core.specs.Doing.{home_of}
+use Rattle.txn_core.specs.Suites.{Suite, suite_of}
+use Rattle.txn_core.specs.Doing.{home_of, TransactionRun, Running}
 use Rattle.txn_core.specs.Agents.{fixed_of}
 use Rattle.weak_cache.specs.Entries.{Cache}
 use Rattle.run_core.specs.declared.event.Event.{Event}
-use Rattle.run_core.specs.declared.event.Event.TheVariants.{Begin}
+use Rattle.run_core.specs.declared.event.Event.TheVariants.{Begin, Step}
 use Rattle.run_core.specs.declared.done.EndedJob.{EndedJob}
 use Rattle.run_core.specs.Worlds.{Actor, World, actor_at}
 use Rattle.run_core.specs.Runs.{run}
-use Rattle.run_core.specs.Decisions.{Decided, decisions}
+use Rattle.run_core.specs.Decisions.{Decided, decided, decisions}
 use Rattle.run_core.specs.TableOfRun.{table_of}
 use Rattle.law_headline.specs.Premises.{CanBe}
 use Rattle.law_run_alone.specs.Alone.{begins_job}
 use Rattle.law_run_alone.specs.Undisturbed.{is_decided}
-use Rattle.law_run_recovers.specs.Standing.{is_up}
+use Rattle.law_run_recovers.specs.Standing.{is_up, locks_at}
+use Rattle.law_run_recovers.specs.Sweeping.{has_any}
 use Rattle.law_run_recovers.specs.Alone.{own_steps}
-use Rattle.law_run_recovers.specs.Demands.{is_met, all_met, MayStartAll}
+use Rattle.law_run_recovers.specs.Demands.{is_met, all_met, has_asked, MayStartAll}
 use Rattle.law_run_recovers.specs.Laws.{ending_by, answer_on}
 use Rattle.law_run_recovers.specs.Near.{AreNear, asks_for, way_at, in_its_way}
 use Rattle.law_run_recovers.specs.Unmet.{world_after, is_running, robs, hinders_itself, GoesUnmet}
@@ -152,3 +155,41 @@ AmongLocksAreAnsweredAsBegunAt given events =
 
 abbrev pub AmongLocksAreAnsweredAsBegun : Type 0
 AmongLocksAreAnsweredAsBegun = (given : Opening) (events : List Event) → AmongLocksAreAnsweredAsBegunAt given events
+
+-- whether a suite was gathered in a mode, or in a stronger one
+abbrev pub is_gathered : LockMode → Option Suite → Bool
+is_gathered mode (Some suite) = is_some suite.first && serves suite.mode mode
+is_gathered mode None = false
+
+-- In the step of its agent in which it is decided it has gathered just what it asks for on the table as it began: each suite, in each mode.
+pub record GathersItsAsks (given : Opening) (events later : List Event) (agent t : ℕ) (caller : Identity) (site : ℕ) (ops : List Op) : Type 0 where
+  pub before : List Event
+  pub after : List Event
+  pub parts : later ≡ before ++ Step agent ∷ after
+  pub one : Decided
+  pub decides : decided (fixed_of given) (run given (events ++ Begin agent (Transaction caller site ops) ∷ before)) (Step agent) ≡ Some one
+  pub of_it : one.t ≡ t
+  pub at_decision : Actor
+  pub there : actor_at (run given (events ++ Begin agent (Transaction caller site ops) ∷ before)) agent ≡ Some at_decision
+  pub txn_run : TransactionRun
+  pub running : at_decision.agent.doing ≡ Some (Running txn_run)
+  pub suites : (z : ℕ) (mode : LockMode) → is_gathered mode (suite_of txn_run.suites z) ≡ has_asked (asks_for given events t caller ops) z mode
+
+abbrev pub AmongLocksGatherTheirAsksAt : Opening → List Event → Type 0
+AmongLocksGatherTheirAsksAt given events =
+    (later : List Event) (agent t : ℕ) (caller : Identity) (site : ℕ) (ops : List Op) (actor : Actor)
+    → GoesAmongLocks given events later agent t caller site ops actor → WasDecidedThen given events later agent t caller site ops
+    → GathersItsAsks given events later agent t caller site ops
+
+abbrev pub AmongLocksGatherTheirAsks : Type 0
+AmongLocksGatherTheirAsks = (given : Opening) (events : List Event) → AmongLocksGatherTheirAsksAt given events
+
+-- And once it has ended no server has a lock of it, up or down.
+abbrev pub AmongLocksLeaveNoLockAt : Opening → List Event → Type 0
+AmongLocksLeaveNoLockAt given events =
+    (later : List Event) (agent t : ℕ) (caller : Identity) (site : ℕ) (ops : List Op) (actor : Actor)
+    → GoesAmongLocks given events later agent t caller site ops actor → Ended given events later agent t caller site ops
+    → (server : ℕ) → has_any t (locks_at (run given (events ++ Begin agent (Transaction caller site ops) ∷ later)) server) ≡ false
+
+abbrev pub AmongLocksLeaveNoLock : Type 0
+AmongLocksLeaveNoLock = (given : Opening) (events : List Event) → AmongLocksLeaveNoLockAt given events

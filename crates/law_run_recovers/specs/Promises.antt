@@ -13,7 +13,8 @@ use Rattle.law_run_alone.specs.Undisturbed.{NothingIsInTheWayAt, UndisturbedAreD
 use Rattle.law_run_recovers.specs.Laws.{EndsAreByVotesAt, EndsInTimeAt, MetDemandsAreRowsAt, DecidedWhereVotesAreAt, HomesGoRoundOf, OneOfThemIsDecidedAt, DecidedHadVotesUpAt}
 use Rattle.law_run_recovers.specs.InTime.{RunsEndByTheBoundsAt}
 use Rattle.law_run_recovers.specs.Local.{UnmetEndByVotesAt, UnmetEndInTimeAt, UnmetHadVotesUpAt, UnmetAreDecidedWhereVotesAreAt}
-use Rattle.law_run_recovers.specs.Among.{AmongLocksEndByVotesAt, AmongLocksEndInTimeAt, AmongLocksHadVotesOpenAt, AmongLocksAreDecidedWhereVotesAreAt, AmongLocksAreAnsweredAsBegunAt}
+use Rattle.law_run_recovers.specs.Among.{AmongLocksEndByVotesAt, AmongLocksEndInTimeAt, AmongLocksHadVotesOpenAt, AmongLocksAreDecidedWhereVotesAreAt, AmongLocksAreAnsweredAsBegunAt, AmongLocksGatherTheirAsksAt, AmongLocksLeaveNoLockAt}
+use Rattle.law_run_recovers.specs.Beside.{SideBySideAreDecidedAt, SideBySideEndInTimeAt, SideBySideAreToldFreelyAt}
 use Rattle.law_run_recovers.specs.Histories.{FinishedBeforeAtServerAt, ChangesAreMetAtServerAt}
 use Rattle.law_run_recovers.specs.Blocking.{BlockedByDoubtsAt, SomeServerBlocksAt, OneCrashBlocksAt}
 use Rattle.law_run_recovers.specs.Sweeping.{SweepsLeaveDoubtsAt, SweepsKeepEffectsAt, OnlyDoubtsAreLeftAt, NoLockIsLeftAt, AllIsStoredAt, TakenAwayAreNeverDecidedAt}
@@ -42,6 +43,14 @@ pub record IsAvailable (given : Opening) (events : List Event) : Type 0 where
   pub among_had_votes : AmongLocksHadVotesOpenAt given events
   pub among_where_votes : AmongLocksAreDecidedWhereVotesAreAt given events
   pub among_answers : AmongLocksAreAnsweredAsBegunAt given events
+  -- what is decided of it has gathered just what it asks for on that table; and it leaves no lock
+  pub among_gathers : AmongLocksGatherTheirAsksAt given events
+  pub among_leaves : AmongLocksLeaveNoLockAt given events
+  -- transactions that begin from now on, each where it clashes with none that runs, are decided when they end, as the table at their begin answers them;
+  -- they end in time, and are never told Busy, Down or Lost; as long as all servers are up, nobody sweeps and each request is served
+  pub beside_decided : SideBySideAreDecidedAt given events
+  pub beside_in_time : SideBySideEndInTimeAt given events
+  pub beside_told : SideBySideAreToldFreelyAt given events
   -- where a server served the Finish of one transaction before a request of another that is none, the first was decided before the second; so a change whose
   -- Finish says that it was answered is met
   pub finished : FinishedBeforeAtServerAt given events

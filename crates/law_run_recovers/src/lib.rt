@@ -14,8 +14,11 @@
 //!   (`alone_are_unmet`). Its votes are those of the rows (`near_votes_are_rows`, `open_votes_are_rows`).
 //! - So does one among locks that others left, where what is in its way stays: by the votes that are open to it
 //!   (`among_locks_end_by_votes`, `among_locks_end_in_time`, `among_locks_had_votes_open`,
-//!   `among_locks_are_decided_where_votes_are`, `among_locks_are_answered_as_begun`); what nobody meets is one
+//!   `among_locks_are_decided_where_votes_are`, `among_locks_are_answered_as_begun`,
+//!   `among_locks_gather_their_asks`), and it leaves no lock (`among_locks_leave_no_lock`); what nobody meets is one
 //!   (`unmet_are_among_locks`).
+//! - So transactions side by side, of which each begins only where it clashes with none that runs, are all decided
+//!   (`side_by_side_are_decided`, `side_by_side_end_in_time`, `side_by_side_are_told_freely`).
 //! - Homes go round. So where the votes are up, of as many tries as there are servers one is decided
 //!   (`homes_go_round`, `one_of_them_is_decided`).
 //! - Sweeps leave only locks in doubt, change no copy in effect, and with all servers up leave none
@@ -27,23 +30,25 @@
 //! - Each job that ended in a run took steps within its bound, with no premise (`runs_end_by_the_bounds`).
 //! - A transaction whose lock was taken away is never decided (`taken_away_are_never_decided`).
 //! - `promise` lends all this of a world, and `what_can_be_is_available` of any events that there can be. In
-//!   `some_runs_recover` it says something.
+//!   `some_runs_recover` and `some_runs_go_side_by_side` it says something.
 //! - Not promised: that of transactions that meet one is decided (`some_runs_starve`).
 //!
 //! **The caller owes** to `promise` a world that some events made of accepted settings (`IsOfRun`).
 //!
 //! **Files**: `lib`, `promises`. **Definitions** (`specs/`): `Standing`, `Alone`, `Demands`, `InTime`, `Laws`,
-//! `Sweeping`, `Promises`, `Worked`, `Near`, `Unmet`, `OpenDemands`, `Local`, `Among`, `Histories`, `Blocking`,
-//! `Contending`. The proofs follow a transaction over its agent's steps (`proofs/Ends.antt`, `Stands.antt`,
-//! `Asking.antt`; where others go on `AmongCourse.antt`, `AmongStep.antt`, `AmongEnds.antt`) and a sweep by its list
-//! (`Sweeps.antt`, `Swept.antt`, `Rounds.antt`).
+//! `Sweeping`, `Promises`, `Worked`, `Near`, `Unmet`, `OpenDemands`, `Local`, `Among`, `Beside`, `BesideWorked`,
+//! `Histories`, `Blocking`, `Contending`. The proofs follow a transaction over its agent's steps (`proofs/Ends.antt`,
+//! `Stands.antt`, `Asking.antt`; where others go on `AmongCourse.antt`, `AmongStep.antt`, `AmongEnds.antt`) and a
+//! sweep by its list (`Sweeps.antt`, `Swept.antt`, `Rounds.antt`).
 #![tactic(auto)]
 
 mod promises;
 
 ghost use Rattle.law_run_recovers.specs.Laws.{EndsAreByVotes, EndsInTime, MetDemandsAreRows, DecidedWhereVotesAre, HomesGoRound, OneOfThemIsDecided, DecidedHadVotesUp};
 ghost use Rattle.law_run_recovers.specs.Local.{AloneAreUnmet, NearVotesAreRows, OpenVotesAreRows, UnmetAreDecidedWhereVotesAre, UnmetEndByVotes, UnmetEndInTime, UnmetHadVotesUp};
-ghost use Rattle.law_run_recovers.specs.Among.{UnmetAreAmongLocks, AmongLocksEndByVotes, AmongLocksEndInTime, AmongLocksHadVotesOpen, AmongLocksAreDecidedWhereVotesAre, AmongLocksAreAnsweredAsBegun};
+ghost use Rattle.law_run_recovers.specs.Among.{UnmetAreAmongLocks, AmongLocksEndByVotes, AmongLocksEndInTime, AmongLocksHadVotesOpen, AmongLocksAreDecidedWhereVotesAre, AmongLocksAreAnsweredAsBegun, AmongLocksGatherTheirAsks, AmongLocksLeaveNoLock};
+ghost use Rattle.law_run_recovers.specs.Beside.{SideBySideAreDecided, SideBySideEndInTime, SideBySideAreToldFreely};
+ghost use Rattle.law_run_recovers.specs.BesideWorked.{SomeRunsGoSideBySide};
 ghost use Rattle.law_run_recovers.specs.Histories.{FinishedBeforeAtServer, ChangesAreMetAtServer};
 ghost use Rattle.law_run_recovers.specs.InTime.{RunsEndByTheBounds};
 ghost use Rattle.law_run_recovers.specs.Sweeping.{SweepsLeaveDoubts, SweepsKeepEffects, OnlyDoubtsAreLeft, NoLockIsLeft, AllIsStored, TakenAwayAreNeverDecided};
@@ -164,6 +169,36 @@ pub fn among_locks_are_answered_as_begun()
     ensures { AmongLocksAreAnsweredAsBegun }
 {}
 
+/// A law: and when it is decided it has gathered just what it asks for on the table as it began: each suite, in each mode.
+/// It does nothing.
+pub fn among_locks_gather_their_asks()
+    ensures { AmongLocksGatherTheirAsks }
+{}
+
+/// A law: and once it has ended no server has a lock of it, up or down. It does nothing.
+pub fn among_locks_leave_no_lock()
+    ensures { AmongLocksLeaveNoLock }
+{}
+
+/// A law: where all servers are up, no lock is left and no agent has a job, and then no server crashes, nobody sweeps and
+/// each request is served: transactions of which each begins only where what it asks for, on the table as it begins, clashes
+/// with what none asked for that runs then, are decided when they end, and answered as the table at their begin answers them.
+/// It does nothing.
+pub fn side_by_side_are_decided()
+    ensures { SideBySideAreDecided }
+{}
+
+/// A law: and each ends, within so many steps of its agent as its locks and the servers bound, whatever the others do or do
+/// not. It does nothing.
+pub fn side_by_side_end_in_time()
+    ensures { SideBySideEndInTime }
+{}
+
+/// A law: and none of them is ever told Busy, Down or Lost. It does nothing.
+pub fn side_by_side_are_told_freely()
+    ensures { SideBySideAreToldFreely }
+{}
+
 /// A law: where votes were never moved, such a transaction is decided exactly where its home and the votes of the rows are
 /// up. It does nothing.
 pub fn decided_where_votes_are()
@@ -253,4 +288,10 @@ pub fn some_runs_recover()
 /// or sweeps: so it is not promised that one of such is decided. It does nothing.
 pub fn some_runs_starve()
     ensures { SomeRunsStarve }
+{}
+
+/// A law: a run in which two users go side by side, each with a file of its own, step by step in turn; both are answered. It
+/// does nothing.
+pub fn some_runs_go_side_by_side()
+    ensures { SomeRunsGoSideBySide }
 {}

@@ -1,11 +1,13 @@
 //! Worked examples, and each public call once.
 
-use crate::checks::{case, debug, had, holds, printed, push, same, shows, tells, with_byte};
+use crate::checks::{
+    case, debug, had, holds, number, printed, push, same, shows, tells, with_byte,
+};
 use crate::fixtures::{lists, mode};
 use acl_core::{Lists, Perms, Tag};
 use acl_text::{
-    Names, TextFault, append_acl, append_short, append_tag, permission_text, read_acl, write_acl,
-    write_short,
+    Names, TextFault, append_acl, append_short, append_tag, item_place, permission_text, read_acl,
+    write_acl, write_short,
 };
 use std::alloc::AllocError;
 use std::process::Abort;
@@ -143,6 +145,29 @@ fn texts_are_read_or_refused(rt: HostRuntime) {
     mean(&rt, TEXTS);
     mean(&rt, DEFAULTS);
     means(&rt, GETFACL, GETFACL_SHORT);
+}
+
+/// A text of six items, of which the third is an empty line's, and one in a comment that does not count.
+static ITEMS: &str = "a,b#c,d\n\n e:,f\ng";
+
+/// Numbers of items, each with the place of its first byte.
+static PLACES: &str = "
+0 = None
+1 = Some(0)
+2 = Some(2)
+3 = Some(8)
+4 = Some(9)
+5 = Some(13)
+6 = Some(15)
+7 = None";
+
+#[test]
+fn items_have_their_places(rt: HostRuntime) {
+    for line in PLACES.lines().skip(1) {
+        let (item, want) = case(&rt, line);
+        let place = item_place(ITEMS.as_bytes(), number(&rt, item));
+        shows(&rt, place, want, line);
+    }
 }
 
 /// A list with a mask, and its long text.

@@ -43,17 +43,11 @@ not_itself a b is same same' =
     equal_less : Equal ≡ Less → ⊥
     equal_less e = cc
 
-less_down : (s : ℕ) (a b : Holder) → a.0.0 ≤ b.0.0 → on_less s b ≡ true → on_less s a ≡ true
-less_down s a b le is = grind (arith, nat_tests)
-
 less_is_not_other : (t s : ℕ) (d : Holder) → on_less s d ≡ true → is_other t s d ≡ false
 less_is_not_other t s d is = grind (arith, nat_tests)
 
 past_is_not_other : (t s : ℕ) (d : Holder) → s < d.0.0 → is_other t s d ≡ false
 past_is_not_other t s d is = grind (arith, nat_tests)
-
-past_suite : (s : ℕ) (d : Holder) → on_less s d ≡ false → (d.0.0 == s) ≡ false → s < d.0.0
-past_suite s d a b = grind (arith, nat_tests)
 
 own_holder : (t s : ℕ) (d : Holder) → is_other t s d ≡ false → (d.0.0 == s) ≡ true → (d.0.0 ≡ s) × (d.0.1 ≡ t)
 own_holder t s d a b = (grind (arith, nat_tests), grind (arith, nat_tests))

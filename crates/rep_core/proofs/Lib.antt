@@ -31,13 +31,11 @@ pub mod Kept
 pub mod ByAgent
 pub mod LeftCopies
 mod Searching
-mod Ranges
-mod Places
 mod RisingParts
 mod FirstHolders
 mod SuiteHolders
-mod SettledLocks
-mod Listing
-pub mod ClosedTables
+mod KeptLocks
+mod LockEdits
+mod TabledLocks
 pub mod Walks
 mod Pairwise

@@ -1,8 +1,7 @@
 -- Locks in their order.
-use Rattle.std.proofs.Common.{◌≡◌, ℕ, ◌+◌, suc, Ok, Err, Bool, true, false, cond, List, [], ◌∷◌, ◌++◌, refl, sym, ap, ◌∙◌, arith}
+use Rattle.std.proofs.Common.{◌≡◌, ℕ, ◌+◌, suc, Bool, true, false, cond, List, [], ◌∷◌, ◌++◌, refl, sym, ap, ◌∙◌, arith}
 use Rattle.std.specs.Prelude.{◌&&◌, not, filter, map, insert, count_by}
 use Rattle.std.specs.List.{list_all}
-use Rattle.std.specs.Prelude.{Result, OnOk, OnErr}
 use Rattle.std.proofs.lemmas.Bool.{and_parts, and_from, or_parts}
 use Rattle.std.proofs.lemmas.Bool.Decides.{nat_tests}
 use Rattle.std.proofs.lemmas.List.Sums.{sum_by-cons}
@@ -78,7 +77,7 @@ all_map : (f : Lock → Lock) → ((a b : Lock) → before (f a) (f b) ≡ befor
 all_map f same l [] = refl
 all_map f same l (x ∷ ls) = λ i. same l x i && all_map f same l ls i
 
-rise_map : (f : Lock → Lock) → ((a b : Lock) → before (f a) (f b) ≡ before a b) → (ls : List Lock) → rise (map f ls) ≡ rise ls
+pub rise_map : (f : Lock → Lock) → ((a b : Lock) → before (f a) (f b) ≡ before a b) → (ls : List Lock) → rise (map f ls) ≡ rise ls
 rise_map f same [] = refl
 rise_map f same (l ∷ ls) = λ i. all_map f same l ls i && rise_map f same ls i
 
@@ -143,8 +142,3 @@ insert_at_place l (x ∷ ls) up =
           let none = filter_none p (before x) (λ y above. not_after l x y over above) ls parts.0 in
           ap (λ n. insert (x ∷ ls) (0 + n) l) none.2 ∙ sym (ap (λ k. k ++ l ∷ x ∷ filter (λ x. not (p x)) ls) none.0 ∙ ap (λ k. l ∷ x ∷ k) none.1)
     ] refl
-
--- locks that were changed, or stayed as they were
-pub rise_either : {E : Type 0} (result : Result (Unit {0}) E) (old changed new : List Lock) → OnOk result (new ≡ changed) → OnErr result (new ≡ old) → rise old ≡ true → rise changed ≡ true → rise new ≡ true
-rise_either (Ok done) old changed new ok err up up_changed = ap rise ok ∙ up_changed
-rise_either (Err why) old changed new ok err up up_changed = ap rise err ∙ up

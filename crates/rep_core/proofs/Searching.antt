@@ -100,44 +100,6 @@ module _ (t suite : ℕ) where
         | false ↦ λ behind is. let none = none_behind x ls behind parts.0 in absurd (omega (arith, none.1))
       ] refl (is ∙ count_cons p x ls)
 
--- ---- the transaction's own lock, in its mode
-
-module _ (t suite : ℕ) (q : Lock → Bool) where
-  abbrev wanted : Lock → Bool
-  wanted lock = is_own t suite lock && q lock
-
-  none_wanted : (x : Lock) (ls : List Lock) → stands_before t suite x ≡ false → list_all (before x) ls ≡ true → list_any wanted ls ≡ false
-  none_wanted x [] fails all = refl
-  none_wanted x (y ∷ ls) fails all =
-      let parts = and_parts (before x y) (list_all (before x) ls) all in
-      λ i. (behind_not_own t suite x y fails parts.0 i && q y) || none_wanted x ls fails parts.1 i
-
-  pub any_wanted-at : (ls : List Lock) (n : ℕ) (d : Lock) → rise ls ≡ true → n ≡ count_by (λ lock. stands_before t suite lock) ls → n < length ls → list_any wanted ls ≡ wanted (get_or ls n d)
-  any_wanted-at [] n d up is within = absurd (omega arith)
-  any_wanted-at (x ∷ ls) n d up is within =
-      let parts = and_parts (list_all (before x) ls) (rise ls) up in
-      let p : Lock → Bool = λ lock. stands_before t suite lock in
-      elim (p x) as (λ b. p x ≡ b → n ≡ cond b 1 0 + count_by p ls → list_any wanted (x ∷ ls) ≡ wanted (get_or (x ∷ ls) n d)) [
-        | true ↦ λ first is.
-            let rest = any_wanted-at ls (count_by p ls) d parts.1 refl (omega arith) in
-            let place : n ≡ suc (count_by p ls) = omega arith in
-            ap (λ b. (b && q x) || list_any wanted ls) (before_not_own t suite x first) ∙ rest ∙ sym (ap (λ k. wanted (get_or (x ∷ ls) k d)) place)
-        | false ↦ λ behind is.
-            let none = none_behind t suite x ls behind parts.0 in
-            let place : n ≡ 0 = omega (arith, none.1) in
-            ap (λ b. wanted x || b) (none_wanted x ls behind parts.0) ∙ or_false (wanted x) ∙ sym (ap (λ k. wanted (get_or (x ∷ ls) k d)) place)
-      ] refl (is ∙ count_cons p x ls)
-    where
-      or_false : (b : Bool) → (b || false) ≡ b
-      or_false true = refl
-      or_false false = refl
-
-  pub any_wanted-none : (ls : List Lock) → has_lock t suite ls ≡ false → list_any wanted ls ≡ false
-  any_wanted-none [] none = refl
-  any_wanted-none (x ∷ ls) none =
-      let parts = or_parts (is_own t suite x) (has_lock t suite ls) none in
-      λ i. (parts.0 i && q x) || any_wanted-none ls parts.1 i
-
 -- ---- the transaction's own lock, raised
 
 module _ (t suite : ℕ) (mode : LockMode) where

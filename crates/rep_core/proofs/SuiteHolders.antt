@@ -1,35 +1,31 @@
--- Who holds locks on a suite: what each change of the locks makes of it, and whom a search finds first.
-use Rattle.std.proofs.Common.{◌≡◌, ℕ, ◌≤◌, ◌<◌, length, get_or, Bool, true, false, cond, inl, inr, List, [], ◌∷◌, Option, Some, None, is_some, refl, sym, ap, subst, ◌∙◌, arith, Less, Equal, Greater}
-use Rattle.std.specs.Prelude.{◌==◌, ◌&&◌, ◌||◌, not, filter, find, option_map, count_by}
-use Rattle.std.specs.List.{list_any, list_all, slice_range, AllByRecursion}
+-- Who holds locks on a suite, whom a search finds first, and what that tells of a lock in the way.
+use Rattle.std.proofs.Common.{◌≡◌, ℕ, ◌+◌, ◌^◌, ◌≤◌, ◌<◌, Bool, true, false, cond, inl, inr, List, [], ◌∷◌, Option, Some, None, is_some, refl, sym, ap, subst, ◌∙◌, arith, Less, Equal, Greater}
+use Rattle.std.specs.Prelude.{◌==◌, ◌&&◌, ◌||◌, filter, find, option_map}
+use Rattle.std.specs.List.{AllByRecursion}
 use Rattle.std.specs.List.Sorted.{IsStrictlySortedBy}
 use Rattle.std.specs.Cmp.{IsTotalOrder, then_total, on_total}
-use Rattle.std.specs.Ordering.{nat_cmp, ordering_then, is_eq}
+use Rattle.std.specs.Ordering.{nat_cmp, ordering_then, is_eq, is_lt}
 use Rattle.std.specs.BTreeMap.{is_at}
 use Rattle.std.specs.Map.{keys_of}
-use Rattle.std.proofs.lemmas.Bool.{and_parts, false≢true, cases_lt}
+use Rattle.std.proofs.lemmas.Bool.{and_parts, false≢true}
 use Rattle.std.proofs.lemmas.Bool.Decides.{nat_tests}
 use Rattle.std.proofs.lemmas.Cmp.{nat_cmp_total}
-use Rattle.std.proofs.lemmas.List.Elements.{Contains-get_or}
-use Rattle.sorted_map.specs.SortedMap.{IsOrdered, get, insert, remove}
+use Rattle.std.proofs.lemmas.Option.{same_Some}
+use Rattle.sorted_map.specs.SortedMap.{IsOrdered, get}
+use Rattle.sorted_map.specs.Blocks.{first_from}
 use Rattle.sorted_map.specs.Comparisons.{by_answer}
-use Rattle.sorted_map.specs.Laws.{get-insert, get-remove, IsOrdered-remove, IsOrdered-insert}
 use Rattle.suite_prefix.specs.declared.lock_mode.LockMode.{LockMode}
 use Rattle.suite_prefix.specs.LockModes.{is_exclusive}
 use Rattle.rep_core.specs.declared.lock.Lock.{Lock}
 use Rattle.rep_core.specs.declared.request.Part.{Part}
 use Rattle.rep_core.specs.Consistency.{IsAlone}
-use Rattle.rep_core.specs.Locks.{is_own, lock_at, conflicts, in_the_way, has_lock, locked, with_prepared, released, broken, prepared_locks}
-use Rattle.rep_core.specs.code.Holders.{Holder, holder_cmp, AreHeld, is_other, if_conflict, without, without_one}
-use Rattle.rep_core.specs.code.Ranges.{IsRangeOf}
+use Rattle.rep_core.specs.Locks.{is_own, lock_at, conflicts, in_the_way, has_lock, locked, with_prepared}
+use Rattle.rep_core.specs.code.Holders.{Holder, holder_cmp, AreHeld, AreNumbered, is_other, other_in}
+use Rattle.rep_core.specs.code.Keyed.{if_conflict}
 use Rattle.rep_core.proofs.Members.{Has, has_from, contains_from, has_filter, find_none}
 use Rattle.rep_core.proofs.Alone.{Alone, alone_locked, alone_prepared, own_is}
-use Rattle.rep_core.proofs.Finding.{any_find, find_some, none_ahead, if_passes, find_filter}
+use Rattle.rep_core.proofs.Finding.{any_find, find_some, none_ahead}
 use Rattle.rep_core.proofs.Least.{least, same_lock}
-use Rattle.rep_core.proofs.LockLookups.{taken, ready, names, if_prepared, lock_at-locked, lock_at-prepared, lock_at-released, lock_at-crashed, lock_at-broken, one_each}
-use Rattle.rep_core.proofs.Ranges.{has_lock_in, some_lock}
-use Rattle.rep_core.proofs.Rising.{rise_filter, rise_locked, rise_prepared}
-use Rattle.rep_core.proofs.Searching.{stands_before, has_lock-at, has_lock-end}
 
 -- ---- keys
 
@@ -74,176 +70,14 @@ alone_contained locks alone a b has_a has_b = alone a b (has_from locks a has_a)
 alone_had : (locks : List Lock) → IsAlone locks → Alone locks
 alone_had locks alone a b has_a has_b = alone a b (contains_from locks a has_a) (contains_from locks b has_b)
 
-alone_filter : (q : Lock → Bool) (ls : List Lock) → IsAlone ls → IsAlone (filter q ls)
-alone_filter q ls alone = alone_contained _ (λ a b has_a has_b. alone_had ls alone a b (has_filter q ls a has_a).0 (has_filter q ls b has_b).0)
+pub still_alone : (q : Lock → Bool) (ls : List Lock) → IsAlone ls → IsAlone (filter q ls)
+still_alone q ls alone = alone_contained _ (λ a b has_a has_b. alone_had ls alone a b (has_filter q ls a has_a).0 (has_filter q ls b has_b).0)
 
--- ---- after each change
+pub still_alone_locked : (t s : ℕ) (m : LockMode) (ls : List Lock) → in_the_way t s m ls ≡ None → IsAlone ls → IsAlone (locked t s m ls)
+still_alone_locked t s m ls free alone = alone_contained _ (alone_locked t s m ls free (alone_had ls alone))
 
-by_choice : {X : Type 0} (b : Bool) (o : Option (Unit {0})) (x : X) (p : Option X) → is_some o ≡ is_some p → is_some (cond b (Some tt) o) ≡ is_some (cond b (Some x) p)
-by_choice true o x p same = refl
-by_choice false o x p same = same
-
-module _ (ls : List Lock) (hs : List Holder) (held : AreHeld ls hs) where
-  -- one holds a lock where the locks have it
-  found : (u z : ℕ) → is_some (get holder_cmp hs (z, u)) ≡ is_some (lock_at u z ls)
-  found u z = held.same u z ∙ any_find (is_own u z) ls
-
-  pub held_locked : (t s : ℕ) (m : LockMode) → in_the_way t s m ls ≡ None → AreHeld (locked t s m ls) (insert holder_cmp hs (s, t) tt)
-  held_locked t s m free = record {
-    rising = rise_locked t s m ls held.rising;
-    alone = alone_contained _ (alone_locked t s m ls free (alone_had ls held.alone));
-    ordered = IsOrdered-insert holder_total hs (s, t) tt held.ordered;
-    same = λ u z.
-        ap is_some (get-insert holder_total hs (s, t) tt (z, u) ∙ ap (λ b. cond b (Some tt) (get holder_cmp hs (z, u))) (key_is s t z u))
-        ∙ by_choice ((u == t) && (z == s)) _ (taken t s m (lock_at t s ls)) _ (found u z)
-        ∙ sym (any_find (is_own u z) (locked t s m ls) ∙ ap is_some (lock_at-locked t s m ls held.rising u z));
-  }
-
-  pub held_prepared : (t : ℕ) (parts : List Part) → AreHeld (with_prepared t parts ls) hs
-  held_prepared t parts = record {
-    rising = rise_prepared t parts ls held.rising;
-    alone = alone_contained _ (alone_prepared t parts ls (alone_had ls held.alone));
-    ordered = held.ordered;
-    same = λ u z. found u z ∙ sym (any_find (is_own u z) (with_prepared t parts ls) ∙ ap is_some (lock_at-prepared t parts ls u z) ∙ either ((u == t) && names z parts) (lock_at u z ls));
-  }
-    where
-      either : (b : Bool) (o : Option Lock) → is_some (cond b (option_map ready o) o) ≡ is_some o
-      either true None = refl
-      either true (Some l) = refl
-      either false o = refl
-
-  pub held_broken : (t s : ℕ) → AreHeld (broken t s ls) (cond (has_lock t s (broken t s ls)) hs (remove holder_cmp hs (s, t)))
-  held_broken t s = by (has_lock t s (broken t s ls)) refl
-    where
-      here : (u z : ℕ) → has_lock u z (broken t s ls) ≡ is_some (cond ((u == t) && (z == s)) (if_prepared (lock_at u z ls)) (lock_at u z ls))
-      here u z = any_find (is_own u z) (broken t s ls) ∙ ap is_some (lock_at-broken t s ls held.rising u z)
-
-      same_as : (u z : ℕ) → ((u == t) && (z == s)) ≡ true → has_lock u z (broken t s ls) ≡ has_lock t s (broken t s ls)
-      same_as u z e =
-          let both = and_parts (u == t) (z == s) e in
-          let a = same_nat u t both.0 in
-          let b = same_nat z s both.1 in
-          λ i. has_lock (a i) (b i) (broken t s ls)
-
-      some_passed : (o : Option Lock) → is_some (if_prepared o) ≡ true → is_some o ≡ true
-      some_passed None is = is
-      some_passed (Some l) is = refl
-
-      stays : has_lock t s (broken t s ls) ≡ true → (u z : ℕ) (b : Bool) → ((u == t) && (z == s)) ≡ b → is_some (get holder_cmp hs (z, u)) ≡ has_lock u z (broken t s ls)
-      stays has u z true e = found u z ∙ some_passed (lock_at u z ls) (sym (here u z ∙ ap (λ b. is_some (cond b (if_prepared (lock_at u z ls)) (lock_at u z ls))) e) ∙ same_as u z e ∙ has) ∙ sym (same_as u z e ∙ has)
-      stays has u z false e = found u z ∙ sym (here u z ∙ ap (λ b. is_some (cond b (if_prepared (lock_at u z ls)) (lock_at u z ls))) e)
-
-      goes : has_lock t s (broken t s ls) ≡ false → (u z : ℕ) (b : Bool) → ((u == t) && (z == s)) ≡ b → is_some (cond b None (get holder_cmp hs (z, u))) ≡ has_lock u z (broken t s ls)
-      goes none u z true e = sym (same_as u z e ∙ none)
-      goes none u z false e = found u z ∙ sym (here u z ∙ ap (λ b. is_some (cond b (if_prepared (lock_at u z ls)) (lock_at u z ls))) e)
-
-      by : (b : Bool) → has_lock t s (broken t s ls) ≡ b → AreHeld (broken t s ls) (cond b hs (remove holder_cmp hs (s, t)))
-      by true is = record {
-        rising = rise_filter _ ls held.rising;
-        alone = alone_filter _ ls held.alone;
-        ordered = held.ordered;
-        same = λ u z. stays is u z ((u == t) && (z == s)) refl;
-      }
-      by false is = record {
-        rising = rise_filter _ ls held.rising;
-        alone = alone_filter _ ls held.alone;
-        ordered = IsOrdered-remove holder_total hs (s, t) held.ordered;
-        same = λ u z. ap is_some (get-remove holder_total hs (s, t) (z, u) held.ordered ∙ ap (λ b. cond b None (get holder_cmp hs (z, u))) (key_is s t z u)) ∙ goes is u z ((u == t) && (z == s)) refl;
-      }
-
--- ---- who holds some locks, taken out
-
-pub own_flip : (u z : ℕ) (l : Lock) → ((u == l.t) && (z == l.suite)) ≡ is_own u z l
-own_flip u z l = grind (arith, nat_tests)
-
-twice : {X : Type 0} (a b : Bool) (g : Option X) → cond a None (cond b None g) ≡ cond (b || a) None g
-twice true true g = refl
-twice true false g = refl
-twice false true g = refl
-twice false false g = refl
-
-pub ordered-without : (ls : List Lock) (hs : List Holder) → IsOrdered holder_cmp hs → IsOrdered holder_cmp (without ls hs)
-ordered-without [] hs ordered = ordered
-ordered-without (l ∷ ls) hs ordered = ordered-without ls (remove holder_cmp hs (l.suite, l.t)) (IsOrdered-remove holder_total hs (l.suite, l.t) ordered)
-
-get-without : (ls : List Lock) (hs : List Holder) → IsOrdered holder_cmp hs → (u z : ℕ) → get holder_cmp (without ls hs) (z, u) ≡ cond (has_lock u z ls) None (get holder_cmp hs (z, u))
-get-without [] hs ordered u z = refl
-get-without (l ∷ ls) hs ordered u z =
-    get-without ls (remove holder_cmp hs (l.suite, l.t)) (IsOrdered-remove holder_total hs (l.suite, l.t) ordered) u z
-    ∙ ap (cond (has_lock u z ls) None) (get-remove holder_total hs (l.suite, l.t) (z, u) ordered ∙ ap (λ b. cond b None (get holder_cmp hs (z, u))) (key_is l.suite l.t z u ∙ own_flip u z l))
-    ∙ twice (has_lock u z ls) (is_own u z l) (get holder_cmp hs (z, u))
-
-any_both : (t u z : ℕ) (ls : List Lock) → list_any (λ l. (l.t == t) && is_own u z l) ls ≡ ((u == t) && has_lock u z ls)
-any_both t u z [] = sym (and_false (u == t))
-any_both t u z (l ∷ ls) = ap (λ b. ((l.t == t) && is_own u z l) || b) (any_both t u z ls) ∙ first (has_lock u z ls)
-  where
-    own_one : is_own u z l ≡ true → (l.t == t) ≡ (u == t)
-    own_one own = let e = own_is u z l own in ap (λ n. n == t) e.0
-
-    by : (a b c h : Bool) → (b ≡ true → a ≡ c) → ((a && b) || (c && h)) ≡ (c && (b || h))
-    by true true true h same = refl
-    by true true false h same = absurd (false≢true (sym (same refl)))
-    by false true true h same = absurd (false≢true (same refl))
-    by false true false h same = refl
-    by true false c h same = refl
-    by false false c h same = refl
-
-    first : (h : Bool) → (((l.t == t) && is_own u z l) || ((u == t) && h)) ≡ ((u == t) && (is_own u z l || h))
-    first h = by (l.t == t) (is_own u z l) (u == t) h own_one
-
-pub held_released : (t : ℕ) (ls : List Lock) (hs : List Holder) → AreHeld ls hs → (start end : ℕ) → IsRangeOf t ls start end → AreHeld (released t ls) (without (slice_range ls start end) hs)
-held_released t ls hs held start end range = record {
-  rising = rise_filter _ ls held.rising;
-  alone = alone_filter _ ls held.alone;
-  ordered = ordered-without (slice_range ls start end) hs held.ordered;
-  same = λ u z.
-      ap is_some (get-without (slice_range ls start end) hs held.ordered u z ∙ ap (λ b. cond b None (get holder_cmp hs (z, u))) (sym (has_lock_in t ls start end range u z) ∙ any_both t u z ls))
-      ∙ by (u == t) (has_lock u z ls) (get holder_cmp hs (z, u)) (lock_at u z ls) (held.same u z) (any_find (is_own u z) ls)
-      ∙ sym (any_find (is_own u z) (released t ls) ∙ ap is_some (lock_at-released t ls u z));
-}
-  where
-    by : (a h : Bool) (g : Option (Unit {0})) (o : Option Lock) → is_some g ≡ h → h ≡ is_some o → is_some (cond (a && h) None g) ≡ is_some (cond a None o)
-    by true true g o is has = refl
-    by true false g o is has = is
-    by false h g o is has = is ∙ has
-
--- a crash lets the locks go that are not prepared
-pub held_crashed : (ls : List Lock) (hs : List Holder) → AreHeld ls hs → AreHeld (prepared_locks ls) (without (filter (λ l. not l.prepared) ls) hs)
-held_crashed ls hs held = record {
-  rising = rise_filter (λ l. l.prepared) ls held.rising;
-  alone = alone_filter (λ l. l.prepared) ls held.alone;
-  ordered = ordered-without (filter (λ l. not l.prepared) ls) hs held.ordered;
-  same = λ u z.
-      ap is_some (get-without (filter (λ l. not l.prepared) ls) hs held.ordered u z ∙ ap (λ b. cond b None (get holder_cmp hs (z, u))) (gone u z))
-      ∙ by (get holder_cmp hs (z, u)) (lock_at u z ls) (held.same u z ∙ any_find (is_own u z) ls)
-      ∙ sym (any_find (is_own u z) (prepared_locks ls) ∙ ap is_some (lock_at-crashed ls held.rising u z));
-}
-  where
-    gone : (u z : ℕ) → has_lock u z (filter (λ l. not l.prepared) ls) ≡ is_some (if_passes (λ l. not l.prepared) (lock_at u z ls))
-    gone u z = any_find (is_own u z) (filter (λ l. not l.prepared) ls) ∙ ap is_some (find_filter (is_own u z) (λ l. not l.prepared) ls (one_each u z ls held.rising))
-
-    one : (p : Bool) (l : Lock) (g : Option (Unit {0})) → is_some g ≡ true → is_some (cond (is_some (cond (not p) (Some l) None)) None g) ≡ is_some (cond p (Some l) None)
-    one true l g is = is
-    one false l g is = refl
-
-    by : (g : Option (Unit {0})) (o : Option Lock) → is_some g ≡ is_some o → is_some (cond (is_some (if_passes (λ l. not l.prepared) o)) None g) ≡ is_some (if_prepared o)
-    by g None is = is
-    by g (Some l) is = one l.prepared l g is
-
--- all are prepared
-pub all_stay : (ls : List Lock) → list_all (λ l. l.prepared) ls ≡ true → prepared_locks ls ≡ ls
-all_stay [] all = refl
-all_stay (l ∷ ls) all =
-    let parts = and_parts l.prepared (list_all (λ l. l.prepared) ls) all in
-    ap (λ b. cond b (l ∷ prepared_locks ls) (prepared_locks ls)) parts.0 ∙ ap (λ r. l ∷ r) (all_stay ls parts.1)
-
--- one more lock is taken out, or stays
-pub without-front : (l : Lock) (ls : List Lock) (hs : List Holder) → without (filter (λ l. not l.prepared) (l ∷ ls)) hs ≡ without (filter (λ l. not l.prepared) ls) (without_one l hs)
-without-front l ls hs = by l.prepared
-  where
-    by : (b : Bool) → without (cond (not b) (l ∷ filter (λ l. not l.prepared) ls) (filter (λ l. not l.prepared) ls)) hs ≡ without (filter (λ l. not l.prepared) ls) (cond b hs (remove holder_cmp hs (l.suite, l.t)))
-    by true = refl
-    by false = refl
+pub still_alone_prepared : (t : ℕ) (parts : List Part) (ls : List Lock) → IsAlone ls → IsAlone (with_prepared t parts ls)
+still_alone_prepared t parts ls alone = alone_contained _ (alone_prepared t parts ls (alone_had ls alone))
 
 -- ---- whom a search finds
 
@@ -252,7 +86,7 @@ some_at true o is = refl
 some_at false o is = absurd (false≢true is)
 
 -- one that is listed is found
-has_get : (hs : List Holder) (e : Holder) → Has hs e → is_some (get holder_cmp hs (e.0.0, e.0.1)) ≡ true
+pub has_get : (hs : List Holder) (e : Holder) → Has hs e → is_some (get holder_cmp hs (e.0.0, e.0.1)) ≡ true
 has_get [] e has = absurd has
 has_get (d ∷ hs) e has =
     elim has [
@@ -413,21 +247,52 @@ module _ (ls : List Lock) (hs : List Holder) (held : AreHeld ls hs) (t s : ℕ) 
       by None is _ = sym (way_none ls hs held t s m is)
       by (Some e) is none = absurd cc
 
-  pub way_told : (u at : ℕ) (r : Option Lock) → option_map (λ (h : Holder). h.0.1) (find (is_other t s) hs) ≡ Some u → at ≡ count_by (stands_before u s) ls → ((d : Lock) → at < length ls → r ≡ if_conflict t s m (get_or ls at d)) → r ≡ in_the_way t s m ls
-  way_told u at r told place is = by (find (is_other t s) hs) refl told
+  pub way_told : (u : ℕ) → option_map (λ (h : Holder). h.0.1) (find (is_other t s) hs) ≡ Some u → if_conflict t s m (lock_at u s ls) ≡ in_the_way t s m ls
+  way_told u told = by (find (is_other t s) hs) refl told
     where
-      at_place : (e : Holder) → find (is_other t s) hs ≡ Some e → e.0.1 ≡ u → has_lock u s ls ≡ true → at < length ls → r ≡ in_the_way t s m ls
-      at_place e first same has within =
-          let g = get_or ls at some_lock in
-          let own = own_is u s g (sym (has_lock-at u s ls at some_lock held.rising place within) ∙ has) in
-          is some_lock within ∙ sym (way_some ls hs held t s m e g first (has_from ls g (Contains-get_or ls at some_lock within)) (own.0 ∙ sym same) own.1)
+      at_lock : (e : Holder) → find (is_other t s) hs ≡ Some e → e.0.1 ≡ u → (o : Option Lock) → lock_at u s ls ≡ o → is_some o ≡ true → if_conflict t s m o ≡ in_the_way t s m ls
+      at_lock e first same None is some = absurd (false≢true some)
+      at_lock e first same (Some g) is some =
+          let found = find_some (is_own u s) ls g is in
+          let own = own_is u s g found.1 in
+          sym (way_some ls hs held t s m e g first found.0 (own.0 ∙ sym same) own.1)
 
-      there : (e : Holder) → find (is_other t s) hs ≡ Some e → e.0.1 ≡ u → has_lock u s ls ≡ true → r ≡ in_the_way t s m ls
-      there e first same has = elim (cases_lt at (length ls)) [
-        | inl within ↦ at_place e first same has within
-        | inr over ↦ absurd (false≢true (sym (has_lock-end u s ls at held.rising place over) ∙ has))
-      ]
-
-      by : (o : Option Holder) → find (is_other t s) hs ≡ o → option_map (λ (h : Holder). h.0.1) o ≡ Some u → r ≡ in_the_way t s m ls
+      by : (o : Option Holder) → find (is_other t s) hs ≡ o → option_map (λ (h : Holder). h.0.1) o ≡ Some u → if_conflict t s m (lock_at u s ls) ≡ in_the_way t s m ls
       by None first told = absurd cc
-      by (Some e) first told = let same : e.0.1 ≡ u = cc in there e first same (ap (λ n. has_lock n s ls) (sym same) ∙ other_holds ls hs held t s m e first)
+      by (Some e) first told =
+          let same : e.0.1 ≡ u = cc in
+          at_lock e first same (lock_at u s ls) refl (sym (any_find (is_own u s) ls) ∙ ap (λ n. has_lock n s ls) (sym same) ∙ other_holds ls hs held t s m e first)
+
+-- ---- the last number
+
+module _ {V : Type 0} where
+  -- the first pair from a key on is one of them, and not below the key
+  pub first_has : (k : ℕ × ℕ) (ps : List ((ℕ × ℕ) × V)) (p : (ℕ × ℕ) × V) → first_from holder_cmp k ps ≡ Some p → Has ps p × (is_lt (holder_cmp p.0 k) ≡ false)
+  first_has k [] p is = absurd cc
+  first_has k (d ∷ ps) p is =
+      elim (is_lt (holder_cmp d.0 k)) as (λ b. is_lt (holder_cmp d.0 k) ≡ b → cond b (first_from holder_cmp k ps) (Some d) ≡ Some p → Has (d ∷ ps) p × (is_lt (holder_cmp p.0 k) ≡ false)) [
+        | true ↦ λ _ is. let rest = first_has k ps p is in (inr rest.0, rest.1)
+        | false ↦ λ over is. let same = same_Some d p is in (inl same, ap (λ (x : (ℕ × ℕ) × V). is_lt (holder_cmp x.0 k)) (sym same) ∙ over)
+      ] refl is
+
+not_below : (s n z u : ℕ) → z ≡ s → is_lt (holder_cmp (z, u) (s, n)) ≡ false → n ≤ u
+not_below s n z u same over = more u n (sym (ap (λ o. is_lt (ordering_then o (nat_cmp u n))) (not_less_itself z s same)) ∙ over)
+  where
+    more : (a b : ℕ) → is_lt (nat_cmp a b) ≡ false → b ≤ a
+    more a b is = grind (arith, nat_tests)
+
+-- nobody stands behind a transaction of the last number
+pub none_last : (t s : ℕ) (hs : List Holder) → AreNumbered hs → 2 ^ 64 ≤ t + 1 → other_in t s (first_from holder_cmp (s, t + 1) hs) ≡ None
+none_last t s hs few last = by (first_from holder_cmp (s, t + 1) hs) refl
+  where
+    by : (o : Option Holder) → first_from holder_cmp (s, t + 1) hs ≡ o → other_in t s o ≡ None
+    by None is = refl
+    by (Some h) is = elim (is_other t s h) as (λ b. is_other t s h ≡ b → cond b (Some h.0.1) None ≡ None) [
+      | true ↦ λ other.
+          let on = (on_suite t s h other).0 in
+          let has = first_has (s, t + 1) hs h is in
+          let least : t + 1 ≤ h.0.1 = not_below s (t + 1) h.0.0 h.0.1 on has.1 in
+          let most : h.0.1 < 2 ^ 64 = few h.0.1 s (ap (λ z. is_some (get holder_cmp hs (z, h.0.1))) (sym on) ∙ has_get hs h has.0) in
+          absurd (omega (arith, least, most, last))
+      | false ↦ λ _. refl
+    ] refl

@@ -1,6 +1,6 @@
 pub mod Planning
 pub mod Holding
-pub mod Ranges
+pub mod Keyed
 pub mod StoreFields
 pub mod ServerFields
 pub mod Equality

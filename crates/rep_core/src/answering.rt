@@ -10,7 +10,6 @@ ghost use Rattle.rep_core.specs.State.{record_of};
 ghost use Rattle.rep_core.specs.Store as store;
 
 use crate::evaluate::{fill_down, verdict_of};
-use crate::locks;
 use crate::reply::{Reply, Verdict};
 use crate::request::{Part, Request};
 use crate::server_state::ServerState;
@@ -98,7 +97,7 @@ impl ServerState {
         ensures full { result ≢ Err Full }
         ensures bare { IsTrue (serving.is_bare (service.upgrade_reply (state_of self.now) t suite)) → result ≢ Err Memory }
     {
-        if locks::has_lock(self.locks.as_slice(), t, suite) {
+        if self.locks.has_lock(t, suite) {
             self.tell_lock(t, suite, LockMode::Exclusive, reply)
         } else {
             *reply = Reply::Lost;
@@ -111,7 +110,7 @@ impl ServerState {
         ensures full { result ≢ Err Full }
         ensures bare { IsTrue (serving.is_bare (service.fetch_reply (state_of self.now) t suite)) → result ≢ Err Memory }
     {
-        if locks::has_lock(self.locks.as_slice(), t, suite) {
+        if self.locks.has_lock(t, suite) {
             self.store.give(suite, reply)?;
         } else {
             *reply = Reply::Lost;

@@ -19,7 +19,6 @@ ghost use Rattle.rep_core.specs.declared.server_state.ServerState.{ServerState};
 ghost use Rattle.rep_core.specs.Store as store;
 ghost use Rattle.std.specs.Vec.{vec_len, vec_capacity};
 
-use crate::locks;
 use crate::reply::{LockList, Reply, Verdict};
 use crate::request::{Decision, Part, Request};
 use crate::server_state::ServerState;
@@ -44,6 +43,7 @@ impl ServerState {
         ensures room { IfOk result (λ change. stepping.HasRoom change request.now.value (stepping.roomed_of self.new)) }
         ensures change { IfOk result (λ change. applied change request.now.value (state_of self.old) ≡ service.after (state_of self.old) request.now.value) }
         ensures full { (result ≡ Err Full) ↔ IsTrue (serving.is_full (state_of self.old) request.now) }
+        ensures place { result ≡ Err Full → reply.new ≡ reply.old }
         ensures bare { IsTrue (serving.is_bare (service.reply_of (state_of self.old) request.now.value)) → result ≢ Err Memory }
         ensures fits { IsTrue (fits request.now.value (service.reply_of (state_of self.old) request.now.value)) }
     {
@@ -51,8 +51,10 @@ impl ServerState {
         if is_used_up(self.stamp) || is_used_up(request.stamp) {
             return Err(Lack::Full);
         }
-        reply.stamp = self.stamp.max(request.stamp) + 1;
-        self.fill(&request.value, &mut reply.value)
+        let stamp = self.stamp.max(request.stamp) + 1;
+        let change = self.fill(&request.value, &mut reply.value)?;
+        reply.stamp = stamp;
+        Ok(change)
     }
 
     #[inline(always)]
@@ -62,6 +64,7 @@ impl ServerState {
         ensures room { IfOk result (λ change. stepping.HasRoom change request.now (stepping.roomed_of self.new)) }
         ensures change { IfOk result (λ change. applied change request.now (state_of self.old) ≡ service.after (state_of self.old) request.now) }
         ensures full { (result ≡ Err Full) ↔ IsTrue ((state_of self.old).up && serving.asks_too_much (state_of self.old) request.now) }
+        ensures place { result ≡ Err Full → reply.new ≡ reply.old }
         ensures bare { IsTrue (serving.is_bare (service.reply_of (state_of self.old) request.now)) → result ≢ Err Memory }
     {
         if self.up {
@@ -79,6 +82,7 @@ impl ServerState {
         ensures room { IfOk result (λ change. stepping.HasRoom change request.now (stepping.roomed_of self.new)) }
         ensures change { IfOk result (λ change. applied change request.now (state_of self.old) ≡ service.after_up (state_of self.old) request.now) }
         ensures full { (result ≡ Err Full) ↔ IsTrue (serving.asks_too_much (state_of self.old) request.now) }
+        ensures place { result ≡ Err Full → reply.new ≡ reply.old }
         ensures bare { IsTrue (serving.is_bare (service.reply_up (state_of self.old) request.now)) → result ≢ Err Memory }
     {
         match request {
@@ -142,7 +146,7 @@ impl ServerState {
         ensures full { result ≢ Err Full }
         ensures bare { IsTrue (serving.is_bare (service.upgrade_reply (state_of self.old) t suite)) → result ≢ Err Memory }
     {
-        if locks::has_lock(self.locks.as_slice(), t, suite) {
+        if self.locks.has_lock(t, suite) {
             self.fill_lock(t, suite, LockMode::Exclusive, reply)
         } else {
             *reply = Reply::Lost;
@@ -158,7 +162,7 @@ impl ServerState {
         ensures full { result ≢ Err Full }
         ensures bare { IsTrue (serving.is_bare (service.fetch_reply (state_of self.old) t suite)) → result ≢ Err Memory }
     {
-        if locks::has_lock(self.locks.as_slice(), t, suite) {
+        if self.locks.has_lock(t, suite) {
             self.store.keep_content(suite)?;
             self.store.give(suite, reply)?;
         } else {
@@ -174,6 +178,7 @@ impl ServerState {
         ensures change { IfOk result (λ made. applied made (Request.Prepare t parts.now) (state_of self.old) ≡ after_prepare (state_of self.old) t parts.now) }
         ensures room { IfOk result (λ change. stepping.HasRoom change (Request.Prepare t parts.now) (stepping.roomed_of self.new)) }
         ensures full { let old = state_of self.old in (result ≡ Err Full) ↔ IsTrue (prepares old t parts.now && store.overfills t old.store parts.now) }
+        ensures place { result ≡ Err Full → reply.new ≡ reply.old }
         ensures bare { IsTrue (serving.is_bare (service.prepare_reply (state_of self.old) t parts.now)) → result ≢ Err Memory }
     {
         if self.stands_prepared(t, parts) {
@@ -236,7 +241,7 @@ impl ServerState {
         ensures change { IfOk result (λ change. change ≡ Change.Nothing) }
         ensures full { result ≢ Err Full }
     {
-        let locks = Vec::from_slice(self.alloc, self.locks.as_slice())?;
+        let locks = self.locks.listed(self.alloc)?;
         *reply = Reply::Locked(LockList::from_vec(locks)?);
         Ok(Change::Nothing)
     }
@@ -245,15 +250,13 @@ impl ServerState {
     pub(crate) fn stands_prepared(&self, t: u64, parts: &[Part]) -> bool
         ensures { result ≡ service.stands_prepared (state_of self.now) t parts.now }
     {
-        locks::has_prepared(self.locks.as_slice(), t) || parts.is_empty()
+        self.locks.has_prepared(t) || parts.is_empty()
     }
 
     pub(crate) fn can_prepare(&self, t: u64, parts: &[Part]) -> bool
         ensures { result ≡ service.can_prepare (state_of self.now) t parts.now }
     {
-        locks::has_locks_for(self.locks.as_slice(), t, parts)
-            && !lists_twice(parts)
-            && self.are_sound(parts)
+        self.locks.has_locks_for(t, parts) && !lists_twice(parts) && self.are_sound(parts)
     }
 
     fn are_sound(&self, parts: &[Part]) -> bool

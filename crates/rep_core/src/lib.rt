@@ -34,36 +34,36 @@
 //! **The caller owes** to `apply` a step that was evaluated at the server as it stands (`IsStep`). It opens each
 //! server with its own number and the same settings. That requests come in a sensible order is nowhere presumed.
 //!
-//! In code copies and intentions are bytes (`StoredCopy`), so a Finish moves them. Beside the locks, `holders` and
-//! `settled` save searches through them.
+//! In code copies and intentions are bytes (`StoredCopy`), so a Finish moves them. What is asked of the locks, and done
+//! with them, goes through `LockTable`: a few stand in a vector, and many in blocks, with who holds them and which are
+//! not prepared beside them.
 //!
 //! **Files**: `lock`, `request`, `reply`, `stamped`, `takes`, `fitting`, `intention`, `store`, `maps`, `copying`,
-//! `holders`, `settled`, `closing`, `preparing`, `locks`, `verdicts`, `sameness`, `step`, `server_state`, `evaluate`, `answering`, `server`,
-//! `effect`, `types_fit`, `laws`.
+//! `holders`, `few_locks`, `many_locks`, `locks`, `verdicts`, `sameness`, `step`, `server_state`, `evaluate`,
+//! `answering`, `server`, `effect`, `types_fit`, `laws`.
 //!
 //! **Definitions** (`specs/`): `Locks`, `Intentions`, `Store`, `State`, `Service`, `Serving`, `Fits`, `Roomed`,
 //! `Evaluated`, `Wanting`, `Bare`; of the laws `Consistency`, `Steps`, `ValidCopies`, `Laws`.
 #![tactic(auto)]
 
 mod answering;
-mod closing;
 mod copying;
 mod effect;
 mod evaluate;
+mod few_locks;
 mod fitting;
 mod holders;
 mod intention;
 mod laws;
 mod lock;
 mod locks;
+mod many_locks;
 mod maps;
-mod preparing;
 mod reply;
 mod request;
 mod sameness;
 mod server;
 mod server_state;
-mod settled;
 mod stamped;
 mod step;
 mod store;

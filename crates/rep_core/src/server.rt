@@ -113,10 +113,10 @@ impl Server {
     }
 
     /// The locks, by transaction, then suite.
-    pub fn locks(&self) -> &[Lock]
-        ensures { result.now ≡ self.now.state.locks }
+    pub fn locks(&self) -> Result<Vec<Lock>, AllocError>
+        ensures { IfOk result (λ locks. locks.items ≡ self.now.state.locks) }
     {
-        self.held.locks.as_slice()
+        self.held.locks.listed(self.held.alloc)
     }
 
     /// The copies, by suite.

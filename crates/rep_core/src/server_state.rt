@@ -13,7 +13,7 @@ use crate::intention::Planned;
 use crate::locks::LockTable;
 use crate::reply::Verdict;
 use crate::request::Request;
-use crate::sameness::{same_audit, same_locks};
+use crate::sameness::same_audit;
 use crate::stamped::Stamped;
 use crate::step::{Change, Step};
 use crate::store::Store;
@@ -61,7 +61,7 @@ impl ServerState {
         ensures { IfOk result (λ held. state_of held ≡ state_of self.now) }
     {
         let store = self.store.copy()?;
-        let locks = self.locks.copy()?;
+        let locks = self.locks.copy(self.alloc)?;
         let verdicts = self.verdicts.copy(self.alloc)?;
         let audit = Vec::from_slice(self.alloc, &self.audit)?;
         Ok(ServerState {
@@ -82,7 +82,7 @@ impl ServerState {
         if self.up != other.up {
             return false;
         }
-        if !same_locks(self.locks.as_slice(), other.locks.as_slice()) {
+        if !self.locks.same(&other.locks) {
             return false;
         }
         if !same_audit(&self.audit, &other.audit) {

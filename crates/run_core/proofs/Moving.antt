@@ -1,6 +1,6 @@
 -- What the code keeps of agents, against the definitions.
-use Rattle.std.proofs.Common.{◌≡◌, ℕ, Bool, false, List, Option, Some, None, Result, Ok, Err, refl, ap, subst, ◌∙◌, sym}
-use Rattle.std.specs.Prelude.{slice_get, slice_set, option_map, IfOk, OnErr}
+use Rattle.std.proofs.Common.{◌≡◌, ℕ, Bool, true, false, List, Option, Some, None, Result, Ok, Err, refl, ap, subst, ◌∙◌, sym}
+use Rattle.std.specs.Prelude.{slice_get, slice_set, option_map, IfOk, IfSome, OnErr}
 use Rattle.std.specs.Option.{option_or}
 use Rattle.std.specs.declared.alloc.AllocError.{AllocError}
 use Rattle.std.proofs.lemmas.List.{map-set}
@@ -14,7 +14,7 @@ use Rattle.txn_core.specs.Agents.{Agent, next_of, take}
 use Rattle.run_core.specs.declared.done.Done.{Done}
 use Rattle.run_core.specs.declared.done.EndedJob.{EndedJob}
 use Rattle.run_core.specs.declared.done.Served.{Served}
-use Rattle.run_core.specs.Telling.{ComesTo, IsTold, served_if}
+use Rattle.run_core.specs.Telling.{ComesTo, IsFitting, IsFittingIf, IsTold, served_if}
 use Rattle.run_core.specs.Worlds.{Actor, World, Stepped, becomes, quiet, steps_once, asks, asks_at, answered, serve, lacks, lacks_for, lacked, outcome_of}
 use Rattle.run_core.specs.code.Seats.{Seated, changed, actors_in, world_of, AreOf, Becomes, after_response}
 use Rattle.run_core.specs.code.Exchanges.{IsExchange, IsExchangeOf}
@@ -152,6 +152,11 @@ pub step_told : (stepped : Stepped) (world : World) (asked : Served) (outcome : 
 step_told stepped world asked outcome is_served comes =
     let outcome_is = comes.told.ended_is ∙ or_nothing stepped.done.outcome in
     rw (comes.world_is, ← comes.told.served_is, outcome_is) refl
+
+-- the reply of what was served fits its request
+pub served_fits : (asked : Served) (is_served : Bool) → IsFittingIf is_served asked → IfSome (served_if is_served asked) IsFitting
+served_fits asked true fits = fits
+served_fits asked false fits = tt
 
 -- ---- Lack
 

@@ -2,6 +2,7 @@
 
 ghost use Rattle.std.specs.Prelude.{◌≡◌, IfOk, IfErr, IsTrue, OnErr, Some};
 ghost use Rattle.txn_core.specs.Agents.{next_of};
+ghost use Rattle.run_core.specs.Telling.{IsFittingIf};
 ghost use Rattle.run_core.specs.code.Exchanges.{IsExchangeOf};
 ghost use Rattle.run_core.specs.Wanting.{by_exchange};
 
@@ -25,6 +26,7 @@ pub(crate) fn exchange(
     requires asks { next_of seat.old.fixed seat.old.actor.agent ≡ Some (asked.old.server, asked.old.request.value) }
     requires stamp { asked.old.request.stamp ≡ seat.old.actor.stamp }
     ensures ok { IfOk result (IsExchangeOf host.old host.new seat.old seat.new agent asked.old asked.new ended.old ended.new) }
+    ensures fits { IfOk result (λ is_served. IsFittingIf is_served asked.new) }
     ensures err { OnErr result ((host.new ≡ host.old) × (seat.new ≡ seat.old) × (ended.new ≡ ended.old)) }
     ensures memory { IfErr result (λ _. IsTrue (by_exchange asked.old.request (Some host.old))) }
 {

@@ -6,9 +6,10 @@
 //!
 //! **Promises.** `World::step` plays an event as the definition says (`specs/Worlds.antt`, one equation an event).
 //! It answers what was served and how a job ended; `World::advance` puts both into places of its caller's
-//! (`specs/Telling.antt`). `World::play` plays many. Where memory runs out nothing has changed, or `play` tells how
-//! many events were played. Only a begin and a step may need memory (`specs/Wanting.antt`). An event without sense
-//! does nothing (`specs/Senses.antt`, `nothing_comes`). `World::server` lends a server, to be read.
+//! (`specs/Telling.antt`). What was served fits what was asked. `World::play` plays many. Where memory runs out
+//! nothing has changed, or `play` tells how many events were played. Only a begin and a step may need memory
+//! (`specs/Wanting.antt`). An event without sense does nothing (`specs/Senses.antt`, `nothing_comes`).
+//! `World::server` lends a server, to be read.
 //!
 //! A **run** is events from the opening on. Its **decisions** are the transactions whose Decide made the first
 //! record at its server, as an answer or a refusal, in that order. Its **table** is the plain table that takes

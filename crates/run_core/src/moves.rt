@@ -3,6 +3,7 @@
 ghost use Rattle.std.specs.Prelude.{◌≡◌, IfOk, IfErr, OnOk, OnErr, slice_get};
 ghost use Rattle.txn_core.specs.Agents as agents;
 ghost use Rattle.txn_core.specs.Doing.{Fixed};
+ghost use Rattle.run_core.specs.Telling.{IsFittingIf};
 ghost use Rattle.run_core.specs.code.Moves as moved;
 ghost use Rattle.run_core.specs.code.Seats.{AreOf, Becomes, changed};
 
@@ -47,6 +48,7 @@ pub(crate) fn ask(
 ) -> Result<bool, AllocError>
     ensures of { (fixed : Fixed) → AreOf fixed seats.old.items → AreOf fixed seats.new.items }
     ensures ok { IfOk result (moved.IsAsked servers.old.items servers.new.items seats.old.items seats.new.items number asked.new ended.old ended.new) }
+    ensures fits { IfOk result (λ is_served. IsFittingIf is_served asked.new) }
     ensures err { OnErr result ((servers.new.items ≡ servers.old.items) × (seats.new.items ≡ seats.old.items) × (ended.new ≡ ended.old)) }
     ensures memory { IfErr result (λ _. moved.StepWants servers.old.items seats.old.items number) }
 {

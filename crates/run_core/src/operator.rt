@@ -1,6 +1,7 @@
 //! What the operator asks of servers.
 
 ghost use Rattle.std.specs.Prelude.{◌≡◌};
+ghost use Rattle.run_core.specs.Telling.{IsFittingIf};
 ghost use Rattle.run_core.specs.code.Orders.{request_of};
 ghost use Rattle.run_core.specs.code.Moves.{IsOperated};
 
@@ -33,7 +34,8 @@ impl Order {
 /// The server of this number is asked: it tells whether it was served. What was asked, and the reply, are put into a
 /// place of the caller's.
 pub(crate) fn operate(servers: &mut Vec<Host>, server: u8, order: Order, asked: &mut Served) -> bool
-    ensures { IsOperated servers.old.items servers.new.items server order asked.new result }
+    ensures ok { IsOperated servers.old.items servers.new.items server order asked.new result }
+    ensures fits { IsFittingIf result asked.new }
 {
     let Some(host) = servers.get_mut(usize::from(server)) else {
         return false;

@@ -5,7 +5,7 @@ ghost use Rattle.std.specs.List.{cons_option};
 ghost use Rattle.txn_core.specs.Agents.{fixed_of};
 ghost use Rattle.run_core.specs.Asking.{asked_at};
 ghost use Rattle.run_core.specs.Runs as runs;
-ghost use Rattle.run_core.specs.Telling.{ComesTo};
+ghost use Rattle.run_core.specs.Telling.{ComesTo, IsFitting, IsFittingIf};
 ghost use Rattle.run_core.specs.Wanting as wanting;
 ghost use Rattle.run_core.specs.Worlds as worlds;
 
@@ -77,6 +77,7 @@ impl World {
     pub fn step(&mut self, event: &Event) -> Result<Done, AllocError>
         ensures given { self.new.given ≡ self.old.given }
         ensures ok { IfOk result (λ done. worlds.step (fixed_of self.old.given) self.old.world event.now ≡ record { world = self.new.world; done = done }) }
+        ensures fits { IfOk result (λ done. IfSome done.served IsFitting) }
         ensures err { OnErr result (self.new ≡ self.old) }
         ensures memory { IfErr result (λ _. IsTrue (wanting.by_event (fixed_of self.old.given) self.old.world event.now)) }
     {
@@ -99,6 +100,7 @@ impl World {
     ) -> Result<bool, AllocError>
         ensures given { self.new.given ≡ self.old.given }
         ensures ok { IfOk result (ComesTo (worlds.step (fixed_of self.old.given) self.old.world event.now) self.new.world served.new ended.old ended.new) }
+        ensures fits { IfOk result (λ is_served. IsFittingIf is_served served.new) }
         ensures err { OnErr result ((self.new ≡ self.old) × (ended.new ≡ ended.old)) }
         ensures memory { IfErr result (λ _. IsTrue (wanting.by_event (fixed_of self.old.given) self.old.world event.now)) }
     {

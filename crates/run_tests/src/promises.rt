@@ -1,16 +1,19 @@
 //! Who opens a world and plays events on it is promised what holds of every run, and what is available from each of its
-//! moments on: a caller of `law_headline::promise` and `law_run_recovers::promise`, and what came of its events.
+//! moments on: callers of `law_headline::promise` and `law_run_recovers::promise`, and what came of their events.
 
-ghost use Rattle.std.specs.Prelude.{◌≡◌, Some};
-ghost use Rattle.law_headline.specs.Promises.{Promises};
+ghost use Rattle.std.specs.Prelude.{◌≡◌, List, ◌++◌, Some};
+ghost use Rattle.law_headline.specs.Promises.{IsRunOf, Promises};
 ghost use Rattle.run_core.specs.Opened.{Opened};
+ghost use Rattle.run_core.specs.declared.event.Event.{Event as AnEvent};
+ghost use Rattle.law_run_recovers.specs.Beside.{SideBySideAreDecidedAt, SideBySideEndInTimeAt};
 ghost use Rattle.law_run_recovers.specs.Promises.{Lends};
 
-use crate::events::events;
-use crate::fixtures::{ended_by, same, settings};
+use crate::events::{event, events};
+use crate::fixtures::{ended_by, had, same, settings, step};
 use law_headline::{all_votes_are_valid, opens_a_run, plays_on, promise};
-use run_core::{Event, World};
+use run_core::{EndedJob, Event, World};
 use std::alloc::Global;
+use std::process::Abort;
 use suite_prefix::Settings;
 
 /// A world on which these events were played, unless memory ran out: it promises what holds of their run, and lends
@@ -42,4 +45,50 @@ fn a_world_promises(rt: HostRuntime) {
     let ended = ended_by(&rt, &mut world, &Event::Step { agent: 0 });
     let wanted = "0.0 1 Swept { broken: 0, finished: 0, left: 0 }";
     same(&rt, &ended, wanted, "a sweep");
+}
+
+/// A world for users who want different things: from each of its moments on transactions that begin side by side are
+/// decided when they end, and end in time.
+fn shared_by_users(alloc: Global, settings: &Settings, events: &[Event]) -> Option<World>
+    ensures decided { (world : Opened) → result ≡ Some world → (before later : List AnEvent) → IsRunOf world (before ++ later)
+        → SideBySideAreDecidedAt world.given before }
+    ensures in_time { (world : Opened) → result ≡ Some world → (before later : List AnEvent) → IsRunOf world (before ++ later)
+        → SideBySideEndInTimeAt world.given before }
+{
+    promised(alloc, settings, events)
+}
+
+/// How many jobs ended as both writes are to end.
+fn wrote(rt: &(impl Abort + AllocGlobal), outcome: &Option<EndedJob>) -> usize {
+    let Some(outcome) = outcome else {
+        return 0;
+    };
+    let words = had(rt, format!(in rt.alloc(); "{:?}", outcome.ending));
+    same(
+        rt,
+        &words,
+        "Answered(Answers { replies: [Wrote] })",
+        "a write",
+    );
+    1
+}
+
+#[test]
+fn two_users_write_side_by_side(rt: HostRuntime) {
+    let settings = settings(&rt, 2);
+    let made = events(&rt, "begin 0 file /a; file /b,step 0");
+    let mut world = shared_by_users(rt.alloc(), &settings, &made).expect(&rt, "memory");
+    for _ in 0..40 {
+        step(&rt, &mut world, &Event::Step { agent: 0 });
+    }
+    step(&rt, &mut world, &event(&rt, "begin 0 write /a hi"));
+    step(&rt, &mut world, &event(&rt, "begin 1 write /b ho"));
+    let mut ended = 0usize;
+    for _ in 0..40 {
+        for agent in 0..2 {
+            let done = step(&rt, &mut world, &Event::Step { agent });
+            ended = ended.saturating_add(wrote(&rt, &done.outcome));
+        }
+    }
+    assert!(rt; ended == 2);
 }

@@ -1,5 +1,5 @@
 -- Scripts that are played, and text that is gathered and written in pieces.
-use Rattle.std.specs.Prelude.{◌≡◌, ℕ, List, ◌++◌, Option, Result, Ok, Err}
+use Rattle.std.specs.Prelude.{◌≡◌, ℕ, nat_lt, if◌then◌else◌, List, [], ◌++◌, length, Option, Result, Ok, Err}
 use Rattle.byte_streams.specs.Streams.{Adds, one_more}
 use Rattle.byte_streams.specs.declared.traits.WriteFailed.{WriteFailed}
 use Rattle.suite_script.specs.Faults.{fault_line}
@@ -29,9 +29,18 @@ pub record BrokeOff (output : Output) (before after : Option (List ℕ)) : Type 
 
 -- ---- text that is gathered
 
--- it is written, or gathered still; where a write failed it was counted
+-- a text of so many bytes is written
+abbrev pub long_enough : ℕ
+long_enough = 65536
+
+-- what is gathered still
+abbrev pub still_gathered : List ℕ → List ℕ
+still_gathered text = if nat_lt (length text) long_enough then text else []
+
+-- it is written where it is long enough, and else gathered still; where a write failed it was counted
 abbrev pub Moves : Result (Unit {0}) WriteFailed → List ℕ → List ℕ → Option (List ℕ) → Option (List ℕ) → ℕ → ℕ → Type 0
-Moves (Ok nothing) gathered left before after failures failures_after = WroteSoFar before gathered left after × (failures_after ≡ failures)
+Moves (Ok nothing) gathered left before after failures failures_after =
+    WroteSoFar before gathered left after × (failures_after ≡ failures) × (left ≡ still_gathered gathered)
 Moves (Err error) gathered left before after failures failures_after = failures_after ≡ one_more failures
 
 -- the same of a line that is played in pieces; where memory ran out, some of its text may be written

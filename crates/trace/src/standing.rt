@@ -28,7 +28,7 @@ fn push_server(alloc: Global, text: &mut Vec<u8>, server: &Server) -> Result<(),
     for (suite, copy) in server.copies() {
         push_copy(alloc, text, *suite, copy)?;
     }
-    for lock in server.locks() {
+    for lock in &server.locks()? {
         text.extend_from_slice(b"    ")?;
         push_lock(text, *lock)?;
         text.push(b'\n')?;

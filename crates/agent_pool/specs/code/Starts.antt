@@ -14,7 +14,7 @@ IsWorkOf jobs seat worked = IsWorked jobs seat.player seat.pass worked
 -- the thread of this agent was started, or the agent rests
 abbrev pub IsStart : List NamedJob → SeatedAgent → Start → Type 0
 IsStart jobs seat (Started handle) = (handle.promise.jobs.now ≡ jobs) × (handle.promise.was.value ≡ seat)
-IsStart jobs seat (Rested worked) = IsWorkOf jobs seat worked
+IsStart jobs seat (Rested returned) = IsWorkOf jobs seat returned.worked
 
 -- this work comes of it
 abbrev pub Comes : Start → Worked → Type 0

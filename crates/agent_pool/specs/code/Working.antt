@@ -1,5 +1,5 @@
 -- What a thread did.
-use Rattle.std.specs.Prelude.{◌≡◌, ℕ, ◌+◌, ◌≤◌, true, List, [], ◌∷◌, length, Contains, slice_get, Option, Some, None}
+use Rattle.std.specs.Prelude.{◌≡◌, ◌≢◌, ℕ, ◌+◌, ◌≤◌, true, List, [], ◌∷◌, length, Contains, slice_get, Option, Some, None}
 use Rattle.server_lock.specs.Passes.{Held}
 use Rattle.txn_core.specs.Agents.{has_sense}
 use Rattle.agent_pool.specs.declared.work.Done.{Done}
@@ -39,8 +39,8 @@ IsHalted jobs played (Some Lacked) = Unit {0}
 IsHalted jobs played (Some (Stuck job)) = Contains (job_numbers jobs) job
 IsHalted jobs played (Some (Strange place)) = length jobs ≤ place
 
--- An agent went on with its pass, and did these of the jobs that were handed in, in their order. If it ran whatever it took, it went on as the agent function does, and
--- began no others.
+-- An agent went on with its pass, and did these of the jobs that were handed in, in their order. It went on as the agent function does, unless memory was refused to it. If it
+-- ran whatever it took, it began no others.
 pub record IsWorked (jobs : List NamedJob) (was : Played) (pass : Held) (worked : Worked) : Type 0 where
   pub longer : IsLonger was worked.player
   pub went : GoesOn longer.rest pass worked.pass
@@ -49,5 +49,5 @@ pub record IsWorked (jobs : List NamedJob) (was : Played) (pass : Held) (worked 
   pub next : ℕ
   pub order : RiseInPlace 0 worked.done.items next
   pub halted : IsHalted jobs worked.player worked.halt
-  pub leads : worked.halt ≡ None → Leads was.agent.fixed (at_rest was.agent.state) longer.rest (at_rest worked.player.agent.state)
+  pub leads : worked.halt ≢ Some Lacked → Leads was.agent.fixed (at_rest was.agent.state) longer.rest (at_rest worked.player.agent.state)
   pub once : worked.halt ≡ None → begins worked.player.entries ≡ begins was.entries + length worked.done.items

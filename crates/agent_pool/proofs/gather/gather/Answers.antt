@@ -6,7 +6,7 @@ use Rattle.agent_pool.specs.Gathers.{HaveOne, NoneFailed, TellsOf, first_stuck, 
 use Rattle.agent_pool.specs.Pools.{AreApart, AreInOrder, AreOutcomes}
 use Rattle.agent_pool.specs.code.Filled.{players_of, sitting}
 use Rattle.agent_pool.specs.code.Gathering.{AreGathered}
-use Rattle.agent_pool.proofs.Seen.{all_ran, tells_fault}
+use Rattle.agent_pool.proofs.Seen.{all_ran}
 use Rattle.agent_pool.proofs.gather.gather.Goals as goal
 
 pub returns-in-Ok-clause-gathers : goal.returns-in-Ok-clause-gathers
@@ -32,7 +32,3 @@ returns-in-Ok-clause-pool c =
 
 pub returns-in-Err-clause-gathers : goal.returns-in-Err-clause-gathers
 returns-in-Err-clause-gathers c = subst (λ (ws : List Worked). TellsOf c.args.jobs.now ws c.in-Err.fault) c.as_slice.ensures.value c.in-Err.ensures.gathers
-
-pub returns-in-Err-clause-fault : goal.returns-in-Err-clause-fault
-returns-in-Err-clause-fault c =
-    tells_fault c.args.jobs.now c.requires.worked.0 c.args.worked.items _ c.requires.worked.1 (subst (λ (ws : List Worked). TellsOf c.args.jobs.now ws c.in-Err.fault) c.as_slice.ensures.value c.in-Err.ensures.gathers)

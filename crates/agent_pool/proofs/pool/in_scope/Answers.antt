@@ -1,15 +1,19 @@
-use Rattle.std.proofs.Common.{◌≡◌, ◌∷◌, [], ◌++◌, List, length, sym, ap, subst, ◌∙◌, append_assoc, append-nil, arith, rules}
+use Rattle.std.proofs.Common.{All, Vec, ◌≡◌, ◌∷◌, [], ◌++◌, List, length, sym, ap, subst, ◌∙◌, append_assoc, append-nil, arith, rules}
 use Rattle.std.proofs.lemmas.List.{length-append}
-use Rattle.std.proofs.lemmas.List.Elements.{All-same, All-tail}
+use Rattle.std.proofs.lemmas.List.Elements.{All-push, All-same, All-tail}
 use Rattle.std.specs.List.{AllZip}
 use Rattle.std.specs.Vec.Iter.{into_iter_items}
+use Rattle.std.specs.declared.alloc.Global.{Global}
 use Rattle.agent_pool.specs.declared.line.Hand.{Hand}
 use Rattle.agent_pool.specs.declared.start.Start.{Start}
 use Rattle.agent_pool.specs.declared.work.SeatedAgent.{SeatedAgent}
+use Rattle.agent_pool.specs.declared.work.Worked.{Worked}
 use Rattle.agent_pool.specs.Line.{feeder, with_taker}
+use Rattle.agent_pool.specs.code.Back.{IsOf}
 use Rattle.agent_pool.specs.code.Starts.{Comes, IsStart, IsWorkOf}
 use Rattle.agent_pool.specs.Transcripts.{IsIdle}
 use Rattle.agent_pool.proofs.Lines.{forks}
+use Rattle.agent_pool.proofs.Taking.{by_ok}
 use Rattle.agent_pool.proofs.Zips.{zip_push, zip_then, nothing_left}
 use Rattle.agent_pool.proofs.pool.in_scope.Goals as goal
 use Rattle.agent_pool.proofs.pool.in_scope.Goals.{in-Started, in_default}
@@ -30,7 +34,7 @@ loop-seat-preserved g c =
       tt,
       append_assoc at.yielded (x ∷ []) _ ∙ rw (← steps) at.invariant.2,
       subst (λ (ys : List Start). AllZip (IsStart c.args.context.now.jobs.now) (at.yielded ++ x ∷ []) ys) (sym pushed.items)
-          (zip_push (IsStart c.args.context.now.jobs.now) at.yielded at.starts.items x _ at.invariant.3 c.begin_thread-start.ensures),
+          (zip_push (IsStart c.args.context.now.jobs.now) at.yielded at.starts.items x _ at.invariant.3 c.begin_thread-start.ensures.start),
       (let room = at.invariant.4 in let same = pushed.capacity in omega arith),
       (let was = at.invariant.5 in let short = ap length steps in omega arith),
       (let few = at.invariant.6 in elim c.match-start.branch [ in-Started w ↦ (let is = w.started-is in omega arith) | in_default w ↦ (let is = w.started-is in omega arith) ]),
@@ -38,6 +42,8 @@ loop-seat-preserved g c =
       c.another-taker.ensures.rule.0 ∙ ap with_taker at.invariant.8 ∙ ap (λ n. feeder 0 0 n) (sym more),
       (let was = at.invariant.9 in omega arith),
       All-tail (λ (seat : SeatedAgent). IsIdle seat.player) x _ (All-same (λ (seat : SeatedAgent). IsIdle seat.player) _ _ (sym steps) at.invariant.10),
+      subst (λ (ys : List Start). All (IsOf c.args.context.now.receiver.now c.args.context.now.servers.now.servers c.args.context.now.jobs.now) ys) (sym pushed.items)
+          (All-push (IsOf c.args.context.now.receiver.now c.args.context.now.servers.now.servers c.args.context.now.jobs.now) at.starts.items _ at.invariant.11 c.begin_thread-start.ensures.of),
     )
 
 pub join_all-requires-clause-room : goal.join_all-requires-clause-room
@@ -52,12 +58,25 @@ join_all-requires-clause-room g c =
     let whole = c.args.seats.ok.0 in
     omega arith
 
-pub returns : goal.returns
-returns g c =
+pub join_all-requires-clause-fed : goal.join_all-requires-clause-fed
+join_all-requires-clause-fed g c =
+    let at = c.loop-seat in
+    (at.started, c.feed.ensures.fed ∙ ap (λ (hand : Hand). record hand { put = length c.args.context.now.jobs.now; ends = at.started }) at.invariant.8)
+
+pub feed-requires-clause-first : goal.feed-requires-clause-first
+feed-requires-clause-first g c =
+    let is = c.loop-seat.invariant.8 in
+    (ap (λ (hand : Hand). hand.puts) is, ap (λ (hand : Hand). hand.put) is, ap (λ (hand : Hand). hand.ends) is)
+
+pub returns-clause-work : goal.returns-clause-work
+returns-clause-work g c =
     let at = c.loop-seat in
     let none = c.in-None.ensures.steps in
     let empty : into_iter_items at.seat-iterator ≡ [] = nothing_left _ (sym at.invariant.5 ∙ none.0) in
     let all = sym (append-nil at.yielded) ∙ rw empty at at.invariant.2 ∙ c.into_iter-seat-iterator.ensures.into_iter_gives.0 in
-    zip_then (IsStart c.args.context.now.jobs.now) Comes (IsWorkOf c.args.context.now.jobs.now) (λ seat start now begun comes. comes c.args.context.now.jobs.now seat begun)
-    c.args.seats.items at.starts.items c.join_all.result.items
-    (subst (λ (l : List SeatedAgent). AllZip (IsStart c.args.context.now.jobs.now) l at.starts.items) all at.invariant.3) c.join_all.ensures
+    by_ok (λ (worked : Vec Worked Global). AllZip Comes at.starts.items worked.items) (λ (worked : Vec Worked Global). AllZip (IsWorkOf c.args.context.now.jobs.now) c.args.seats.items worked.items)
+    (λ worked comes.
+    zip_then (IsStart c.args.context.now.jobs.now) Comes (IsWorkOf c.args.context.now.jobs.now) (λ seat start now begun come. come c.args.context.now.jobs.now seat begun)
+    c.args.seats.items at.starts.items worked.items
+    (subst (λ (l : List SeatedAgent). AllZip (IsStart c.args.context.now.jobs.now) l at.starts.items) all at.invariant.3) comes)
+    c.join_all.result c.join_all.ensures.comes

@@ -1,9 +1,10 @@
-use Rattle.std.proofs.Common.{◌≡◌, ◌+◌, ◌≤◌, ◌++◌, vec_len, vec_capacity, length}
+use Rattle.std.proofs.Common.{◌≡◌, ◌+◌, ◌≤◌, ◌++◌, All, vec_len, vec_capacity, length}
 use Rattle.std.specs.List.{AllZip}
 use Rattle.std.specs.Vec.Iter.{into_iter_items, into_iter_len}
 use Rattle.crossbeam_channel.specs.Claims.{view, IsSeatAt}
 use Rattle.crossbeam_channel.specs.Ends.{sends_on}
 use Rattle.agent_pool.specs.Line.{feeder}
+use Rattle.agent_pool.specs.code.Back.{IsOf}
 use Rattle.agent_pool.specs.code.Filled.{AreIdle}
 use Rattle.agent_pool.specs.code.Starts.{IsStart}
 use Rattle.agent_pool.proofs.pool.in_scope.Given as goal
@@ -21,3 +22,4 @@ invariant-loop-seat g l =
     × (view l.ticket ≡ feeder 0 0 (vec_len l.starts))
     × (vec_len l.starts ≡ length l.yielded)
     × AreIdle (into_iter_items l.seat-iterator)
+    × All (IsOf l.context.receiver.now l.context.servers.now.servers l.context.jobs.now) l.starts.items

@@ -1,6 +1,10 @@
-use Rattle.std.proofs.Common.{◌≡◌, ◌+◌, ◌≤◌, ◌++◌, vec_len, vec_capacity, length}
+use Rattle.std.proofs.Common.{◌≡◌, ◌+◌, ◌≤◌, ◌++◌, All, true, vec_len, vec_capacity, length}
 use Rattle.std.specs.List.{AllZip}
 use Rattle.std.specs.Vec.Iter.{into_iter_items, into_iter_len}
+use Rattle.crossbeam_channel.specs.Claims.{view, IsSeatAt}
+use Rattle.crossbeam_channel.specs.Ends.{sends_on}
+use Rattle.agent_pool.specs.Taken.{AllTook}
+use Rattle.agent_pool.specs.code.Back.{IsOf}
 use Rattle.agent_pool.specs.code.Starts.{Comes}
 use Rattle.agent_pool.proofs.start.join_all.Given as goal
 
@@ -12,3 +16,11 @@ invariant-loop-start g l =
     × AllZip Comes l.yielded l.room.items
     × (into_iter_len l.start-iterator + vec_len l.room ≤ vec_capacity l.room)
     × (into_iter_len l.start-iterator ≡ length (into_iter_items l.start-iterator))
+    × IsSeatAt (sends_on l.sender) l.ticket
+    × ((view l.ticket).puts ≡ true)
+    × ((view l.ticket).put ≡ length l.context.jobs.now)
+    × ((view l.ticket).takers ≡ length (into_iter_items l.initial.start-iterator))
+    × ((view l.ticket).back ≡ length l.yielded)
+    × (l.has_ended ≡ true → (view l.ticket).ended ≡ true)
+    × AllTook l.context.servers.now.servers l.context.jobs.now l.room.items (view l.ticket).taken
+    × All (IsOf l.context.receiver.now l.context.servers.now.servers l.context.jobs.now) (into_iter_items l.start-iterator)

@@ -1,15 +1,39 @@
-use Rattle.std.proofs.Common.{rules, List, sym, subst, arith}
-use Rattle.crossbeam_channel.specs.Claims.{view}
+use Rattle.std.proofs.Common.{rules, ℕ, List, sym, subst, arith}
+use Rattle.crossbeam_channel.specs.Claims.{Pass, view, IsSeatAt}
+use Rattle.crossbeam_channel.specs.Ends.{receives_on}
+use Rattle.agent_pool.specs.declared.line.Hand.{Hand}
+use Rattle.agent_pool.specs.declared.line.Item.{Item}
 use Rattle.agent_pool.specs.declared.work.Done.{Done}
+use Rattle.agent_pool.specs.Taken.{Took}
 use Rattle.agent_pool.specs.code.Working.{RiseInPlace}
-use Rattle.agent_pool.proofs.Lines.{behind_job}
+use Rattle.agent_pool.proofs.Lines.{behind_job, end_taken}
 use Rattle.agent_pool.proofs.Works.{place_longer}
 use Rattle.agent_pool.proofs.work.work.Goals as goal
 
 pub loop-init : goal.loop-init
-loop-init g c = (tt, tt, c.requires.ticket.0, c.requires.ticket.1, search rules, c.new-worked.ensures.work c.args.context.now.jobs.now, subst (λ (ds : List Done). RiseInPlace 0 ds (view c.args.ticket).low) (sym c.new-worked.ensures.none) (omega arith))
+loop-init g c =
+    let made = c.new-worked.ensures in
+    let back = made.back c.args.context.now.servers.now.servers c.args.context.now.jobs.now in (
+      tt,
+      tt,
+      subst (λ (ticket : Pass Item Hand). IsSeatAt (receives_on c.args.context.now.receiver.now) ticket) (sym made.ticket) c.requires.ticket.0,
+      back.takes,
+      search rules,
+      made.work c.args.context.now.jobs.now,
+      subst (λ (ds : List Done). RiseInPlace 0 ds (view c.new-worked.result.ticket).low) (sym made.none) (omega arith),
+      back.took,
+    )
 
 pub carry_out-worked-requires-clause-behind : goal.carry_out-worked-requires-clause-behind
 carry_out-worked-requires-clause-behind g c =
-    place_longer 0 (view c.loop.ticket).low c.in-Ok-Job.place c.loop.worked.done.items c.loop.invariant.6
-    (behind_job (view c.loop.ticket) _ _ c.in-Ok-Job.place c.in-Ok-Job.ensures.taken (search rules))
+    place_longer 0 (view c.loop.ticket).low c.in-Job.place c.loop.worked.done.items c.loop.invariant.6
+    (behind_job (view c.loop.ticket) _ _ c.in-Job.place c.take.ensures.taken (search rules))
+
+pub returns-in-End-clause-back : goal.returns-in-End-clause-back
+returns-in-End-clause-back g c =
+    let over = end_taken (view c.loop.ticket) _ (view c.take.new.ticket) c.take.ensures.taken (search rules) in
+    record {
+      takes = c.take.ensures.seat.1;
+      took = subst (λ (taken : List ℕ). Took c.args.context.now.servers.now.servers c.args.context.now.jobs.now c.loop.worked taken) (sym over.0) c.loop.invariant.7;
+      ended = λ is. over.1;
+    }

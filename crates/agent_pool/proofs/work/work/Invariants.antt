@@ -1,6 +1,8 @@
-use Rattle.std.proofs.Common.{◌≡◌, false}
+use Rattle.std.proofs.Common.{◌≡◌}
 use Rattle.crossbeam_channel.specs.Claims.{view, IsSeatAt}
 use Rattle.crossbeam_channel.specs.Ends.{receives_on}
+use Rattle.agent_pool.specs.Line.{IsTaker}
+use Rattle.agent_pool.specs.Taken.{Took}
 use Rattle.agent_pool.specs.code.Starts.{IsWorkOf}
 use Rattle.agent_pool.specs.code.Working.{RiseInPlace}
 use Rattle.agent_pool.proofs.work.work.Given as goal
@@ -8,5 +10,5 @@ use Rattle.agent_pool.proofs.work.work.Given as goal
 abbrev pub invariant-loop : goal.invariant-loop
 invariant-loop g l =
     (goal.iterator-loop g).can_next l.iterator' × (goal.iterator-loop g).is_finite l.iterator'
-    × IsSeatAt (receives_on l.context.receiver.now) l.ticket × ((view l.ticket).puts ≡ false) × (l.was.value ≡ l.fn.seat) × IsWorkOf l.context.jobs.now l.fn.seat l.worked
-    × RiseInPlace 0 l.worked.done.items (view l.ticket).low
+    × IsSeatAt (receives_on l.context.receiver.now) l.ticket × IsTaker (view l.ticket) × (l.was.value ≡ l.fn.seat) × IsWorkOf l.context.jobs.now l.fn.seat l.worked
+    × RiseInPlace 0 l.worked.done.items (view l.ticket).low × Took l.context.servers.now.servers l.context.jobs.now l.worked (view l.ticket).taken

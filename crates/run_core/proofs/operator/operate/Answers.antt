@@ -6,16 +6,16 @@ use Rattle.std.proofs.lemmas.Option.{slice_get_read}
 use Rattle.run_core.proofs.Operating.{full_for_operator, served_for_operator}
 use Rattle.run_core.proofs.operator.operate.Goals as goal
 
-pub returns-in_default-serve : goal.returns-in_default-serve
-returns-in_default-serve c =
+pub returns-in_default-serve-clause-ok : goal.returns-in_default-serve-clause-ok
+returns-in_default-serve-clause-ok c =
     let item = c.in-Some.ensures.item in
     let there = slice_get_read _ _ _ _ refl item.3.0 item.1 ∙ ap Some (sym c.host.view_is) in
     let left = c.in_default-serve.ensures in
     let err : Lack → Result (Stamped Reply) Lack = λ lack. Err lack in
     λ agents. (full_for_operator err _ c.args.server c.from.result c.host.inside.server.state _ c.args.order c.request.result c.in_default-serve.field-0 agents c.from.ensures there c.request.ensures left.full.0 left.memory left.err)
 
-pub returns : goal.returns
-returns c =
+pub returns-clause-ok : goal.returns-clause-ok
+returns-clause-ok c =
     let item = c.in-Some.ensures.item in
     let there = slice_get_read _ _ _ _ refl item.3.0 item.1 ∙ ap Some (sym c.host.view_is) in
     let left = c.in-Ok.ensures in

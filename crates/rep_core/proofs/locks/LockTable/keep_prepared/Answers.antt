@@ -1,60 +1,35 @@
-use Rattle.std.proofs.Common.{rules, ◌≡◌, true, length, drop, filter, ap, sym, subst, ◌∙◌}
-use Rattle.std.specs.Prelude.{not}
-use Rattle.std.specs.List.{list_all}
+use Rattle.std.proofs.Common.{rules, ◌++◌, sym, ap, ◌∙◌}
 use Rattle.std.proofs.lemmas.Fn.{filter_same}
+use Rattle.std.specs.Prelude.{List}
+use Rattle.rep_core.specs.declared.lock.Lock.{Lock}
 use Rattle.rep_core.specs.code.Holding.{Locking}
-use Rattle.rep_core.specs.code.Holders.{AreListed, are_settled, without}
-use Rattle.rep_core.specs.Locks.{prepared_locks}
-use Rattle.rep_core.proofs.ClosedTables.{closed}
-use Rattle.rep_core.proofs.Listing.{listed_by, nobody_without}
-use Rattle.rep_core.proofs.SuiteHolders.{held_crashed, all_stay}
-use Rattle.rep_core.proofs.SettledLocks.{settled_crashed}
+use Rattle.rep_core.specs.Locks.{is_own}
+use Rattle.rep_core.specs.Locks as locking
+use Rattle.rep_core.proofs.Rising.{rise_filter}
+use Rattle.rep_core.proofs.SuiteHolders.{still_alone}
+use Rattle.rep_core.proofs.TabledLocks.{few_changed, many_changed, few_tabled, many_tabled}
 use Rattle.rep_core.proofs.locks.LockTable.keep_prepared.Goals as goal
-use Rattle.rep_core.proofs.locks.LockTable.keep_prepared.Goals.{then-not-all_prepared, else-not-all_prepared}
 
 pub invariant_of-self : goal.invariant_of-self
 invariant_of-self c =
-    let locks = c.close.new.locks.items in
-    let holders = c.self.inside.holders.pairs in
-    let left = c.if-not-all_prepared.self-inside.locks.items in
-    let holding = c.if-not-all_prepared.self-inside.holders.pairs in
-    let was = subst (λ l. AreListed l holders) (sym c.close.ensures.locks) c.self.invariant.1 in
-    let lost = filter (λ lock. not lock.prepared) locks in
-    let now : (left ≡ prepared_locks locks) × AreListed (prepared_locks locks) holding × (c.if-not-all_prepared.self-inside.gone ≡ 0) =
-    elim c.if-not-all_prepared.branch [
-      | then-not-all_prepared w ↦
-          let gone = w.forget_unsettled.ensures ∙ ap (λ ls. without (filter (λ lock. not lock.prepared) ls) holders) w.deref-then-not-all_prepared.ensures.value in (
-            (λ i. (w.self-inside-is i).locks.items) ∙ filter_same _ _ _ (λ x b f' k. search rules) _ _ w.retain.ensures.filtered,
-            subst (AreListed (prepared_locks locks)) (sym ((λ i. (w.self-inside-is i).holders.pairs) ∙ gone)) (listed_by (without lost) (nobody_without lost) (held_crashed locks) holders was),
-            (λ i. (w.self-inside-is i).gone) ∙ c.close.ensures.none,
-          )
-      | else-not-all_prepared w ↦
-          let all : list_all (λ lock. lock.prepared) locks ≡ true = ap (list_all (λ lock. lock.prepared)) (sym c.deref.ensures.value) ∙ sym c.all_prepared.ensures ∙ w.if-not-all_prepared.false in
-          let stay = all_stay locks all in (
-            (λ i. (w.self-inside-is i).locks.items) ∙ sym stay,
-            subst (AreListed (prepared_locks locks)) (sym (λ i. (w.self-inside-is i).holders.pairs)) (subst (λ ls. AreListed ls holders) (sym stay) was),
-            (λ i. (w.self-inside-is i).gone) ∙ c.close.ensures.none,
-          )
-    ] in
-    let end : c.len-self-inside.result ≡ length left = search rules in
-    closed c.if-not-all_prepared.self-inside.gone left holding c.len-self-inside.result now.2
-    (subst (λ ls. AreListed ls holding) (sym now.0) now.1)
-    (ap (λ n. are_settled n left) end ∙ ap (λ ls. are_settled (length ls) ls) now.0 ∙ settled_crashed locks)
+    let all = c.self.invariant in
+    let locks = c.self.inside.few.items ++ c.self.inside.many.locks in
+    let kept = filter_same _ _ _ (λ x b f' k. search rules) _ _ c.retain.ensures.filtered in
+    few_tabled c.self.inside.few.items c.self.inside.many.locks all (locking.prepared_locks) (rise_filter (λ l. l.prepared) locks all.rising) (still_alone (λ l. l.prepared) locks all.alone) (sym c.is_empty.ensures ∙ c.if-is_empty.true) _ kept
 
-pub returns : goal.returns
-returns c =
-    let locks = c.close.new.locks.items in
-    let left = c.if-not-all_prepared.self-inside.locks.items in
-    let now : (left ≡ prepared_locks locks) × (c.if-not-all_prepared.self-inside.gone ≡ 0) =
-    elim c.if-not-all_prepared.branch [
-      | then-not-all_prepared w ↦ (
-        (λ i. (w.self-inside-is i).locks.items) ∙ filter_same _ _ _ (λ x b f' k. search rules) _ _ w.retain.ensures.filtered,
-        (λ i. (w.self-inside-is i).gone) ∙ c.close.ensures.none,
-      )
-      | else-not-all_prepared w ↦
-          let all : list_all (λ lock. lock.prepared) locks ≡ true = ap (list_all (λ lock. lock.prepared)) (sym c.deref.ensures.value) ∙ sym c.all_prepared.ensures ∙ w.if-not-all_prepared.false in (
-            (λ i. (w.self-inside-is i).locks.items) ∙ sym (all_stay locks all),
-            (λ i. (w.self-inside-is i).gone) ∙ c.close.ensures.none,
-          )
-    ] in
-    ap (λ n. drop n left) now.1 ∙ now.0 ∙ ap prepared_locks c.close.ensures.locks ∙ ap (λ (table : Locking). prepared_locks table.locks) c.self.view_is
+pub invariant_of-self-else-is_empty : goal.invariant_of-self-else-is_empty
+invariant_of-self-else-is_empty c =
+    let all = c.self.invariant in
+    let locks = c.self.inside.few.items ++ c.self.inside.many.locks in
+    many_tabled c.self.inside.few.items c.self.inside.many.locks all (locking.prepared_locks) (rise_filter (λ l. l.prepared) locks all.rising) (still_alone (λ l. l.prepared) locks all.alone) (sym c.is_empty.ensures ∙ c.if-is_empty.false) _ c.keep_prepared.ensures
+
+pub returns-then-is_empty : goal.returns-then-is_empty
+returns-then-is_empty c =
+    let f : List Lock → List Lock = locking.prepared_locks in
+    let kept = filter_same _ _ _ (λ x b f' k. search rules) _ _ c.retain.ensures.filtered in
+    few_changed c.self.inside.few.items c.self.inside.many.locks c.self.invariant f (sym c.is_empty.ensures ∙ c.if-is_empty.true) _ kept ∙ ap (λ (table : Locking). f table.locks) c.self.view_is
+
+pub returns-else-is_empty : goal.returns-else-is_empty
+returns-else-is_empty c =
+    let f : List Lock → List Lock = locking.prepared_locks in
+    many_changed c.self.inside.few.items c.self.inside.many.locks c.self.invariant f (sym c.is_empty.ensures ∙ c.if-is_empty.false) _ c.keep_prepared.ensures ∙ ap (λ (table : Locking). f table.locks) c.self.view_is

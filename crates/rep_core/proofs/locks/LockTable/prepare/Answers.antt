@@ -1,21 +1,35 @@
-use Rattle.std.proofs.Common.{refl, ap, sym, subst, ◌∙◌}
+use Rattle.std.proofs.Common.{◌++◌, sym, ap, ◌∙◌}
 use Rattle.std.proofs.lemmas.List.{with_items_is}
-use Rattle.rep_core.specs.Locks.{with_prepared}
-use Rattle.rep_core.specs.code.Holders.{AreListed, are_settled}
-use Rattle.rep_core.proofs.ClosedTables.{closed}
-use Rattle.rep_core.proofs.Listing.{listed_by}
-use Rattle.rep_core.proofs.SuiteHolders.{held_prepared}
-use Rattle.rep_core.proofs.SettledLocks.{settled_prepared}
+use Rattle.std.specs.Prelude.{List}
+use Rattle.rep_core.specs.declared.lock.Lock.{Lock}
+use Rattle.rep_core.specs.code.Holding.{Locking}
+use Rattle.rep_core.specs.Locks.{is_own}
+use Rattle.rep_core.specs.Locks as locking
+use Rattle.rep_core.proofs.Rising.{rise_prepared}
+use Rattle.rep_core.proofs.SuiteHolders.{still_alone_prepared}
+use Rattle.rep_core.proofs.TabledLocks.{few_changed, many_changed, few_tabled, many_tabled}
 use Rattle.rep_core.proofs.locks.LockTable.prepare.Goals as goal
 
 pub invariant_of-self : goal.invariant_of-self
 invariant_of-self c =
-    let locks = c.close.new.locks.items in
-    let holders = c.self.inside.holders.pairs in
-    let settled = c.self.inside.settled in
-    let was = subst (λ l. AreListed l holders) (sym c.close.ensures.locks) c.self.invariant.1 in
-    let settled_before = ap (are_settled settled) c.close.ensures.locks ∙ c.self.invariant.2 in
-    let is = with_items_is c.close.new.locks c.prepare.new.locks (c.prepare.auto.locks ∙ c.deref_mut.ensures.len) ∙ c.prepare.ensures ∙ ap (with_prepared c.args.t c.args.parts.now) c.deref_mut.ensures.value in
-    closed c.close.new.gone _ holders settled c.close.ensures.none
-    (subst (λ l. AreListed l holders) (sym is) (listed_by (λ hs. hs) refl (λ hs held. held_prepared locks hs held c.args.t c.args.parts.now) holders was))
-    (ap (are_settled settled) is ∙ settled_prepared c.args.t c.args.parts.now settled locks settled_before)
+    let all = c.self.invariant in
+    let locks = c.self.inside.few.items ++ c.self.inside.many.locks in
+    let kept = with_items_is c.self.inside.few c.prepare.new.locks (c.prepare.auto.locks ∙ c.deref_mut.ensures.len) ∙ c.prepare.ensures ∙ ap (locking.with_prepared c.args.t c.args.parts.now) c.deref_mut.ensures.value in
+    few_tabled c.self.inside.few.items c.self.inside.many.locks all (locking.with_prepared c.args.t c.args.parts.now) (rise_prepared c.args.t c.args.parts.now locks all.rising) (still_alone_prepared c.args.t c.args.parts.now locks all.alone) (sym c.is_empty.ensures ∙ c.if-is_empty.true) _ kept
+
+pub invariant_of-self-else-is_empty : goal.invariant_of-self-else-is_empty
+invariant_of-self-else-is_empty c =
+    let all = c.self.invariant in
+    let locks = c.self.inside.few.items ++ c.self.inside.many.locks in
+    many_tabled c.self.inside.few.items c.self.inside.many.locks all (locking.with_prepared c.args.t c.args.parts.now) (rise_prepared c.args.t c.args.parts.now locks all.rising) (still_alone_prepared c.args.t c.args.parts.now locks all.alone) (sym c.is_empty.ensures ∙ c.if-is_empty.false) _ c.prepare-else-is_empty.ensures
+
+pub returns-then-is_empty : goal.returns-then-is_empty
+returns-then-is_empty c =
+    let f : List Lock → List Lock = locking.with_prepared c.args.t c.args.parts.now in
+    let kept = with_items_is c.self.inside.few c.prepare.new.locks (c.prepare.auto.locks ∙ c.deref_mut.ensures.len) ∙ c.prepare.ensures ∙ ap (locking.with_prepared c.args.t c.args.parts.now) c.deref_mut.ensures.value in
+    few_changed c.self.inside.few.items c.self.inside.many.locks c.self.invariant f (sym c.is_empty.ensures ∙ c.if-is_empty.true) _ kept ∙ ap (λ (table : Locking). f table.locks) c.self.view_is
+
+pub returns-else-is_empty : goal.returns-else-is_empty
+returns-else-is_empty c =
+    let f : List Lock → List Lock = locking.with_prepared c.args.t c.args.parts.now in
+    many_changed c.self.inside.few.items c.self.inside.many.locks c.self.invariant f (sym c.is_empty.ensures ∙ c.if-is_empty.false) _ c.prepare-else-is_empty.ensures ∙ ap (λ (table : Locking). f table.locks) c.self.view_is

@@ -1,10 +1,12 @@
-use Rattle.std.proofs.Common.{ap, drop, sym, subst, ◌∙◌}
-use Rattle.sorted_map.specs.SortedMap.{insert}
+use Rattle.std.proofs.Common.{◌≡◌, None, ◌++◌, sym, ap, ◌∙◌}
+use Rattle.std.specs.Prelude.{nat_lt, length}
+use Rattle.std.proofs.lemmas.Bool.{and_parts}
 use Rattle.rep_core.specs.code.Holding.{Locking}
+use Rattle.rep_core.specs.code.Keyed.{are_none}
 use Rattle.rep_core.specs.Locks.{in_the_way, locked}
-use Rattle.rep_core.specs.code.Holders.{AreListed, holder_cmp, are_settled, listed_or}
-use Rattle.rep_core.proofs.ClosedTables.{closed}
-use Rattle.rep_core.proofs.Listing.{listed_locked}
+use Rattle.rep_core.proofs.Rising.{rise_locked}
+use Rattle.rep_core.proofs.SuiteHolders.{still_alone_locked}
+use Rattle.rep_core.proofs.TabledLocks.{few_tabled, all_many}
 use Rattle.rep_core.proofs.locks.LockTable.set.Goals as goal
 
 pub invariant_of-self : goal.invariant_of-self
@@ -12,20 +14,21 @@ invariant_of-self c =
     let t = c.args.t in
     let suite = c.args.suite in
     let mode = c.args.mode in
-    let locks = c.close.new.locks.items in
-    let holders = c.self.inside.holders.pairs in
-    let settled = c.still_settled-settled.result in
-    let was = subst (λ l. AreListed l holders) (sym c.close.ensures.locks) c.self.invariant.1 in
-    let free = ap (in_the_way t suite mode) c.close.ensures.locks ∙ ap (λ (table : Locking). in_the_way t suite mode table.locks) c.self.view_is ∙ c.requires.free in
-    let listed = listed_locked locks holders c.hold.new.holders.pairs t suite mode free was (λ some. c.hold.ensures some ∙ ap (λ l. insert holder_cmp (listed_or l holders) (suite, t) tt) c.deref-2.ensures.value) in
-    closed c.close.new.gone c.set_lock.new.locks.items c.hold.new.holders.pairs settled c.close.ensures.none
-    (subst (λ l. AreListed l c.hold.new.holders.pairs) (sym c.set_lock.ensures) listed)
-    (ap (are_settled settled) (c.set_lock.ensures ∙ ap (locked t suite mode) (sym c.deref.ensures.value)) ∙ c.still_settled-settled.ensures mode)
+    let few = c.self.inside.few.items in
+    let many = c.self.inside.many.locks in
+    let all = c.self.invariant in
+    let free : in_the_way t suite mode (few ++ many) ≡ None = ap (λ (table : Locking). in_the_way t suite mode table.locks) c.self.view_is ∙ c.requires.free in
+    let none = (and_parts (are_none many) (nat_lt (length few) 64) (sym c.are_few.ensures ∙ c.if-are_few.true)).0 in
+    few_tabled few many all (locked t suite mode) (rise_locked t suite mode (few ++ many) all.rising) (still_alone_locked t suite mode (few ++ many) free all.alone) none c.set_lock.new.locks.items c.set_lock.ensures
 
-pub returns : goal.returns
-returns c =
-    let left = c.set_lock.new.locks.items in
-    ap (λ n. drop n left) c.close.ensures.none
-    ∙ c.set_lock.ensures
-    ∙ ap (locked c.args.t c.args.suite c.args.mode) c.close.ensures.locks
-    ∙ ap (λ (table : Locking). locked c.args.t c.args.suite c.args.mode table.locks) c.self.view_is
+pub invariant_of-self-else-are_few : goal.invariant_of-self-else-are_few
+invariant_of-self-else-are_few c =
+    let t = c.args.t in
+    let suite = c.args.suite in
+    let mode = c.args.mode in
+    let few = c.self.inside.few.items in
+    let many = c.self.inside.many.locks in
+    let all = c.self.invariant in
+    let free : in_the_way t suite mode (few ++ many) ≡ None = ap (λ (table : Locking). in_the_way t suite mode table.locks) c.self.view_is ∙ c.requires.free in
+    all_many c.move_all.new.few.items c.set.new.self.locks (locked t suite mode (few ++ many)) c.move_all.ensures.few (c.set.ensures ∙ ap (locked t suite mode) c.move_all.ensures.many)
+    (rise_locked t suite mode (few ++ many) all.rising) (still_alone_locked t suite mode (few ++ many) free all.alone)

@@ -7,3 +7,6 @@ returns-then-is_used_up-clause-fits c = reply_fits (state_of c.args.self.now) c.
 
 pub returns-clause-fits : goal.returns-clause-fits
 returns-clause-fits c = reply_fits (state_of c.args.self.now) c.args.request.now.value c.sound.ensures
+
+pub returns-in_err-change-clause-fits : goal.returns-in_err-change-clause-fits
+returns-in_err-change-clause-fits c = reply_fits (state_of c.args.self.now) c.args.request.now.value c.sound.ensures

@@ -6,8 +6,8 @@ returns c = λ yes.
     let own = c.args.self.now in
     let theirs = c.args.other.now in
     let up : own.up ≡ theirs.up = search rules in
-    let locks : own.locks.locks ≡ theirs.locks.locks = sym c.as_slice.ensures.locks ∙ c.same_locks.ensures c.if-not-same_locks.false ∙ c.as_slice-2.ensures.locks in
+    let locks : own.locks.locks ≡ theirs.locks.locks = c.same.ensures c.if-not-same.false in
     let audit : own.audit.items ≡ theirs.audit.items = sym c.deref.ensures.value ∙ c.same_audit.ensures c.if-not-same_audit.false ∙ c.deref-2.ensures.value in
-    let store : own.store.store ≡ theirs.store.store = c.same.ensures c.if-not-same.false in
-    let verdicts : own.verdicts.pairs ≡ theirs.verdicts.pairs = c.same-2.ensures yes in
+    let store : own.store.store ≡ theirs.store.store = c.same-2.ensures c.if-not-same-2.false in
+    let verdicts : own.verdicts.pairs ≡ theirs.verdicts.pairs = c.same-3.ensures yes in
     λ i. record { store = store i; locks = locks i; verdicts = verdicts i; audit = audit i; stamp = 0; up = up i }

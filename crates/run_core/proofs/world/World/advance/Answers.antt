@@ -29,12 +29,12 @@ returns-in-Step-clause-ok c =
 pub returns-in-Crash-clause-ok : goal.returns-in-Crash-clause-ok
 returns-in-Crash-clause-ok c =
     rw (← c.self.view_is, c.in-Crash.is)
-    (comes_by_operator _ _ _ c.args.ended.now c.operate.result (c.operate.ensures (actors_in c.self.inside.seats.items)))
+    (comes_by_operator _ _ _ c.args.ended.now c.operate.result (c.operate.ensures.ok (actors_in c.self.inside.seats.items)))
 
 pub returns-in-Return-clause-ok : goal.returns-in-Return-clause-ok
 returns-in-Return-clause-ok c =
     rw (← c.self.view_is, c.in-Return.is)
-    (comes_by_operator _ _ _ c.args.ended.now c.operate-in-Return.result (c.operate-in-Return.ensures (actors_in c.self.inside.seats.items)))
+    (comes_by_operator _ _ _ c.args.ended.now c.operate-in-Return.result (c.operate-in-Return.ensures.ok (actors_in c.self.inside.seats.items)))
 
 pub returns-in-Forget-clause-ok : goal.returns-in-Forget-clause-ok
 returns-in-Forget-clause-ok c =

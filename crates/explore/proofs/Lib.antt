@@ -1,0 +1,8 @@
+pub mod Places
+pub mod Joining
+pub mod Stepping
+pub mod Reading
+pub mod LinesPlayed
+pub mod Finding
+pub mod WayLines
+pub mod BegunJobs

@@ -1,0 +1,48 @@
+-- What is printed of a line whose first word stands in its place.
+use Rattle.std.specs.Prelude.{◌≡◌, ℕ, List, [], ◌∷◌, ◌++◌, codes, decimal, Option, Some, None}
+use Rattle.acl_text.specs.Places.{item_place}
+use Rattle.acl_text.specs.declared.read.TextFault.{TextFault}
+use Rattle.acl_text.specs.declared.read.TextFault.TheVariants as text
+use Rattle.suite_script.specs.Faults.{code_of}
+use Rattle.suite_script.specs.declared.fault.LineFault.{LineFault}
+use Rattle.suite_script.specs.declared.fault.LineFault.TheVariants as line
+use Rattle.suite_script.specs.declared.misfit.Misfit.{Misfit}
+
+-- a tab
+abbrev pub tab : List ℕ
+tab = 9 ∷ []
+
+-- the number of a word and the code of its fault, each with a tab behind it
+abbrev pub told_at : ℕ → LineFault → List ℕ
+told_at number fault = decimal number ++ tab ++ code_of fault ++ tab
+
+-- the same of a word that does not fit; hyphens, where each word fits
+abbrev pub head_of : Option Misfit → List ℕ
+head_of None = codes "-" ++ tab ++ codes "-" ++ tab
+head_of (Some misfit) = told_at misfit.number misfit.fault
+
+-- a text that begins so
+pub record BeginsWith (head text : List ℕ) : Type 0 where
+  pub rest : List ℕ
+  pub is : text ≡ head ++ rest
+
+-- where the item of a list begins of which a fault speaks
+abbrev pub item_of_text : List ℕ → TextFault → Option ℕ
+item_of_text word (text.Syntax item) = item_place word item
+item_of_text word (text.UnknownName item) = item_place word item
+item_of_text word (text.NumberTooBig item) = item_place word item
+item_of_text word _ = None
+
+-- the same of a word with a fault
+abbrev pub item_in : List ℕ → LineFault → Option ℕ
+item_in word (line.List fault) = item_of_text word fault
+item_in word _ = None
+
+-- a place as it is printed; a hyphen, where there is none
+abbrev pub place_text : Option ℕ → List ℕ
+place_text (Some place) = decimal place
+place_text None = codes "-"
+
+-- the line that is printed of an item of a list
+abbrev pub item_line : List ℕ → ℕ → List ℕ
+item_line list number = place_text (item_place list number) ++ 10 ∷ []

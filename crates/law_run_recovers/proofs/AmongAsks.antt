@@ -1,0 +1,86 @@
+-- What a transaction that goes among locks that stay asks for next is of what it asks for on the table as it began.
+use Rattle.std.proofs.Common.{◌≡◌, inl, ℕ, List, [], ◌∷◌, Some, refl, sym, ap, subst, ◌∙◌}
+use Rattle.std.specs.Prelude.{Contains}
+use Rattle.std.proofs.lemmas.Option.{none-some}
+use Rattle.acl_core.specs.Identity.{Identity}
+use Rattle.vote_core.specs.Quorums.{Configuration}
+use Rattle.suite_prefix.specs.SettingsRules.{Opening}
+use Rattle.suite_prefix.specs.declared.lock_mode.LockMode.{LockMode}
+use Rattle.suite_prefix.specs.declared.lock_mode.LockMode.TheVariants.{Exclusive}
+use Rattle.file_ops.specs.declared.operation.Op.{Op}
+use Rattle.rep_core.specs.declared.request.Request.{Request}
+use Rattle.rep_core.specs.declared.request.Request.TheVariants as request
+use Rattle.rep_core.proofs.Members.{Has, contains_from}
+use Rattle.suite_collect.specs.Collecting.{Collector, Asked, Poll, Upgrade, wanted, mode_or, request_for, mode_asked}
+use Rattle.weak_cache.specs.Entries.{Cache}
+use Rattle.txn_core.specs.Suites.{Suites, suite_of}
+use Rattle.txn_core.specs.Writing.{parts_at}
+use Rattle.txn_core.specs.Doing as doing
+use Rattle.txn_core.specs.Doing.{Task, Granted, Phase, Gathering, Fetching, Preparing, Deciding, Finishing, home_of}
+use Rattle.txn_core.specs.Transactions.{asked_for, changes_of, decision_of, request_in}
+use Rattle.txn_core.specs.Agents.{fixed_of}
+use Rattle.txn_core.proofs.Asks.{asks_same}
+use Rattle.run_core.specs.declared.event.Event.{Event}
+use Rattle.run_core.specs.Worlds.{Actor}
+use Rattle.run_core.specs.TableOfRun.{table_of}
+use Rattle.law_run_recovers.specs.Demands.{locks_asked, votes_set}
+use Rattle.law_run_recovers.specs.Near.{asks_for}
+use Rattle.law_run_recovers.specs.Among.{GoesAmongLocks}
+use Rattle.law_run_recovers.proofs.Asked.{onto_left, onto_so_far, asked_exclusive, next_mode}
+use Rattle.law_run_recovers.proofs.Asking.{onto}
+use Rattle.law_run_recovers.proofs.Ends.{fetch_is}
+use Rattle.law_run_recovers.proofs.Heard.{AsksFor, asks_for as asked_by}
+use Rattle.law_run_recovers.proofs.Keeps.{OfAsked}
+use Rattle.law_run_recovers.proofs.NearGround.{its, number}
+use Rattle.law_run_recovers.proofs.Stands.{locks_on, sets_on}
+use Rattle.law_run_recovers.proofs.AmongCourse.{PhaseIn}
+
+module _ (given : Opening) (events later : List Event) (agent t : ℕ) (caller : Identity) (site : ℕ) (ops : List Op) (actor : Actor) (goes : GoesAmongLocks given events later agent t caller site ops actor) where
+  abbrev its_task : Task
+  its_task = its given events later agent t caller site ops actor goes
+
+  -- what it has on the table by its number
+  asked_there : (one : ℕ × LockMode) → Has (locks_on (table_of given events) its_task) one → Contains (asks_for given events t caller ops) one
+  asked_there one has = contains_from (asks_for given events t caller ops) one (subst (λ n. Has (locks_asked (table_of given events) n caller ops) one) (number given events later agent t caller site ops actor goes) has)
+
+  pub set_there : (one : ℕ × Configuration) → Has (sets_on (table_of given events) its_task) one → Contains (votes_set (table_of given events) t caller ops) one
+  set_there one has = contains_from (votes_set (table_of given events) t caller ops) one (subst (λ n. Has (votes_set (table_of given events) n caller ops) one) (number given events later agent t caller site ops actor goes) has)
+
+  module _ (server : ℕ) (asked : Request) where
+    pub gather_asks : (now : Cache) (suites : Suites) (z : ℕ) (at : PhaseIn given events later agent t caller site ops actor goes suites now (Gathering z)) (asks : AsksFor its_task.t z at.0.suite.collector server asked)
+        → Contains (asks_for given events t caller ops) (z, mode_asked asks.question)
+    gather_asks now suites z at asks =
+        let g = at.0 in
+        let mode : mode_asked asks.question ≡ g.mode = next_mode g.suite.collector server asks.question asks.is ∙ ap wanted g.found.reached.is ∙ ap (λ (c : Collector). c.mode) (sym g.found.reached.is) ∙ g.mode_is in
+        subst (λ mode. Contains (asks_for given events t caller ops) (z, mode)) (sym mode)
+        (asked_there (z, g.mode) (subst (λ locks. Has locks (z, g.mode)) (sym (g.asks.order ∙ ap (onto g.asked) g.next_is)) (onto_left g.asked _ (z, g.mode) (inl refl))))
+
+    pub widen_asks : (now : Cache) (suites : Suites) (z : ℕ) (left : List ℕ) (granted : Granted) (at : PhaseIn given events later agent t caller site ops actor goes suites now (doing.Widening (z ∷ left) granted)) (asks : AsksFor its_task.t z at.suite.collector server asked)
+        → Contains (asks_for given events t caller ops) (z, mode_asked asks.question)
+    widen_asks now suites z left granted at asks =
+        let mode : mode_asked asks.question ≡ Exclusive = next_mode at.suite.collector server asks.question asks.is ∙ ap (λ o. mode_or o at.suite.collector.mode) at.widening_is in
+        subst (λ mode. Contains (asks_for given events t caller ops) (z, mode)) (sym mode)
+        (asked_there (z, Exclusive) (subst (λ locks. Has locks (z, Exclusive)) (sym at.sets.all) (onto_so_far at.sets.so_far [] (z, Exclusive) (asked_exclusive at.sets.so_far z (at.sets.exclusive (z, at.votes) (inl refl))))))
+
+    abbrev Asks : Request → Type 0
+    Asks other = OfAsked given events later agent t caller site ops actor goes other
+
+    lock_asked : (z : ℕ) (question : Asked) → Contains (asks_for given events t caller ops) (z, mode_asked question) → Asks (request_for its_task.t z question)
+    lock_asked z (Poll mode) has = (number given events later agent t caller site ops actor goes, has)
+    lock_asked z Upgrade has = (number given events later agent t caller site ops actor goes, has)
+
+    -- a lock that it asks for is one of these, in its name
+    pub of_its_asks : (now : Cache) (suites : Suites) (phase : Phase) → PhaseIn given events later agent t caller site ops actor goes suites now phase → request_in (fixed_of given) its_task suites phase ≡ Some (server, asked) → OfAsked given events later agent t caller site ops actor goes asked
+    of_its_asks now suites (Gathering z) at is =
+        let asks = asked_by its_task z at.0.suite.collector server asked (sym (ap (asked_for its_task z) at.0.there) ∙ is) in
+        subst Asks (sym asks.asked_is) (lock_asked z asks.question (gather_asks now suites z at asks))
+    of_its_asks now suites (Fetching z) at is = subst Asks (sym (fetch_is its_task z (suite_of suites z) server asked is)) tt
+    of_its_asks now suites (doing.Widening [] granted) at is = absurd (none-some (server, asked) is)
+    of_its_asks now suites (doing.Widening (z ∷ left) granted) at is =
+        let asks = asked_by its_task z at.suite.collector server asked (sym (ap (asked_for its_task z) at.there) ∙ is) in
+        subst Asks (sym asks.asked_is) (lock_asked z asks.question (widen_asks now suites z left granted at asks))
+    of_its_asks now suites (Preparing [] outcome) at is = absurd (none-some (server, asked) is)
+    of_its_asks now suites (Preparing (first ∷ left) outcome) at is = subst Asks (asks_same first server (request.Prepare its_task.t (parts_at suites (changes_of outcome) first)) asked is) tt
+    of_its_asks now suites (Deciding outcome) at is = subst Asks (asks_same (home_of (fixed_of given).service its_task.t) server (request.Decide its_task.t (decision_of its_task outcome)) asked is) tt
+    of_its_asks now suites (Finishing [] v ended) at is = absurd (none-some (server, asked) is)
+    of_its_asks now suites (Finishing (first ∷ left) v ended) at is = subst Asks (asks_same first server (request.Finish its_task.t v) asked is) tt

@@ -1,0 +1,375 @@
+-- A transaction that goes among locks that stay has none once it has ended: each server that gave it one was told how it ended.
+use Rattle.std.proofs.Common.{◌≡◌, ◌⊎◌, inl, inr, ⊎_elim, ℕ, ◌+◌, ◌≤◌, ◌<◌, Bool, true, false, cond, List, [], ◌∷◌, ◌++◌, append-nil, append_assoc, length, Option, Some, None, is_some, refl, sym, ap, subst, ◌∙◌, arith}
+use Rattle.std.specs.Prelude.{◌*◌, ◌==◌, ◌&&◌, ◌||◌, not, filter, slice_get, slice_set}
+use Rattle.std.specs.List.{list_any}
+use Rattle.std.proofs.lemmas.Bool.{false≢true, and_parts, and_from, eqb-true, eq-eqb}
+use Rattle.std.proofs.lemmas.List.Folds.{list_any-append}
+use Rattle.std.proofs.lemmas.Option.{same_Some, slice_get_within}
+use Rattle.acl_core.specs.Identity.{Identity}
+use Rattle.vote_core.specs.Validity.{max_servers}
+use Rattle.suite_prefix.specs.SettingsRules.{Opening}
+use Rattle.file_ops.specs.declared.operation.Op.{Op}
+use Rattle.rep_core.specs.declared.lock.Lock.{Lock}
+use Rattle.rep_core.specs.declared.request.Request.{Request}
+use Rattle.rep_core.specs.declared.request.Request.TheVariants as request
+use Rattle.rep_core.specs.declared.reply.Reply.{Reply}
+use Rattle.rep_core.specs.declared.reply.Verdict.{Verdict}
+use Rattle.rep_core.specs.declared.stamped.Stamped.{Stamped}
+use Rattle.rep_core.specs.Locks.{released}
+use Rattle.rep_core.specs.State.{State}
+use Rattle.rep_core.specs.Service.{reply_of, after_up, after_down}
+use Rattle.rep_core.specs.Serving.{served, answer_of}
+use Rattle.rep_core.proofs.Members.{Has, contains_from, has_filter, filter_has, has_map, any_has, has_any}
+use Rattle.txn_core.specs.declared.job.Job.TheVariants.{Transaction}
+use Rattle.txn_core.specs.declared.response.Response.TheVariants.{Replied}
+use Rattle.txn_core.specs.Transactions.{numbers_from}
+use Rattle.txn_core.specs.Undecided.{is_finish}
+use Rattle.txn_core.specs.Agents as agents
+use Rattle.txn_core.specs.Agents.{Agent, fixed_of, is_idle, next_of, begin}
+use Rattle.txn_core.specs.Laws.{Exchange, exchange_of, exchanges, locks, says_held, was_held}
+use Rattle.txn_core.proofs.Upheld.{exchanges-take, exchanges-forget}
+use Rattle.run_core.specs.declared.done.Served.{Served}
+use Rattle.run_core.specs.declared.event.Event.{Event}
+use Rattle.run_core.specs.declared.event.Event.TheVariants.{Begin, Step}
+use Rattle.run_core.specs.Worlds.{Actor, World, server_at, step}
+use Rattle.run_core.specs.Runs.{run}
+use Rattle.law_runs.proofs.Lengths.{so_many}
+use Rattle.law_runs.proofs.Worlds.{puts_in}
+use Rattle.law_agents.specs.Orders.{stage, wants_lock, was_locked, locked, sent_to, IsInOrder}
+use Rattle.law_agents.specs.Orders as orders
+use Rattle.law_agents.proofs.Orders.{stages_rise, all_finish}
+use Rattle.law_run_alone.proofs.Named.{no_lock}
+use Rattle.law_run_recovers.specs.Standing.{up_in, is_up, locks_in, locks_at}
+use Rattle.law_run_recovers.specs.Sweeping.{has_any as any_of}
+use Rattle.law_run_recovers.specs.Unmet.{world_after}
+use Rattle.law_run_recovers.specs.Among.{GoesAmongLocks, AmongLocksLeaveNoLock}
+use Rattle.law_run_recovers.proofs.Apart.{Apart, event_apart}
+use Rattle.law_run_recovers.proofs.Downs.{held-append}
+use Rattle.law_run_recovers.proofs.Freed.{or_left, or_right}
+use Rattle.law_run_recovers.proofs.Keeps.{run_at}
+use Rattle.law_run_recovers.proofs.Knows.{among_numbers}
+use Rattle.law_run_recovers.proofs.NearGround.{number, first_asked, opens_up}
+use Rattle.law_run_recovers.proofs.Open.{begun_servers}
+use Rattle.law_run_recovers.proofs.Serves.{On, Told, told_on}
+use Rattle.law_run_recovers.proofs.Took.{OwnTook, own_took}
+use Rattle.law_run_recovers.proofs.AmongCourse.{Course, runs_it, next_is, unhindered, running_now, apart_on}
+use Rattle.law_run_recovers.proofs.AmongEnds.{Over, over_on, over_now}
+use Rattle.law_run_recovers.proofs.AmongOver.{never_others, never_over, ended_over, course_not_over}
+use Rattle.law_run_recovers.proofs.AmongStep.{idle_before, first_course, is_then, own_on}
+
+-- ---- exchanges
+
+-- a server was told how it ended
+abbrev pub was_done : List Exchange → ℕ → Bool
+was_done past server = list_any (λ (one : Exchange). (one.server == server) && is_finish one.request) past
+
+not_finish : (asked : Request) (n : ℕ) → n < 3 → stage asked ≤ n → is_finish asked ≡ false
+not_finish (request.Finish t v) n few is = absurd (omega (arith, few, is))
+not_finish (request.Poll t suite mode) n few is = refl
+not_finish (request.Upgrade t suite) n few is = refl
+not_finish (request.Fetch t suite) n few is = refl
+not_finish (request.Prepare t parts) n few is = refl
+not_finish (request.Decide t decision) n few is = refl
+not_finish (request.Resolve t) n few is = refl
+not_finish (request.Break t suite) n few is = refl
+not_finish request.Locks n few is = refl
+not_finish request.Crash n few is = refl
+not_finish request.Return n few is = refl
+
+none_of : (a b : Bool) → ((a && false) || b) ≡ b
+none_of true b = refl
+none_of false b = refl
+
+-- before its end is fixed none was
+none_done : (past : List Exchange) (n : ℕ) → n < 3 → ((one : Exchange) → Has past one → stage one.request ≤ n) → (server : ℕ) → was_done past server ≡ false
+none_done [] n few all server = refl
+none_done (one ∷ past) n few all server =
+    ap (λ b. ((one.server == server) && b) || was_done past server) (not_finish one.request n few (all one (inl refl)))
+    ∙ none_of (one.server == server) (was_done past server) ∙ none_done past n few (λ other has. all other (inr has)) server
+
+done_of : (past : List Exchange) (server : ℕ) → Has (sent_to is_finish past) server → was_done past server ≡ true
+done_of past server has =
+    let one = has_map (λ (one : Exchange). one.server) (filter (λ (one : Exchange). is_finish one.request) past) server has in
+    let there = has_filter (λ (one : Exchange). is_finish one.request) past one.0 one.1 in
+    has_any (λ (one : Exchange). (one.server == server) && is_finish one.request) past one.0 there.0
+    (and_from (one.0.server == server) (is_finish one.0.request) (eq-eqb one.0.server server one.2) there.1)
+
+wants_it : (z : ℕ) (asked : Request) → locks z asked ≡ true → wants_lock asked ≡ true
+wants_it z (request.Poll t suite mode) is = refl
+wants_it z (request.Upgrade t suite) is = refl
+wants_it z (request.Fetch t suite) is = absurd (false≢true is)
+wants_it z (request.Prepare t parts) is = absurd (false≢true is)
+wants_it z (request.Decide t decision) is = absurd (false≢true is)
+wants_it z (request.Resolve t) is = absurd (false≢true is)
+wants_it z (request.Finish t v) is = absurd (false≢true is)
+wants_it z (request.Break t suite) is = absurd (false≢true is)
+wants_it z request.Locks is = absurd (false≢true is)
+wants_it z request.Crash is = absurd (false≢true is)
+wants_it z request.Return is = absurd (false≢true is)
+
+-- who gave a lock is one of those that hold one
+locked_of : (past : List Exchange) (z server : ℕ) → was_held past z server ≡ true → was_locked past server ≡ true
+locked_of past z server is =
+    let one = any_has (λ (one : Exchange). (one.server == server) && locks z one.request && says_held one.response) past is in
+    let parts = and_parts ((one.0.server == server) && locks z one.0.request) (says_held one.0.response) one.2 in
+    let more = and_parts (one.0.server == server) (locks z one.0.request) parts.0 in
+    has_any (λ (one : Exchange). (one.server == server) && wants_lock one.request && says_held one.response) past one.0 one.1
+    (and_from ((one.0.server == server) && wants_lock one.0.request) (says_held one.0.response) (and_from (one.0.server == server) (wants_lock one.0.request) more.0 (wants_it z one.0.request more.1)) parts.1)
+
+both_none : (a b : Bool) → a ≡ false → b ≡ false → (a || (b || false)) ≡ false
+both_none true b is none = is
+both_none false true is none = none
+both_none false false is none = refl
+
+-- ---- a Finish frees its server
+
+freed : (st : State) (u : ℕ) (v : Verdict) (lock : Lock) → st.up ≡ true → Has (cond st.up (after_up st (request.Finish u v)) (after_down st (request.Finish u v))).locks lock → lock.t ≡ u → ⊥
+freed st u v lock up has same =
+    let there : Has (released u st.locks) lock = subst (λ b. Has (cond b (after_up st (request.Finish u v)) (after_down st (request.Finish u v))).locks lock) up has in
+    let kept = has_filter (λ (lock : Lock). not (lock.t == u)) st.locks lock there in
+    false≢true (sym (ap not (eq-eqb lock.t u same)) ∙ kept.1)
+
+-- ---- all along
+
+module _ (given : Opening) (events later : List Event) (agent t : ℕ) (caller : Identity) (site : ℕ) (ops : List Op) (actor : Actor) (goes : GoesAmongLocks given events later agent t caller site ops actor) where
+  abbrev world_at : List Event → World
+  world_at so_far = world_after given events agent caller site ops so_far
+
+  abbrev all : List Event → List Event
+  all so_far = events ++ Begin agent (Transaction caller site ops) ∷ so_far
+
+  abbrev begun_agent : Agent
+  begun_agent = begin (fixed_of given) actor.agent (Transaction caller site ops)
+
+  abbrev past : List agents.Event → List Exchange
+  past told = exchanges (fixed_of given) begun_agent told
+
+  -- it has no lock at all
+  abbrev pub HasNone : List Event → Type 0
+  HasNone so_far = (server z : ℕ) → On (locks_at (world_after given events agent caller site ops so_far) server) t z → ⊥
+
+  -- where it has a lock the server was told to hold one, and not how it ended
+  abbrev Held : List Event → List agents.Event → Type 0
+  Held so_far told = (server z : ℕ) → On (locks_at (world_after given events agent caller site ops so_far) server) t z → (was_held (past told) z server ≡ true) × (was_done (past told) server ≡ false)
+
+  same_run : (so_far : List Event) → world_after given events agent caller site ops so_far ≡ run given (events ++ Begin agent (Transaction caller site ops) ∷ so_far)
+  same_run = run_at given events later agent t caller site ops actor goes.can goes.there goes.begins
+
+  before_none : HasNone []
+  before_none server z on =
+      of (server_at (run given events) server) refl
+      (subst (λ found. On (locks_in found) t z) (begun_servers given events later agent t caller site ops actor goes.can goes.there goes.begins server) on)
+    where
+      of : (found : Option State) → server_at (run given events) server ≡ found → On (locks_in (server_at (run given events) server)) t z → ⊥
+      of None at on = subst (λ found. Has (locks_in found) on.lock) at on.has
+      of (Some st) at on = no_lock given goes.can.accepted events agent t (Transaction caller site ops) goes.begins server st at on.lock (subst (λ found. Has (locks_in found) on.lock) at on.has) on.of_it
+
+  next_on : (so_far : List Event) (event : Event) (server z : ℕ) → On (locks_at (world_after given events agent caller site ops (so_far ++ event ∷ [])) server) t z → On (locks_at (step (fixed_of given) (world_after given events agent caller site ops so_far) event).world server) t z
+  next_on so_far event server z on = subst (λ w. On (locks_at w server) t z) (next_is given events later agent t caller site ops actor goes so_far event) on
+
+  -- once it has ended it gets none
+  none_on : (so_far : List Event) (event : Event) → Over given events later agent t caller site ops actor goes so_far → HasNone so_far → HasNone (so_far ++ event ∷ [])
+  none_on so_far event over none server z on =
+      ⊎_elim (λ old. none server z old) (λ told. never_over given events later agent t caller site ops actor goes so_far event server told.0 over)
+      (told_on (fixed_of given) (world_at so_far) event server t z (next_on so_far event server z on))
+
+  -- ---- a step of its own
+
+  module _ (so_far rest : List Event) (split : later ≡ so_far ++ Step agent ∷ rest) (c : Course given events later agent t caller site ops actor goes so_far)
+      (took : OwnTook (fixed_of given) (world_after given events agent caller site ops so_far) agent c.here c.there (step (fixed_of given) (world_after given events agent caller site ops so_far) (Step agent))) (held : Held so_far c.told) where
+    abbrev said : Reply
+    said = reply_of took.st took.asked.1
+
+    abbrev told_then : List agents.Event
+    told_then = c.told ++ agents.Take (Replied (reply_of took.st took.asked.1)) ∷ []
+
+    abbrev one : Exchange
+    one = record { server = took.asked.0; request = took.asked.1; response = Replied (reply_of took.st took.asked.1) }
+
+    abbrev stamped : Stamped Request
+    stamped = record { stamp = c.here.stamp; value = took.asked.1 }
+
+    next_asked : next_of (fixed_of given) (agents.after_all (fixed_of given) begun_agent c.told) ≡ Some took.asked
+    next_asked = ap (next_of (fixed_of given)) (sym c.is) ∙ took.next
+
+    past_is : past told_then ≡ past c.told ++ one ∷ []
+    past_is = exchanges-take (fixed_of given) begun_agent c.told (Replied said) ∙ ap (λ asked. past c.told ++ exchange_of asked (Replied said)) next_asked
+
+    in_order : IsInOrder actor.agent (past c.told) took.asked.1
+    in_order = stages_rise (fixed_of given) actor.agent caller site ops c.told took.asked.0 took.asked.1 (idle_before given events later agent t caller site ops actor goes) next_asked
+
+    held_is : (z server : ℕ) → was_held (past told_then) z server ≡ (was_held (past c.told) z server || was_held (one ∷ []) z server)
+    held_is z server = ap (λ past. was_held past z server) past_is ∙ held-append (past c.told) (one ∷ []) z server
+
+    done_is : (server : ℕ) → was_done (past told_then) server ≡ (was_done (past c.told) server || was_done (one ∷ []) server)
+    done_is server = ap (λ past. was_done past server) past_is ∙ list_any-append (λ (one : Exchange). (one.server == server) && is_finish one.request) (past c.told) (one ∷ [])
+
+    -- the server where it has a lock is up
+    up_here : (z : ℕ) → On (locks_at (world_after given events agent caller site ops so_far) took.asked.0) t z → took.st.up ≡ true
+    up_here z on =
+        let opens = opens_up given events later agent t caller site ops actor goes z (first_asked given events later agent t caller site ops actor goes z) took.asked.0 (c.locks took.asked.0 z on) in
+        let parts = and_parts (goes.near took.asked.0) (is_up (run given events) took.asked.0) opens in
+        ap up_in (sym took.at)
+        ∙ (goes.stays so_far (Step agent ∷ rest) split (running_now given events later agent t caller site ops actor goes so_far rest (Step agent) split c)).up took.asked.0 parts.0 ∙ parts.1
+
+    -- one that it tells now how it ended has no lock of it then
+    done_none : (server z : ℕ) → On (locks_at (world_after given events agent caller site ops so_far) server) t z
+        → On (locks_at (step (fixed_of given) (world_after given events agent caller site ops so_far) (Step agent)).world server) t z → ((took.asked.0 == server) && is_finish took.asked.1) ≡ true → ⊥
+    done_none server z before on is =
+        let parts = and_parts (took.asked.0 == server) (is_finish took.asked.1) is in
+        let here : took.asked.0 ≡ server = eqb-true took.asked.0 server parts.0 in
+        of took.asked.1 refl parts.1
+        (up_here z (subst (λ i. On (locks_at (world_after given events agent caller site ops so_far) i) t z) (sym here) before))
+        (subst (λ locks. Has locks on.lock)
+        (ap (λ servers. locks_in (slice_get servers server)) took.servers
+        ∙ ap (λ i. locks_in (slice_get (slice_set (world_at so_far).servers took.asked.0 (served took.st stamped)) i)) (sym here)
+        ∙ ap locks_in (puts_in (world_at so_far).servers took.asked.0 took.st (served took.st stamped) took.at).here) on.has)
+      where
+        of : (asked : Request) → took.asked.1 ≡ asked → is_finish asked ≡ true → took.st.up ≡ true → Has (served took.st (record { stamp = c.here.stamp; value = took.asked.1 })).locks on.lock → ⊥
+        of (request.Finish u v) is finish up has =
+            let numbered : u ≡ t = ap orders.number_of (sym is) ∙ in_order.number ∙ number_so in
+            freed took.st u v on.lock up (subst (λ asked. Has (served took.st (record { stamp = c.here.stamp; value = asked })).locks on.lock) is has) (on.of_it ∙ sym numbered)
+          where
+            number_so : 64 * actor.agent.count + actor.agent.index ≡ t
+            number_so = number given events later agent t caller site ops actor goes
+        of (request.Poll u suite mode) is finish up has = false≢true finish
+        of (request.Upgrade u suite) is finish up has = false≢true finish
+        of (request.Fetch u suite) is finish up has = false≢true finish
+        of (request.Prepare u parts) is finish up has = false≢true finish
+        of (request.Decide u decision) is finish up has = false≢true finish
+        of (request.Resolve u) is finish up has = false≢true finish
+        of (request.Break u suite) is finish up has = false≢true finish
+        of request.Locks is finish up has = false≢true finish
+        of request.Crash is finish up has = false≢true finish
+        of request.Return is finish up has = false≢true finish
+
+    pub held_then : Held (so_far ++ Step agent ∷ []) told_then
+    held_then server z on' = ⊎_elim old new (told_on (fixed_of given) (world_at so_far) (Step agent) server t z on)
+      where
+        on : On (locks_at (step (fixed_of given) (world_after given events agent caller site ops so_far) (Step agent)).world server) t z
+        on = next_on so_far (Step agent) server z on'
+
+        old : On (locks_at (world_after given events agent caller site ops so_far) server) t z → (was_held (past told_then) z server ≡ true) × (was_done (past told_then) server ≡ false)
+        old before =
+            let was = held server z before in
+            (held_is z server ∙ or_left (was_held (past c.told) z server) (was_held (one ∷ []) z server) was.0, done_is server ∙ both_none (was_done (past c.told) server) ((took.asked.0 == server) && is_finish took.asked.1) was.1 (no ((took.asked.0 == server) && is_finish took.asked.1) refl))
+          where
+            no : (b : Bool) → ((took.asked.0 == server) && is_finish took.asked.1) ≡ b → b ≡ false
+            no true is = absurd (done_none server z before on is)
+            no false is = refl
+
+        new : ((told : Told (fixed_of given) (world_after given events agent caller site ops so_far) (Step agent) t server) × (told.told.suite ≡ z)) → (was_held (past told_then) z server ≡ true) × (was_done (past told_then) server ≡ false)
+        new told =
+            let same : the (record { server = took.asked.0; request = stamped; reply = answer_of took.st stamped }) ≡ told.0.what = same_Some _ told.0.what (sym took.done ∙ told.0.served) in
+            let polled : took.asked.1 ≡ request.Poll t told.0.told.suite told.0.told.mode = ap (λ (what : Served). what.request.value) same ∙ told.0.told.poll in
+            let at : took.asked.0 ≡ server = ap (λ (what : Served). what.server) same ∙ told.0.at in
+            let says : says_held (Replied said) ≡ true = ap (λ (what : Served). says_held (Replied what.reply.value)) same ∙ ap (λ reply. says_held (Replied reply)) told.0.told.reply in
+            let few : stage took.asked.1 ≡ 0 = ap stage polled in (
+              held_is z server ∙ or_right (was_held (past c.told) z server) (was_held (one ∷ []) z server)
+                  (three (took.asked.0 == server) (locks z took.asked.1) (says_held (Replied said)) (eq-eqb took.asked.0 server at) (ap (locks z) polled ∙ eq-eqb told.0.told.suite z told.1) says),
+              done_is server ∙ both_none (was_done (past c.told) server) ((took.asked.0 == server) && is_finish took.asked.1)
+                  (none_done (past c.told) 0 (omega arith) (λ other has. let rises = in_order.none_later other (contains_from (past c.told) other has) in omega (arith, rises, few)) server)
+                  (ap (λ asked. (took.asked.0 == server) && is_finish asked) polled ∙ none_and (took.asked.0 == server)),
+            )
+          where
+            the : Served → Served
+            the what = what
+
+            three : (a b c : Bool) → a ≡ true → b ≡ true → c ≡ true → ((a && b && c) || false) ≡ true
+            three true true true a b c = refl
+            three true true false a b c = absurd (false≢true c)
+            three true false c a b _ = absurd (false≢true b)
+            three false b c a _ _ = absurd (false≢true a)
+
+            none_and : (a : Bool) → (a && false) ≡ false
+            none_and true = refl
+            none_and false = refl
+
+    -- where it ends all that gave a lock were told
+    pub none_then : is_idle took.new.agent.doing ≡ true → HasNone (so_far ++ Step agent ∷ [])
+    none_then idle server z on =
+        let was = held_then server z on in
+        let sent = all_finish (fixed_of given) actor.agent caller site ops told_then (idle_before given events later agent t caller site ops actor goes)
+        (ap (λ (a : Agent). is_idle a.doing) (sym (is_then given events later agent t caller site ops actor goes so_far rest split c (runs_it given events later agent t caller site ops actor goes so_far c) took)) ∙ idle) in
+        let there : Has (locked (past told_then)) server = filter_has (was_locked (past told_then)) (numbers_from 0 max_servers) server (among_numbers max_servers 0 server (omega arith) (few server on.lock on.has)) (locked_of (past told_then) z server was.0) in
+        false≢true (sym was.1 ∙ done_of (past told_then) server (subst (λ list. Has list server) (sym sent) there))
+      where
+        few : (server : ℕ) (lock : Lock) → Has (locks_at (world_after given events agent caller site ops (so_far ++ Step agent ∷ [])) server) lock → server < 0 + max_servers
+        few server lock has = of (server_at (world_after given events agent caller site ops (so_far ++ Step agent ∷ [])) server) refl has
+          where
+            of : (found : Option State) → server_at (world_after given events agent caller site ops (so_far ++ Step agent ∷ [])) server ≡ found → Has (locks_in found) lock → server < 0 + max_servers
+            of None at has = absurd has
+            of (Some st) at has =
+                let w = world_after given events agent caller site ops (so_far ++ Step agent ∷ []) in
+                let within : server < length w.servers = slice_get_within w.servers server st at in
+                let many : length w.servers ≡ given.servers = ap (λ (w : World). length w.servers) (same_run (so_far ++ Step agent ∷ [])) ∙ (so_many given (all (so_far ++ Step agent ∷ []))).0 in
+                let most = goes.can.accepted.some_servers.1 in
+                omega (arith, within, many, most)
+
+  -- ---- it goes on, or has ended and has none
+
+  abbrev pub Left : List Event → Type 0
+  Left so_far = ((c : Course given events later agent t caller site ops actor goes so_far) × Held so_far c.told) ⊎ (Over given events later agent t caller site ops actor goes so_far × HasNone so_far)
+
+  left_first : Left []
+  left_first = inl (first_course given events later agent t caller site ops actor goes, λ server z on. absurd (before_none server z on))
+
+  left_on : (so_far rest : List Event) (event : Event) → later ≡ so_far ++ event ∷ rest → Left so_far → Left (so_far ++ event ∷ [])
+  left_on so_far rest event split (inr over) = inr (over_on given events later agent t caller site ops actor goes so_far event over.0, none_on so_far event over.0 over.1)
+  left_on so_far rest event split (inl on) =
+      ⊎_elim aside own
+      (event_apart given agent (world_at so_far) on.0.here on.0.there on.0.busy event (unhindered given events later agent t caller site ops actor goes so_far rest event split on.0))
+    where
+      same_held : (told : List agents.Event) → past told ≡ past on.0.told → (event ≡ Step agent → ⊥) → Held (so_far ++ event ∷ []) told
+      same_held told same apart server z there =
+          ⊎_elim (λ old. let was = on.1 server z old in (ap (λ past. was_held past z server) same ∙ was.0, ap (λ past. was_done past server) same ∙ was.1))
+          (λ told. absurd (never_others given events later agent t caller site ops actor goes so_far event server told.0 apart))
+          (told_on (fixed_of given) (world_at so_far) event server t z (next_on so_far event server z there))
+
+      same_past : (told : List agents.Event) → (told ≡ on.0.told) ⊎ ((site' : ℕ) × (told ≡ on.0.told ++ agents.Forget site' ∷ [])) → past told ≡ past on.0.told
+      same_past told (inl same) = ap past {x = told} {y = on.0.told} same
+      same_past told (inr gone) = ap past {x = told} {y = on.0.told ++ agents.Forget gone.0 ∷ []} gone.1 ∙ exchanges-forget (fixed_of given) begun_agent on.0.told gone.0
+
+      aside : Apart given agent (world_after given events agent caller site ops so_far) on.0.here on.0.there on.0.busy (step (fixed_of given) (world_after given events agent caller site ops so_far) event) × (event ≡ Step agent → ⊥) → Left (so_far ++ event ∷ [])
+      aside apart =
+          let next = apart_on given events later agent t caller site ops actor goes so_far rest event split on.0 apart.0 apart.1 in
+          inl (
+            next.0,
+            same_held next.0.told (same_past next.0.told next.1) apart.1,
+          )
+
+      own : (event ≡ Step agent) × (is_some (step (fixed_of given) (world_after given events agent caller site ops so_far) event).done.served ≡ true) → Left (so_far ++ event ∷ [])
+      own is =
+          let split' : later ≡ so_far ++ Step agent ∷ rest = split ∙ ap (λ event. so_far ++ event ∷ rest) is.0 in
+          let took = own_took (fixed_of given) (world_at so_far) agent on.0.here on.0.there (subst (λ event. is_some (step (fixed_of given) (world_after given events agent caller site ops so_far) event).done.served ≡ true) is.0 is.1) in
+          subst (λ event. Left (so_far ++ event ∷ [])) (sym is.0)
+          (⊎_elim
+          (λ goes_on. inl (goes_on.0, subst (Held (so_far ++ Step agent ∷ [])) (sym goes_on.1) (held_then so_far rest split' on.0 took on.1)))
+          (λ ended. inr (over_now given events later agent t caller site ops actor goes so_far (Step agent) ended.0 ended.1 ended.2, none_then so_far rest split' on.0 took on.1 ended.3))
+          (own_on given events later agent t caller site ops actor goes so_far rest split' on.0 (runs_it given events later agent t caller site ops actor goes so_far on.0) took))
+
+  left_along : (todo so_far rest : List Event) → later ≡ (so_far ++ todo) ++ rest → Left so_far → Left (so_far ++ todo)
+  left_along [] so_far rest split left = subst Left (sym (append-nil so_far)) left
+  left_along (event ∷ todo) so_far rest split left =
+      let more : (so_far ++ event ∷ []) ++ todo ≡ so_far ++ event ∷ todo = append_assoc so_far (event ∷ []) todo in
+      subst Left more
+      (left_along todo (so_far ++ event ∷ []) rest (split ∙ ap (λ so_far. so_far ++ rest) (sym more)) (left_on so_far (todo ++ rest) event (split ∙ append_assoc so_far (event ∷ todo) rest) left))
+
+  -- at each moment
+  pub left_at : (so_far rest : List Event) → later ≡ so_far ++ rest → Left so_far
+  left_at so_far rest split = left_along so_far [] rest split left_first
+
+  -- once it has ended it has none
+  pub none_left : Over given events later agent t caller site ops actor goes later → HasNone later
+  none_left over = ⊎_elim (λ on. absurd (course_not_over given events later agent t caller site ops actor goes later on.0 over)) (λ left. left.1) (left_at later [] (sym (append-nil later)))
+
+pub among_locks_leave_no_lock : AmongLocksLeaveNoLock
+among_locks_leave_no_lock given events later agent t caller site ops actor goes it server = of (any_of t (locks_at (run given (events ++ Begin agent (Transaction caller site ops) ∷ later)) server)) refl
+  where
+    of : (b : Bool) → any_of t (locks_at (run given (events ++ Begin agent (Transaction caller site ops) ∷ later)) server) ≡ b → b ≡ false
+    of false is = refl
+    of true is =
+        let some = any_has (λ (lock : Lock). lock.t == t) (locks_at (run given (events ++ Begin agent (Transaction caller site ops) ∷ later)) server) is in
+        absurd (none_left given events later agent t caller site ops actor goes (ended_over given events later agent t caller site ops actor goes it.job it.ends) server some.0.suite
+        (subst (λ w. On (locks_at w server) t some.0.suite) (sym (run_at given events later agent t caller site ops actor goes.can goes.there goes.begins later))
+        (record { lock = some.0; has = some.1; of_it = eqb-true some.0.t t some.2; on_it = refl })))

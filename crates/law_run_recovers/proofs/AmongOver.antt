@@ -1,0 +1,124 @@
+-- Who asks in the name of a transaction that goes among locks that stay: its agent, which began no more since; and once it has ended nobody.
+use Rattle.std.proofs.Common.{◌≡◌, ⊎_elim, ℕ, ◌+◌, ◌<◌, true, false, List, ◌∷◌, ◌++◌, Some, None, refl, sym, ap, subst, ◌∙◌, arith}
+use Rattle.std.proofs.lemmas.Bool.{false≢true, eq-eqb}
+use Rattle.std.proofs.lemmas.Option.{none-some, same_Some}
+use Rattle.acl_core.specs.Identity.{Identity}
+use Rattle.suite_prefix.specs.SettingsRules.{Opening}
+use Rattle.file_ops.specs.declared.operation.Op.{Op}
+use Rattle.rep_core.proofs.Members.{Has, has_from}
+use Rattle.txn_core.specs.declared.job.Job.TheVariants.{Transaction}
+use Rattle.txn_core.specs.Agents.{Agent, fixed_of, is_idle, next_in}
+use Rattle.run_core.specs.declared.done.EndedJob.{EndedJob}
+use Rattle.run_core.specs.declared.done.Served.{Served}
+use Rattle.run_core.specs.declared.event.Event.{Event}
+use Rattle.run_core.specs.declared.event.Event.TheVariants.{Begin, Step}
+use Rattle.run_core.specs.Worlds.{Actor, World, opening, step, actor_at}
+use Rattle.run_core.specs.Runs.{dones, done_in, outcomes, run}
+use Rattle.run_core.proofs.Appending.{dones-append, outcomes-append}
+use Rattle.law_runs.specs.Claims.{ended}
+use Rattle.law_runs.specs.Naming.{names, may_sweep}
+use Rattle.law_runs.proofs.Agents.{same_place}
+use Rattle.law_runs.proofs.Begun.{agents_ask_for_themselves}
+use Rattle.law_runs.proofs.Conclusions.{holds_of}
+use Rattle.law_runs.proofs.Standing.{append_has_right}
+use Rattle.law_runs.proofs.Worlds.{agent_of, agent_at}
+use Rattle.law_run_recovers.specs.Unmet.{begun_world, world_after}
+use Rattle.law_run_recovers.specs.Among.{GoesAmongLocks}
+use Rattle.law_run_recovers.specs.Local.{EndsThen}
+use Rattle.law_run_recovers.proofs.Asker.{IsAsker, asker}
+use Rattle.law_run_recovers.proofs.Counts.{has_after}
+use Rattle.law_run_recovers.proofs.Keeps.{run_at}
+use Rattle.law_run_recovers.proofs.Serves.{Told}
+use Rattle.law_run_recovers.proofs.Sides.{names_one}
+use Rattle.law_run_recovers.proofs.AmongCourse.{Course}
+use Rattle.law_run_recovers.proofs.AmongEnds.{Over, small_at}
+use Rattle.law_run_recovers.proofs.AmongStep.{begun}
+
+module _ (given : Opening) (events later : List Event) (agent t : ℕ) (caller : Identity) (site : ℕ) (ops : List Op) (actor : Actor) (goes : GoesAmongLocks given events later agent t caller site ops actor) where
+  abbrev world_at : List Event → World
+  world_at so_far = world_after given events agent caller site ops so_far
+
+  abbrev all : List Event → List Event
+  all so_far = events ++ Begin agent (Transaction caller site ops) ∷ so_far
+
+  same_run : (so_far : List Event) → world_after given events agent caller site ops so_far ≡ run given (events ++ Begin agent (Transaction caller site ops) ∷ so_far)
+  same_run = run_at given events later agent t caller site ops actor goes.can goes.there goes.begins
+
+  small_own : agent < 64
+  small_own = (holds_of given goes.can.accepted events).agents.small agent actor.agent (ap agent_of goes.there)
+
+  -- the agent of its number that is over is idle, unless it began more since
+  over_idle : (so_far : List Event) → Over given events later agent t caller site ops actor goes so_far → (here : Actor) → actor_at (world_after given events agent caller site ops so_far) agent ≡ Some here → here.agent.count ≡ actor.agent.count + 1 → here.agent.doing ≡ None
+  over_idle so_far over here there last =
+      let was = (holds_of given goes.can.accepted (all so_far)).over over.0 over.1 in
+      let small_was = (holds_of given goes.can.accepted (all so_far)).agents.small over.0.agent was.agent was.at in
+      let places = same_place over.0.count actor.agent.count over.0.agent agent (over.2 ∙ sym (begun given events later agent t caller site ops actor goes).0) small_was small_own in
+      let same : was.agent ≡ here.agent = same_Some was.agent here.agent (sym was.at ∙ ap (agent_at (run given (all so_far))) places.1 ∙ ap (λ w. agent_at w agent) (sym (same_run so_far)) ∙ ap agent_of there) in
+      let counts : was.agent.count ≡ here.agent.count = ap (λ (a : Agent). a.count) same in
+      let place = places.0 in
+      ap (λ (a : Agent). a.doing) (sym same) ∙ was.idle (omega (arith, counts, last, place))
+
+  -- who runs has not ended
+  pub course_not_over : (so_far : List Event) → Course given events later agent t caller site ops actor goes so_far → Over given events later agent t caller site ops actor goes so_far → ⊥
+  course_not_over so_far c over = false≢true (sym c.busy ∙ ap is_idle (over_idle so_far over c.here c.there c.count))
+
+  pub ended_has : (job : EndedJob) → EndsThen given events later agent t caller site ops job → Has (ended given (events ++ Begin agent (Transaction caller site ops) ∷ later)) job
+  ended_has job ends =
+      subst (λ list. Has list job)
+      (sym (ap outcomes (dones-append (fixed_of given) (opening given) events (Begin agent (Transaction caller site ops) ∷ later))
+      ∙ outcomes-append (done_in given events) (dones (fixed_of given) (run given events) (Begin agent (Transaction caller site ops) ∷ later))))
+      (append_has_right (ended given events) (outcomes (dones (fixed_of given) (run given events) (Begin agent (Transaction caller site ops) ∷ later))) job
+      (has_after (step (fixed_of given) (run given events) (Begin agent (Transaction caller site ops))).done.outcome (outcomes (dones (fixed_of given) (begun_world given events agent caller site ops) later)) job
+      (has_from (outcomes (dones (fixed_of given) (begun_world given events agent caller site ops) later)) job ends.there)))
+
+  pub ended_over : (job : EndedJob) → EndsThen given events later agent t caller site ops job → Over given events later agent t caller site ops actor goes later
+  ended_over job ends = (job, ended_has job ends, ends.of_it)
+
+  -- ---- who asks in its name
+
+  module _ (so_far : List Event) (event : Event) (what : Served) (is : (step (fixed_of given) (world_after given events agent caller site ops so_far) event).done.served ≡ Some what) (named : names t what.request.value ≡ true) (own : may_sweep what.request.value ≡ false) where
+    asked_by : IsAsker (fixed_of given) (world_after given events agent caller site ops so_far) event what
+    asked_by = asker (fixed_of given) (world_at so_far) t event what is named
+
+    -- its agent, which began no more since
+    pub record IsIts : Type 0 where
+      pub by : IsAsker (fixed_of given) (world_after given events agent caller site ops so_far) event what
+      pub who : by.agent ≡ agent
+      pub last : by.actor.agent.count ≡ actor.agent.count + 1
+
+    pub is_its : IsIts
+    is_its =
+        let by = asked_by in
+        ⊎_elim
+        (λ self.
+        let last = self.last in
+        let numbered = (begun given events later agent t caller site ops actor goes).0 in
+        let same : t ≡ self.task.t = names_one t self.task.t what.request.value named self.named in
+        let small = small_at given events later agent t caller site ops actor goes so_far by.agent by.actor.agent (ap agent_of by.there) in
+        let places = same_place by.actor.agent.count (actor.agent.count + 1) by.agent agent (omega (arith, last, same, numbered)) small small_own in
+        record { by = by; who = places.1; last = places.0 })
+        (λ sweeps. absurd (false≢true (sym own ∙ sweeps.swept)))
+        (agents_ask_for_themselves given goes.can.accepted (all so_far) by.agent by.actor what.server what.request.value (ap (λ w. actor_at w by.agent) (sym (same_run so_far)) ∙ by.there) by.next)
+
+    -- nobody does once it has ended
+    pub asks_no_more : Over given events later agent t caller site ops actor goes so_far → ⊥
+    asks_no_more over =
+        let its = is_its in
+        let idle = over_idle so_far over its.by.actor (ap (actor_at (world_at so_far)) (sym its.who) ∙ its.by.there) its.last in
+        none-some (what.server, what.request.value) (sym (ap (next_in (fixed_of given)) idle) ∙ its.by.next)
+
+  -- who is told of a lock asked for it so
+  module _ (so_far : List Event) (event : Event) (server : ℕ) (told : Told (fixed_of given) (world_after given events agent caller site ops so_far) event t server) where
+    told_named : names t told.what.request.value ≡ true
+    told_named = ap (names t) told.told.poll ∙ eq-eqb t t refl
+
+    told_own : may_sweep told.what.request.value ≡ false
+    told_own = ap may_sweep told.told.poll
+
+    pub never_others : (event ≡ Step agent → ⊥) → ⊥
+    never_others apart =
+        let its = is_its so_far event told.what told.served told_named told_own in
+        apart (its.by.is ∙ ap Step its.who)
+
+    pub never_over : Over given events later agent t caller site ops actor goes so_far → ⊥
+    never_over over = asks_no_more so_far event told.what told.served told_named told_own over

@@ -1,0 +1,212 @@
+-- Transactions side by side: all along nobody meets any, each that is busy runs one, and each lock is of one that runs and asks for it.
+use Rattle.std.proofs.Common.{◌≡◌, ℕ, Bool, true, false, List, [], ◌∷◌, ◌++◌, append-nil, append_assoc, Option, Some, None, refl, sym, ap, subst, ◌∙◌}
+use Rattle.std.specs.Prelude.{◌%◌, ◌&&◌, ◌||◌, not, Contains}
+use Rattle.std.specs.List.{list_any}
+use Rattle.std.proofs.lemmas.Bool.{false≢true}
+use Rattle.std.proofs.lemmas.Option.{none-some, same_Some}
+use Rattle.suite_prefix.specs.SettingsRules.{Opening, IsAccepted}
+use Rattle.suite_prefix.specs.declared.lock_mode.LockMode.{LockMode}
+use Rattle.rep_core.specs.declared.request.Request.{Request}
+use Rattle.rep_core.specs.declared.request.Request.TheVariants as request
+use Rattle.rep_core.specs.State.{State}
+use Rattle.rep_core.proofs.Members.{has_from, has_any}
+use Rattle.txn_core.specs.declared.job.Job.TheVariants.{Transaction}
+use Rattle.txn_core.specs.Doing.{Task, Doing}
+use Rattle.txn_core.specs.Transactions.{request_in}
+use Rattle.txn_core.specs.Agents.{Agent, fixed_of, is_idle, next_in, next_of}
+use Rattle.run_core.specs.declared.event.Event.{Event}
+use Rattle.run_core.specs.declared.event.Event.TheVariants.{Begin}
+use Rattle.run_core.specs.Worlds.{Actor, World, actor_at, has_no_job, step}
+use Rattle.run_core.specs.Runs.{run}
+use Rattle.law_runs.specs.Naming.{names}
+use Rattle.law_headline.specs.Premises.{CanBe}
+use Rattle.law_run_alone.proofs.Clear.{clear_servers}
+use Rattle.law_run_alone.proofs.Owns.{names_mine}
+use Rattle.law_run_alone.proofs.Reached.{can_front, run_more}
+use Rattle.law_run_alone.proofs.Walks.{AllServers}
+use Rattle.law_run_recovers.specs.Beside.{clashes, clash, Begun, its_asks, GoSideBySide}
+use Rattle.law_run_recovers.specs.Unmet.{runs, running_in, is_running}
+use Rattle.law_run_recovers.proofs.AtWork.{mine_where}
+use Rattle.law_run_recovers.proofs.Keeps.{OfAsked}
+use Rattle.law_run_recovers.proofs.NearGround.{its}
+use Rattle.law_run_recovers.proofs.Owned.{AllOwned, MayLock}
+use Rattle.law_run_recovers.proofs.Sides.{its_agent, AllUp, up_next}
+use Rattle.law_run_recovers.proofs.AmongAsks.{of_its_asks}
+use Rattle.law_run_recovers.proofs.AmongCourse.{Course, runs_it}
+use Rattle.law_run_recovers.proofs.BesideUnmet.{IsUnmet, world_then, then_is, among_of, ran}
+
+-- ---- tests
+
+pub own_served : (a s n o : Bool) → a ≡ true → s ≡ true → ((a && not s) || (not a && n && o)) ≡ false
+own_served a s n o is served = of a s n o is served
+  where
+    of : (a s n o : Bool) → a ≡ true → s ≡ true → ((a && not s) || (not a && n && o)) ≡ false
+    of true true n o is served = refl
+    of true false n o is served = absurd (false≢true served)
+    of false s n o is served = absurd (false≢true is)
+
+pub others_none : (a s n o : Bool) → a ≡ false → o ≡ false → ((a && not s) || (not a && n && o)) ≡ false
+others_none true s n o is none = absurd (false≢true (sym is))
+others_none false s true o is none = none
+others_none false s false o is none = refl
+
+pub not_both : (a b : Bool) → (not a && not b) ≡ false → a ≡ false → b ≡ true
+not_both true b is none = absurd (false≢true (sym none))
+not_both false true is none = refl
+not_both false false is none = absurd (false≢true (sym is))
+
+pub no_job_of : (t : ℕ) (found : Option Actor) → running_in t found ≡ true → has_no_job found ≡ false
+no_job_of t None is = absurd (false≢true is)
+no_job_of t (Some actor) is = of actor.agent.doing is
+  where
+    of : (doing : Option Doing) → runs t doing ≡ true → is_idle doing ≡ false
+    of None is = absurd (false≢true is)
+    of (Some doing) is = refl
+
+pub asks_busy : (given : Opening) (agent : Agent) (asked : ℕ × Request) → next_of (fixed_of given) agent ≡ Some asked → is_idle agent.doing ≡ false
+asks_busy given agent asked = of agent.doing
+  where
+    of : (doing : Option Doing) → next_in (fixed_of given) doing ≡ Some asked → is_idle doing ≡ false
+    of None is = absurd (none-some asked is)
+    of (Some doing) is = refl
+
+-- two of which one has a suite that the other has, and one of both exclusive, clash
+pub clash_of : (asked others : List (ℕ × LockMode)) (one other : ℕ × LockMode) → Contains asked one → Contains others other → clashes one other ≡ true → clash asked others ≡ true
+clash_of asked others one other has there is =
+    has_any (λ one. list_any (clashes one) others) asked one (has_from asked one has) (has_any (clashes one) others other (has_from others other there) is)
+
+module _ (given : Opening) (events later : List Event) (go : GoSideBySide given events later) where
+  pub accepted : IsAccepted given
+  accepted = go.can.accepted
+
+  abbrev pub world_of : List Event → World
+  world_of so_far = run given (events ++ so_far)
+
+  pub can_at : (so_far rest : List Event) → later ≡ so_far ++ rest → CanBe given (events ++ so_far)
+  can_at so_far rest split = can_front given (events ++ so_far) rest (subst (CanBe given) (ap (λ later. events ++ later) split ∙ sym (append_assoc events so_far rest)) go.can)
+
+  pub run_next : (so_far : List Event) (event : Event) → run given (events ++ (so_far ++ event ∷ [])) ≡ (step (fixed_of given) (run given (events ++ so_far)) event).world
+  run_next so_far event = ap (run given) (sym (append_assoc events so_far (event ∷ []))) ∙ run_more given (events ++ so_far) event
+
+  -- ---- servers stay up
+
+  up_first : AllUp given accepted (run given (events ++ []))
+  up_first = subst (λ all. AllUp given accepted (run given all)) (sym (append-nil events)) (λ s st at. (clear_servers 0 (run given events) go.up go.free s st at).0)
+
+  up_along : (todo so_far rest : List Event) → later ≡ (so_far ++ todo) ++ rest → AllUp given accepted (run given (events ++ so_far)) → AllUp given accepted (run given (events ++ (so_far ++ todo)))
+  up_along [] so_far rest split up = subst (λ so_far. AllUp given accepted (run given (events ++ so_far))) (sym (append-nil so_far)) up
+  up_along (event ∷ todo) so_far rest split up =
+      let more : (so_far ++ event ∷ []) ++ todo ≡ so_far ++ event ∷ todo = append_assoc so_far (event ∷ []) todo in
+      let next = subst (AllUp given accepted) (sym (run_next so_far event)) (up_next given accepted (events ++ so_far) event (go.unspoiled so_far (todo ++ rest) event (split ∙ append_assoc so_far (event ∷ todo) rest)) up) in
+      subst (λ so_far. AllUp given accepted (run given (events ++ so_far))) more (up_along todo (so_far ++ event ∷ []) rest (split ∙ ap (λ so_far. so_far ++ rest) (sym more)) next)
+
+  pub up_at : (so_far rest : List Event) → later ≡ so_far ++ rest → AllUp given accepted (run given (events ++ so_far))
+  up_at so_far rest split = up_along so_far [] rest split up_first
+
+  -- ---- transactions of a part
+
+  abbrev pub Unmet : (so_far : List Event) → Begun given events so_far → List Event → Type 0
+  Unmet so_far one after = IsUnmet given events one.before one.agent one.t one.caller one.site one.ops after
+
+  abbrev pub onward : (so_far more : List Event) → Begun given events so_far → Begun given events (so_far ++ more)
+  onward so_far more one = record {
+    before = one.before;
+    after = one.after ++ more;
+    agent = one.agent;
+    t = one.t;
+    caller = one.caller;
+    site = one.site;
+    ops = one.ops;
+    parts = ap (λ xs. xs ++ more) one.parts ∙ append_assoc one.before (Begin one.agent (Transaction one.caller one.site one.ops) ∷ one.after) more;
+    begins = one.begins;
+  }
+
+  -- one that was begun before is run now, by an agent that has this to do
+  pub record Busy (so_far : List Event) (i : ℕ) (doing : Option Doing) : Type 0 where
+    pub one : Begun given events so_far
+    pub who : one.agent ≡ i
+    pub runs_it : runs one.t doing ≡ true
+
+  -- it is run, and asks for such a lock
+  pub record Owned (so_far : List Event) (t z : ℕ) (mode : LockMode) : Type 0 where
+    pub one : Begun given events so_far
+    pub number : one.t ≡ t
+    pub running : is_running (run given (events ++ so_far)) one.agent one.t ≡ true
+    pub asks : Contains (its_asks given events so_far one) (z, mode)
+
+  pub record Sides (so_far : List Event) : Type 0 where
+    pub unmet : (one : Begun given events so_far) → IsUnmet given events one.before one.agent one.t one.caller one.site one.ops one.after
+    pub busy : (i : ℕ) (here : Actor) → actor_at (run given (events ++ so_far)) i ≡ Some here → is_idle here.agent.doing ≡ false → Busy so_far i here.agent.doing
+    pub locks : AllServers (λ (st : State). AllOwned (Owned so_far) st.locks) (run given (events ++ so_far))
+
+  -- its world after all of these events is theirs
+  pub last_is : (so_far : List Event) (one : Begun given events so_far) → world_then given events one.before one.agent one.t one.caller one.site one.ops one.after ≡ run given (events ++ so_far)
+  last_is so_far one = then_is given events one.before one.agent one.t one.caller one.site one.ops one.after ∙ ap (λ all. run given (events ++ all)) (sym one.parts)
+
+  pub can_of : (so_far rest : List Event) → later ≡ so_far ++ rest → (one : Begun given events so_far) → CanBe given (events ++ (one.before ++ Begin one.agent (Transaction one.caller one.site one.ops) ∷ one.after))
+  can_of so_far rest split one = subst (λ all. CanBe given (events ++ all)) one.parts (can_at so_far rest split)
+
+  -- one number is one agent's
+  pub same_agent : (so_far : List Event) (one other : Begun given events so_far) → one.t ≡ other.t → one.agent ≡ other.agent
+  same_agent so_far one other same =
+      sym (its_agent given accepted (events ++ one.before) one.agent one.t (Transaction one.caller one.site one.ops) one.begins) ∙ ap (λ t. t % 64) same
+      ∙ its_agent given accepted (events ++ other.before) other.agent other.t (Transaction other.caller other.site other.ops) other.begins
+
+  -- ---- at a moment
+
+  module _ (so_far rest : List Event) (split : later ≡ so_far ++ rest) (sides : Sides so_far) where
+    -- one that runs stands well
+    module _ (one : Begun given events so_far) (running : is_running (run given (events ++ so_far)) one.agent one.t ≡ true) where
+      abbrev its_unmet : IsUnmet given events one.before one.agent one.t one.caller one.site one.ops one.after
+      its_unmet = sides.unmet one
+
+      pub course_of : Course given (events ++ one.before) one.after one.agent one.t one.caller one.site one.ops its_unmet.actor
+          (among_of given events one.before one.agent one.t one.caller one.site one.ops one.after its_unmet (can_of so_far rest split one)) one.after
+      course_of =
+          ran given events one.before one.agent one.t one.caller one.site one.ops one.after its_unmet (can_of so_far rest split one) one.after [] (sym (append-nil one.after)) []
+          (ap (λ all. is_running (run given all) one.agent one.t) (append-nil (events ++ (one.before ++ Begin one.agent (Transaction one.caller one.site one.ops) ∷ one.after)) ∙ ap (λ all. events ++ all) (sym one.parts)) ∙ running)
+
+      -- what it asks for next it asks for in its name, as on the table of its begin
+      pub asks_so : (here : Actor) → actor_at (run given (events ++ so_far)) one.agent ≡ Some here → (asked : ℕ × Request) → next_of (fixed_of given) here.agent ≡ Some asked
+          → OfAsked given (events ++ one.before) one.after one.agent one.t one.caller one.site one.ops its_unmet.actor
+          (among_of given events one.before one.agent one.t one.caller one.site one.ops one.after its_unmet (can_of so_far rest split one)) asked.1
+      asks_so here there asked next =
+          let goes = among_of given events one.before one.agent one.t one.caller one.site one.ops one.after its_unmet (can_of so_far rest split one) in
+          let c = course_of in
+          let r = runs_it given (events ++ one.before) one.after one.agent one.t one.caller one.site one.ops its_unmet.actor goes one.after c in
+          let same : c.here ≡ here = same_Some c.here here (sym c.there ∙ ap (λ w. actor_at w one.agent) (last_is so_far one) ∙ there) in
+          let task : Task = its given (events ++ one.before) one.after one.agent one.t one.caller one.site one.ops its_unmet.actor goes in
+          of_its_asks given (events ++ one.before) one.after one.agent one.t one.caller one.site one.ops its_unmet.actor goes asked.0 asked.1 c.here.agent.cache r.txn_run.suites r.txn_run.phase r.at.1
+          (subst (λ task. request_in (fixed_of given) task r.txn_run.suites r.txn_run.phase ≡ Some (asked.0, asked.1)) r.at.0
+          (sym (ap (next_in (fixed_of given)) r.running) ∙ ap (λ (a : Actor). next_of (fixed_of given) a.agent) same ∙ next))
+
+    -- ---- who asks
+
+    module _ (i : ℕ) (here : Actor) (there : actor_at (run given (events ++ so_far)) i ≡ Some here) (asked : ℕ × Request) (next : next_of (fixed_of given) here.agent ≡ Some asked) where
+      pub busy_one : Busy so_far i here.agent.doing
+      busy_one = sides.busy i here there (asks_busy given here.agent asked next)
+
+      pub one_runs : is_running (run given (events ++ so_far)) busy_one.one.agent busy_one.one.t ≡ true
+      one_runs = ap (running_in busy_one.one.t) (ap (actor_at (run given (events ++ so_far))) busy_one.who ∙ there) ∙ busy_one.runs_it
+
+      pub one_named : names busy_one.one.t asked.1 ≡ true
+      one_named = names_mine (fixed_of given) busy_one.one.t here.agent.doing asked (mine_where busy_one.one.t here.agent.doing busy_one.runs_it) next
+
+      -- a lock that it asks for is of its transaction
+      pub may_lock : MayLock (Owned so_far) asked.1
+      may_lock = of asked.1 (asks_so busy_one.one one_runs here (ap (actor_at (run given (events ++ so_far))) busy_one.who ∙ there) asked next)
+        where
+          of : (question : Request) → OfAsked given (events ++ busy_one.one.before) busy_one.one.after busy_one.one.agent busy_one.one.t busy_one.one.caller busy_one.one.site busy_one.one.ops (its_unmet busy_one.one one_runs).actor
+              (among_of given events busy_one.one.before busy_one.one.agent busy_one.one.t busy_one.one.caller busy_one.one.site busy_one.one.ops busy_one.one.after (its_unmet busy_one.one one_runs) (can_of so_far rest split busy_one.one)) question
+              → MayLock (Owned so_far) question
+          of (request.Poll named suite mode) is = record { one = busy_one.one; number = sym is.0; running = one_runs; asks = is.1 }
+          of (request.Upgrade named suite) is = record { one = busy_one.one; number = sym is.0; running = one_runs; asks = is.1 }
+          of (request.Fetch named suite) is = tt
+          of (request.Prepare named parts) is = tt
+          of (request.Decide named decision) is = tt
+          of (request.Resolve named) is = tt
+          of (request.Finish named v) is = tt
+          of (request.Break named suite) is = tt
+          of request.Locks is = tt
+          of request.Crash is = tt
+          of request.Return is = tt

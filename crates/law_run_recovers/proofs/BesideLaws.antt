@@ -1,0 +1,102 @@
+-- The laws of transactions side by side.
+use Rattle.std.proofs.Common.{◌≡◌, ℕ, Bool, true, false, List, [], ◌∷◌, ◌++◌, append-nil, append_assoc, Option, Some, None, is_some, Result, refl, sym, ap, subst, ◌∙◌}
+use Rattle.std.proofs.lemmas.Option.{same_Some}
+use Rattle.suite_prefix.specs.SettingsRules.{Opening}
+use Rattle.file_ops.specs.declared.answer.Answer.{Answer}
+use Rattle.file_ops.specs.declared.refusal.Refusal.{Refusal}
+use Rattle.rep_core.specs.State.{State}
+use Rattle.txn_core.specs.declared.ending.Cause.{Cause}
+use Rattle.txn_core.specs.declared.ending.Cause.TheVariants.{Unavailable, HomeDown}
+use Rattle.txn_core.specs.declared.ending.Ending.{Ending}
+use Rattle.txn_core.specs.declared.ending.Ending.TheVariants.{Undecided}
+use Rattle.txn_core.specs.declared.job.Job.TheVariants.{Transaction}
+use Rattle.txn_core.specs.Doing.{home_of}
+use Rattle.txn_core.specs.Agents.{fixed_of}
+use Rattle.run_core.specs.declared.done.EndedJob.{EndedJob}
+use Rattle.run_core.specs.declared.done.Served.{Served}
+use Rattle.run_core.specs.declared.event.Event.{Event}
+use Rattle.run_core.specs.declared.event.Event.TheVariants.{Begin, Step}
+use Rattle.run_core.specs.Worlds.{server_at, actor_at, step}
+use Rattle.run_core.specs.Runs.{run}
+use Rattle.run_core.specs.TableOfRun.{table_of}
+use Rattle.law_headline.specs.Premises.{CanBe}
+use Rattle.law_run_recovers.specs.Beside.{Begun, GoSideBySide, SideBySideAreDecided, SideBySideEndInTime, SideBySideAreToldFreely}
+use Rattle.law_run_recovers.specs.Demands.{Demand, demands, first_short}
+use Rattle.law_run_recovers.specs.Laws.{ending_by, ending_of, answer_on}
+use Rattle.law_run_recovers.specs.Local.{EndsThen}
+use Rattle.law_run_recovers.specs.Standing.{is_up}
+use Rattle.law_run_recovers.specs.Unmet.{is_running, world_after, GoesUnmet}
+use Rattle.law_run_recovers.proofs.Keeps.{step_asks}
+use Rattle.law_run_recovers.proofs.Took.{own_took}
+use Rattle.law_run_recovers.proofs.UnmetLaws.{unmet_by_votes}
+use Rattle.law_run_recovers.proofs.AmongTime.{unmet_end_in_time}
+use Rattle.law_run_recovers.proofs.BesideUnmet.{IsUnmet, then_is, goes_of, ran}
+use Rattle.law_run_recovers.proofs.BesideAll.{up_at, can_of, busy_one, one_runs}
+use Rattle.law_run_recovers.proofs.BesideFree.{IsKind, its_kind, not_undecided}
+use Rattle.law_run_recovers.proofs.BesideSides.{sides_at}
+
+-- what does not end undecided is answered
+answered_as : (ended : Ending) (found : Option Demand) (up : Bool) (answer : Result (List Answer) Refusal) → ((cause : Cause) → ended ≡ Undecided cause → ⊥) → ended ≡ ending_by found up answer → ended ≡ ending_of answer
+answered_as ended (Some short) up answer not is = absurd (not (Unavailable short.suite short.got short.needed) is)
+answered_as ended None true answer not is = is
+answered_as ended None false answer not is = absurd (not HomeDown is)
+
+module _ (given : Opening) (events later : List Event) (go : GoSideBySide given events later) (one : Begun given events later) where
+  its_unmet : IsUnmet given events one.before one.agent one.t one.caller one.site one.ops one.after
+  its_unmet = (sides_at given events later go later [] (sym (append-nil later))).unmet one
+
+  its_can : CanBe given (events ++ (one.before ++ Begin one.agent (Transaction one.caller one.site one.ops) ∷ one.after))
+  its_can = can_of given events later go later [] (sym (append-nil later)) one
+
+  abbrev goes : GoesUnmet given (events ++ one.before) one.after one.agent one.t one.caller one.site one.ops its_unmet.actor
+  goes = goes_of given events one.before one.agent one.t one.caller one.site one.ops one.after its_unmet its_can
+
+  all_up : (so_far rest : List Event) → one.after ≡ so_far ++ rest → (server : ℕ) (st : State) → server_at (world_after given (events ++ one.before) one.agent one.caller one.site one.ops so_far) server ≡ Some st → st.up ≡ true
+  all_up so_far rest split server st at =
+      let begins = Begin one.agent (Transaction one.caller one.site one.ops) in
+      up_at given events later go (one.before ++ begins ∷ so_far) rest
+      (one.parts ∙ ap (λ after. one.before ++ begins ∷ after) split ∙ sym (append_assoc one.before (begins ∷ so_far) rest)) server st
+      (ap (λ w. server_at w server) (sym (then_is given events one.before one.agent one.t one.caller one.site one.ops so_far)) ∙ at)
+
+  is_decided : (job : EndedJob) → EndsThen given (events ++ one.before) one.after one.agent one.t one.caller one.site one.ops job → job.ending ≡ ending_of (answer_on (table_of given (events ++ one.before)) one.t one.caller one.ops)
+  is_decided job ends =
+      let by = unmet_by_votes given (events ++ one.before) one.after one.agent one.t one.caller one.site one.ops its_unmet.actor goes job ends in
+      answered_as job.ending (first_short (demands (fixed_of given) (run given (events ++ one.before)) (table_of given (events ++ one.before)) one.t one.caller one.ops by.start))
+      (is_up (run given (events ++ one.before)) (home_of (fixed_of given).service one.t)) (answer_on (table_of given (events ++ one.before)) one.t one.caller one.ops)
+      (not_undecided given (events ++ one.before) one.after one.agent one.t one.caller one.site one.ops its_unmet.actor goes (λ server. refl) all_up job ends) by.ends
+
+  -- at a step of it
+  kind_at : (so_far rest : List Event) → one.after ≡ so_far ++ Step one.agent ∷ rest → is_running (run given (events ++ (one.before ++ Begin one.agent (Transaction one.caller one.site one.ops) ∷ so_far))) one.agent one.t ≡ true
+      → (what : Served) → (step (fixed_of given) (run given (events ++ (one.before ++ Begin one.agent (Transaction one.caller one.site one.ops) ∷ so_far))) (Step one.agent)).done.served ≡ Some what → IsKind what.request.value what.reply.value
+  kind_at so_far rest split running what is =
+      let w = then_is given events one.before one.agent one.t one.caller one.site one.ops so_far in
+      let c = ran given events one.before one.agent one.t one.caller one.site one.ops one.after its_unmet its_can so_far (Step one.agent ∷ rest) split []
+      (ap (λ all. is_running (run given all) one.agent one.t) (append-nil (events ++ (one.before ++ Begin one.agent (Transaction one.caller one.site one.ops) ∷ so_far))) ∙ running) in
+      let served = ap (λ w. (step (fixed_of given) w (Step one.agent)).done.served) w ∙ is in
+      let took = own_took (fixed_of given) (world_after given (events ++ one.before) one.agent one.caller one.site one.ops so_far) one.agent c.here c.there (ap is_some served) in
+      subst (λ (what : Served). IsKind what.request.value what.reply.value) (same_Some _ what (sym took.done ∙ served))
+      (its_kind given (events ++ one.before) one.after one.agent one.t one.caller one.site one.ops its_unmet.actor goes (λ server. refl) all_up so_far rest split c took)
+
+pub side_by_side_are_decided : SideBySideAreDecided
+side_by_side_are_decided given events later go one job ends = is_decided given events later go one job ends
+
+pub side_by_side_end_in_time : SideBySideEndInTime
+side_by_side_end_in_time given events later go one few =
+    unmet_end_in_time given (events ++ one.before) one.after one.agent one.t one.caller one.site one.ops (its_unmet given events later go one).actor
+    (goes_of given events one.before one.agent one.t one.caller one.site one.ops one.after (its_unmet given events later go one) (its_can given events later go one)) few
+
+pub side_by_side_are_told_freely : SideBySideAreToldFreely
+side_by_side_are_told_freely given events later go before after agent what split is =
+    let w = run given (events ++ before) in
+    let asks = step_asks (fixed_of given) w agent (actor_at w agent) what is in
+    let sides = sides_at given events later go before (Step agent ∷ after) split in
+    let busy = busy_one given events later go before (Step agent ∷ after) split sides agent asks.0 asks.1 (what.server, what.request.value) asks.2 in
+    let running = one_runs given events later go before (Step agent ∷ after) split sides agent asks.0 asks.1 (what.server, what.request.value) asks.2 in
+    let was = busy.one in
+    let begins = Begin was.agent (Transaction was.caller was.site was.ops) in
+    let parts : later ≡ was.before ++ begins ∷ (was.after ++ Step was.agent ∷ after) =
+    split ∙ ap (λ i. before ++ Step i ∷ after) (sym busy.who) ∙ ap (λ xs. xs ++ Step was.agent ∷ after) was.parts ∙ append_assoc was.before (begins ∷ was.after) (Step was.agent ∷ after) in
+    let one : Begun given events later = record { before = was.before; after = was.after ++ Step was.agent ∷ after; agent = was.agent; t = was.t; caller = was.caller; site = was.site; ops = was.ops; parts = parts; begins = was.begins } in
+    let kind = kind_at given events later go one was.after after refl (ap (λ all. is_running (run given (events ++ all)) was.agent was.t) (sym was.parts) ∙ running) what
+    (ap (λ all. (step (fixed_of given) (run given (events ++ all)) (Step was.agent)).done.served) (sym was.parts) ∙ ap (λ i. (step (fixed_of given) (run given (events ++ before)) (Step i)).done.served) busy.who ∙ is) in
+    record { busy = kind.busy; down = kind.down; lost = kind.kept }

@@ -1,0 +1,303 @@
+-- Transactions side by side: one event more.
+use Rattle.std.proofs.Common.{◌≡◌, ◌≢◌, ⊎_elim, ℕ, Bool, true, false, cond, List, [], ◌∷◌, ◌++◌, append-nil, append_assoc, Option, Some, None, is_some, refl, sym, ap, subst, ◌∙◌}
+use Rattle.std.specs.Prelude.{◌==◌, ◌&&◌, ◌||◌, not, option_map, Contains}
+use Rattle.std.proofs.lemmas.Bool.{false≢true, and_parts, and_from, eqb-true, eq-eqb}
+use Rattle.std.proofs.lemmas.Option.{same_Some}
+use Rattle.suite_prefix.specs.SettingsRules.{Opening}
+use Rattle.suite_prefix.specs.declared.lock_mode.LockMode.{LockMode}
+use Rattle.suite_prefix.specs.LockModes.{is_exclusive}
+use Rattle.rep_core.specs.declared.lock.Lock.{Lock}
+use Rattle.rep_core.specs.declared.request.Request.{Request}
+use Rattle.rep_core.specs.Locks.{in_the_way, conflicts}
+use Rattle.rep_core.specs.State.{State}
+use Rattle.rep_core.proofs.Members.{Has}
+use Rattle.rep_core.proofs.Finding.{find_some}
+use Rattle.txn_core.specs.declared.job.Job.{Job}
+use Rattle.txn_core.specs.declared.job.Job.TheVariants.{Transaction}
+use Rattle.txn_core.specs.declared.response.Response.{Response}
+use Rattle.txn_core.specs.Doing.{Task, TransactionRun, Doing, Running, RunningSweep, After, GoesOn, Ends}
+use Rattle.txn_core.specs.Laws.{is_decide, said_by}
+use Rattle.txn_core.specs.Transactions.{after_response}
+use Rattle.txn_core.specs.Agents.{Agent, fixed_of, is_idle, left, next_in, take_in}
+use Rattle.run_core.specs.declared.done.Served.{Served}
+use Rattle.run_core.specs.declared.event.Event.{Event}
+use Rattle.run_core.specs.declared.event.Event.TheVariants.{Begin, Step, Crash, Return, Forget, Lack}
+use Rattle.run_core.specs.Worlds.{World, server_at, actor_at, has_no_job, step}
+use Rattle.run_core.specs.Runs.{run}
+use Rattle.run_core.specs.Decisions.{Decided}
+use Rattle.law_runs.specs.Naming.{names}
+use Rattle.law_runs.proofs.Agents.{IsAt}
+use Rattle.law_runs.proofs.Words.{Leaves, leaves_response}
+use Rattle.law_run_alone.specs.Alone.{begins_job}
+use Rattle.law_run_alone.proofs.Owns.{IsMine}
+use Rattle.law_run_alone.proofs.Walks.{MayAsk, asks_servers}
+use Rattle.law_run_recovers.specs.Beside.{clashes, clash, Begun, its_asks, spoils, GoSideBySide}
+use Rattle.law_run_recovers.specs.Near.{asks_for, is_way_met, way_in, in_its_way}
+use Rattle.law_run_recovers.specs.Among.{GoesAmongLocks}
+use Rattle.law_run_recovers.specs.Standing.{locks_in, locks_at}
+use Rattle.law_run_recovers.specs.Unmet.{runs, is_running, is_telling, takes, up_and, of_up, robs, hinders_itself, StandsOpen}
+use Rattle.law_run_recovers.proofs.Keeps.{step_asks}
+use Rattle.law_run_recovers.proofs.Owned.{AllOwned, MayLock, owned_stays}
+use Rattle.law_run_recovers.proofs.Sides.{compared, names_one, takes_named, up_same}
+use Rattle.law_run_recovers.proofs.AmongCourse.{parted, course_runs}
+use Rattle.law_run_recovers.proofs.AmongLeft.{left_at}
+use Rattle.law_run_recovers.proofs.BesideUnmet.{IsUnmet, world_then, unmet_more, among_of, ran_then, everywhere}
+use Rattle.law_run_recovers.proofs.BesideAll.{own_served, others_none, not_both, no_job_of, clash_of, accepted, run_next, up_at, onward, Owned, Sides, last_is, can_of, same_agent, busy_one, one_named, may_lock}
+
+-- ---- who runs a transaction and takes a response runs it still, or nothing
+
+mine_left : (t : ℕ) (task : Task) (after : After TransactionRun) → ((more : TransactionRun) → after ≡ GoesOn more → more.task ≡ task) → task.t ≡ t → IsMine t (left Running after)
+mine_left t task (GoesOn more) same number = ap (λ (task : Task). task.t) (same more refl) ∙ number
+mine_left t task (Ends ended) same number = tt
+
+pub mine_taken : (given : Opening) (ds : List Decided) (i t : ℕ) (agent : Agent) (response : Response) (asked : ℕ × Request) (doing : Option Doing) → next_in (fixed_of given) doing ≡ Some asked → IsAt ds i agent.count doing → runs t doing ≡ true
+    → IsMine t (take_in (fixed_of given) agent response doing (Some asked)).agent.doing
+mine_taken given ds i t agent response asked None next at is = absurd (false≢true is)
+mine_taken given ds i t agent response asked (Some (RunningSweep sweep_run)) next at is = absurd (false≢true is)
+mine_taken given ds i t agent response asked (Some (Running txn_run)) next at is =
+    mine_left t txn_run.task (after_response (fixed_of given) txn_run agent.cache asked.0 asked.1 response).after
+    (λ more goes. (subst (Leaves txn_run.task (cond (is_decide asked.1) (said_by response at.said) at.said)) goes
+    (leaves_response (fixed_of given) txn_run.task agent.cache txn_run.suites txn_run.phase asked.0 asked.1 response at.said next at.tells)).0)
+    (eqb-true txn_run.task.t t is)
+
+pub mine_runs : (t : ℕ) (doing : Option Doing) → IsMine t doing → is_idle doing ≡ false → runs t doing ≡ true
+mine_runs t None mine busy = absurd (false≢true (sym busy))
+mine_runs t (Some (RunningSweep sweep_run)) mine busy = absurd mine
+mine_runs t (Some (Running txn_run)) mine busy = eq-eqb txn_run.task.t t mine
+
+-- where a lock conflicts two clash
+conflict_parts : (t z : ℕ) (mode : LockMode) (lock : Lock) → conflicts t z mode lock ≡ true → (lock.suite ≡ z) × ((lock.t == t) ≡ false) × ((is_exclusive mode || is_exclusive lock.mode) ≡ true)
+conflict_parts t z mode lock is =
+    let parts = and_parts ((lock.suite == z) && not (lock.t == t)) (is_exclusive mode || is_exclusive lock.mode) is in
+    let more = and_parts (lock.suite == z) (not (lock.t == t)) parts.0 in
+    (eqb-true lock.suite z more.0, of (lock.t == t) more.1, parts.1)
+  where
+    of : (b : Bool) → not b ≡ true → b ≡ false
+    of true is = sym is
+    of false is = refl
+
+or_same : (a b : Bool) → (a || b) ≡ true → (b || a) ≡ true
+or_same true true is = refl
+or_same true false is = refl
+or_same false true is = refl
+or_same false false is = is
+
+module _ (given : Opening) (events later : List Event) (go : GoSideBySide given events later) (so_far rest : List Event) (event : Event) (split : later ≡ so_far ++ event ∷ rest) (sides : Sides given events later go so_far) where
+  abbrev w : World
+  w = run given (events ++ so_far)
+
+  abbrev BegunNow : Type 0
+  BegunNow = Begun given events (so_far ++ event ∷ [])
+
+  calm : spoils given (run given (events ++ so_far)) event ≡ false
+  calm = go.unspoiled so_far rest event split
+
+  split_on : later ≡ (so_far ++ event ∷ []) ++ rest
+  split_on = split ∙ sym (append_assoc so_far (event ∷ []) rest)
+
+  -- ---- nobody hinders or robs one that runs
+
+  module _ (one : Begun given events so_far) (running : is_running (run given (events ++ so_far)) one.agent one.t ≡ true) where
+    has_job : has_no_job (actor_at (run given (events ++ so_far)) one.agent) ≡ false
+    has_job = no_job_of one.t (actor_at w one.agent) running
+
+    not_robbed : (i : ℕ) → (i == one.agent) ≡ false → of_up (takes one.t) (run given (events ++ so_far)) (step (fixed_of given) (run given (events ++ so_far)) (Step i)).done.served ≡ false
+    not_robbed i apart = of (step (fixed_of given) w (Step i)).done.served refl
+      where
+        named_not : (what : Served) → (step (fixed_of given) (run given (events ++ so_far)) (Step i)).done.served ≡ Some what → names one.t what.request.value ≡ true → ⊥
+        named_not what served named =
+            let asks = step_asks (fixed_of given) w i (actor_at w i) what served in
+            let busy = busy_one given events later go so_far (event ∷ rest) split sides i asks.0 asks.1 (what.server, what.request.value) asks.2 in
+            let same = names_one one.t busy.one.t what.request.value named (one_named given events later go so_far (event ∷ rest) split sides i asks.0 asks.1 (what.server, what.request.value) asks.2) in
+            false≢true (sym apart ∙ eq-eqb i one.agent (sym busy.who ∙ sym (same_agent given events later go so_far one busy.one same)))
+
+        at_server : (what : Served) → (step (fixed_of given) (run given (events ++ so_far)) (Step i)).done.served ≡ Some what → (found : Option State) → up_and (takes one.t) what.request.value found ≡ false
+        at_server what served None = refl
+        at_server what served (Some st) = by (takes one.t st what.request.value) refl
+          where
+            by : (b : Bool) → takes one.t st what.request.value ≡ b → (st.up && b) ≡ false
+            by true is = absurd (named_not what served (takes_named one.t st what.request.value is))
+            by false is = none st.up
+              where
+                none : (a : Bool) → (a && false) ≡ false
+                none true = refl
+                none false = refl
+
+        of : (found : Option Served) → (step (fixed_of given) (run given (events ++ so_far)) (Step i)).done.served ≡ found → of_up (takes one.t) (run given (events ++ so_far)) found ≡ false
+        of None served = refl
+        of (Some what) served = at_server what served (server_at w what.server)
+
+    free_hand : (hinders_itself given one.agent (run given (events ++ so_far)) event || robs given one.agent one.t (run given (events ++ so_far)) event) ≡ false
+    free_hand = of event calm
+      where
+        of : (event : Event) → spoils given (run given (events ++ so_far)) event ≡ false → (hinders_itself given one.agent (run given (events ++ so_far)) event || robs given one.agent one.t (run given (events ++ so_far)) event) ≡ false
+        of (Begin i job) quiet = refl
+        of (Crash server) quiet = refl
+        of (Return server) quiet = refl
+        of (Forget i site) quiet = refl
+        of (Lack i why) quiet = by (i == one.agent) refl
+          where
+            by : (b : Bool) → (i == one.agent) ≡ b → (b || false) ≡ false
+            by true same = absurd (false≢true (sym quiet ∙ ap not (ap (λ i. has_no_job (actor_at w i)) (eqb-true i one.agent same) ∙ has_job)))
+            by false apart = refl
+        of (Step i) quiet = by (i == one.agent) refl
+          where
+            served : Bool
+            served = is_some (step (fixed_of given) w (Step i)).done.served
+
+            by : (b : Bool) → (i == one.agent) ≡ b
+                → (((i == one.agent) && not (is_some (step (fixed_of given) (run given (events ++ so_far)) (Step i)).done.served))
+                || (not (i == one.agent) && not (is_telling (run given (events ++ so_far)) one.agent) && of_up (takes one.t) (run given (events ++ so_far)) (step (fixed_of given) (run given (events ++ so_far)) (Step i)).done.served)) ≡ false
+            by true same =
+                own_served (i == one.agent) (is_some (step (fixed_of given) w (Step i)).done.served) (not (is_telling w one.agent)) (of_up (takes one.t) w (step (fixed_of given) w (Step i)).done.served) same
+                (not_both (has_no_job (actor_at w i)) (is_some (step (fixed_of given) w (Step i)).done.served) quiet (ap (λ i. has_no_job (actor_at w i)) (eqb-true i one.agent same) ∙ has_job))
+            by false apart =
+                others_none (i == one.agent) (is_some (step (fixed_of given) w (Step i)).done.served) (not (is_telling w one.agent)) (of_up (takes one.t) w (step (fixed_of given) w (Step i)).done.served) apart (not_robbed i apart)
+
+  -- in the words of its own world
+  pub its_hand : (one : Begun given events so_far) → is_running (world_then given events one.before one.agent one.t one.caller one.site one.ops one.after) one.agent one.t ≡ true
+      → (hinders_itself given one.agent (world_then given events one.before one.agent one.t one.caller one.site one.ops one.after) event || robs given one.agent one.t (world_then given events one.before one.agent one.t one.caller one.site one.ops one.after) event) ≡ false
+  its_hand one =
+      subst (λ w. is_running w one.agent one.t ≡ true → (hinders_itself given one.agent w event || robs given one.agent one.t w event) ≡ false) (sym (last_is given events later go so_far one)) (free_hand one)
+
+  -- ---- each lock is of one that runs still
+
+  may_ask : (event : Event) → MayAsk (fixed_of given) (λ s asked. MayLock (Owned given events later go so_far) asked) (run given (events ++ so_far)) event
+  may_ask (Step i) = λ actor asked is next. may_lock given events later go so_far (event ∷ rest) split sides i actor is asked next
+  may_ask (Crash server) = tt
+  may_ask (Return server) = tt
+  may_ask (Begin i job) = tt
+  may_ask (Forget i site) = tt
+  may_ask (Lack i why) = tt
+
+  locks_were : (server : ℕ) (st : State) → server_at (step (fixed_of given) (run given (events ++ so_far)) event).world server ≡ Some st → AllOwned (Owned given events later go so_far) st.locks
+  locks_were = asks_servers (fixed_of given) (λ s st. AllOwned (Owned given events later go so_far) st.locks) (λ s asked. MayLock (Owned given events later go so_far) asked) (λ s st asked may all. owned_stays (Owned given events later go so_far) st asked may all) w sides.locks event (may_ask event)
+
+  -- one that runs no more has left none
+  module _ (one : Begun given events so_far) (runs_not : is_running (run given (events ++ (so_far ++ event ∷ []))) one.agent one.t ≡ false) where
+    last : world_then given events one.before one.agent one.t one.caller one.site one.ops (one.after ++ event ∷ []) ≡ run given (events ++ (so_far ++ event ∷ []))
+    last = last_is given events later go (so_far ++ event ∷ []) (onward given events later go so_far (event ∷ []) one)
+
+    unmet_on : IsUnmet given events one.before one.agent one.t one.caller one.site one.ops (one.after ++ event ∷ [])
+    unmet_on =
+        unmet_more given events one.before one.agent one.t one.caller one.site one.ops one.after event (sides.unmet one) (its_hand one)
+        (λ running. absurd (false≢true (sym runs_not ∙ ap (λ w. is_running w one.agent one.t) (sym last) ∙ running)))
+
+    abbrev goes : GoesAmongLocks given (events ++ one.before) (one.after ++ event ∷ []) one.agent one.t one.caller one.site one.ops unmet_on.actor
+    goes =
+        among_of given events one.before one.agent one.t one.caller one.site one.ops (one.after ++ event ∷ []) unmet_on
+        (can_of given events later go (so_far ++ event ∷ []) rest split_on (onward given events later go so_far (event ∷ []) one))
+
+    left_none : (server : ℕ) (st : State) → server_at (run given (events ++ (so_far ++ event ∷ []))) server ≡ Some st → (lock : Lock) → Has st.locks lock → lock.t ≡ one.t → ⊥
+    left_none server st at lock has of_it =
+        ⊎_elim
+        (λ on. false≢true (sym runs_not ∙ ap (λ w. is_running w one.agent one.t) (sym last)
+        ∙ course_runs given (events ++ one.before) (one.after ++ event ∷ []) one.agent one.t one.caller one.site one.ops unmet_on.actor goes (one.after ++ event ∷ []) on.0))
+        (λ over. over.1 server lock.suite (record { lock = lock; has = subst (λ locks. Has locks lock) (sym (ap (λ w. locks_at w server) last ∙ ap locks_in at)) has; of_it = of_it; on_it = refl }))
+        (left_at given (events ++ one.before) (one.after ++ event ∷ []) one.agent one.t one.caller one.site one.ops unmet_on.actor goes (one.after ++ event ∷ []) [] (sym (append-nil (one.after ++ event ∷ []))))
+
+  pub locks_now : (server : ℕ) (st : State) → server_at (run given (events ++ (so_far ++ event ∷ []))) server ≡ Some st → AllOwned (Owned given events later go (so_far ++ event ∷ [])) st.locks
+  locks_now server st at lock has =
+      let was = locks_were server st (ap (λ w. server_at w server) (sym (run_next given events later go so_far event)) ∙ at) lock has in
+      of was (is_running (run given (events ++ (so_far ++ event ∷ []))) was.one.agent was.one.t) refl
+    where
+      of : (was : Owned given events later go so_far lock.t lock.suite lock.mode) (b : Bool) → is_running (run given (events ++ (so_far ++ event ∷ []))) was.one.agent was.one.t ≡ b → Owned given events later go (so_far ++ event ∷ []) lock.t lock.suite lock.mode
+      of was true running = record { one = onward given events later go so_far (event ∷ []) was.one; number = was.number; running = running; asks = was.asks }
+      of was false runs_not = absurd (left_none was.one runs_not server st at lock has (sym was.number))
+
+  -- ---- two that run do not clash
+
+  abbrev to_last : Begun given events (so_far ++ event ∷ []) → Begun given events later
+  to_last one = record {
+    before = one.before;
+    after = one.after ++ rest;
+    agent = one.agent;
+    t = one.t;
+    caller = one.caller;
+    site = one.site;
+    ops = one.ops;
+    parts = split_on ∙ ap (λ xs. xs ++ rest) one.parts ∙ append_assoc one.before (Begin one.agent (Transaction one.caller one.site one.ops) ∷ one.after) rest;
+    begins = one.begins;
+  }
+
+  -- what came before the second is of those so far
+  front_so : (other : BegunNow) → (more : List Event) × (so_far ≡ other.before ++ more)
+  front_so other =
+      ⊎_elim
+      (λ here. ([], sym here.0 ∙ sym (append-nil other.before)))
+      (λ old. (Begin other.agent (Transaction other.caller other.site other.ops) ∷ old.0, old.1))
+      (parted so_far event other.before (Begin other.agent (Transaction other.caller other.site other.ops)) other.after other.parts)
+
+  first_apart : (one other : BegunNow) (between : List Event) → other.before ≡ one.before ++ Begin one.agent (Transaction one.caller one.site one.ops) ∷ between
+      → is_running (run given (events ++ (so_far ++ event ∷ []))) one.agent one.t ≡ true → clash (its_asks given events (so_far ++ event ∷ []) one) (its_asks given events (so_far ++ event ∷ []) other) ≡ false
+  first_apart one other between is running =
+      let begin_one = Begin one.agent (Transaction one.caller one.site one.ops) in
+      let front = front_so other in
+      let parts : so_far ≡ one.before ++ begin_one ∷ (between ++ front.0) = front.1 ∙ ap (λ xs. xs ++ front.0) is ∙ append_assoc one.before (begin_one ∷ between) front.0 in
+      let was : Begun given events so_far = record { before = one.before; after = between ++ front.0; agent = one.agent; t = one.t; caller = one.caller; site = one.site; ops = one.ops; parts = parts; begins = one.begins } in
+      let all : (events ++ (one.before ++ begin_one ∷ between)) ++ (front.0 ++ event ∷ []) ≡ events ++ (so_far ++ event ∷ []) =
+      append_assoc events (one.before ++ begin_one ∷ between) (front.0 ++ event ∷ [])
+      ∙ ap (λ xs. events ++ xs) (sym (append_assoc (one.before ++ begin_one ∷ between) front.0 (event ∷ [])) ∙ ap (λ xs. xs ++ event ∷ []) (ap (λ xs. xs ++ front.0) (sym is) ∙ sym front.1)) in
+      let then' = ran_then given events one.before one.agent one.t one.caller one.site one.ops (between ++ front.0) (sides.unmet was) (can_of given events later go so_far (event ∷ rest) split was) between front.0 refl
+      (front.0 ++ event ∷ []) (ap (λ all. is_running (run given all) one.agent one.t) all ∙ running) in
+      go.apart (to_last one) (to_last other) (ap (λ xs. is_running (run given (events ++ xs)) one.agent one.t) is ∙ then')
+
+  -- the number is one transaction's
+  same_one : (one other : BegunNow) → one.before ≡ other.before → Begin one.agent (Transaction one.caller one.site one.ops) ≡ Begin other.agent (Transaction other.caller other.site other.ops) → one.t ≡ other.t
+  same_one one other before begin =
+      ap (λ (pair : ℕ × Job). pair.0)
+      (same_Some (one.t, Transaction one.caller one.site one.ops) (other.t, Transaction other.caller other.site other.ops)
+      (sym one.begins ∙ ap (λ xs. begins_job given (run given (events ++ xs)) (Begin one.agent (Transaction one.caller one.site one.ops))) before
+      ∙ ap (begins_job given (run given (events ++ other.before))) begin ∙ other.begins))
+
+  -- one that runs wants nothing that another has that runs
+  never_clash : (one other : BegunNow) → one.t ≢ other.t → is_running (run given (events ++ (so_far ++ event ∷ []))) one.agent one.t ≡ true → is_running (run given (events ++ (so_far ++ event ∷ []))) other.agent other.t ≡ true
+      → (a b : ℕ × LockMode) → Contains (its_asks given events (so_far ++ event ∷ []) one) a → Contains (its_asks given events (so_far ++ event ∷ []) other) b → clashes a b ≡ true → ⊥
+  never_clash one other apart runs_one runs_other a b has_a has_b is =
+      ⊎_elim
+      (λ same. apart (same_one one other same.0 same.1))
+      (λ order. ⊎_elim
+      (λ first. false≢true (sym (first_apart one other first.0 first.1 runs_one) ∙ clash_of (its_asks given events (so_far ++ event ∷ []) one) (its_asks given events (so_far ++ event ∷ []) other) a b has_a has_b is))
+      (λ second. false≢true (sym (first_apart other one second.0 second.1 runs_other) ∙ clash_of (its_asks given events (so_far ++ event ∷ []) other) (its_asks given events (so_far ++ event ∷ []) one) b a has_b has_a (turned a b is)))
+      order)
+      (compared one.before other.before (Begin one.agent (Transaction one.caller one.site one.ops)) (Begin other.agent (Transaction other.caller other.site other.ops)) one.after other.after (sym one.parts ∙ other.parts))
+    where
+      turned : (a b : ℕ × LockMode) → clashes a b ≡ true → clashes b a ≡ true
+      turned a b is =
+          let parts = and_parts (a.0 == b.0) (is_exclusive a.1 || is_exclusive b.1) is in
+          and_from (b.0 == a.0) (is_exclusive b.1 || is_exclusive a.1) (eq-eqb b.0 a.0 (sym (eqb-true a.0 b.0 parts.0))) (or_same (is_exclusive a.1) (is_exclusive b.1) parts.1)
+
+  -- ---- nothing is in the way of one that runs
+
+  way_free : (other : BegunNow) → is_running (run given (events ++ (so_far ++ event ∷ []))) other.agent other.t ≡ true → (one : ℕ × LockMode) → Contains (its_asks given events (so_far ++ event ∷ []) other) one → (server : ℕ)
+      → in_its_way (run given (events ++ (so_far ++ event ∷ []))) other.t one.0 one.1 server ≡ false
+  way_free other running one has server = of (server_at (run given (events ++ (so_far ++ event ∷ []))) server) refl
+    where
+      of : (found : Option State) → server_at (run given (events ++ (so_far ++ event ∷ []))) server ≡ found → is_way_met (way_in other.t one.0 one.1 found) ≡ false
+      of None at = refl
+      of (Some st) at = by st.up (in_the_way other.t one.0 one.1 st.locks) refl
+        where
+          by : (up : Bool) (found : Option Lock) → in_the_way other.t one.0 one.1 st.locks ≡ found → is_way_met (cond up (Some (option_map (λ (lock : Lock). lock.t) found)) None) ≡ false
+          by false found is = refl
+          by true None is = refl
+          by true (Some lock) is =
+              let some = find_some (conflicts other.t one.0 one.1) st.locks lock is in
+              let parts = conflict_parts other.t one.0 one.1 lock some.1 in
+              let own = locks_now server st at lock some.0 in
+              absurd (never_clash own.one other (λ same. false≢true (sym parts.1 ∙ eq-eqb lock.t other.t (sym own.number ∙ same))) own.running running (lock.suite, lock.mode) one own.asks has
+              (and_from (lock.suite == one.0) (is_exclusive lock.mode || is_exclusive one.1) (eq-eqb lock.suite one.0 parts.0) (or_same (is_exclusive one.1) (is_exclusive lock.mode) parts.2)))
+
+  stands_now : (other : BegunNow) → is_running (run given (events ++ (so_far ++ event ∷ []))) other.agent other.t ≡ true
+      → StandsOpen (run given (events ++ other.before)) (run given (events ++ (so_far ++ event ∷ []))) other.t (asks_for given (events ++ other.before) other.t other.caller other.ops) everywhere
+  stands_now other running = record {
+    up = λ server near.
+        up_same given (accepted given events later go) (events ++ (so_far ++ event ∷ [])) (events ++ other.before) (up_at given events later go (so_far ++ event ∷ []) rest split_on)
+        (up_at given events later go other.before (Begin other.agent (Transaction other.caller other.site other.ops) ∷ (other.after ++ rest)) (to_last other).parts) server;
+    way = λ server one near has. way_free other running one has server;
+  }
+
+  pub stands_then : (other : BegunNow) → is_running (world_then given events other.before other.agent other.t other.caller other.site other.ops other.after) other.agent other.t ≡ true
+      → StandsOpen (run given (events ++ other.before)) (world_then given events other.before other.agent other.t other.caller other.site other.ops other.after) other.t (asks_for given (events ++ other.before) other.t other.caller other.ops) everywhere
+  stands_then other =
+      subst (λ w. is_running w other.agent other.t ≡ true → StandsOpen (run given (events ++ other.before)) w other.t (asks_for given (events ++ other.before) other.t other.caller other.ops) everywhere)
+      (sym (last_is given events later go (so_far ++ event ∷ []) other)) (stands_now other)

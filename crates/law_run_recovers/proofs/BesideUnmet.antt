@@ -1,0 +1,127 @@
+-- A transaction of some side by side: what it takes that nobody meets it up to a moment, and up to the next.
+use Rattle.std.proofs.Common.{◌≡◌, ◌⊎◌, inl, inr, ⊎_elim, ℕ, Bool, true, false, List, [], ◌∷◌, ◌++◌, append-nil, append_assoc, Option, Some, None, refl, sym, ap, subst, ◌∙◌}
+use Rattle.std.specs.Prelude.{◌||◌}
+use Rattle.std.proofs.lemmas.Option.{none-some}
+use Rattle.acl_core.specs.Identity.{Identity}
+use Rattle.suite_prefix.specs.SettingsRules.{Opening}
+use Rattle.file_ops.specs.declared.operation.Op.{Op}
+use Rattle.rep_core.proofs.Members.{Has}
+use Rattle.txn_core.specs.declared.job.Job.{Job}
+use Rattle.txn_core.specs.declared.job.Job.TheVariants.{Transaction}
+use Rattle.txn_core.specs.Agents.{fixed_of}
+use Rattle.run_core.specs.declared.event.Event.{Event}
+use Rattle.run_core.specs.declared.event.Event.TheVariants.{Begin}
+use Rattle.run_core.specs.Worlds.{Actor, World, opening, actor_at}
+use Rattle.run_core.specs.Runs.{run}
+use Rattle.law_runs.specs.Claims.{ended}
+use Rattle.law_runs.specs.Numbers.{begins_now}
+use Rattle.law_headline.specs.Premises.{CanBe}
+use Rattle.law_run_alone.specs.Alone.{begins_job}
+use Rattle.law_run_alone.proofs.Turns.{with_job}
+use Rattle.law_run_recovers.specs.Near.{asks_for}
+use Rattle.law_run_recovers.specs.Unmet.{is_running, world_after, robs, hinders_itself, StandsOpen, GoesUnmet}
+use Rattle.law_run_recovers.specs.Among.{GoesAmongLocks}
+use Rattle.law_run_recovers.proofs.Keeps.{after_append}
+use Rattle.law_run_recovers.proofs.Open.{unmet_is_among_locks}
+use Rattle.law_run_recovers.proofs.Sides.{ended_still, ended_runs_not}
+use Rattle.law_run_recovers.proofs.AmongCourse.{Course, parted, course_runs}
+use Rattle.law_run_recovers.proofs.AmongLeft.{left_at}
+
+pub nil_front : {X : Type 0} (xs ys : List X) → [] ≡ xs ++ ys → xs ≡ []
+nil_front [] ys is = refl
+nil_front (x ∷ xs) ys is = cc
+
+-- any server is near
+abbrev pub everywhere : ℕ → Bool
+everywhere server = true
+
+-- who begins is there
+pub begins_there : (given : Opening) (w : World) (i t : ℕ) (job : Job) → begins_job given w (Begin i job) ≡ Some (t, job) → (actor : Actor) × (actor_at w i ≡ Some actor)
+begins_there given w i t job = of (actor_at w i) refl
+  where
+    of : (found : Option Actor) → actor_at w i ≡ found → with_job job (begins_now (fixed_of given) i job found) ≡ Some (t, job) → (actor : Actor) × (actor_at w i ≡ Some actor)
+    of None at is = absurd (none-some (t, job) is)
+    of (Some actor) at is = (actor, at)
+
+module _ (given : Opening) (events before : List Event) (agent t : ℕ) (caller : Identity) (site : ℕ) (ops : List Op) where
+  abbrev pub its_begin : Event
+  its_begin = Begin agent (Transaction caller site ops)
+
+  abbrev pub world_then : List Event → World
+  world_then mid = world_after given (events ++ before) agent caller site ops mid
+
+  pub then_is : (mid : List Event) → world_after given (events ++ before) agent caller site ops mid ≡ run given (events ++ (before ++ Begin agent (Transaction caller site ops) ∷ mid))
+  then_is mid = sym (after_append (fixed_of given) (events ++ before) (its_begin ∷ mid) (opening given)) ∙ ap (run given) (append_assoc events before (its_begin ∷ mid))
+
+  -- until after these events nobody meets it
+  pub record IsUnmet (after : List Event) : Type 0 where
+    pub actor : Actor
+    pub there : actor_at (run given (events ++ before)) agent ≡ Some actor
+    pub begins : begins_job given (run given (events ++ before)) (Begin agent (Transaction caller site ops)) ≡ Some (t, Transaction caller site ops)
+    pub unmet : (mid rest : List Event) → after ≡ mid ++ rest → is_running (world_then mid) agent t ≡ true → StandsOpen (run given (events ++ before)) (world_then mid) t (asks_for given (events ++ before) t caller ops) everywhere
+    pub free_hand : (mid rest : List Event) (event : Event) → after ≡ mid ++ event ∷ rest → is_running (world_then mid) agent t ≡ true
+        → (hinders_itself given agent (world_then mid) event || robs given agent t (world_then mid) event) ≡ false
+
+  -- one event more
+  pub unmet_more : (after : List Event) (event : Event) → IsUnmet after
+      → (is_running (world_then after) agent t ≡ true → (hinders_itself given agent (world_then after) event || robs given agent t (world_then after) event) ≡ false)
+      → (is_running (world_then (after ++ event ∷ [])) agent t ≡ true
+      → StandsOpen (run given (events ++ before)) (world_then (after ++ event ∷ [])) t (asks_for given (events ++ before) t caller ops) everywhere)
+      → IsUnmet (after ++ event ∷ [])
+  unmet_more after event u calm stands = record { actor = u.actor; there = u.there; begins = u.begins; unmet = unmet_so; free_hand = free_so }
+    where
+      unmet_so : (mid rest : List Event) → after ++ event ∷ [] ≡ mid ++ rest → is_running (world_then mid) agent t ≡ true → StandsOpen (run given (events ++ before)) (world_then mid) t (asks_for given (events ++ before) t caller ops) everywhere
+      unmet_so mid [] is running =
+          let whole : after ++ event ∷ [] ≡ mid = is ∙ append-nil mid in
+          subst (λ mid. StandsOpen (run given (events ++ before)) (world_then mid) t (asks_for given (events ++ before) t caller ops) everywhere) whole
+          (stands (ap (λ mid. is_running (world_then mid) agent t) whole ∙ running))
+      unmet_so mid (one ∷ rest) is running = of (parted after event mid one rest is)
+        where
+          of : ((mid ≡ after) × (one ≡ event) × (rest ≡ [])) ⊎ ((front : List Event) × (after ≡ mid ++ one ∷ front) × (rest ≡ front ++ event ∷ []))
+              → StandsOpen (run given (events ++ before)) (world_then mid) t (asks_for given (events ++ before) t caller ops) everywhere
+          of (inl here) = u.unmet mid [] (sym here.0 ∙ sym (append-nil mid)) running
+          of (inr old) = u.unmet mid (one ∷ old.0) old.1 running
+
+      free_so : (mid rest : List Event) (one : Event) → after ++ event ∷ [] ≡ mid ++ one ∷ rest → is_running (world_then mid) agent t ≡ true
+          → (hinders_itself given agent (world_then mid) one || robs given agent t (world_then mid) one) ≡ false
+      free_so mid rest one is running = of (parted after event mid one rest is)
+        where
+          of : ((mid ≡ after) × (one ≡ event) × (rest ≡ [])) ⊎ ((front : List Event) × (after ≡ mid ++ one ∷ front) × (rest ≡ front ++ event ∷ []))
+              → (hinders_itself given agent (world_then mid) one || robs given agent t (world_then mid) one) ≡ false
+          of (inl here) =
+              subst (λ mid. (hinders_itself given agent (world_then mid) one || robs given agent t (world_then mid) one) ≡ false) (sym here.0)
+              (subst (λ one. (hinders_itself given agent (world_then after) one || robs given agent t (world_then after) one) ≡ false) (sym here.1)
+              (calm (ap (λ mid. is_running (world_then mid) agent t) (sym here.0) ∙ running)))
+          of (inr old) = u.free_hand mid old.0 one old.1 running
+
+  module _ (after : List Event) (u : IsUnmet after) (can : CanBe given (events ++ (before ++ Begin agent (Transaction caller site ops) ∷ after))) where
+    abbrev pub goes_of : GoesUnmet given (events ++ before) after agent t caller site ops u.actor
+    goes_of = record {
+      can = subst (CanBe given) (sym (append_assoc events before (Begin agent (Transaction caller site ops) ∷ after))) can;
+      there = u.there;
+      begins = u.begins;
+      near = everywhere;
+      are_near = record { home = refl; first = λ server vote. refl; hints = λ one prefix server has is vote. refl; shown = λ one by server has near up vote. refl; set = λ one server has vote. refl };
+      unmet = u.unmet;
+      free_hand = u.free_hand;
+    }
+
+    abbrev pub among_of : GoesAmongLocks given (events ++ before) after agent t caller site ops u.actor
+    among_of = unmet_is_among_locks given (events ++ before) after agent t caller site ops u.actor goes_of
+
+    -- who runs later has run all along
+    pub ran : (mid rest : List Event) → after ≡ mid ++ rest → (more : List Event) → is_running (run given ((events ++ (before ++ Begin agent (Transaction caller site ops) ∷ mid)) ++ more)) agent t ≡ true
+        → Course given (events ++ before) after agent t caller site ops u.actor among_of mid
+    ran mid rest split more running =
+        ⊎_elim
+        (λ c. c.0)
+        (λ over.
+        absurd (ended_runs_not given can.accepted ((events ++ (before ++ its_begin ∷ mid)) ++ more) agent t over.0.0
+        (ended_still given can.accepted (events ++ (before ++ its_begin ∷ mid)) more over.0.0 (subst (λ all. Has (ended given all) over.0.0) (append_assoc events before (its_begin ∷ mid)) over.0.1))
+        over.0.2 running))
+        (left_at given (events ++ before) after agent t caller site ops u.actor among_of mid rest split)
+
+    pub ran_then : (mid rest : List Event) → after ≡ mid ++ rest → (more : List Event) → is_running (run given ((events ++ (before ++ Begin agent (Transaction caller site ops) ∷ mid)) ++ more)) agent t ≡ true
+        → is_running (run given (events ++ (before ++ Begin agent (Transaction caller site ops) ∷ mid))) agent t ≡ true
+    ran_then mid rest split more running =
+        ap (λ w. is_running w agent t) (sym (then_is mid)) ∙ course_runs given (events ++ before) after agent t caller site ops u.actor among_of mid (ran mid rest split more running)

@@ -1,0 +1,199 @@
+-- Two users go side by side, by computation.
+use Rattle.std.proofs.Common.{◌≡◌, ◌⊎◌, inl, inr, ⊎_elim, ℕ, Bool, true, false, List, [], ◌∷◌, ◌++◌, Some, refl, sym, ap, subst, ◌∙◌}
+use Rattle.std.specs.Prelude.{◌&&◌, not}
+use Rattle.std.specs.List.{AllByRecursion, list_all}
+use Rattle.std.proofs.lemmas.Bool.{false≢true, and_parts}
+use Rattle.std.proofs.lemmas.Option.{same_Some}
+use Rattle.suite_prefix.specs.declared.lock_mode.LockMode.{LockMode}
+use Rattle.file_ops.specs.declared.operation.Action.{Action}
+use Rattle.file_ops.specs.declared.operation.Action.TheVariants as action
+use Rattle.file_ops.specs.declared.operation.Op.{Op}
+use Rattle.std.specs.Prelude.{None}
+use Rattle.txn_core.specs.declared.job.Job.{Job}
+use Rattle.txn_core.specs.declared.job.Job.TheVariants.{Transaction, Sweep}
+use Rattle.txn_core.specs.Agents.{fixed_of}
+use Rattle.txn_core.specs.Runs.{owner, a}
+use Rattle.run_core.specs.declared.event.Event.{Event}
+use Rattle.run_core.specs.declared.event.Event.TheVariants.{Begin, Step, Crash, Return, Forget, Lack}
+use Rattle.run_core.specs.Worlds.{World, opening, step}
+use Rattle.run_core.specs.Runs.{after, run}
+use Rattle.law_headline.specs.Premises.{GivesValidVotes, EventGivesValidVotes, CanBe}
+use Rattle.law_headline.specs.Worked.{with_caches}
+use Rattle.law_headline.proofs.Worked.{some_run_revokes}
+use Rattle.law_run_alone.specs.Alone.{begins_job}
+use Rattle.law_run_recovers.specs.Beside.{clash, Begun, its_asks, spoils}
+use Rattle.law_run_recovers.specs.BesideWorked.{two_made, two_write, SomeRunsGoSideBySide}
+use Rattle.law_run_recovers.specs.Contending.{b, puts}
+use Rattle.law_run_recovers.specs.Near.{asks_for}
+use Rattle.law_run_recovers.specs.Unmet.{is_running}
+use Rattle.law_run_recovers.proofs.AmongCourse.{head_or, tail_or}
+use Rattle.law_run_recovers.proofs.Keeps.{after_append}
+
+-- ---- they can be
+
+abbrev sets_none : Action → Bool
+sets_none (action.Make kind init None) = true
+sets_none (action.Make kind init (Some votes)) = false
+sets_none (action.SetVotes votes) = false
+sets_none _ = true
+
+valid_action : (one : Action) → sets_none one ≡ true → GivesValidVotes one
+valid_action (action.Make kind init None) is = tt
+valid_action (action.Make kind init (Some votes)) is = absurd (false≢true is)
+valid_action (action.SetVotes votes) is = absurd (false≢true is)
+valid_action action.Read is = tt
+valid_action (action.Write bytes) is = tt
+valid_action action.List is = tt
+valid_action action.Drop is = tt
+valid_action action.GetAcl is = tt
+valid_action (action.SetAcl acl) is = tt
+valid_action action.GetVotes is = tt
+
+all_by : {X : Type 0} (P : X → Type 0) (p : X → Bool) → ((x : X) → p x ≡ true → P x) → (xs : List X) → list_all p xs ≡ true → AllByRecursion P xs
+all_by P p each [] is = tt
+all_by P p each (x ∷ xs) is = let parts = and_parts (p x) (list_all p xs) is in (each x parts.0, all_by P p each xs parts.1)
+
+abbrev event_sets_none : Event → Bool
+event_sets_none (Begin number (Transaction caller site ops)) = list_all (λ (op : Op). sets_none op.action) ops
+event_sets_none _ = true
+
+valid_event : (event : Event) → event_sets_none event ≡ true → EventGivesValidVotes event
+valid_event (Begin number (Transaction caller site ops)) is = all_by (λ (op : Op). GivesValidVotes op.action) (λ op. sets_none op.action) (λ op. valid_action op.action) ops is
+valid_event (Begin number (Sweep server)) is = tt
+valid_event (Step number) is = tt
+valid_event (Crash server) is = tt
+valid_event (Return server) is = tt
+valid_event (Forget number site) is = tt
+valid_event (Lack number why) is = tt
+
+they_can : CanBe with_caches (two_made ++ two_write)
+they_can = record { accepted = some_run_revokes.can_be.accepted; c0 = some_run_revokes.can_be.c0; votes = all_by EventGivesValidVotes event_sets_none valid_event (two_made ++ two_write) refl }
+
+-- ---- nothing spoils it
+
+abbrev none_spoils : World → List Event → Bool
+none_spoils world [] = true
+none_spoils world (event ∷ later) = not (spoils with_caches world event) && none_spoils (step (fixed_of with_caches) world event).world later
+
+not_true : (x : Bool) → not x ≡ true → x ≡ false
+not_true true is = sym is
+not_true false is = refl
+
+none_spoils_it : (later before : List Event) (event : Event) (rest : List Event) (world : World) → none_spoils world later ≡ true → later ≡ before ++ event ∷ rest → spoils with_caches (after (fixed_of with_caches) world before) event ≡ false
+none_spoils_it [] [] event rest world calm is = cc
+none_spoils_it [] (x ∷ before) event rest world calm is = cc
+none_spoils_it (one ∷ later) [] event rest world calm is =
+    subst (λ event. spoils with_caches world event ≡ false) (ap (head_or one) is) (not_true (spoils with_caches world one) (and_parts (not (spoils with_caches world one)) (none_spoils (step (fixed_of with_caches) world one).world later) calm).0)
+none_spoils_it (one ∷ later) (x ∷ before) event rest world calm is =
+    subst (λ x. spoils with_caches (after (fixed_of with_caches) (step (fixed_of with_caches) world x).world before) event ≡ false) (ap (head_or one) is)
+    (none_spoils_it later before event rest (step (fixed_of with_caches) world one).world (and_parts (not (spoils with_caches world one)) (none_spoils (step (fixed_of with_caches) world one).world later) calm).1 (ap tail_or is))
+
+-- ---- the two that begin
+
+abbrev first : Event
+first = Begin 0 (Transaction owner 0 (puts a 0 ∷ []))
+
+abbrev second : Event
+second = Begin 1 (Transaction owner 0 (puts b 1 ∷ []))
+
+-- what came before one, its begin, and its number
+abbrev Spot : Type 0
+Spot = List Event × Event × ℕ
+
+spot : List Event → Event → ℕ → Spot
+spot before begin t = (before, begin, t)
+
+abbrev is_step : Event → Bool
+is_step (Step agent) = true
+is_step other = false
+
+none_begins : (before : List Event) (agent : ℕ) (job : Job) (rest : List Event) → list_all is_step (before ++ Begin agent job ∷ rest) ≡ true → ⊥
+none_begins [] agent job rest is = false≢true is
+none_begins (x ∷ before) agent job rest is = none_begins before agent job rest (and_parts (is_step x) (list_all is_step (before ++ Begin agent job ∷ rest)) is).1
+
+number_is : (before : List Event) (begin : Event) (u t : ℕ) (job : Job) → begins_job with_caches (run with_caches (two_made ++ before)) begin ≡ Some (u, job) → (other : Job) → begins_job with_caches (run with_caches (two_made ++ before)) begin ≡ Some (t, other) → t ≡ u
+number_is before begin u t job is other also = sym (ap (λ (pair : ℕ × Job). pair.0) (same_Some (u, job) (t, other) (sym is ∙ also)))
+
+abbrev spot_of : Begun with_caches two_made two_write → Spot
+spot_of one = spot one.before (Begin one.agent (Transaction one.caller one.site one.ops)) one.t
+
+where_it_is : (one : Begun with_caches two_made two_write) → (spot_of one ≡ spot [] first 64) ⊎ (spot_of one ≡ spot (first ∷ []) second 1)
+where_it_is one = of one.before refl one.parts
+  where
+    begin : Event
+    begin = Begin one.agent (Transaction one.caller one.site one.ops)
+
+    at : (before : List Event) (begin : Event) (u : ℕ) (job : Job) → one.before ≡ before → Begin one.agent (Transaction one.caller one.site one.ops) ≡ begin
+        → begins_job with_caches (run with_caches (two_made ++ before)) begin ≡ Some (u, job) → spot_of one ≡ spot before begin u
+    at before begin u job same is begins =
+        ap (λ before. spot before (Begin one.agent (Transaction one.caller one.site one.ops)) one.t) same ∙ ap (λ begin. spot before begin one.t) is
+        ∙ ap (spot before begin) (number_is before begin u one.t job begins (Transaction one.caller one.site one.ops)
+        (sym (ap (λ before. begins_job with_caches (run with_caches (two_made ++ before)) (Begin one.agent (Transaction one.caller one.site one.ops))) same ∙ ap (begins_job with_caches (run with_caches (two_made ++ before))) is) ∙ one.begins))
+
+    of : (before : List Event) → one.before ≡ before → two_write ≡ before ++ Begin one.agent (Transaction one.caller one.site one.ops) ∷ one.after → (spot_of one ≡ spot [] first 64) ⊎ (spot_of one ≡ spot (first ∷ []) second 1)
+    of [] same parts = inl (at [] first 64 (Transaction owner 0 (puts a 0 ∷ [])) same (sym (ap (head_or first) parts)) refl)
+    of (x ∷ []) same parts =
+        inr (at (first ∷ []) second 1 (Transaction owner 0 (puts b 1 ∷ [])) (same ∙ ap (λ x. x ∷ []) (sym (ap (head_or first) parts))) (sym (ap (λ list. head_or first (tail_or list)) parts)) refl)
+    of (x ∷ y ∷ before) same parts = absurd (none_begins before one.agent (Transaction one.caller one.site one.ops) one.after (ap (λ list. list_all is_step (tail_or (tail_or list))) (sym parts)))
+
+-- ---- they are apart
+
+abbrev agent_in : Event → ℕ
+agent_in (Begin agent job) = agent
+agent_in other = 0
+
+abbrev asks_in : List Event → ℕ → Event → List (ℕ × LockMode)
+asks_in before t (Begin agent (Transaction caller site ops)) = asks_for with_caches (two_made ++ before) t caller ops
+asks_in before t other = []
+
+abbrev runs_and_clash : Spot → Spot → Bool
+runs_and_clash one other = is_running (run with_caches (two_made ++ other.0)) (agent_in one.1) one.2 && clash (asks_in one.0 one.2 one.1) (asks_in other.0 other.2 other.1)
+
+first_first : runs_and_clash (spot [] first 64) (spot [] first 64) ≡ false
+unfolding spot
+first_first = refl
+
+first_second : runs_and_clash (spot [] first 64) (spot (first ∷ []) second 1) ≡ false
+unfolding spot
+first_second = refl
+
+second_first : runs_and_clash (spot (first ∷ []) second 1) (spot [] first 64) ≡ false
+unfolding spot
+second_first = refl
+
+second_second : runs_and_clash (spot (first ∷ []) second 1) (spot (first ∷ []) second 1) ≡ false
+unfolding spot
+second_second = refl
+
+none_clash : (one other : Begun with_caches two_made two_write) → runs_and_clash (spot_of one) (spot_of other) ≡ false
+none_clash one other =
+    ⊎_elim
+    (λ p. ⊎_elim (λ q. both (spot [] first 64) (spot [] first 64) p q ∙ first_first) (λ q. both (spot [] first 64) (spot (first ∷ []) second 1) p q ∙ first_second) (where_it_is other))
+    (λ p. ⊎_elim (λ q. both (spot (first ∷ []) second 1) (spot [] first 64) p q ∙ second_first) (λ q. both (spot (first ∷ []) second 1) (spot (first ∷ []) second 1) p q ∙ second_second) (where_it_is other))
+    (where_it_is one)
+  where
+    both : (s t : Spot) → spot_of one ≡ s → spot_of other ≡ t → runs_and_clash (spot_of one) (spot_of other) ≡ runs_and_clash s t
+    both s t p q = ap (λ s. runs_and_clash s (spot_of other)) p ∙ ap (runs_and_clash s) q
+
+apart : (one other : Begun with_caches two_made two_write) → is_running (run with_caches (two_made ++ other.before)) one.agent one.t ≡ true
+    → clash (its_asks with_caches two_made two_write one) (its_asks with_caches two_made two_write other) ≡ false
+unfolding spot
+apart one other running = no (clash (its_asks with_caches two_made two_write one) (its_asks with_caches two_made two_write other)) (sym (ap (λ x. x && clash (its_asks with_caches two_made two_write one) (its_asks with_caches two_made two_write other)) running) ∙ none_clash one other)
+  where
+    no : (x : Bool) → (true && x) ≡ false → x ≡ false
+    no true is = is
+    no false is = refl
+
+pub some_runs_go_side_by_side : SomeRunsGoSideBySide
+some_runs_go_side_by_side = record {
+  goes = record {
+    can = they_can;
+    idle = refl;
+    up = refl;
+    free = refl;
+    unspoiled = λ before rest event split.
+        subst (λ world. spoils with_caches world event ≡ false) (sym (after_append (fixed_of with_caches) two_made before (opening with_caches))) (none_spoils_it two_write before event rest (run with_caches two_made) refl split);
+    apart = apart;
+  };
+  ends = refl;
+}

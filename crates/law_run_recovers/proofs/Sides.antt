@@ -1,0 +1,168 @@
+-- What is so of any run: who runs has not ended, a number is its agent's, nobody asks a server to crash, and servers that are up stay so.
+use Rattle.std.proofs.Common.{◌≡◌, ◌⊎◌, inl, inr, ⊎_elim, ℕ, zero, suc, ◌+◌, true, false, List, [], ◌∷◌, ◌++◌, length, Option, Some, None, is_some, refl, sym, ap, subst, ◌∙◌, arith}
+use Rattle.std.specs.Prelude.{◌%◌, ◌==◌, slice_get}
+use Rattle.std.proofs.lemmas.Bool.{false≢true, and_parts, eqb-true}
+use Rattle.std.proofs.lemmas.Option.{none-some, same_Some}
+use Rattle.suite_prefix.specs.SettingsRules.{Opening, IsAccepted}
+use Rattle.rep_core.specs.declared.request.Request.{Request}
+use Rattle.rep_core.specs.declared.request.Request.TheVariants as request
+use Rattle.rep_core.specs.State.{State}
+use Rattle.rep_core.proofs.Members.{Has}
+use Rattle.txn_core.specs.declared.job.Job.{Job}
+use Rattle.txn_core.specs.Agents.{Agent, fixed_of}
+use Rattle.run_core.specs.declared.done.EndedJob.{EndedJob}
+use Rattle.run_core.specs.declared.event.Event.{Event}
+use Rattle.run_core.specs.declared.event.Event.TheVariants.{Begin, Step, Crash, Return, Forget, Lack}
+use Rattle.run_core.specs.Worlds.{Actor, World, opening, server_at, actor_at, step}
+use Rattle.run_core.specs.Runs.{dones, done_in, outcomes, run}
+use Rattle.run_core.specs.Decisions.{decisions}
+use Rattle.run_core.proofs.Appending.{dones-append, outcomes-append}
+use Rattle.law_runs.specs.Claims.{ended}
+use Rattle.law_runs.specs.Naming.{names, may_sweep}
+use Rattle.law_runs.specs.Numbers.{number_of, begins_at}
+use Rattle.law_runs.proofs.Agents.{same_place}
+use Rattle.law_runs.proofs.Begun.{agents_ask_for_themselves, each_is_begun_once}
+use Rattle.law_runs.proofs.Conclusions.{holds_of}
+use Rattle.law_runs.proofs.Lengths.{so_many}
+use Rattle.law_runs.proofs.Standing.{append_has_left}
+use Rattle.law_runs.proofs.Worlds.{agent_of, agent_at}
+use Rattle.law_run_alone.specs.Alone.{begins_job}
+use Rattle.law_run_alone.proofs.Own.{is_crash, up_stays}
+use Rattle.law_run_alone.proofs.Turns.{with_job}
+use Rattle.law_run_alone.proofs.Walks.{AllServers, MayAsk, asks_servers}
+use Rattle.law_run_recovers.specs.Beside.{spoils}
+use Rattle.law_run_recovers.specs.Standing.{up_in, is_up}
+use Rattle.law_run_recovers.specs.Unmet.{runs, running_in, is_running, takes}
+use Rattle.law_run_recovers.proofs.AmongCourse.{head_or, tail_or}
+use Rattle.law_run_recovers.proofs.Keeps.{last_of}
+
+-- ---- lists
+
+-- of two places in a list one is before the other, or they are the same
+pub compared : {X : Type 0} (xs us : List X) (x u : X) (ys vs : List X) → xs ++ x ∷ ys ≡ us ++ u ∷ vs
+    → ((xs ≡ us) × (x ≡ u)) ⊎ (((between : List X) × (us ≡ xs ++ x ∷ between)) ⊎ ((between : List X) × (xs ≡ us ++ u ∷ between)))
+compared [] [] x u ys vs is = inl (refl, ap (head_or x) is)
+compared [] (v ∷ us) x u ys vs is = inr (inl (us, ap (λ z. z ∷ us) (sym (ap (head_or x) is))))
+compared (w ∷ xs) [] x u ys vs is = inr (inr (xs, ap (λ z. z ∷ xs) (ap (head_or w) is)))
+compared (w ∷ xs) (v ∷ us) x u ys vs is =
+    ⊎_elim
+    (λ same. inl (ap (λ z. z ∷ xs) (ap (head_or w) is) ∙ ap (λ xs. v ∷ xs) same.0, same.1))
+    (λ apart. inr (⊎_elim
+    (λ first. inl (first.0, ap (λ z. z ∷ us) (sym (ap (head_or w) is)) ∙ ap (λ us. w ∷ us) first.1))
+    (λ second. inr (second.0, ap (λ z. z ∷ xs) (ap (head_or w) is) ∙ ap (λ xs. v ∷ xs) second.1))
+    apart))
+    (compared xs us x u ys vs (ap tail_or is))
+
+there_same : (xs ys : List State) → length xs ≡ length ys → (i : ℕ) → is_some (slice_get xs i) ≡ is_some (slice_get ys i)
+there_same [] [] same i = refl
+there_same [] (y ∷ ys) same i = let none : 0 ≡ suc (length ys) = same in absurd (omega (arith, none))
+there_same (x ∷ xs) [] same i = let none : suc (length xs) ≡ 0 = same in absurd (omega (arith, none))
+there_same (x ∷ xs) (y ∷ ys) same zero = refl
+there_same (x ∷ xs) (y ∷ ys) same (suc i) = let less : suc (length xs) ≡ suc (length ys) = same in there_same xs ys (omega (arith, less)) i
+
+-- ---- numbers
+
+begun_number : (given : Opening) (w : World) (i t : ℕ) (job : Job) → begins_job given w (Begin i job) ≡ Some (t, job) → begins_at given w (Begin i job) ≡ Some t
+begun_number given w i t job = of (begins_at given w (Begin i job))
+  where
+    of : (found : Option ℕ) → with_job job found ≡ Some (t, job) → found ≡ Some t
+    of None is = absurd (none-some (t, job) is)
+    of (Some u) is = ap (λ (pair : ℕ × Job). Some pair.0) (same_Some (u, job) (t, job) is)
+
+-- two numbers that a request names are the same
+pub names_one : (t u : ℕ) (asked : Request) → names t asked ≡ true → names u asked ≡ true → t ≡ u
+names_one t u (request.Poll n suite mode) one other = sym (eqb-true n t one) ∙ eqb-true n u other
+names_one t u (request.Upgrade n suite) one other = sym (eqb-true n t one) ∙ eqb-true n u other
+names_one t u (request.Fetch n suite) one other = sym (eqb-true n t one) ∙ eqb-true n u other
+names_one t u (request.Prepare n parts) one other = sym (eqb-true n t one) ∙ eqb-true n u other
+names_one t u (request.Decide n decision) one other = sym (eqb-true n t one) ∙ eqb-true n u other
+names_one t u (request.Resolve n) one other = sym (eqb-true n t one) ∙ eqb-true n u other
+names_one t u (request.Finish n v) one other = sym (eqb-true n t one) ∙ eqb-true n u other
+names_one t u (request.Break n suite) one other = sym (eqb-true n t one) ∙ eqb-true n u other
+names_one t u request.Locks one other = absurd (false≢true one)
+names_one t u request.Crash one other = absurd (false≢true one)
+names_one t u request.Return one other = absurd (false≢true one)
+
+-- what takes something of a transaction names it
+pub takes_named : (t : ℕ) (st : State) (asked : Request) → takes t st asked ≡ true → names t asked ≡ true
+takes_named t st (request.Break named suite) is = (and_parts (named == t) _ is).0
+takes_named t st (request.Finish named v) is = (and_parts (named == t) _ is).0
+takes_named t st (request.Resolve named) is = (and_parts (named == t) _ is).0
+takes_named t st (request.Poll named suite mode) is = absurd (false≢true is)
+takes_named t st (request.Upgrade named suite) is = absurd (false≢true is)
+takes_named t st (request.Fetch named suite) is = absurd (false≢true is)
+takes_named t st (request.Prepare named parts) is = absurd (false≢true is)
+takes_named t st (request.Decide named decision) is = absurd (false≢true is)
+takes_named t st request.Locks is = absurd (false≢true is)
+takes_named t st request.Crash is = absurd (false≢true is)
+takes_named t st request.Return is = absurd (false≢true is)
+
+never_crash : (t : ℕ) (asked : Request) → (names t asked ≡ true) ⊎ (may_sweep asked ≡ true) → is_crash asked ≡ false
+never_crash t request.Crash so = absurd (⊎_elim false≢true false≢true so)
+never_crash t (request.Poll named suite mode) so = refl
+never_crash t (request.Upgrade named suite) so = refl
+never_crash t (request.Fetch named suite) so = refl
+never_crash t (request.Prepare named parts) so = refl
+never_crash t (request.Decide named decision) so = refl
+never_crash t (request.Resolve named) so = refl
+never_crash t (request.Finish named v) so = refl
+never_crash t (request.Break named suite) so = refl
+never_crash t request.Locks so = refl
+never_crash t request.Return so = refl
+
+module _ (given : Opening) (accepted : IsAccepted given) where
+  -- a number's rest by 64 is its agent
+  pub its_agent : (all : List Event) (i t : ℕ) (job : Job) → begins_job given (run given all) (Begin i job) ≡ Some (t, job) → t % 64 ≡ i
+  its_agent all i t job begins = (each_is_begun_once given accepted all).by_its_agent i t job (begun_number given (run given all) i t job begins)
+
+  -- a job that has ended has so later
+  pub ended_still : (all more : List Event) (one : EndedJob) → Has (ended given all) one → Has (ended given (all ++ more)) one
+  ended_still all more one has =
+      subst (λ list. Has list one) (sym (ap outcomes (dones-append (fixed_of given) (opening given) all more) ∙ outcomes-append (done_in given all) (dones (fixed_of given) (run given all) more)))
+      (append_has_left (ended given all) (outcomes (dones (fixed_of given) (run given all) more)) one has)
+
+  -- and is run by nobody
+  pub ended_runs_not : (all : List Event) (agent t : ℕ) (one : EndedJob) → Has (ended given all) one → number_of one ≡ t → is_running (run given all) agent t ≡ true → ⊥
+  ended_runs_not all agent t one has number = of (actor_at (run given all) agent) refl
+    where
+      of : (found : Option Actor) → actor_at (run given all) agent ≡ found → running_in t found ≡ true → ⊥
+      of None at is = false≢true is
+      of (Some here) at is =
+          let holds = holds_of given accepted all in
+          let last = last_of (decisions given all) agent here.agent.count t here.agent.doing (holds.agents.at agent here.agent (ap agent_of at)) is in
+          let was = holds.over one has in
+          let places = same_place (one.count + 1) here.agent.count one.agent agent (omega (arith, number, last)) (holds.agents.small one.agent was.agent was.at) (holds.agents.small agent here.agent (ap agent_of at)) in
+          let same = same_Some was.agent here.agent (sym was.at ∙ ap (agent_at (run given all)) places.1 ∙ ap agent_of at) in
+          let idle = was.idle (places.0 ∙ sym (ap (λ (a : Agent). a.count) same)) in
+          false≢true (sym (ap (runs t) (sym (ap (λ (a : Agent). a.doing) same) ∙ idle)) ∙ is)
+
+  -- ---- servers stay up
+
+  abbrev pub AllUp : World → Type 0
+  AllUp world = AllServers (λ (st : State). st.up ≡ true) world
+
+  pub up_next : (all : List Event) (event : Event) → spoils given (run given all) event ≡ false → AllUp (run given all) → AllUp (step (fixed_of given) (run given all) event).world
+  up_next all event calm up = asks_servers (fixed_of given) (λ s st. st.up ≡ true) (λ s asked. is_crash asked ≡ false) (λ s st asked other up. up_stays st asked other up) (run given all) up event (may event calm)
+    where
+      may : (event : Event) → spoils given (run given all) event ≡ false → MayAsk (fixed_of given) (λ s asked. is_crash asked ≡ false) (run given all) event
+      may (Step i) calm = λ actor asked is next.
+          ⊎_elim (λ self. never_crash self.task.t asked.1 (inl self.named)) (λ sweeps. never_crash 0 asked.1 (inr sweeps.swept)) (agents_ask_for_themselves given accepted all i actor asked.0 asked.1 is next)
+      may (Crash server) calm = absurd (false≢true (sym calm))
+      may (Return server) calm = refl
+      may (Begin i job) calm = tt
+      may (Forget i site) calm = tt
+      may (Lack i why) calm = tt
+
+  up_there : (world : World) (server : ℕ) → AllUp world → is_up world server ≡ is_some (server_at world server)
+  up_there world server up = of (server_at world server) refl
+    where
+      of : (found : Option State) → server_at world server ≡ found → up_in found ≡ is_some found
+      of None at = refl
+      of (Some st) at = up server st at
+
+  -- a server is up just where it was
+  pub up_same : (all others : List Event) → AllUp (run given all) → AllUp (run given others) → (server : ℕ) → is_up (run given all) server ≡ is_up (run given others) server
+  up_same all others up were server =
+      up_there (run given all) server up
+      ∙ there_same (run given all).servers (run given others).servers ((so_many given all).0 ∙ sym (so_many given others).0) server
+      ∙ sym (up_there (run given others) server were)

@@ -1,0 +1,6 @@
+use Rattle.std.proofs.Common.{◌≡◌, drop}
+use Rattle.rep_core.specs.Locks.{with_prepared}
+use Rattle.rep_core.proofs.many_locks.ManyLocks.prepare.Given as goal
+
+abbrev pub invariant-loop-part : goal.invariant-loop-part
+invariant-loop-part l = with_prepared l.t (drop l.part-index l.parts) l.self.locks ≡ with_prepared l.t l.parts l.fn.self.locks

@@ -1,0 +1,283 @@
+#!/usr/bin/env python3
+"""tests/explored.py [--every N]
+tests/explored.py --against PROTOTYPE [--scripts N] [--from SEED] [--merged state|history]
+tests/explored.py --write PROTOTYPE [--merged state|history]
+
+Compares what the program `explore` tells of the scripts of examples/explore and tests/explored with the ways that are
+kept in tests/explored/NAME.ways: those which another program told, that shares no line with it. Plays the script of
+each N-th way by `suites play` (all by default), which has to print just the lines of the way; and compares each answer
+that was decided there with that of the plain table, in the order of the decisions, as tools/compare.py does.
+
+With --against it compares with that other program itself, a plain explorer in Rust, for N random scripts (300 by
+default) of up to three agents and five servers, with crashes, restarts, caches that are forgotten, agents that stop,
+lists of operations and votes that are moved. It merges worlds in which agents are in the same state, or only those in
+which each agent has done and heard the same; so --merged tells which the program `explore` does. With --write it
+writes the files NAME.ways anew. Prints each that differs; status 1 where one does.
+"""
+import argparse
+import os
+import random
+import re
+import shlex
+import subprocess
+import sys
+import tempfile
+import typing
+
+import played
+
+import beside
+import compare
+import console
+import scenario
+
+KEPT = os.path.join(played.TOP, "tests", "explored")
+STORIES = os.path.join(played.TOP, "examples", "explore")
+# The line of a story that tells how it is to be run, or of a script that is kept here.
+RUN = re.compile(r"^# +\./suites explore ?(.*?) ?< (\S+)$", re.M)
+HEAD = re.compile(r"all (\d+) worlds \(\d+ looked through\), (\d+) final, (\d+) ways to end")
+WAY = re.compile(r"way (\d+) in (\d+) final worlds")
+# What stands behind the code of a job that is undecided, and the line of a job whose agent stopped.
+BEHIND = re.compile(r"(undecided U\d).*")
+STOPPED = re.compile(r"\d+\.\d+ -")
+# So many ways at most are told of a random script, so that it ends soon.
+MOST_WORLDS, MOST_SECONDS = 400_000, 60
+ALL_WAYS = "1000000"
+
+
+class Ways(typing.NamedTuple):
+    """What an explorer told: each way with the number of its ends; how many ends and worlds there are; and what of
+    the ways' order is known, the number of events that lead to each.
+    """
+
+    lines: list[tuple[str, ...]]
+    ends: list[int]
+    all_ends: int
+    worlds: int
+    steps: list[int]
+
+    def brief(self) -> "Ways":
+        """The same, where ways that differ only behind the code of what is undecided are one."""
+        joined: dict[tuple[str, ...], int] = {}
+        for way, ends in zip(self.lines, self.ends):
+            short = tuple(BEHIND.sub(r"\1", line) for line in way)
+            joined[short] = joined.get(short, 0) + ends
+        return self._replace(lines=list(joined), ends=list(joined.values()), steps=[])
+
+    def printed(self) -> str:
+        """The ways as `explore` prints them."""
+        told = []
+        for place, (way, ends) in enumerate(zip(self.lines, self.ends), 1):
+            told += [f"way {place} in {ends} of {self.all_ends} ends", *way]
+        return "\n".join([*told, f"all {len(self.lines)} ways, {self.worlds} worlds", ""])
+
+
+def flags_of(words: str) -> list[str]:
+    """The options of a command line that both programs know."""
+    return [word for word in words.split() if word != "--brief"]
+
+
+def steps_in(lines: list[str]) -> int:
+    """How many events the lines of a script are."""
+    return sum(int(line.split()[2]) if re.match(r"step \d+ \d", line) else 1 for line in lines)
+
+
+def prototype_ways(path: str, script: str, words: str, merged: str) -> Ways | None:
+    """What the other program tells of a script; nothing, where it takes too long."""
+    command = [path, "--stage", "16", "explore", "--apart", "--agents", merged, "--ways", ALL_WAYS, "--memory", "600"]
+    try:
+        done = subprocess.run(
+            [*command, *flags_of(words)],
+            input=script.encode(),
+            stdout=subprocess.PIPE,
+            stderr=subprocess.DEVNULL,
+            timeout=MOST_SECONDS,
+        )
+    except subprocess.TimeoutExpired:
+        return None
+    text = done.stdout.decode()
+    head = HEAD.match(text)
+    if not head or int(head[1]) > MOST_WORLDS:
+        return None
+    ways, scripts, ends = list[list[str]](), list[list[str]](), list[int]()
+    for line in text.partition("\nviolations ")[0].split("\n"):
+        found = WAY.match(line)
+        if found:
+            ways.append([])
+            scripts.append([])
+            ends.append(int(found[2]))
+        elif ways and line.startswith("    "):
+            scripts[-1].append(line[4:])
+        elif ways and line.startswith("  ") and len(ways) == len(ends) and line[2].isdigit() and "." in line:
+            ways[-1].append(line[2:])
+    return Ways([tuple(way) for way in ways], ends, int(head[2]), int(head[1]), [steps_in(lines) for lines in scripts])
+
+
+def explored(program: str, script: str, words: str) -> tuple[int, str]:
+    """The exit status of `explore` for a script, and what it printed."""
+    done = subprocess.run(
+        [program, *words.split()], input=script.encode(), stdout=subprocess.PIPE, stderr=subprocess.STDOUT
+    )
+    return done.returncode, done.stdout.decode()
+
+
+def read(text: str) -> list[tuple[str, ...]]:
+    """The lines of each way that `explore` printed."""
+    parts = re.split(r"^way \d+ in \d+ of \d+ ends\n", text, flags=re.M)
+    return [tuple(line for line in part.split("\n") if line and not line.startswith("all ")) for part in parts[1:]]
+
+
+def without_steps(lines: list[str]) -> list[str]:
+    """The lines of `play` without their counts of steps."""
+    return [re.sub(r"^(\d+\.\d+) \d+ ", r"\1 ", line) for line in lines]
+
+
+def differs_when_played(script: str, way: tuple[str, ...], suites: str) -> list[str]:
+    """What is wrong with the script of a way: play prints the lines of the way, after those of what stands above
+    `together`, and each decided answer is that of the plain table.
+    """
+    done = subprocess.run([suites, "play"], input=script.encode(), stdout=subprocess.PIPE, stderr=subprocess.DEVNULL)
+    wanted = sorted(line for line in way if not STOPPED.fullmatch(line))
+    lines = without_steps(done.stdout.decode().splitlines())
+    told = sorted(lines[len(lines) - len(wanted):])
+    wrong = [] if told == wanted and done.returncode == 0 else [f"play prints {told}, and not {wanted}"]
+    return wrong + compare.differences(script)[0]
+
+
+class Tally:
+    """What was compared, and what differs."""
+
+    def __init__(self) -> None:
+        self.count = self.wrong = 0
+
+    def holds(self, is_so: bool, about: str) -> None:
+        self.count += 1
+        if not is_so:
+            self.wrong += 1
+            print(about)
+
+    def told(self) -> int:
+        print(f"{self.count} ways and answers compared, {self.wrong} differ")
+        return 1 if self.wrong else 0
+
+
+def kept() -> typing.Iterator[tuple[str, str, str]]:
+    """The scripts with kept ways: name, words and text of each."""
+    for folder in (STORIES, KEPT):
+        for name in sorted(os.listdir(folder)):
+            if name.endswith(".script"):
+                with open(os.path.join(folder, name), encoding="utf-8") as file:
+                    text = file.read()
+                found = RUN.search(text)
+                if not found or found[2] != os.path.relpath(os.path.join(folder, name), played.TOP):
+                    sys.exit(f"{name} does not tell how it is run")
+                yield name.removesuffix(".script"), found[1], text
+
+
+def with_brief(ways: Ways, words: str) -> str:
+    return (ways.brief() if "--brief" in words.split() else ways).printed()
+
+
+def compare_kept(every: int) -> int:
+    """Compares with the kept ways, and plays the scripts of ways."""
+    program, suites, tally = beside.program("explore"), played.program(None), Tally()
+    for name, words, text in kept():
+        with open(os.path.join(KEPT, f"{name}.ways"), encoding="utf-8") as file:
+            wanted = file.read()
+        status, told = explored(program, text, words)
+        tally.holds((status, told) == (0, wanted), f"{name}: explore {words} ends with {status} and tells\n{told}")
+        for number, way in list(enumerate(read(told), 1))[::every]:
+            status, script = explored(program, text, f"{words} --brief --way {number}" if "--brief" in words.split()
+                                      else f"{words} --way {number}")
+            wrong = [] if status == 0 else [f"--way ends with {status}"]
+            if "--brief" not in words.split():
+                wrong += differs_when_played(script, way, suites)
+            else:
+                wrong += compare.differences(script)[0]
+            tally.holds(not wrong, f"{name}: way {number}: {'; '.join(wrong)}")
+        missing = len(read(told)) + 1
+        tally.holds(explored(program, text, f"{words} --way {missing}")[0] == 2 or "--brief" in words.split(),
+                    f"{name}: there is a way {missing}")
+        status, told = explored(program, text, f"{words} --worlds 10")
+        tally.holds(status == 7 and "\nnot all: " in f"\n{told}", f"{name}: 10 worlds are all")
+    return tally.told()
+
+
+class Explorable(scenario.Scenario):
+    """A random script with a line `together`."""
+
+    def __init__(self, seed: int) -> None:
+        super().__init__(seed, 12)
+        self.agents, self.servers = self.dice.randint(2, 3), self.dice.randint(1, 5)
+
+    def whole(self) -> tuple[str, str]:
+        """The script, and the words with which it is explored."""
+        above = self.script().splitlines()
+        begins = [line for line in above if line.startswith("begin")]
+        head = [line for line in above if line.split()[:1] and line.split()[0] in compare.HEADER | {"old"}]
+        below = []
+        for agent in range(self.agents):
+            for _ in range(self.dice.choice([1, 1, 1, 2])):
+                words = self.dice.choice(begins).split()
+                sweep = f"sweep {agent} {self.dice.randrange(self.servers)}"
+                below.append(sweep if self.dice.random() < 0.15 else " ".join(["begin", str(agent), *words[2:]]))
+        lines = [*head, *[line for line in above if line not in head], "together", *below]
+        crashes = self.dice.choice([0, 0, 1, 1, 2])
+        told = {
+            "--crashes": crashes,
+            "--returns": self.dice.randint(0, crashes),
+            "--forgets": self.dice.choice([0, 0, 0, 1]),
+            "--stops": self.dice.choice([0, 0, 0, 1]),
+        }
+        return "\n".join(lines) + "\n", " ".join(f"{option} {number}" for option, number in told.items() if number)
+
+
+def compare_random(given: argparse.Namespace) -> int:
+    """Compares with the other program for random scripts."""
+    program, tally, seed, count = beside.program("explore"), Tally(), given.first, 0
+    while count < given.scripts:
+        script, words = Explorable(seed).whole()
+        seed += 1
+        wanted = prototype_ways(given.against, script, words, given.merged)
+        if not wanted:
+            continue
+        count += 1
+        status, told = explored(program, script, words)
+        is_same = status == 0 and sorted(read(told)) == sorted(wanted.lines)
+        tally.holds(is_same, f"seed {seed - 1}: explore {words} ends with {status}, and tells {len(read(told))} ways,"
+                             f" where there are {len(wanted.lines)}")
+        # a forgotten site that no job below has makes worlds, and no ways; moves of servers have another order
+        if "--forgets" not in words and "--returns" not in words:
+            about = f"seed {seed - 1}: the ways are told in another order, or with other ends"
+            tally.holds(told == wanted.printed(), about)
+    print(f"{count} scripts of {seed - given.first}, those with up to {MOST_WORLDS} worlds")
+    return tally.told()
+
+
+def write(given: argparse.Namespace) -> int:
+    """Writes the kept ways anew, as the other program tells them."""
+    for name, words, text in kept():
+        ways = prototype_ways(given.write, text, words, given.merged)
+        if not ways:
+            sys.exit(f"{name}: too many worlds")
+        with open(os.path.join(KEPT, f"{name}.ways"), "w", encoding="utf-8") as file:
+            file.write(with_brief(ways, words))
+    return 0
+
+
+def main() -> int:
+    asks = argparse.ArgumentParser(description=__doc__, formatter_class=argparse.RawDescriptionHelpFormatter)
+    asks.add_argument("--every", type=int, default=1)
+    asks.add_argument("--against", metavar="PROTOTYPE")
+    asks.add_argument("--write", metavar="PROTOTYPE")
+    asks.add_argument("--scripts", type=int, default=300)
+    asks.add_argument("--from", type=int, default=0, dest="first")
+    asks.add_argument("--merged", choices=["state", "history"], default="history")
+    given = asks.parse_args()
+    if given.write:
+        return write(given)
+    return compare_random(given) if given.against else compare_kept(given.every)
+
+
+if __name__ == "__main__":
+    console.run(main, "stopped")
