@@ -39,8 +39,8 @@
 //! not prepared beside them.
 //!
 //! **Files**: `lock`, `request`, `reply`, `stamped`, `takes`, `fitting`, `intention`, `store`, `maps`, `copying`,
-//! `holders`, `few_locks`, `many_locks`, `locks`, `verdicts`, `sameness`, `step`, `server_state`, `evaluate`,
-//! `answering`, `server`, `effect`, `types_fit`, `laws`.
+//! `holders`, `few_locks`, `many_locks`, `locks`, `packed_names`, `kept_verdict`, `verdicts`, `sameness`, `step`,
+//! `server_state`, `evaluate`, `answering`, `server`, `effect`, `types_fit`, `laws`.
 //!
 //! **Definitions** (`specs/`): `Locks`, `Intentions`, `Store`, `State`, `Service`, `Serving`, `Fits`, `Roomed`,
 //! `Evaluated`, `Wanting`, `Bare`; of the laws `Consistency`, `Steps`, `ValidCopies`, `Laws`.
@@ -54,11 +54,13 @@ mod few_locks;
 mod fitting;
 mod holders;
 mod intention;
+mod kept_verdict;
 mod laws;
 mod lock;
 mod locks;
 mod many_locks;
 mod maps;
+mod packed_names;
 mod reply;
 mod request;
 mod sameness;
