@@ -1,7 +1,7 @@
 -- Names that are packed into one text with commas come out again, and no others do.
-use Rattle.std.proofs.Common.{◌≡◌, ℕ, ◌+◌, ◌≤◌, ◌<◌, true, false, cond, eqb, List, [], ◌∷◌, ◌++◌, length, map, refl, sym, ap, subst, ◌∙◌, arith, append-nil, Bor, get_or, inl, inr}
-use Rattle.std.specs.Prelude.{All, IsTrue, codes}
-use Rattle.std.specs.List.{flat_map, slice_split, count_by}
+use Rattle.std.proofs.Common.{◌≡◌, ℕ, Bool, ◌+◌, ◌≤◌, ◌<◌, true, false, cond, eqb, List, [], ◌∷◌, ◌++◌, length, map, refl, sym, ap, subst, ◌∙◌, arith, append-nil, Bor, get_or, inl, inr}
+use Rattle.std.specs.Prelude.{All, IsTrue}
+use Rattle.std.specs.List.{slice_split, count_by}
 use Rattle.std.specs.Ordering.{is_lt}
 use Rattle.std.proofs.lemmas.Bool.{cases_Bool, ne_eqb, false≢true, and_parts, and_from}
 use Rattle.std.proofs.lemmas.List.{map-append}
@@ -11,7 +11,7 @@ use Rattle.std.proofs.lemmas.List.Sums.{sum_by-cons, sum_by-append}
 use Rattle.suite_content.specs.Folders.{IsFolder, name_cmp, names_in}
 use Rattle.suite_content.specs.Names.{IsName, is_name_byte}
 use Rattle.suite_content.specs.Written.{with_commas}
-use Rattle.suite_prefix.specs.Faults.{rise_above, names_rise}
+use Rattle.suite_prefix.specs.Faults.{rise_above}
 use Rattle.suite_prefix.proofs.Orders.{folder_if_rise}
 use Rattle.rep_core.specs.code.PackedNames.{parts, unnumbered, AreInOrder}
 
@@ -43,8 +43,8 @@ commas-behind name rest = sum_by-append (λ (y : ℕ). cond (eqb y 44) 1 0) name
 none_if_zero : (name : List ℕ) → commas name ≡ 0 → All (λ b. eqb b 44 ≡ false) name
 none_if_zero [] none = All-nil (λ (b : ℕ). eqb b 44 ≡ false)
 none_if_zero (b ∷ bs) none = elim (cases_Bool (eqb b 44)) [
-  | inl here ↦ absurd (omega (arith, none, commas-cons b bs, ap (λ test. cond test 1 0) here))
-  | inr other ↦ All-cons (λ (x : ℕ). eqb x 44 ≡ false) b bs other (none_if_zero bs (omega (arith, none, commas-cons b bs, ap (λ test. cond test 1 0) other)))
+  | inl here ↦ absurd (omega (arith, none, commas-cons b bs, ap {B = ℕ} (λ (test : Bool). cond test 1 0) here))
+  | inr other ↦ All-cons (λ (x : ℕ). eqb x 44 ≡ false) b bs other (none_if_zero bs (omega (arith, none, commas-cons b bs, ap {B = ℕ} (λ (test : Bool). cond test 1 0) other)))
 ]
 
 at_least : (name : List ℕ) (names : List (List ℕ)) → length names ≤ commas (with_commas (name ∷ names))

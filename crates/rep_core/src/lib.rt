@@ -36,7 +36,7 @@
 //!
 //! In code copies and intentions are bytes (`StoredCopy`), so a Finish moves them. What is asked of the locks, and done
 //! with them, goes through `LockTable`: a few stand in a vector, and many in blocks, with who holds them and which are
-//! not prepared beside them.
+//! not prepared beside them. A verdict keeps a list of 16 names or more as one text, and the same list once.
 //!
 //! **Files**: `lock`, `request`, `reply`, `stamped`, `takes`, `fitting`, `intention`, `store`, `maps`, `copying`,
 //! `holders`, `few_locks`, `many_locks`, `locks`, `packed_names`, `kept_verdict`, `verdicts`, `sameness`, `step`,

@@ -85,11 +85,45 @@ impl PackedNames {
     }
 }
 
-/// The lists that were packed, by the checksum of their texts, so that the same list is kept once; and the place where
-/// the next text is written.
+/// A list, and its names as they are kept.
+#[derive(Drop)]
+struct KnownList {
+    list: NameList,
+    packed: PackedNames,
+}
+
+impl Model for KnownList {
+    ghost use Rattle.std.specs.Prelude.{◌≡◌, ℕ, List};
+
+    ghost Value = { List (List ℕ) };
+
+    ghost view = { λ known. known.packed };
+
+    ghost invariant = { λ known. known.packed ≡ known.list };
+}
+
+impl KnownList {
+    /// Whether it is this list.
+    fn is(&self, list: &NameList) -> bool
+        ensures { IsTrue result → self.now ≡ list.now }
+    {
+        self.list == *list
+    }
+
+    /// Its names.
+    fn names(&self) -> Result<PackedNames, AllocError>
+        ensures { IfOk result (λ names. names ≡ self.now) }
+    {
+        self.packed.clone()
+    }
+}
+
+/// The lists that were packed, by the checksum of their texts, so that the same list is kept once; the last one, which
+/// is mostly the next one too; and the place where a text is written.
 #[derive(Drop)]
 pub(crate) struct PackedLists {
     lists: BlockMap<u64, PackedNames>,
+    last: Option<KnownList>,
     text: Vec<u8>,
 }
 
@@ -98,12 +132,37 @@ impl PackedLists {
     pub(crate) fn new(alloc: Global) -> PackedLists {
         PackedLists {
             lists: BlockMap::new(alloc),
+            last: None,
             text: Vec::new(alloc),
         }
     }
 
     /// A list as it is kept. None where its names do not rise.
     pub(crate) fn pack(
+        &mut self,
+        alloc: Global,
+        list: &NameList,
+    ) -> Result<Option<PackedNames>, AllocError>
+        requires { 0 < length list.now }
+        ensures { IfOk result (λ packed. IfSome packed (λ names. names ≡ list.now)) }
+    {
+        match &self.last {
+            Some(last) if last.is(list) => return Ok(Some(last.names()?)),
+            _ => {}
+        }
+        let Some(packed) = self.pack_text(alloc, list)? else {
+            return Ok(None);
+        };
+        let names = packed.clone()?;
+        self.last = Some(KnownList {
+            list: list.clone()?,
+            packed,
+        });
+        Ok(Some(names))
+    }
+
+    /// The same, of a list that is not the last one.
+    fn pack_text(
         &mut self,
         alloc: Global,
         list: &NameList,

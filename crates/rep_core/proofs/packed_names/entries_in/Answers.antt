@@ -1,9 +1,7 @@
-use Rattle.std.proofs.Common.{ℕ, Bor, List, [], ◌∷◌, ◌++◌, length, map, sym, ap, subst, ◌∙◌, arith, eqb, rules, tests}
+use Rattle.std.proofs.Common.{ℕ, [], ◌∷◌, ◌++◌, length, ap, ◌∙◌, eqb, rules, tests}
 use Rattle.std.specs.List.{slice_split}
 use Rattle.std.proofs.lemmas.Iterator.Splits.{YieldsList-from_slice_split}
 use Rattle.std.proofs.lemmas.Iterator.Consumers.{YieldsList-turn, YieldsList-end}
-use Rattle.std.proofs.lemmas.List.{map-append}
-use Rattle.suite_content.specs.Names.{IsName}
 use Rattle.rep_core.specs.code.PackedNames.{unnumbered}
 use Rattle.rep_core.proofs.PackedNames.{name_at, unnumbered-push}
 use Rattle.rep_core.proofs.packed_names.entries_in.Goals as goal
