@@ -92,3 +92,13 @@ pub mod BesideSides
 pub mod BesideFree
 pub mod BesideLaws
 pub mod BesideWorked
+pub mod MeetCount
+pub mod MeetCalm
+pub mod MeetQuiet
+pub mod MeetCourse
+pub mod MeetRun
+pub mod MeetTold
+pub mod MeetLocks
+pub mod MeetAsks
+pub mod MeetReach
+pub mod MeetBoth

@@ -42,6 +42,7 @@
 //! sweep by its list (`Sweeps.antt`, `Swept.antt`, `Rounds.antt`).
 #![tactic(auto)]
 
+mod meeting;
 mod promises;
 
 ghost use Rattle.law_run_recovers.specs.Laws.{EndsAreByVotes, EndsInTime, MetDemandsAreRows, DecidedWhereVotesAre, HomesGoRound, OneOfThemIsDecided, DecidedHadVotesUp};
@@ -56,6 +57,7 @@ ghost use Rattle.law_run_recovers.specs.Worked.{SomeRunsRecover};
 ghost use Rattle.law_run_recovers.specs.Blocking.{BlockedByDoubts, SomeServerBlocks, OneCrashBlocks};
 ghost use Rattle.law_run_recovers.specs.Contending.{SomeRunsStarve};
 
+pub use meeting::one_that_meets_is_decided;
 pub use promises::{promise, what_can_be_is_available};
 
 /// A law: a transaction that begins where no server that is up has a lock, and that nobody hinders, ends as the votes say
