@@ -102,3 +102,8 @@ pub mod MeetLocks
 pub mod MeetAsks
 pub mod MeetReach
 pub mod MeetBoth
+pub mod MeetEnds
+pub mod MeetApart
+pub mod MeetBarred
+pub mod MeetWants
+pub mod MeetLaw

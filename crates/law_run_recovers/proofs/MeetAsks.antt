@@ -71,7 +71,7 @@ cmp_same x y is = grind (arith, nat_tests)
 
 has_insert : (all : List (ℕ × Change)) (key : ℕ) (value : Change) (one : ℕ × Change) → Has (insert nat_cmp all key value) one → (key ≡ one.0) ⊎ Has all one
 has_insert [] key value one has = ⊎_elim (λ same. inl (ap (λ (one : ℕ × Change). one.0) same)) (λ none. absurd none) has
-has_insert (e ∷ es) key value one = of (nat_cmp key e.0) refl (has_insert es key value one)
+has_insert (e ∷ es) key value one has = of (nat_cmp key e.0) refl (has_insert es key value one) has
   where
     of : (o : Ordering) → nat_cmp key e.0 ≡ o → (Has (insert nat_cmp es key value) one → (key ≡ one.0) ⊎ Has es one) → Has (match_ordering o ((key, value) ∷ e ∷ es) ((e.0, value) ∷ es) (e ∷ insert nat_cmp es key value)) one → (key ≡ one.0) ⊎ Has (e ∷ es) one
     of Less is go has = ⊎_elim (λ same. inl (ap (λ (one : ℕ × Change). one.0) same)) (λ old. inr old) has
@@ -81,14 +81,14 @@ has_insert (e ∷ es) key value one = of (nat_cmp key e.0) refl (has_insert es k
 -- what changes was edited
 changed_at : (f : ℕ → Option Change) (edits : Edits) (one : ℕ × Change) → Has (changes_at f edits) one → list_any (at one.0) edits ≡ true
 changed_at f [] one has = absurd has
-changed_at f (e ∷ edits) one has = of (f e.0) has
+changed_at f (e ∷ edits) one has = of (f e.0) (changed_at f edits one) has
   where
-    of : (found : Option Change) → Has (with_change e.0 found (changes_at f edits)) one → list_any (at one.0) (e ∷ edits) ≡ true
-    of None has = or_later (e.0 == one.0) (list_any (at one.0) edits) (changed_at f edits one has)
-    of (Some change) has =
+    of : (found : Option Change) → (Has (changes_at f edits) one → list_any (at one.0) edits ≡ true) → Has (with_change e.0 found (changes_at f edits)) one → list_any (at one.0) (e ∷ edits) ≡ true
+    of None go has = or_later (e.0 == one.0) (list_any (at one.0) edits) (go has)
+    of (Some change) go has =
         ⊎_elim
         (λ same. ap (λ b. b || list_any (at one.0) edits) (eq-eqb e.0 one.0 same))
-        (λ old. or_later (e.0 == one.0) (list_any (at one.0) edits) (changed_at f edits one old))
+        (λ old. or_later (e.0 == one.0) (list_any (at one.0) edits) (go old))
         (has_insert (changes_at f edits) e.0 change one has)
 
 -- ---- what is needed is asked for
@@ -112,30 +112,30 @@ is_hold (Know suite) = false
 needed_asked : (needed : List Need) (asked : List (ℕ × LockMode)) (z : ℕ) (mode : LockMode) → Has needed (Hold z mode) → (has_asked asked z mode ≡ true) ⊎ (has_asked (not_asked asked needed) z mode ≡ true)
 needed_asked [] asked z mode has = absurd has
 needed_asked (Know s ∷ needed) asked z mode has = ⊎_elim (λ same. absurd (false≢true (ap is_hold same))) (λ later. needed_asked needed asked z mode later) has
-needed_asked (Hold s k ∷ needed) asked z mode has = of (has_asked asked s k) refl has
+needed_asked (Hold s k ∷ needed) asked z mode has = of (has_asked asked s k) refl (λ asked. needed_asked needed asked z mode) has
   where
-    of : (b : Bool) → has_asked asked s k ≡ b → (Hold s k ≡ Hold z mode) ⊎ Has needed (Hold z mode)
+    of : (b : Bool) → has_asked asked s k ≡ b → ((asked : List (ℕ × LockMode)) → Has needed (Hold z mode) → (has_asked asked z mode ≡ true) ⊎ (has_asked (not_asked asked needed) z mode ≡ true)) → (Hold s k ≡ Hold z mode) ⊎ Has needed (Hold z mode)
         → (has_asked asked z mode ≡ true) ⊎ (has_asked (cond b (not_asked asked needed) ((s, k) ∷ not_asked ((s, k) ∷ asked) needed)) z mode ≡ true)
-    of true is (inl same) = inl (subst (λ z. has_asked asked z mode ≡ true) (ap need_suite same) (subst (λ mode. has_asked asked s mode ≡ true) (ap need_mode same) is))
-    of true is (inr later) = needed_asked needed asked z mode later
-    of false is (inl same) =
+    of true is go (inl same) = inl (subst (λ z. has_asked asked z mode ≡ true) (ap need_suite same) (subst (λ mode. has_asked asked s mode ≡ true) (ap need_mode same) is))
+    of true is go (inr later) = go asked later
+    of false is go (inl same) =
         inr (ap (λ b. (b && serves k mode) || has_asked (not_asked ((s, k) ∷ asked) needed) z mode) (eq-eqb s z (ap need_suite same))
         ∙ ap (λ b. b || has_asked (not_asked ((s, k) ∷ asked) needed) z mode) (subst (λ mode. serves k mode ≡ true) (ap need_mode same) (serves_own k)))
-    of false is (inr later) =
+    of false is go (inr later) =
         ⊎_elim
         (λ had. ⊎_elim
         (λ here. inr (ap (λ b. b || has_asked (not_asked ((s, k) ∷ asked) needed) z mode) here))
         (λ before. inl before)
         (or_parts ((s == z) && serves k mode) (has_asked asked z mode) had))
         (λ rest. inr (or_later ((s == z) && serves k mode) (has_asked (not_asked ((s, k) ∷ asked) needed) z mode) rest))
-        (needed_asked needed ((s, k) ∷ asked) z mode later)
+        (go ((s, k) ∷ asked) later)
 
 -- ---- so what it sets votes of it asks for exclusively
 
 pub sets_asked : (table : PlainTable) (t : ℕ) (caller : Identity) (ops : List Op) (set : ℕ × Configuration) → Has (votes_set table t caller ops) set → Has (locks_asked table t caller ops) (set.0, Exclusive)
 sets_asked table t caller ops set has =
     asked_exclusive (locks_asked table t caller ops) set.0
-    (⊎_elim (λ none. absurd (false≢true none)) (λ is. is) (needed_asked (needs (row_of table.rows) [] (transaction table.service t caller ops)) [] set.0 Exclusive (of (ending (row_of table.rows) [] (transaction table.service t caller ops)) refl changed.1)))
+    (⊎_elim (λ none. absurd (false≢true none)) (λ is. is) (needed_asked (needs (row_of table.rows) [] (transaction table.service t caller ops)) [] set.0 Exclusive (of (ending (row_of table.rows) [] (transaction table.service t caller ops)) refl (changed.1, changed.2))))
   where
     changed : (one : ℕ × Change) × Has (changes_on table.rows (ending (row_of table.rows) [] (transaction table.service t caller ops))) one × (one.0 ≡ set.0)
     changed =

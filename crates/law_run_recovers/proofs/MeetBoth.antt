@@ -46,7 +46,7 @@ cancel (x ∷ xs) ys zs is = cancel xs ys zs (ap tail_or is)
 
 -- ---- events that begin
 
-abbrev agent_in : Event → ℕ
+abbrev pub agent_in : Event → ℕ
 agent_in (Begin i job) = i
 agent_in (Step i) = i
 agent_in (Crash server) = server
@@ -75,7 +75,7 @@ pub record IsSame (given : Opening) (events later : List Event) (b who : Begun g
   pub t : b.t ≡ who.t
   pub after : b.after ≡ who.after
 
-same_place : (given : Opening) (events later : List Event) (b who : Begun given events later) → b.before ≡ who.before → IsSame given events later b who
+pub same_place : (given : Opening) (events later : List Event) (b who : Begun given events later) → b.before ≡ who.before → IsSame given events later b who
 same_place given events later b who same = record { event = event'; t = number; after = ap tail_or rest }
   where
     rest : Begin b.agent (Transaction b.caller b.site b.ops) ∷ b.after ≡ Begin who.agent (Transaction who.caller who.site who.ops) ∷ who.after
@@ -99,7 +99,7 @@ pub world_in : (given : Opening) (events part : List Event) → after (fixed_of 
 world_in given events part = sym (after_append (fixed_of given) events part (opening given))
 
 -- no server has a lock as it begins
-none_first : (given : Opening) (events later : List Event) → Fair given events later → (s : ℕ) (st : State) → server_at (run given (events ++ [])) s ≡ Some st → (lock : Lock) → Has st.locks lock → ⊥
+pub none_first : (given : Opening) (events later : List Event) → Fair given events later → (s : ℕ) (st : State) → server_at (run given (events ++ [])) s ≡ Some st → (lock : Lock) → Has st.locks lock → ⊥
 none_first given events later fair s st at lock has =
     of st.locks (all_at (λ (st : State). length st.locks == 0) (run given events).servers st fair.free (at_has (run given events).servers s st (ap (λ all. server_at (run given all) s) (sym (append-nil events)) ∙ at))) lock has
   where

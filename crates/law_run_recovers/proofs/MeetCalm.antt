@@ -297,7 +297,7 @@ module _ (given : Opening) (events later : List Event) (calm : Calm given events
   -- ---- what is finished was not answered
 
   module _ (so_far rest : List Event) (split : later ≡ so_far ++ rest) (i : ℕ) (here : Actor) (there : actor_at (run given (events ++ so_far)) i ≡ Some here) (asked : ℕ × Request) (next : next_of (fixed_of given) here.agent ≡ Some asked) where
-    busy : Busy given events later calm.fair so_far i here.agent.doing
+    abbrev busy : Busy given events later calm.fair so_far i here.agent.doing
     busy = busy_one given events later calm.fair so_far rest split i here there asked next
 
     spares : Spares asked.1

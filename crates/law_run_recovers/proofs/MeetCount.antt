@@ -39,7 +39,7 @@ or_wider Shared Shared Exclusive Shared wide wider is = absurd (false≢true wid
 pub clash_wider : (y : ℕ) (m more k other : LockMode) → serves more m ≡ true → serves other k ≡ true → clashes (y, m) (y, k) ≡ true → clashes (y, more) (y, other) ≡ true
 clash_wider y m more k other wide wider is = clash_same y more other ∙ or_wider m more k other wide wider (sym (clash_same y m k) ∙ is)
 
-serves_own : (m : LockMode) → serves m m ≡ true
+pub serves_own : (m : LockMode) → serves m m ≡ true
 serves_own Shared = refl
 serves_own Exclusive = refl
 

@@ -194,13 +194,13 @@ module _ (given : Opening) (base events later : List Event) (agent t : ℕ) (cal
     -- what a step leaves, of which nothing is decided
     by_after : (so_far : List Event) (here : Actor) (now : Cache) (after : After TransactionRun) → actor_at (world_after given events agent caller site ops so_far) agent ≡ Some here → here.agent.doing ≡ left Running after → here.agent.cache ≡ now
         → AfterStands (fixed_of given) (run given base) sight (table_of given base) its actor.agent.cache Known ground now after → words.Leaves its verdict.Aborted after → State' so_far
-    by_after so_far here now (Ends ended) there doing cache stands leaves =
-        inr (closed_rests so_far here there (λ open'. subst IsOpen doing open'), record { cause = leaves.0; right = subst Right leaves.1 stands })
-    by_after so_far here now (GoesOn more) there doing cache stands leaves = of more.phase refl
+    by_after so_far here now (Ends ended) there does cache stands leaves =
+        inr (closed_rests so_far here there (λ open'. subst IsOpen does open'), record { cause = leaves.0; right = subst Right leaves.1 stands })
+    by_after so_far here now (GoesOn more) there does cache stands leaves = of more.phase refl
       where
         open_now : IsOpenPhase more.phase → State' so_far
         open_now open' =
-            inl (record { here = here; there = there; txn_run = more; running = doing; task_is = stands.0; is_open = open'; stands = subst (λ now. PhaseIn more.suites now more.phase) (sym cache) stands.1 })
+            inl (record { here = here; there = there; txn_run = more; running = does; task_is = stands.0; is_open = open'; stands = subst (λ now. PhaseIn more.suites now more.phase) (sym cache) stands.1 })
 
         of : (phase : Phase) → more.phase ≡ phase → State' so_far
         of (Gathering z) is = open_now (subst IsOpenPhase (sym is) tt)
@@ -211,7 +211,7 @@ module _ (given : Opening) (base events later : List Event) (agent t : ℕ) (cal
         of (Finishing servers v ended) is =
             let told = subst (words.Tells verdict.Aborted) is leaves.1 in
             let right : Right ended = subst (PhaseIn more.suites now) is stands.1 in
-            inr (closed_rests so_far here there (λ open'. subst IsOpenPhase is (subst IsOpen doing open')), record { cause = told.1.0; right = subst Right (told.1.1) right })
+            inr (closed_rests so_far here there (λ open'. subst IsOpenPhase is (subst IsOpen does open')), record { cause = told.1.0; right = subst Right (told.1.1) right })
 
     -- ---- its begin
 
@@ -300,7 +300,8 @@ module _ (given : Opening) (base events later : List Event) (agent t : ℕ) (cal
       lock_right : (z : ℕ) (question : Asked) → took.asked.1 ≡ request_for t z question → Answers (fixed_of given) (run given base) sight z question took.asked.0 said
       lock_right z question is = subst (Answers (fixed_of given) (run given base) sight z question took.asked.0) (sym (says z question is)) (of (in_the_way t z (mode_asked question) took.st.locks) refl)
         where
-          fit : _
+          fit : ((prefix : Prefix) (dver : ℕ) → said ≡ reply.Held prefix dver → opens z (mode_asked question) took.asked.0 ≡ true)
+              × ((holder : ℕ) (prepared : Bool) → said ≡ reply.Busy holder prepared → opens z (mode_asked question) took.asked.0 ≡ false)
           fit = fits so_far rest split work _ took.done z question is
 
           of : (found : Option Lock) → in_the_way t z (mode_asked question) took.st.locks ≡ found → Answers (fixed_of given) (run given base) sight z question took.asked.0 (locking_reply found (copy_of took.st.store z))

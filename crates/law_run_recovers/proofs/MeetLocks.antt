@@ -39,8 +39,8 @@ use Rattle.law_runs.proofs.Worlds.{puts_in}
 use Rattle.law_run_alone.proofs.Walks.{AllAt, MayAsk, asks_servers}
 use Rattle.law_run_recovers.specs.Beside.{clashes, Begun}
 use Rattle.law_run_recovers.specs.Standing.{locks_in, locks_at}
-use Rattle.law_run_recovers.specs.Unmet.{takes, world_after}
-use Rattle.law_run_recovers.proofs.AmongLocks.{drops}
+use Rattle.law_run_recovers.specs.Unmet.{takes, robs, hinders_itself, world_after}
+use Rattle.law_run_recovers.proofs.AmongLocks.{drops, bereaves}
 use Rattle.law_run_recovers.proofs.AtWork.{takes_nothing}
 use Rattle.law_run_recovers.proofs.Keeps.{IsAtWork, run_at, step_asks}
 use Rattle.law_run_recovers.proofs.Owned.{AllOwned, MayLock, owned_stays}
@@ -290,7 +290,7 @@ module _ (given : Opening) (base events later : List Event) (agent t : ℕ) (cal
           let puts = puts_in (world_at so_far).servers serves.target serves.st (served serves.st serves.asked) serves.at in
           let up = (goes.up so_far (event ∷ rest) split serves.target serves.st serves.at).0 in
           let none = takes_nothing given goes.can.accepted (events ++ Begin agent (Transaction caller site ops) ∷ so_far) agent t (subst (λ w. IsAtWork w agent t) is_run work) event
-          (subst (λ w. _) is_run (goes.spared so_far rest event split work)) _ serves.st
+          (subst (λ w. (hinders_itself given agent w event || (robs given agent t w event || bereaves given agent t w event)) ≡ false) is_run (goes.spared so_far rest event split work)) _ serves.st
           (ap (λ w. (step (fixed_of given) w event).done.served) (sym is_run) ∙ serves.done) (ap (λ w. server_at w serves.target) (sym is_run) ∙ serves.at) up in
           subst (λ servers. HasMode t z mode (locks_in (slice_get servers server))) (sym serves.servers)
           (⊎_elim
@@ -346,7 +346,7 @@ module _ (given : Opening) (events later : List Event) (calm : Calm given events
     by_upgrade : (u z : ℕ) → asked.value ≡ request.Upgrade u z → AllOwned (O s) (served st asked).locks
     by_upgrade u z is = of (has_lock u z st.locks) refl (in_the_way u z Exclusive st.locks) refl
       where
-        abbrev Then : Bool → Option Lock → List Lock
+        Then : Bool → Option Lock → List Lock
         Then b found = (cond b (after_locking found u z Exclusive st) st).locks
 
         after_is : (after st asked.value).locks ≡ (cond (has_lock u z st.locks) (after_locking (in_the_way u z Exclusive st.locks) u z Exclusive st) st).locks

@@ -37,6 +37,7 @@ use Rattle.run_core.specs.Worlds.{Actor, World, server_at, actor_at, step}
 use Rattle.run_core.specs.Runs.{run}
 use Rattle.run_core.specs.TableOfRun.{table_of}
 use Rattle.law_agents.specs.Gathers as gathers
+use Rattle.law_agents.specs.Orders.{number_of}
 use Rattle.law_agents.proofs.Gathered.{gathers_in_order}
 use Rattle.law_suite_machine.specs.Registers.{WasPrefix}
 use Rattle.law_server_moves.specs.Laws.{beginning}
@@ -231,7 +232,7 @@ module _ (given : Opening) (base events later : List Event) (agent t : ℕ) (cal
     mode_is : mode_of asked.1 ≡ asking.mode
     mode_is = of (has_said (past_of h.told) z (holding Shared) asked.0) refl asking.mode asking.asks left.1
       where
-        of : (b : Bool) → has_said (past_of h.told) z (holding Shared) asked.0 ≡ b → (mode : LockMode) → asked.1 ≡ cond b (request.Upgrade (gathers.number_of asked.1) z) (request.Poll (gathers.number_of asked.1) z mode)
+        of : (b : Bool) → has_said (past_of h.told) z (holding Shared) asked.0 ≡ b → (mode : LockMode) → asked.1 ≡ cond b (request.Upgrade (number_of asked.1) z) (request.Poll (number_of asked.1) z mode)
             → has_said (past_of h.told) z (holding mode) asked.0 ≡ false → mode_of asked.1 ≡ mode
         of false is mode asks none = ap mode_of asks
         of true is Shared asks none = absurd (false≢true (sym none ∙ is))

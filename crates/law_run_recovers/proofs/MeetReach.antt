@@ -173,7 +173,7 @@ module _ (given : Opening) (base events later : List Event) (agent t : ℕ) (cal
         → Short given base events later agent t caller site ops actor goes opens weaker opens_up fits → IsWanting
     wanting moves_none home short = of (find (unmet S) wants) refl short.right.ends
       where
-        abbrev wants : List Want
+        wants : List Want
         wants =
             map (of_lock (fixed_of given) (run given base) S short.right.start) (locks_on (table_of given base) (its given base events later agent t caller site ops actor goes))
             ++ map of_votes (sets_on (table_of given base) (its given base events later agent t caller site ops actor goes))

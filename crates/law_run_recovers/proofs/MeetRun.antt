@@ -200,7 +200,7 @@ module _ (given : Opening) (events later : List Event) (calm : Calm given events
 
   -- ---- so it goes quietly
 
-  abbrev pub goes_of : GoesQuietly given events (events ++ one.before) one.after one.agent one.t one.caller one.site one.ops its_actor.0
+  pub goes_of : GoesQuietly given events (events ++ one.before) one.after one.agent one.t one.caller one.site one.ops its_actor.0
   goes_of = record {
     can = can_all;
     can_base = subst (CanBe given) (append-nil events) (can_at given events later calm.fair [] later refl);

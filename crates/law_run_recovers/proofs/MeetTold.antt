@@ -216,14 +216,14 @@ module _ (given : Opening) (base events later : List Event) (agent t : ℕ) (cal
         of (Some (RunningSweep sweep_run)) at next =
             absurd (⊎_elim
             (λ self. none-some self.task (sym (ap task_of at) ∙ self.running))
-            (λ sweeps. false≢true (sym (for_lock_named t z what.request.value lock).2.0 ∙ sweeps.swept))
+            (λ sweeps. false≢true (sym (for_lock_named t z what.request.value lock).2 ∙ sweeps.swept))
             (agents_ask_for_themselves given goes.can.accepted (events ++ Begin agent (Transaction caller site ops) ∷ so_far) agent asks.0 what.server what.request.value
             (ap (λ w. actor_at w agent) (sym (run_at given events later agent t caller site ops actor goes.can goes.there goes.begins so_far)) ∙ asks.1) asks.2))
         of (Some (Running txn_run)) at next =
             let facts = for_lock_named t z what.request.value lock in
             let same = names_one txn_run.task.t t what.request.value (names_mine (fixed_of given) txn_run.task.t (Some (Running txn_run)) (what.server, what.request.value) refl next) facts.0 in
             at_work (world_at so_far) agent t asks.0 asks.1
-            (subst IsOpen (sym at) (open_where (fixed_of given) txn_run (what.server, what.request.value) next facts.2.1))
+            (subst IsOpen (sym at) (open_where (fixed_of given) txn_run (what.server, what.request.value) next facts.3))
             (ap (runs t) at ∙ eq-eqb txn_run.task.t t same)
 
     pub its_heard : Heard given base events later agent t caller site ops actor goes so_far
@@ -261,10 +261,10 @@ module _ (given : Opening) (base events later : List Event) (agent t : ℕ) (cal
   pub not_both : (z : ℕ) (mode : LockMode) (server : ℕ) → held z mode server ≡ true → barred z mode server ≡ true → ⊥
   not_both z mode server is_held' is_barred =
       ⊎_elim
-      (λ same. never_both g.what.reply.value (granted.2.2.0) (subst (λ (what : Served). says_busy what.reply.value ≡ true) (sym (same_what same.0)) refused.2.2.0))
+      (λ same. never_both g.what.reply.value (granted.2) (subst (λ (what : Served). says_busy what.reply.value ≡ true) (sym (same_what same.0)) refused.2))
       (λ order. ⊎_elim
-      (λ first. not_held r.front r.back r.parts r.what r.served z refused.1 g.front first.0 g.what first.1 g.served servers granted.1 granted.2.2.0 (serves_over _ mode _ granted.2.2.1 refused.2.2.1))
-      (λ second. not_refused g.front g.back g.parts g.what g.served z granted.1 r.front second.0 r.what second.1 r.served (sym servers) refused.1 refused.2.2.0)
+      (λ first. not_held r.front r.back r.parts r.what r.served z refused.1 g.front first.0 g.what first.1 g.served servers granted.1 granted.2 (serves_over _ mode _ granted.3 refused.3))
+      (λ second. not_refused g.front g.back g.parts g.what g.served z granted.1 r.front second.0 r.what second.1 r.served (sym servers) refused.1 refused.2)
       order)
       (compared g.front r.front (Step agent) (Step agent) g.back r.back (sym g.parts ∙ r.parts))
     where
@@ -306,7 +306,7 @@ module _ (given : Opening) (base events later : List Event) (agent t : ℕ) (cal
       and_from (is_up (run given base) server) (held z Shared server) parts.0
       (wider (grants t z Exclusive server) (grants t z Shared server)
       (λ what is. let p = four (what.server == server) (for_lock t z what.request.value) (says_held what.reply.value) (serves (mode_of what.request.value) Exclusive) is in
-      four_from (what.server == server) (for_lock t z what.request.value) (says_held what.reply.value) (serves (mode_of what.request.value) Shared) p.0 p.1 p.2.0 (serves_over (mode_of what.request.value) Exclusive Shared p.2.1 refl))
+      four_from (what.server == server) (for_lock t z what.request.value) (says_held what.reply.value) (serves (mode_of what.request.value) Shared) p.0 p.1 p.2 (serves_over (mode_of what.request.value) Exclusive Shared p.3 refl))
       later (begun_world given events agent caller site ops) parts.1)
 
   pub free_weaker : (z server : ℕ) → opens_free z Exclusive server ≡ true → opens_free z Shared server ≡ true
@@ -318,7 +318,7 @@ module _ (given : Opening) (base events later : List Event) (agent t : ℕ) (cal
       more is =
           wider (refuses t z Shared server) (refuses t z Exclusive server)
           (λ what is. let p = four (what.server == server) (for_lock t z what.request.value) (says_busy what.reply.value) (serves Shared (mode_of what.request.value)) is in
-          four_from (what.server == server) (for_lock t z what.request.value) (says_busy what.reply.value) (serves Exclusive (mode_of what.request.value)) p.0 p.1 p.2.0 refl)
+          four_from (what.server == server) (for_lock t z what.request.value) (says_busy what.reply.value) (serves Exclusive (mode_of what.request.value)) p.0 p.1 p.2 refl)
           later (begun_world given events agent caller site ops) is
 
       of : (b : Bool) → barred z Shared server ≡ b → not (barred z Exclusive server) ≡ true → not b ≡ true
