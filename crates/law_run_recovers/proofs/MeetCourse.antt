@@ -48,7 +48,7 @@ use Rattle.txn_core.specs.Doing.{Fixed, Task, Phase, Gathering, Fetching, Prepar
 use Rattle.txn_core.specs.Transactions.{Step as CourseStep, execute, given_in, changes_of, decision_of, request_in, after_reply, asked_for}
 use Rattle.txn_core.specs.Agents as agents
 use Rattle.txn_core.specs.Agents.{Agent, Taken, fixed_of, next_in, next_of, left, with_step, take_in, take, begins, begin, started, forget}
-use Rattle.txn_core.specs.Laws.{exchanges, is_decide}
+use Rattle.txn_core.specs.Laws.{exchanges, is_decide, said_by}
 use Rattle.txn_core.proofs.Asks.{asks_same}
 use Rattle.txn_core.proofs.Locks as keeping
 use Rattle.txn_core.proofs.Locks.{Keeps, nothing_held, plus_all, begin_keeps}
@@ -427,7 +427,7 @@ module _ (given : Opening) (base events later : List Event) (agent t : ℕ) (cal
       own_on : is_decide took.asked.1 ≡ false → State' (so_far ++ Step agent ∷ [])
       own_on undecided =
           by_after next took.new (step_of its).cache (step_of its).after there_next (ap (λ (a : Agent). a.doing) here_is) (ap (λ (a : Agent). a.cache) here_is) good_step
-          (subst (λ b. words.Leaves its (cond b _ verdict.Aborted) (step_of its).after) undecided
+          (subst (λ b. words.Leaves its (cond b (said_by (Replied said) verdict.Aborted) verdict.Aborted) (step_of its).after) undecided
           (words.leaves_response (fixed_of given) its c.here.agent.cache c.txn_run.suites c.txn_run.phase took.asked.0 took.asked.1 (Replied said) verdict.Aborted request_is (tells_open c.txn_run.phase c.is_open)))
         where
           tells_open : (phase : Phase) → IsOpenPhase phase → words.Tells verdict.Aborted phase

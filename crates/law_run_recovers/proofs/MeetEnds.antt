@@ -36,15 +36,15 @@ use Rattle.law_run_recovers.proofs.MeetRun.{run_is}
 -- ---- lists
 
 -- two fronts of a list: one is a front of the other
-pub fronts : {X : Type 0} (xs ys as bs : List X) → xs ++ as ≡ ys ++ bs → ((more : List X) × (ys ≡ xs ++ more)) ⊎ ((more : List X) × (xs ≡ ys ++ more))
-fronts [] ys as bs is = inl (ys, refl)
-fronts (x ∷ xs) [] as bs is = inr (x ∷ xs, refl)
-fronts (x ∷ xs) (y ∷ ys) as bs is =
+pub fronts : {X : Type 0} (xs ys us vs : List X) → xs ++ us ≡ ys ++ vs → ((more : List X) × (ys ≡ xs ++ more)) ⊎ ((more : List X) × (xs ≡ ys ++ more))
+fronts [] ys us vs is = inl (ys, refl)
+fronts (x ∷ xs) [] us vs is = inr (x ∷ xs, refl)
+fronts (x ∷ xs) (y ∷ ys) us vs is =
     let same : x ≡ y = ap (head_or x) is in
     ⊎_elim
     (λ one. inl (one.0, ap (λ ys. y ∷ ys) one.1 ∙ ap (λ y. y ∷ (xs ++ one.0)) (sym same)))
     (λ one. inr (one.0, ap (λ xs. x ∷ xs) one.1 ∙ ap (λ x. x ∷ (ys ++ one.0)) same))
-    (fronts xs ys as bs (ap tail_or is))
+    (fronts xs ys us vs (ap tail_or is))
 
 -- the first front of a list of which something is not so
 pub record Cut (W : List Event → Type 0) (all : List Event) : Type 0 where

@@ -250,7 +250,7 @@ granted t z st request.Return up lock said = absurd (false≢true lock)
 pub keeps_out : (t u z : ℕ) (m k : LockMode) (locks : List Lock) → (t == u) ≡ false → HasMode t z m locks → clashes (z, m) (z, k) ≡ true → in_the_way u z k locks ≡ None → ⊥
 keeps_out t u z m k locks apart is clash free =
     false≢true (sym (find_none (conflicts u z k) locks is.lock free is.has)
-    ∙ three (is.lock.suite == z) (is.lock.t == u) (is_exclusive k || is_exclusive is.lock.mode) own.1 apart' (way is.lock.mode m k is.strong (and_parts (z == z) (is_exclusive m || is_exclusive k) clash).1))
+    ∙ met (is.lock.suite == z) (is.lock.t == u) (is_exclusive k || is_exclusive is.lock.mode) own.1 apart' (way is.lock.mode m k is.strong (and_parts (z == z) (is_exclusive m || is_exclusive k) clash).1))
   where
     own : ((is.lock.t == t) ≡ true) × ((is.lock.suite == z) ≡ true)
     own = and_parts (is.lock.t == t) (is.lock.suite == z) is.own
@@ -258,8 +258,8 @@ keeps_out t u z m k locks apart is clash free =
     apart' : (is.lock.t == u) ≡ false
     apart' = ap (λ n. n == u) (eqb-true is.lock.t t own.0) ∙ apart
 
-    three : (a b c : Bool) → a ≡ true → b ≡ false → c ≡ true → (a && not b && c) ≡ true
-    three a b c one two three = grind (arith, nat_tests)
+    met : (a b c : Bool) → a ≡ true → b ≡ false → c ≡ true → (a && not b && c) ≡ true
+    met a b c one other third = grind (arith, nat_tests)
 
     way : (have m k : LockMode) → serves have m ≡ true → (is_exclusive m || is_exclusive k) ≡ true → (is_exclusive k || is_exclusive have) ≡ true
     way have m Exclusive strong is = refl

@@ -132,37 +132,34 @@ module _ (given : Opening) (events later : List Event) (calm : Calm given events
       has_job : has_no_job (actor_at (run given (events ++ front)) one.agent) ≡ false
       has_job = no_job_of one.t (actor_at w one.agent) running
 
-      Free : Event → Type 0
-      Free event = (hinders_itself given one.agent (run given (events ++ front)) event || robs given one.agent one.t (run given (events ++ front)) event) ≡ false
-
       free_hand : (event : Event) → spoils given (run given (events ++ front)) event ≡ false → (hinders_itself given one.agent (run given (events ++ front)) event || robs given one.agent one.t (run given (events ++ front)) event) ≡ false
-      free_hand (Begin i job) quiet = refl
-      free_hand (Crash server) quiet = refl
-      free_hand (Return server) quiet = refl
-      free_hand (Forget i site) quiet = refl
-      free_hand (Lack i why) quiet = by (i == one.agent) refl
+      free_hand (Begin i job) calm_here = refl
+      free_hand (Crash server) calm_here = refl
+      free_hand (Return server) calm_here = refl
+      free_hand (Forget i site) calm_here = refl
+      free_hand (Lack i why) calm_here = by (i == one.agent) refl
         where
           by : (b : Bool) → (i == one.agent) ≡ b → (b || false) ≡ false
-          by true same = absurd (false≢true (sym quiet ∙ ap not (ap (λ i. has_no_job (actor_at w i)) (eqb-true i one.agent same) ∙ has_job)))
+          by true same = absurd (false≢true (sym calm_here ∙ ap not (ap (λ i. has_no_job (actor_at w i)) (eqb-true i one.agent same) ∙ has_job)))
           by false apart = refl
-      free_hand (Step i) quiet = by (i == one.agent) refl
+      free_hand (Step i) calm_here = by (i == one.agent) refl
         where
           by : (b : Bool) → (i == one.agent) ≡ b
               → (((i == one.agent) && not (is_some (step (fixed_of given) (run given (events ++ front)) (Step i)).done.served))
               || (not (i == one.agent) && not (is_telling (run given (events ++ front)) one.agent) && of_up (takes one.t) (run given (events ++ front)) (step (fixed_of given) (run given (events ++ front)) (Step i)).done.served)) ≡ false
           by true same =
               own_served (i == one.agent) (is_some (step (fixed_of given) w (Step i)).done.served) (not (is_telling w one.agent)) (of_up (takes one.t) w (step (fixed_of given) w (Step i)).done.served) same
-              (not_both (has_no_job (actor_at w i)) (is_some (step (fixed_of given) w (Step i)).done.served) quiet (ap (λ i. has_no_job (actor_at w i)) (eqb-true i one.agent same) ∙ has_job))
+              (not_both (has_no_job (actor_at w i)) (is_some (step (fixed_of given) w (Step i)).done.served) calm_here (ap (λ i. has_no_job (actor_at w i)) (eqb-true i one.agent same) ∙ has_job))
           by false apart =
               others_none (i == one.agent) (is_some (step (fixed_of given) w (Step i)).done.served) (not (is_telling w one.agent)) (of_up (takes one.t) w (step (fixed_of given) w (Step i)).done.served) apart (not_robbed i apart)
 
       none_crashes : (event : Event) → spoils given (run given (events ++ front)) event ≡ false → bereaves given one.agent one.t (run given (events ++ front)) event ≡ false
-      none_crashes (Begin i job) quiet = refl
-      none_crashes (Step i) quiet = refl
-      none_crashes (Crash server) quiet = absurd (false≢true (sym quiet))
-      none_crashes (Return server) quiet = refl
-      none_crashes (Forget i site) quiet = refl
-      none_crashes (Lack i why) quiet = refl
+      none_crashes (Begin i job) calm_here = refl
+      none_crashes (Step i) calm_here = refl
+      none_crashes (Crash server) calm_here = absurd (false≢true (sym calm_here))
+      none_crashes (Return server) calm_here = refl
+      none_crashes (Forget i site) calm_here = refl
+      none_crashes (Lack i why) calm_here = refl
 
       spared_now : (hinders_itself given one.agent (run given (events ++ front)) event || (robs given one.agent one.t (run given (events ++ front)) event || bereaves given one.agent one.t (run given (events ++ front)) event)) ≡ false
       spared_now =
