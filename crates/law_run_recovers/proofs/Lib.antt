@@ -107,3 +107,4 @@ pub mod MeetApart
 pub mod MeetBarred
 pub mod MeetWants
 pub mod MeetLaw
+pub mod MeetWorked
