@@ -50,8 +50,9 @@ import typing
 import console
 import explain
 import faulty
-import grammar
+import fitting
 import looking
+import reasons
 import shapes
 import trace
 
@@ -426,9 +427,10 @@ def main() -> int:
 
 def fault_text(word: str, servers: int | None, code: str) -> str:
     """What is told of faulty votes: the rule with its numbers, the form, and what the page says of the code."""
-    where = grammar.Where(servers or MOST_SERVERS, MOST_AGENTS, {"user": {}, "group": {}}, "votes")
-    wrong = grammar.of_votes(word, where) if code != "G1" else None
-    told = [faulty.sentence(wrong.text), "", FORM, ""] if wrong and wrong.code == code else []
+    found = fitting.of_line("serve", [f"servers {servers or MOST_SERVERS}"], f"votes {word}") if code != "G1" else None
+    told: list[str] = []
+    if found and found.code == code:
+        told = [faulty.sentence(reasons.text_of(reasons.Of(found.why, word, "VOTES"))), "", FORM, ""]
     return "\n".join([f"fault {code}", "", *told, *([explain.explained(code)] if code != "S1" else [])]).rstrip()
 
 
