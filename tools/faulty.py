@@ -1,9 +1,9 @@
 """What is wrong with one line of a script, or with one item of a list, that the program found faulty.
 
 The program's line and code are given. The program `forms` tells the word that does not fit, what is due there, and why
-(tools/fitting.py); what is told of it is laid out here (its sentences are those of tools/reasons.py). Which change would
-mend the line is tried, and whether the changed line fits is asked of the program. Where its code is not the one that
-was given, nothing is told.
+(tools/fitting.py); what is told of it is laid out here, with the sentences of tools/reasons.py. Which change would mend
+the line is tried, and whether the changed line fits is asked of the program. Where its code is not the one that was
+given, nothing is told.
 """
 import re
 import typing
@@ -13,7 +13,7 @@ import forms
 from fitting import Misfit
 from forms import COMMANDS, OPERATIONS
 from quoted import either, nearest, plain, quoted
-from reasons import MARKS, Of, of_item, text_of
+from reasons import MARKS, Of, of_item
 
 WORD = re.compile(r"[^ \t]+")
 # An item of a list from its first byte on, with no white space at its end.
@@ -120,7 +120,7 @@ def told_of_first(script: Script, found: Misfit) -> str:
     elif reason == "unknown":
         told = unknown(script, due)
     else:
-        told = text_of(Of(found.why, script.words[found.at] if script.words else ""))
+        told = Of(found.why, script.words[found.at] if script.words else "").text()
     return told + (f"{', and' if reason == 'stands-above' else ';'} {is_due}" if due and reason != "blank" else "")
 
 
@@ -159,7 +159,7 @@ def told_of_rest(script: Script, found: Misfit) -> Fault:
     if found.expected == "OPERATION" and found.why.reason == "due":
         told = no_operation(script, script.words, found.at)
     else:
-        told = of_item(found.code, item_text(word, found.item), text_of(of))
+        told = of_item(found.code, found.why.reason, item_text(word, found.item), of.text())
     form = " ".join([first, *(forms.SHOWN.get(place, place) for place in places)])
     return Fault(
         found.code, found.at, told + (shifted(script, found) if found.is_shifted else ""), form, found.item
@@ -329,14 +329,14 @@ def of_list(name: str, text: str, code: str) -> tuple[list[str], bool]:
     start, end = item_span(text, now.item)
     above = text.rfind("\n", 0, start) + 1
     line = text[above:].partition("\n")[0].rstrip(" \t\r")
-    told = [sentence(text_of(Of(now.why)))] if now.code == code else mended(name, code, text)
+    told = [sentence(Of(now.why).text())] if now.code == code else mended(name, code, text)
     head = f"Item {place[2]} of {name}, in line {text.count(chr(10), 0, start) + 1}:"
     return [head, "", *window(line, start - above, end - above), "", *told], now.code == code
 
 
 def told_now(text: str, now: fitting.Item) -> str:
     """What is wrong with a list."""
-    return of_item(now.code, item_text(text, now.item), text_of(Of(now.why, text)))
+    return of_item(now.code, now.why.reason, item_text(text, now.item), Of(now.why, text).text())
 
 
 def mended(name: str, code: str, text: str) -> list[str]:

@@ -1,6 +1,14 @@
 //! The fields of a list's items, without white space at their ends.
 
+ghost use Rattle.std.specs.Prelude.{◌≡◌, ◌==◌, ◌≤◌, false, true, length, option_map, MatchOption};
+ghost use Rattle.std.specs.List.{list_all, position_or_len, prefix_len, suffix_len};
+ghost use Rattle.acl_text.specs.Keywords.{is_default, keyword_of};
+ghost use Rattle.acl_text.specs.Layout.{is_white, trimmed, uncommented};
+ghost use Rattle.acl_text.specs.Qualifiers.{is_name_byte};
+ghost use Rattle.forms.specs.Kinds.{keyword_for};
+
 use script_text::Parts;
+use std::slice::from_ref;
 
 /// The kind of an entry.
 #[derive(Clone, Copy, PartialEq, Eq, Debug)]
@@ -38,7 +46,9 @@ impl Kind {
     }
 
     /// The kind that a keyword tells.
-    pub(crate) fn of(keyword: &[u8]) -> Option<Kind> {
+    pub(crate) fn of(keyword: &[u8]) -> Option<Kind>
+        ensures { option_map keyword_for result ≡ keyword_of keyword.now }
+    {
         match keyword {
             b"user" | b"u" => Some(Kind::User),
             b"group" | b"g" => Some(Kind::Group),
@@ -59,35 +69,67 @@ pub(crate) struct Fields<'a> {
     pub(crate) more: u64,
 }
 
-fn is_white(byte: u8) -> bool {
+fn is_white(byte: u8) -> bool
+    ensures { result ≡ is_white byte }
+{
     matches!(byte, b' ' | b'\t' | b'\r')
 }
 
-/// Without the white space at both ends.
-pub(crate) fn trimmed(bytes: &[u8]) -> &[u8] {
-    let before = bytes.iter().take_while(|byte| is_white(**byte)).count();
-    let begun = bytes.get(before..).unwrap_or(b"");
-    let after = begun
+/// How much white space some bytes begin with.
+fn white_before(bytes: &[u8]) -> usize
+    ensures count { result ≡ prefix_len is_white bytes.now }
+    ensures short { result ≤ length bytes.now }
+{
+    bytes.iter().take_while(|byte| is_white(**byte)).count()
+}
+
+/// How much white space some bytes end with.
+fn white_after(bytes: &[u8]) -> usize
+    ensures count { result ≡ suffix_len is_white bytes.now }
+    ensures short { result ≤ length bytes.now }
+{
+    bytes
         .iter()
         .rev()
         .take_while(|byte| is_white(**byte))
-        .count();
-    begun
-        .get(..begun.len().saturating_sub(after))
-        .unwrap_or(b"")
+        .count()
+}
+
+/// Without the white space at both ends.
+pub(crate) fn trimmed(bytes: &[u8]) -> &[u8]
+    ensures { result.now ≡ trimmed bytes.now }
+{
+    let begun = &bytes[white_before(bytes)..];
+    &begun[..begun.len() - white_after(begun)]
+}
+
+/// Where a comment begins, or the length of a line without one.
+fn comment_place(line: &[u8]) -> usize
+    ensures place { result ≡ position_or_len (λ byte. byte == 35) line.now }
+    ensures within { result ≤ length line.now }
+{
+    line.iter().take_while(|byte| **byte != b'#').count()
 }
 
 /// A line without its comment.
-pub(crate) fn uncommented(line: &[u8]) -> &[u8] {
-    let length = line.iter().take_while(|byte| **byte != b'#').count();
-    line.get(..length).unwrap_or(line)
+pub(crate) fn uncommented(line: &[u8]) -> &[u8]
+    ensures { result.now ≡ uncommented line.now }
+{
+    &line[..comment_place(line)]
+}
+
+/// Whether a field says that its item is of a default list.
+fn is_default(field: &[u8]) -> bool
+    ensures { result ≡ is_default field.now }
+{
+    field == b"default".as_slice() || field == b"d".as_slice()
 }
 
 /// The fields of an item.
 pub(crate) fn fields_of(item: &[u8]) -> Fields<'_> {
     let mut parts = Parts::new(item, b':');
     let first = trimmed(parts.next().unwrap_or(b""));
-    let is_marked = first == b"default".as_slice() || first == b"d".as_slice();
+    let is_marked = is_default(first);
     let marker = if is_marked { Some(first) } else { None };
     let keyword = if is_marked {
         trimmed(parts.next().unwrap_or(b""))
@@ -124,12 +166,20 @@ pub(crate) fn entry_in(item: &[u8]) -> Option<Said<'_>> {
     Some(Said { side, kind, whom })
 }
 
+fn is_name_byte(byte: u8) -> bool
+    ensures { result ≡ is_name_byte byte }
+{
+    (33..=126).contains(&byte) && !matches!(byte, b':' | b',' | b'#' | b'\\')
+}
+
 /// The first byte that stands in no name.
-pub(crate) fn no_name_byte(word: &[u8]) -> Option<&[u8]> {
-    let place = word
-        .iter()
-        .take_while(|byte| (33..=126).contains(*byte)
-            && !matches!(**byte, b':' | b',' | b'#' | b'\\'))
-        .count();
-    word.get(place..place.saturating_add(1))
+pub(crate) fn no_name_byte(word: &[u8]) -> Option<&[u8]>
+    ensures { MatchOption result (list_all is_name_byte word.now ≡ true) (λ part. list_all is_name_byte part.now ≡ false) }
+{
+    for byte in word {
+        if !is_name_byte(*byte) {
+            return Some(from_ref(byte));
+        }
+    }
+    None
 }

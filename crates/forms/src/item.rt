@@ -1,9 +1,14 @@
 //! Why an item of a list is no entry.
 
+ghost use Rattle.std.specs.Prelude.{◌≡◌, ◌↔◌, nat_le, false, true, MatchOption};
+ghost use Rattle.std.specs.List.{list_all};
+ghost use Rattle.acl_text.specs.Grammar.{are_permissions, is_permission_byte, permission_bytes, times_in};
+
 use crate::above::Above;
 use crate::fields::{Fields, Kind, fields_of, no_name_byte};
 use crate::reason::{Numbers, Reason, Told};
 use crate::word::WordReason;
+use std::slice::from_ref;
 
 /// Why an item is no entry.
 #[derive(Clone, Copy, PartialEq, Eq, Debug)]
@@ -73,7 +78,9 @@ impl ItemReason {
     }
 }
 
-fn told<'a>(reason: ItemReason, item: &'a [u8], part: &'a [u8]) -> Told<'a> {
+fn told<'a>(reason: ItemReason, item: &'a [u8], part: &'a [u8]) -> Told<'a>
+    ensures { result.reason ≡ Reason.Item reason }
+{
     Told {
         reason: Reason::Item(reason),
         word: item,
@@ -125,31 +132,59 @@ fn kind_told<'a>(item: &'a [u8], fields: Fields<'a>, kind: Kind) -> Told<'a> {
     }
 }
 
-fn is_permission(byte: u8) -> bool {
+fn is_permission(byte: u8) -> bool
+    ensures { result ≡ is_permission_byte byte }
+{
     matches!(byte, b'r' | b'w' | b'x' | b'-')
 }
 
 /// How often a byte stands in a field.
-fn count_of(field: &[u8], byte: u8) -> usize {
+fn count_of(field: &[u8], byte: u8) -> usize
+    ensures { result ≡ times_in byte field.now }
+{
     field.iter().filter(|one| **one == byte).count()
 }
 
-/// Why a field is no permissions, if it is none.
-fn permissions_told<'a>(item: &'a [u8], field: &'a [u8]) -> Told<'a> {
+/// The first byte of a field that is no permission.
+fn no_permission(field: &[u8]) -> Option<&[u8]>
+    ensures { MatchOption result (list_all is_permission_byte field.now ≡ true) (λ part. list_all is_permission_byte part.now ≡ false) }
+{
+    for byte in field {
+        if !is_permission(*byte) {
+            return Some(from_ref(byte));
+        }
+    }
+    None
+}
+
+/// The letter that stands twice in a field.
+fn doubled_letter(field: &[u8]) -> Option<&'static [u8]>
+    ensures { MatchOption result (list_all (λ byte. nat_le (times_in byte field.now) 1) permission_bytes ≡ true)
+        (λ _. list_all (λ byte. nat_le (times_in byte field.now) 1) permission_bytes ≡ false) }
+{
+    if count_of(field, b'r') > 1 {
+        Some(b"r")
+    } else if count_of(field, b'w') > 1 {
+        Some(b"w")
+    } else if count_of(field, b'x') > 1 {
+        Some(b"x")
+    } else {
+        None
+    }
+}
+
+/// Why a field is no permissions, if it is none; and the part of it that is wrong.
+fn permissions_told<'a>(item: &'a [u8], field: &'a [u8]) -> Told<'a>
+    ensures { (result.reason ≡ Reason.Due) ↔ (are_permissions field.now ≡ true) }
+{
     if matches!(field, [b'0'..=b'7']) {
         return told(ItemReason::Digit, item, field);
     }
-    let place = field
-        .iter()
-        .take_while(|byte| is_permission(**byte))
-        .count();
-    if let Some(part) = field.get(place..place.saturating_add(1)) {
+    if let Some(part) = no_permission(field) {
         return told(ItemReason::NoPermission, item, part);
     }
-    for letter in [b"r", b"w", b"x"] {
-        if count_of(field, letter[0]) > 1 {
-            return told(ItemReason::Twice, item, letter);
-        }
+    if let Some(part) = doubled_letter(field) {
+        return told(ItemReason::Twice, item, part);
     }
     if count_of(field, b'-') > 3 {
         return told(ItemReason::Hyphens, item, field);

@@ -64,11 +64,11 @@ pub(crate) fn word_told<'a>(
     word: &'a [u8],
     fault: Option<TextFault>,
 ) -> Told<'a> {
-    let Some(fault) = fault else {
-        return Told::of(Reason::List(ListReason::CarriageReturn), word);
-    };
     if word.contains(&b':') {
-        return text_told(above, word, fault);
+        return match fault {
+            Some(fault) => text_told(above, word, fault),
+            None => Told::of(Reason::List(ListReason::CarriageReturn), word),
+        };
     }
     let reason = if !may_be_mode {
         Reason::List(ListReason::NoList)

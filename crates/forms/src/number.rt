@@ -1,11 +1,14 @@
 //! Why words do not fit where numbers are due.
 
+ghost use Rattle.std.specs.Prelude.{◌≡◌};
+ghost use Rattle.forms.specs.Reasons.{number_reason, number_told};
+ghost use Rattle.script_text.specs.Numbers.{is_number};
+
 use crate::reason::{Numbers, Reason, Told};
-use acl_core::MAX_GROUPS;
 use script_text::{Parts, read_number};
 
-/// The most numbers of groups: a user's own and the others.
-const MAX_NUMBERS: u64 = MAX_GROUPS as u64 + 1;
+/// The most numbers of groups, a user's own and the others, as `acl_text` has it.
+const MAX_NUMBERS: u64 = 33;
 
 /// Why a word is not the number that is due, or are not the numbers.
 #[derive(Clone, Copy, PartialEq, Eq, Debug)]
@@ -48,12 +51,16 @@ impl NumberReason {
 }
 
 /// Whether a word has digits, and nothing else.
-pub(crate) fn is_digits(word: &[u8]) -> bool {
+pub(crate) fn is_digits(word: &[u8]) -> bool
+    ensures { result ≡ is_number word.now }
+{
     !word.is_empty() && word.iter().all(|byte| byte.is_ascii_digit())
 }
 
 /// Why a word is no number within its limits, if it is none.
-pub(crate) fn number_reason(word: &[u8], least: u64, most: u64) -> Option<NumberReason> {
+pub(crate) fn number_reason(word: &[u8], least: u64, most: u64) -> Option<NumberReason>
+    ensures { result ≡ number_reason least most word.now }
+{
     match read_number(word, most) {
         Some(number) if number < least => Some(NumberReason::Below(least)),
         Some(_) => None,
@@ -63,7 +70,10 @@ pub(crate) fn number_reason(word: &[u8], least: u64, most: u64) -> Option<Number
 }
 
 /// What is told of a number.
-pub(crate) fn number_told(word: &[u8], least: u64, most: u64) -> Told<'_> {
+pub(crate) fn number_told(word: &[u8], least: u64, most: u64) -> Told<'_>
+    ensures reason { result.reason ≡ number_told (number_reason least most word.now) }
+    ensures part { result.part.now ≡ word.now }
+{
     match number_reason(word, least, most) {
         Some(reason) => Told::of(Reason::Number(reason), word),
         None => Told::of(Reason::Due, word),

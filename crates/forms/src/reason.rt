@@ -1,5 +1,7 @@
 //! Why a word does not fit, as data: a reason, the numbers that matter, and the part of the word of which it speaks.
 
+ghost use Rattle.std.specs.Prelude.{◌≡◌};
+
 use crate::above::Above;
 use crate::fields::{Kind, Said};
 use crate::first::{FirstReason, push_commands};
@@ -47,7 +49,10 @@ pub(crate) type Numbers = [Option<u64>; 2];
 
 impl<'a> Told<'a> {
     /// A reason that speaks of a whole word.
-    pub(crate) fn of(reason: Reason, word: &'a [u8]) -> Told<'a> {
+    pub(crate) fn of(reason: Reason, word: &'a [u8]) -> Told<'a>
+        ensures reason { result.reason ≡ reason }
+        ensures part { result.part.now ≡ word.now }
+    {
         Told {
             reason,
             word,

@@ -2,7 +2,7 @@
 
 use crate::above::Above;
 use crate::fields::Kind;
-use crate::list::{ListReason, word_told};
+use crate::list::word_told;
 use crate::number::{NumberReason, groups_told, number_told, servers_told};
 use crate::places::limits;
 use crate::reason::{Reason, Told};
@@ -200,10 +200,10 @@ fn is_shifted_form(expected: Expected, told: Told<'_>) -> bool {
     match told.reason {
         Reason::LineEnds
         | Reason::OperationEnds
-        | Reason::Number(NumberReason::Gap | NumberReason::Many(_, _))
-        | Reason::List(ListReason::CarriageReturn) => false,
+        | Reason::Number(NumberReason::Gap | NumberReason::Many(_, _)) => false,
         _ => match expected {
             Expected::Place(Place::Votes | Place::OpeningVotes) => !begins_as_votes(told.word),
+            Expected::Place(Place::Init | Place::Lists) => false,
             _ => true,
         },
     }

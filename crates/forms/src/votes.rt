@@ -5,10 +5,10 @@ use crate::reason::{Numbers, Reason, Told};
 use script_text::{Parts, read_number};
 use vote_core::{MAX_SERVERS, VotesFault};
 
-/// The most votes of a server, and the most that a read or a write may be said to collect.
-const MAX_VOTES: u64 = u8::MAX as u64;
+/// The most votes of a server, and the most that a read or a write may be said to collect, as `suite_script` has them.
+const MAX_VOTES: u64 = 255;
 
-const MAX_COLLECTED: u64 = u16::MAX as u64;
+const MAX_COLLECTED: u64 = 65_535;
 
 /// Why a word is no votes, or not valid ones.
 #[derive(Clone, Copy, PartialEq, Eq, Debug)]

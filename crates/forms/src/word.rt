@@ -1,5 +1,8 @@
 //! Why words are no bytes and no names.
 
+ghost use Rattle.std.specs.Prelude.{◌≡◌};
+ghost use Rattle.forms.specs.Reasons.{bytes_reason};
+
 use crate::above::Above;
 use crate::fields::{Kind, no_name_byte};
 use crate::number::is_digits;
@@ -45,14 +48,23 @@ impl WordReason {
     }
 }
 
-/// What is told of bytes in hexadecimal digits.
-pub(crate) fn bytes_told(word: &[u8]) -> Told<'_> {
-    let reason = if word.iter().all(|byte| byte.is_ascii_hexdigit()) {
+/// Why a word is no bytes.
+fn bytes_reason(word: &[u8]) -> WordReason
+    ensures { result ≡ bytes_reason word.now }
+{
+    if word.iter().all(|byte| byte.is_ascii_hexdigit()) {
         WordReason::OddDigits(word.len() as u64)
     } else {
         WordReason::NoDigits
-    };
-    Told::of(Reason::Word(reason), word)
+    }
+}
+
+/// What is told of bytes in hexadecimal digits.
+pub(crate) fn bytes_told(word: &[u8]) -> Told<'_>
+    ensures reason { result.reason ≡ Reason.Word (bytes_reason word.now) }
+    ensures part { result.part.now ≡ word.now }
+{
+    Told::of(Reason::Word(bytes_reason(word)), word)
 }
 
 /// What is told of a name.
