@@ -5,8 +5,8 @@ Damages scripts of tools/scenario.py, and the same as scripts of `serve` and `ta
 line, and plays them by the program (out/suites, if none is named).
 
 The program `forms` has to tell the same code. The fault has to stay where all is cut off behind the word that `forms`
-tells. Where it is that of a list's item, another item in its place has to have another fault, and none may have it where
-the item is left out.
+tells. Where it is that of a list's item, another item in its place has to have another fault, and none may have it
+where the item is left out.
 
 What `./suites explain` says of the fault is held against the damage: it has to find something each time, without being
 told the command too, nothing where another code is told, and to name what was done. Where a word is dropped or added a

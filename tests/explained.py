@@ -439,9 +439,11 @@ def unexplained() -> typing.Iterator[str]:
 def untold_reasons() -> typing.Iterator[str]:
     """The reasons that the program `forms` prints and for which the tools have no sentence."""
     files = glob.glob(os.path.join(TOP, "crates", "forms", "src", "*.rt"))
-    printed = {name for path in files for name in re.findall(r'Reason::\w+(?:\([_, ]+\))? => b"([a-z-]+)"', source(path))}
-    yield from (f"no sentence has the reason {name}" for name in printed - {*reasons.SENTENCES, *reasons.LAID_OUT})
-    yield from (f"nobody tells the reason {name}" for name in {*reasons.SENTENCES, *reasons.LAID_OUT} - printed)
+    named = re.compile(r'Reason::\w+(?:\([_, ]+\))? => b"([a-z-]+)"')
+    printed = {name for path in files for name in named.findall(source(path))}
+    known = {*reasons.SENTENCES, *reasons.LAID_OUT}
+    yield from (f"no sentence has the reason {name}" for name in printed - known)
+    yield from (f"nobody tells the reason {name}" for name in known - printed)
 
 
 def constant(path: str, name: str) -> int:

@@ -1,11 +1,11 @@
 -- What reasons say of the words, and of the parts of words, with which they are told.
-use Rattle.std.specs.Prelude.{◌≡◌, ℕ, ◌<◌, nat_lt, true, false, if◌then◌else◌, List, length, Option, Some, None}
+use Rattle.std.specs.Prelude.{◌≡◌, ℕ, nat_lt, if◌then◌else◌, is_some, List, length, Option, Some, None}
 use Rattle.std.specs.Char.{is_ascii_hexdigit}
 use Rattle.std.specs.List.{list_all}
-use Rattle.acl_text.specs.Grammar.{hyphen, is_permission_byte, times_in}
-use Rattle.acl_text.specs.Keywords.{keyword_of}
-use Rattle.acl_text.specs.Qualifiers.{is_name_byte}
 use Rattle.script_text.specs.Numbers.{is_number, number_up_to}
+use Rattle.suite_script.specs.Forms.{place_fault}
+use Rattle.suite_script.specs.declared.form.Place.{Place}
+use Rattle.suite_script.specs.declared.scope.Scope.{Scope}
 use Rattle.forms.specs.declared.number.NumberReason.{NumberReason}
 use Rattle.forms.specs.declared.number.NumberReason.TheVariants.{NoNumber, Below, Above}
 use Rattle.forms.specs.declared.reason.Reason.{Reason}
@@ -25,6 +25,11 @@ number_judged least most word None = if is_number word then Some (Above most) el
 -- why a word is no number from the least to the most, if it is none
 abbrev pub number_reason : ℕ → ℕ → List ℕ → Option NumberReason
 number_reason least most word = number_judged least most word (number_up_to most word)
+
+-- limits of a place: a word has a reason by them exactly where the reader has a fault of it
+abbrev pub AreLimitsOf : Scope → Place → Option (ℕ × ℕ) → Type 0
+AreLimitsOf scope place (Some limits) = (word : List ℕ) → is_some (number_reason limits.0 limits.1 word) ≡ is_some (place_fault scope place word)
+AreLimitsOf scope place None = Unit {0}
 
 -- the reason that is told of a number
 abbrev pub number_told : Option NumberReason → Reason

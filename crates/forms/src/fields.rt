@@ -1,11 +1,10 @@
 //! The fields of a list's items, without white space at their ends.
 
-ghost use Rattle.std.specs.Prelude.{◌≡◌, ◌==◌, ◌≤◌, false, true, length, option_map, MatchOption};
+ghost use Rattle.std.specs.Prelude.{◌≡◌, ◌==◌, ◌≤◌, false, true, is_some, length, MatchOption};
 ghost use Rattle.std.specs.List.{list_all, position_or_len, prefix_len, suffix_len};
 ghost use Rattle.acl_text.specs.Keywords.{is_default, keyword_of};
 ghost use Rattle.acl_text.specs.Layout.{is_white, trimmed, uncommented};
 ghost use Rattle.acl_text.specs.Qualifiers.{is_name_byte};
-ghost use Rattle.forms.specs.Kinds.{keyword_for};
 
 use script_text::Parts;
 use std::slice::from_ref;
@@ -47,7 +46,7 @@ impl Kind {
 
     /// The kind that a keyword tells.
     pub(crate) fn of(keyword: &[u8]) -> Option<Kind>
-        ensures { option_map keyword_for result ≡ keyword_of keyword.now }
+        ensures { is_some result ≡ is_some (keyword_of keyword.now) }
     {
         match keyword {
             b"user" | b"u" => Some(Kind::User),

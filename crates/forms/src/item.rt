@@ -157,17 +157,27 @@ fn no_permission(field: &[u8]) -> Option<&[u8]>
     None
 }
 
+/// The first of some bytes of a field.
+fn first_of(field: &[u8], sought: u8) -> &[u8] {
+    for byte in field {
+        if *byte == sought {
+            return from_ref(byte);
+        }
+    }
+    field
+}
+
 /// The letter that stands twice in a field.
-fn doubled_letter(field: &[u8]) -> Option<&'static [u8]>
+fn doubled_letter(field: &[u8]) -> Option<u8>
     ensures { MatchOption result (list_all (λ byte. nat_le (times_in byte field.now) 1) permission_bytes ≡ true)
         (λ _. list_all (λ byte. nat_le (times_in byte field.now) 1) permission_bytes ≡ false) }
 {
     if count_of(field, b'r') > 1 {
-        Some(b"r")
+        Some(b'r')
     } else if count_of(field, b'w') > 1 {
-        Some(b"w")
+        Some(b'w')
     } else if count_of(field, b'x') > 1 {
-        Some(b"x")
+        Some(b'x')
     } else {
         None
     }
@@ -183,8 +193,8 @@ fn permissions_told<'a>(item: &'a [u8], field: &'a [u8]) -> Told<'a>
     if let Some(part) = no_permission(field) {
         return told(ItemReason::NoPermission, item, part);
     }
-    if let Some(part) = doubled_letter(field) {
-        return told(ItemReason::Twice, item, part);
+    if let Some(letter) = doubled_letter(field) {
+        return told(ItemReason::Twice, item, first_of(field, letter));
     }
     if count_of(field, b'-') > 3 {
         return told(ItemReason::Hyphens, item, field);

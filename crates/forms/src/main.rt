@@ -20,9 +20,12 @@
 //! has none. A hyphen stands for what there is not.
 //!
 //! **Promises.** Of a line that stands in its place, what is printed begins with the word and the code of the
-//! definition (`of_form`: `line_misfit` of `suite_script`), and the place is that of the item (`item_in`).
+//! definition (`of_form`: `line_misfit` of `suite_script`), and the place is that of the item (`item_in`). A word has a
+//! reason to be no number exactly where it is none within its limits (`number_reason`), and those are the reader's
+//! (`limits`); digits are told to be odd exactly where all are digits (`bytes_reason`), and permissions have a reason
+//! exactly where they are none (`permissions_told`).
 //!
-//! **Definitions** (`specs/`): `Finding`.
+//! **Definitions** (`specs/`): `Finding`, `Reasons`.
 //!
 //! **Files**: `places` (their names and limits), `table`, `reading` and `above` (the lines of a script), `finding`
 //! (what is printed of one), `lists` (of a list), `spot` (where a word stands, and why it does not fit), `reason`; for

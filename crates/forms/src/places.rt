@@ -1,5 +1,7 @@
 //! The names of places, and what stands in each.
 
+ghost use Rattle.forms.specs.Reasons.{AreLimitsOf};
+
 use script_text::push_number;
 use std::alloc::AllocError;
 use suite_prefix::{MAX_AGENTS, MAX_CACHE, MAX_SLOTS};
@@ -60,8 +62,9 @@ pub(crate) fn name(place: Place) -> &'static [u8] {
 }
 
 /// The least and the most of a number in its place.
-/// The last site and the most steps are those that `Scope::misfit` knows; `tests/form-table.py` plays them.
-pub(crate) fn limits(scope: &Scope, place: Place) -> Option<(u64, u64)> {
+pub(crate) fn limits(scope: &Scope, place: Place) -> Option<(u64, u64)>
+    ensures { AreLimitsOf scope.now place result }
+{
     match place {
         Place::Servers => Some((1, MAX_SERVERS as u64)),
         Place::Agents => Some((1, MAX_AGENTS as u64)),
