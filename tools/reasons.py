@@ -13,6 +13,7 @@ MOST = {
 }
 # Places of which one speaks in another way.
 DUE = {"GIDS": "GIDS are due", "OLD": "servers are due", "VOTES": "VOTES are due"}
+OPERATION_ENDS = {"line-ends": "where the line ends", "operation-ends": "before the semicolon"}
 KINDS = ("user", "group", "mask", "other")
 OF_KIND = {"user": "the owner", "group": "the file's group", "other": "all others", "mask": "the mask"}
 MARKS = {
@@ -101,9 +102,8 @@ class Of:
 
     def text(self) -> str:
         """The sentence."""
-        if self.place == "OPERATION" and self.why.reason != "comment":
-            ends = "where the line ends" if self.why.reason == "line-ends" else "before the semicolon"
-            return f"an operation is due {ends}"
+        if self.place == "OPERATION" and self.why.reason in OPERATION_ENDS:
+            return f"an operation is due {OPERATION_ENDS[self.why.reason]}"
         return SENTENCES[self.why.reason].format(*self.why.data, of=self)
 
     @property
