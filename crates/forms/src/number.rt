@@ -54,7 +54,12 @@ impl NumberReason {
 pub(crate) fn is_digits(word: &[u8]) -> bool
     ensures { result ≡ is_number word.now }
 {
-    !word.is_empty() && word.iter().all(|byte| byte.is_ascii_digit())
+    match word {
+        [] => false,
+        [first, rest @ ..] => {
+            first.is_ascii_digit() && rest.iter().all(|byte| byte.is_ascii_digit())
+        }
+    }
 }
 
 /// Why a word is no number within its limits, if it is none.
