@@ -1,6 +1,8 @@
 //! Why words are no bytes and no names.
 
 ghost use Rattle.std.specs.Prelude.{◌≡◌};
+ghost use Rattle.std.specs.Char.{is_ascii_hexdigit};
+ghost use Rattle.std.specs.List.{list_all};
 ghost use Rattle.forms.specs.Reasons.{bytes_reason};
 
 use crate::above::Above;
@@ -48,11 +50,18 @@ impl WordReason {
     }
 }
 
+/// Whether a word has hexadecimal digits alone.
+fn is_hexadecimal(word: &[u8]) -> bool
+    ensures { result ≡ list_all is_ascii_hexdigit word.now }
+{
+    word.iter().all(|byte| byte.is_ascii_hexdigit())
+}
+
 /// Why a word is no bytes.
 fn bytes_reason(word: &[u8]) -> WordReason
     ensures { result ≡ bytes_reason word.now }
 {
-    if word.iter().all(|byte| byte.is_ascii_hexdigit()) {
+    if is_hexadecimal(word) {
         WordReason::OddDigits(word.len() as u64)
     } else {
         WordReason::NoDigits
