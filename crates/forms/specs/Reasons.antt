@@ -9,7 +9,7 @@ use Rattle.suite_script.specs.declared.scope.Scope.{Scope}
 use Rattle.forms.specs.declared.number.NumberReason.{NumberReason}
 use Rattle.forms.specs.declared.number.NumberReason.TheVariants.{NoNumber, Below, Above}
 use Rattle.forms.specs.declared.reason.Reason.{Reason}
-use Rattle.forms.specs.declared.reason.Reason.TheVariants.{Due, Number, Word}
+use Rattle.forms.specs.declared.reason.Reason.TheVariants.{Due, Number}
 use Rattle.forms.specs.declared.word.WordReason.{WordReason}
 use Rattle.forms.specs.declared.word.WordReason.TheVariants.{OddDigits, NoDigits}
 

@@ -173,7 +173,8 @@ fn is_name_byte(byte: u8) -> bool
 
 /// The first byte that stands in no name.
 pub(crate) fn no_name_byte(word: &[u8]) -> Option<&[u8]>
-    ensures { MatchOption result (list_all is_name_byte word.now ≡ true) (λ part. list_all is_name_byte part.now ≡ false) }
+    ensures { MatchOption result (list_all is_name_byte word.now ≡ true)
+        (λ part. (list_all is_name_byte word.now ≡ false) × (list_all is_name_byte part.now ≡ false)) }
 {
     for byte in word {
         if !is_name_byte(*byte) {

@@ -147,7 +147,8 @@ fn count_of(field: &[u8], byte: u8) -> usize
 
 /// The first byte of a field that is no permission.
 fn no_permission(field: &[u8]) -> Option<&[u8]>
-    ensures { MatchOption result (list_all is_permission_byte field.now ≡ true) (λ part. list_all is_permission_byte part.now ≡ false) }
+    ensures { MatchOption result (list_all is_permission_byte field.now ≡ true)
+        (λ part. (list_all is_permission_byte field.now ≡ false) × (list_all is_permission_byte part.now ≡ false)) }
 {
     for byte in field {
         if !is_permission(*byte) {

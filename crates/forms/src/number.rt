@@ -1,6 +1,8 @@
 //! Why words do not fit where numbers are due.
 
 ghost use Rattle.std.specs.Prelude.{◌≡◌};
+ghost use Rattle.std.specs.Char.{is_ascii_digit};
+ghost use Rattle.std.specs.List.{list_all};
 ghost use Rattle.forms.specs.Reasons.{number_reason, number_told};
 ghost use Rattle.script_text.specs.Numbers.{is_number};
 
@@ -50,16 +52,18 @@ impl NumberReason {
     }
 }
 
+/// Whether all bytes are digits.
+fn are_digits(word: &[u8]) -> bool
+    ensures { result ≡ list_all is_ascii_digit word.now }
+{
+    word.iter().all(|byte| byte.is_ascii_digit())
+}
+
 /// Whether a word has digits, and nothing else.
 pub(crate) fn is_digits(word: &[u8]) -> bool
     ensures { result ≡ is_number word.now }
 {
-    match word {
-        [] => false,
-        [first, rest @ ..] => {
-            first.is_ascii_digit() && rest.iter().all(|byte| byte.is_ascii_digit())
-        }
-    }
+    0 < word.len() && are_digits(word)
 }
 
 /// Why a word is no number within its limits, if it is none.
