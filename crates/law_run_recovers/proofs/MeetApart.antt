@@ -1,12 +1,12 @@
 -- Of two that meet no two locks that clash stand at one server: what one was granted stands as long as it is at work, and keeps out the other.
-use Rattle.std.proofs.Common.{◌≡◌, ◌⊎◌, inl, inr, ⊎_elim, ℕ, Bool, true, false, List, [], ◌∷◌, ◌++◌, append_assoc, Some, None, is_some, refl, sym, ap, subst, ◌∙◌}
-use Rattle.std.specs.Prelude.{◌==◌, ◌&&◌, ◌||◌, slice_get, slice_set}
-use Rattle.std.proofs.lemmas.Bool.{false≢true, and_from, and_parts, eqb-true, eq-eqb}
+use Rattle.std.proofs.Common.{◌≡◌, ◌⊎◌, ⊎_elim, ℕ, Bool, true, false, List, [], ◌∷◌, ◌++◌, append_assoc, Some, None, is_some, refl, sym, ap, subst, ◌∙◌}
+use Rattle.std.specs.Prelude.{◌==◌, slice_get}
+use Rattle.std.proofs.lemmas.Bool.{false≢true, eqb-true, eq-eqb}
 use Rattle.std.proofs.lemmas.Option.{same_Some}
 use Rattle.suite_prefix.specs.SettingsRules.{Opening}
 use Rattle.suite_prefix.specs.declared.lock_mode.LockMode.{LockMode}
 use Rattle.suite_prefix.specs.declared.lock_mode.LockMode.TheVariants.{Shared, Exclusive}
-use Rattle.suite_prefix.specs.LockModes.{is_exclusive, serves}
+use Rattle.suite_prefix.specs.LockModes.{serves}
 use Rattle.rep_core.specs.declared.request.Request.{Request}
 use Rattle.rep_core.specs.declared.stamped.Stamped.{Stamped}
 use Rattle.rep_core.specs.Locks.{in_the_way}
@@ -24,12 +24,12 @@ use Rattle.law_runs.proofs.Worlds.{puts_in}
 use Rattle.law_run_recovers.specs.Beside.{clashes, Begun}
 use Rattle.law_run_recovers.specs.Standing.{locks_in, locks_at}
 use Rattle.law_run_recovers.specs.Unmet.{world_after}
-use Rattle.law_run_recovers.proofs.AmongCourse.{head_or, tail_or}
+use Rattle.law_run_recovers.proofs.AmongCourse.{tail_or}
 use Rattle.law_run_recovers.proofs.Keeps.{IsAtWork, step_asks}
 use Rattle.law_run_recovers.proofs.Sides.{compared, names_one}
 use Rattle.law_run_recovers.proofs.Took.{OwnTook, own_took}
-use Rattle.law_run_recovers.proofs.MeetBoth.{Place, place, its_event, moment, held_in, world_in, in_part, cancel, agent_in}
-use Rattle.law_run_recovers.proofs.MeetCalm.{Fair, Calm, up_at, run_next}
+use Rattle.law_run_recovers.proofs.MeetBoth.{Place, place, its_event, held_in, world_in, in_part, cancel, agent_in}
+use Rattle.law_run_recovers.proofs.MeetCalm.{Calm, up_at}
 use Rattle.law_run_recovers.proofs.MeetCount.{clash_wider, serves_own}
 use Rattle.law_run_recovers.proofs.MeetEnds.{Fixed}
 use Rattle.law_run_recovers.proofs.MeetLocks.{HasMode, Granted, granted, keeps_out, keeps_to}

@@ -1,5 +1,5 @@
 -- A run in which nothing is decided for a while, all servers are up, and nothing spoils it: who is busy runs a transaction that began there, tables, logs and stored copies stand still.
-use Rattle.std.proofs.Common.{◌≡◌, ⊎_elim, ℕ, Bool, true, false, cond, List, [], ◌∷◌, ◌++◌, append-nil, append_assoc, Option, Some, None, is_some, refl, sym, ap, subst, ◌∙◌}
+use Rattle.std.proofs.Common.{◌≡◌, ⊎_elim, ℕ, true, false, List, [], ◌∷◌, ◌++◌, append-nil, append_assoc, Option, Some, None, is_some, refl, sym, ap, subst, ◌∙◌}
 use Rattle.std.specs.Prelude.{Contains}
 use Rattle.std.specs.List.{cons_option}
 use Rattle.std.proofs.lemmas.Bool.{false≢true, eqb-true}
@@ -26,11 +26,11 @@ use Rattle.run_core.specs.declared.event.Event.{Event}
 use Rattle.run_core.specs.declared.event.Event.TheVariants.{Begin, Step, Crash, Return, Forget, Lack}
 use Rattle.run_core.specs.Worlds.{Actor, World, opening, server_at, actor_at, step}
 use Rattle.run_core.specs.Runs.{run}
-use Rattle.run_core.specs.Decisions.{Decided, decided, decisions}
+use Rattle.run_core.specs.Decisions.{decided, decisions}
 use Rattle.run_core.specs.TableOfRun.{table_of, table_after_all}
 use Rattle.run_core.proofs.Appending.{decisions_from-append}
 use Rattle.file_ops.specs.Rows as rows
-use Rattle.law_runs.specs.Claims.{IsNotDecided, IsDecidedAs}
+use Rattle.law_runs.specs.Claims.{IsNotDecided}
 use Rattle.law_runs.specs.Finishes.{EndedSo}
 use Rattle.law_runs.specs.Naming.{names}
 use Rattle.law_runs.specs.Numbers.{begins_now}

@@ -1,9 +1,9 @@
 -- How a transaction stands in whose run nothing is decided, at each moment at which it is at work: servers are open to it that a sight says, as long as this fits what
 -- it is told; and where its end is fixed some want of it is not met by these.
-use Rattle.std.proofs.Common.{◌≡◌, ◌≢◌, ◌⊎◌, inl, inr, ⊎_elim, ℕ, Bool, true, false, cond, List, [], ◌∷◌, ◌++◌, append-nil, append_assoc, Option, Some, None, is_some, Result, Ok, Err, refl, sym, ap, subst, ◌∙◌, arith}
-use Rattle.std.specs.Prelude.{◌*◌, ◌+◌, ◌==◌, ◌&&◌, ◌||◌, find, option_map, Contains}
+use Rattle.std.proofs.Common.{◌≡◌, ◌≢◌, ◌⊎◌, inl, inr, ⊎_elim, ℕ, Bool, true, false, cond, List, [], ◌∷◌, ◌++◌, append-nil, append_assoc, Option, Some, None, is_some, refl, sym, ap, subst, ◌∙◌}
+use Rattle.std.specs.Prelude.{◌*◌, ◌+◌, ◌||◌}
 use Rattle.std.specs.Ordering.{nat_cmp}
-use Rattle.std.proofs.lemmas.Bool.{false≢true, and_parts, eq-eqb}
+use Rattle.std.proofs.lemmas.Bool.{eq-eqb}
 use Rattle.std.proofs.lemmas.Option.{none-some, same_Some}
 use Rattle.sorted_map.specs.SortedMap.{IsOrdered}
 use Rattle.acl_core.specs.Identity.{Identity}
@@ -12,32 +12,26 @@ use Rattle.suite_prefix.specs.SettingsRules.{Opening}
 use Rattle.suite_prefix.specs.declared.copies.Prefix.{Prefix}
 use Rattle.suite_prefix.specs.declared.lock_mode.LockMode.{LockMode}
 use Rattle.suite_prefix.specs.declared.lock_mode.LockMode.TheVariants.{Shared, Exclusive}
-use Rattle.file_ops.specs.declared.answer.Answer.{Answer}
 use Rattle.file_ops.specs.declared.operation.Op.{Op}
-use Rattle.file_ops.specs.declared.refusal.Refusal.{Refusal}
 use Rattle.file_ops.specs.Rows as rows
 use Rattle.file_ops.specs.Rows.{PlainTable, row_of}
 use Rattle.file_exec.specs.Known as known
 use Rattle.file_exec.specs.Known.{AgreesWith, IsSoAt}
 use Rattle.rep_core.specs.declared.lock.Lock.{Lock}
-use Rattle.rep_core.specs.declared.request.Decision.{Decision}
 use Rattle.rep_core.specs.declared.request.Request.{Request}
 use Rattle.rep_core.specs.declared.request.Request.TheVariants as request
 use Rattle.rep_core.specs.declared.reply.Reply.{Reply}
 use Rattle.rep_core.specs.declared.reply.Reply.TheVariants as reply
-use Rattle.rep_core.specs.declared.reply.Verdict.{Verdict}
 use Rattle.rep_core.specs.declared.reply.Verdict.TheVariants as verdict
-use Rattle.rep_core.specs.declared.request.Part.{Part}
 use Rattle.rep_core.specs.Fits.{is_prepared}
-use Rattle.rep_core.specs.Locks.{in_the_way, has_lock}
+use Rattle.rep_core.specs.Locks.{in_the_way}
 use Rattle.rep_core.specs.Store.{copy_of}
 use Rattle.rep_core.specs.State.{State, record_of}
 use Rattle.rep_core.specs.Service.{reply_of, reply_up, reply_down, poll_reply, locking_reply, given as gives, stands_prepared, can_prepare, recorded, verdict_of}
-use Rattle.rep_core.specs.Serving.{answer_of}
 use Rattle.suite_collect.specs.Collecting.{Asked, Poll, Upgrade, request_for, mode_asked}
 use Rattle.weak_cache.specs.Entries.{Cache, forgotten}
 use Rattle.txn_core.specs.declared.ending.Ending.{Ending}
-use Rattle.txn_core.specs.declared.ending.Ending.TheVariants.{Answered, Refused, Undecided}
+use Rattle.txn_core.specs.declared.ending.Ending.TheVariants.{Undecided}
 use Rattle.txn_core.specs.declared.ending.Cause.{Cause}
 use Rattle.txn_core.specs.declared.job.Job.TheVariants.{Transaction}
 use Rattle.txn_core.specs.declared.response.Response.TheVariants.{Replied}
@@ -45,7 +39,7 @@ use Rattle.txn_core.specs.Suites.{Suites, suite_of, known_of}
 use Rattle.txn_core.specs.Writing.{parts_at}
 use Rattle.txn_core.specs.Doing as doing
 use Rattle.txn_core.specs.Doing.{Fixed, Task, Phase, Gathering, Fetching, Preparing, Deciding, Finishing, TransactionRun, Doing, Running, RunningSweep, After, GoesOn, Ends, home_of}
-use Rattle.txn_core.specs.Transactions.{Step as CourseStep, execute, given_in, changes_of, decision_of, request_in, after_reply, asked_for}
+use Rattle.txn_core.specs.Transactions.{Step as CourseStep, execute, given_in, changes_of, decision_of, request_in, after_reply}
 use Rattle.txn_core.specs.Agents as agents
 use Rattle.txn_core.specs.Agents.{Agent, Taken, fixed_of, next_in, next_of, left, with_step, take_in, take, begins, begin, started, forget}
 use Rattle.txn_core.specs.Laws.{exchanges, is_decide, said_by}
@@ -58,7 +52,7 @@ use Rattle.run_core.specs.declared.event.Event.{Event}
 use Rattle.run_core.specs.declared.event.Event.TheVariants.{Begin, Step}
 use Rattle.run_core.specs.Worlds.{Actor, World, server_at, actor_at, step}
 use Rattle.run_core.specs.Runs.{run}
-use Rattle.run_core.specs.Decisions.{decisions, decided}
+use Rattle.run_core.specs.Decisions.{decisions}
 use Rattle.run_core.specs.TableOfRun.{table_of}
 use Rattle.law_runs.proofs.Conclusions.{holds_of}
 use Rattle.law_runs.proofs.Table.{service_stays}
@@ -77,22 +71,22 @@ use Rattle.law_run_alone.proofs.Requests.{Finds}
 use Rattle.law_run_alone.proofs.Standing.{Stands}
 use Rattle.law_run_alone.proofs.Unhindered.{all_consistent}
 use Rattle.law_run_alone.proofs.Unswept.{is_resolve, never_resolves}
-use Rattle.law_run_recovers.specs.Standing.{up_in, is_up, shown_at}
-use Rattle.law_run_recovers.specs.Demands.{locks_asked, MayStart}
+use Rattle.law_run_recovers.specs.Standing.{is_up}
+use Rattle.law_run_recovers.specs.Demands.{locks_asked}
 use Rattle.law_run_recovers.specs.Near.{asks_for}
-use Rattle.law_run_recovers.specs.OpenDemands.{Want, first_mode}
-use Rattle.law_run_recovers.specs.Unmet.{runs, world_after, begun_world}
+use Rattle.law_run_recovers.specs.OpenDemands.{first_mode}
+use Rattle.law_run_recovers.specs.Unmet.{runs, world_after}
 use Rattle.law_run_recovers.proofs.Apart.{Apart, hint_forgotten}
 use Rattle.law_run_recovers.proofs.AtWork.{stands_next, locks_stand}
 use Rattle.law_run_recovers.proofs.BesideNext.{mine_taken}
-use Rattle.law_run_recovers.proofs.Ends.{early_open, early_asks, fetch_is}
+use Rattle.law_run_recovers.proofs.Ends.{early_asks, fetch_is}
 use Rattle.law_run_recovers.proofs.Executes.{begin_stands}
 use Rattle.law_run_recovers.proofs.Found.{Answering, all_answer}
-use Rattle.law_run_recovers.proofs.Heard.{LockRight, RightFor, MayExecute, AsksFor, asks_for as asked_by, reply_stands}
+use Rattle.law_run_recovers.proofs.Heard.{LockRight, RightFor, reply_stands}
 use Rattle.law_run_recovers.proofs.Keeps.{IsAtWork, works, at_work, at_work_before, run_at}
 use Rattle.law_run_recovers.proofs.Knew.{unanswered, knows_table, unrecorded_on}
-use Rattle.law_run_recovers.proofs.Led.{Rules, rules_of}
-use Rattle.law_run_recovers.proofs.Open.{its_begin, number_is, begun_there, begun_runs}
+use Rattle.law_run_recovers.proofs.Led.{rules_of}
+use Rattle.law_run_recovers.proofs.Open.{its_begin, number_is, begun_there}
 use Rattle.law_run_recovers.proofs.Polled.{Sight, finds_at, Answers}
 use Rattle.law_run_recovers.proofs.Stands.{Ground, asks_of, locks_on, AfterStands, StepStands, PhaseStands, EndsRight}
 use Rattle.law_run_recovers.proofs.Still.{IsOpen, IsOpenPhase}

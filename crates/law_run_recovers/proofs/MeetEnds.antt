@@ -30,7 +30,7 @@ use Rattle.law_run_recovers.proofs.Counts.{has_after}
 use Rattle.law_run_recovers.proofs.Keeps.{IsAtWork}
 use Rattle.law_run_recovers.proofs.Sides.{ended_runs_not}
 use Rattle.law_run_recovers.proofs.MeetBoth.{same_place}
-use Rattle.law_run_recovers.proofs.MeetCalm.{Fair, Calm, accepted, busy_at}
+use Rattle.law_run_recovers.proofs.MeetCalm.{Fair, Calm, busy_at}
 use Rattle.law_run_recovers.proofs.MeetRun.{run_is}
 
 -- ---- lists

@@ -1,12 +1,12 @@
 -- Of two that meet at one suite, by votes that are tight, one is decided: else each had been refused by the other, and had votes that the other wanted.
-use Rattle.std.proofs.Common.{◌≡◌, ◌⊎◌, inl, inr, ⊎_elim, ℕ, ◌+◌, ◌<◌, ◌≤◌, Bool, true, false, List, [], ◌∷◌, ◌++◌, append-nil, append_assoc, Option, Some, None, refl, sym, ap, subst, ◌∙◌, arith}
-use Rattle.std.specs.Prelude.{◌==◌, ◌||◌, find, Contains}
+use Rattle.std.proofs.Common.{◌≡◌, ◌⊎◌, inl, inr, ⊎_elim, ℕ, ◌<◌, Bool, true, false, List, [], ◌∷◌, ◌++◌, append-nil, append_assoc, Some, refl, sym, ap, subst, ◌∙◌, arith}
+use Rattle.std.specs.Prelude.{◌==◌, ◌||◌, Contains}
 use Rattle.std.specs.List.{list_any}
 use Rattle.std.proofs.lemmas.Bool.{false≢true, eqb-true, eq-eqb}
 use Rattle.suite_prefix.specs.SettingsRules.{Opening}
 use Rattle.suite_prefix.specs.declared.lock_mode.LockMode.{LockMode}
-use Rattle.suite_collect.specs.Collecting.{mode_of, needed_of}
-use Rattle.vote_core.specs.Quorums.{Configuration, votes_in, votes_at, total_votes}
+use Rattle.suite_collect.specs.Collecting.{mode_of}
+use Rattle.vote_core.specs.Quorums.{Configuration, votes_at}
 use Rattle.rep_core.specs.declared.lock.Lock.{Lock}
 use Rattle.rep_core.specs.State.{State}
 use Rattle.rep_core.proofs.Finding.{find_some}
@@ -26,13 +26,12 @@ use Rattle.law_run_recovers.specs.Demands.{locks_asked, votes_set}
 use Rattle.law_run_recovers.specs.Local.{EndsThen, VotesNeverMovedOf}
 use Rattle.law_run_recovers.specs.Meets.{first_clash, AreTight, its_votes, TheyMeet, OneThatMeetsIsDecided}
 use Rattle.law_run_recovers.specs.Near.{asks_for}
-use Rattle.law_run_recovers.specs.Unmet.{begun_world, world_after}
+use Rattle.law_run_recovers.specs.Unmet.{world_after}
 use Rattle.law_run_recovers.proofs.AmongCourse.{head_or, tail_or}
 use Rattle.law_run_recovers.proofs.Keeps.{IsAtWork, at_work_before}
-use Rattle.law_run_recovers.proofs.Owned.{AllOwned}
 use Rattle.law_run_recovers.proofs.MeetApart.{clashes_back, Room, stand_apart}
-use Rattle.law_run_recovers.proofs.MeetBarred.{AskedBy, Barred, barred_by}
-use Rattle.law_run_recovers.proofs.MeetBoth.{Place, place, its_event, in_part, cancel, agent_in, held_in, none_first, IsAsked, IsGranted, granted_now, all_granted}
+use Rattle.law_run_recovers.proofs.MeetBarred.{barred_by}
+use Rattle.law_run_recovers.proofs.MeetBoth.{Place, place, its_event, in_part, cancel, held_in, none_first, IsAsked, IsGranted, granted_now, all_granted}
 use Rattle.law_run_recovers.proofs.MeetCalm.{Fair, Calm, table_same}
 use Rattle.law_run_recovers.proofs.MeetCount.{Met, OtherMet, Same, IsRefused, IsRefusedToo, not_both_short}
 use Rattle.law_run_recovers.proofs.MeetEnds.{fronts, Fixed, undecided_not, fixed_at, calmed}
@@ -40,7 +39,7 @@ use Rattle.law_run_recovers.proofs.MeetLocks.{owned_at}
 use Rattle.law_run_recovers.proofs.MeetQuiet.{GoesQuietly}
 use Rattle.law_run_recovers.proofs.MeetReach.{Reached, reaches_asks, reached_first}
 use Rattle.law_run_recovers.proofs.MeetRun.{its_actor, goes_of, run_is}
-use Rattle.law_run_recovers.proofs.MeetTold.{for_lock, says_held, asks_at_work, refuses, some_step}
+use Rattle.law_run_recovers.proofs.MeetTold.{for_lock, says_held, asks_at_work}
 use Rattle.law_run_recovers.proofs.MeetWants.{upto, whole, calm_upto, Wants, wants}
 
 -- what one asks for that clashes with some lock of the other's clashes with one of them

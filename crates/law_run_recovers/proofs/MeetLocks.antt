@@ -1,10 +1,9 @@
 -- Locks in a calm run: one that was granted stands while its transaction is at work, and keeps out what clashes; and each that there is was granted.
-use Rattle.std.proofs.Common.{◌≡◌, ◌⊎◌, inl, inr, ⊎_elim, ℕ, Bool, true, false, cond, List, [], ◌∷◌, ◌++◌, append_assoc, append-nil, Option, Some, None, is_some, refl, sym, ap, subst, ◌∙◌, arith}
+use Rattle.std.proofs.Common.{◌≡◌, inl, inr, ⊎_elim, ℕ, Bool, true, false, cond, List, [], ◌∷◌, ◌++◌, append_assoc, append-nil, Option, Some, None, is_some, refl, sym, ap, subst, ◌∙◌, arith}
 use Rattle.std.specs.Prelude.{◌==◌, ◌&&◌, ◌||◌, not, filter, map, slice_get, slice_set}
 use Rattle.std.specs.List.{list_any}
 use Rattle.std.proofs.lemmas.Bool.{false≢true, and_parts, and_from, eqb-true, eq-eqb}
 use Rattle.std.proofs.lemmas.Bool.Decides.{nat_tests}
-use Rattle.std.proofs.lemmas.Option.{none-some, same_Some}
 use Rattle.acl_core.specs.Identity.{Identity}
 use Rattle.suite_prefix.specs.SettingsRules.{Opening}
 use Rattle.suite_prefix.specs.declared.lock_mode.LockMode.{LockMode}
@@ -21,7 +20,7 @@ use Rattle.rep_core.specs.declared.stamped.Stamped.{Stamped}
 use Rattle.rep_core.specs.Locks.{in_the_way, conflicts, has_lock, is_own, locked, raised, raised_lock, with_lock, before, prepared_lock}
 use Rattle.rep_core.specs.Store.{copy_of, intended}
 use Rattle.rep_core.specs.State.{State, record_of}
-use Rattle.rep_core.specs.Service.{reply_of, reply_up, reply_down, locking_reply, after, after_up, after_down, after_locking, after_record, prepares, verdict_of, audit_of}
+use Rattle.rep_core.specs.Service.{reply_of, reply_up, reply_down, locking_reply, after, after_up, after_down, after_locking, after_record, prepares}
 use Rattle.rep_core.specs.Serving as serving
 use Rattle.rep_core.specs.Serving.{served}
 use Rattle.rep_core.proofs.Members.{Has, filter_has, between_has, map_has, any_has, has_any, find_none}
@@ -37,7 +36,7 @@ use Rattle.law_runs.proofs.Places.{same_or, at_puts}
 use Rattle.law_runs.proofs.Turns.{step_is}
 use Rattle.law_runs.proofs.Worlds.{puts_in}
 use Rattle.law_run_alone.proofs.Walks.{AllAt, MayAsk, asks_servers}
-use Rattle.law_run_recovers.specs.Beside.{clashes, Begun}
+use Rattle.law_run_recovers.specs.Beside.{clashes}
 use Rattle.law_run_recovers.specs.Standing.{locks_in, locks_at}
 use Rattle.law_run_recovers.specs.Unmet.{takes, robs, hinders_itself, world_after}
 use Rattle.law_run_recovers.proofs.AmongLocks.{drops, bereaves}
@@ -46,7 +45,7 @@ use Rattle.law_run_recovers.proofs.Keeps.{IsAtWork, run_at, step_asks}
 use Rattle.law_run_recovers.proofs.Owned.{AllOwned, MayLock, owned_stays}
 use Rattle.law_run_recovers.proofs.Serves.{Serves, event_serves}
 use Rattle.law_run_recovers.proofs.Took.{OwnTook, own_took}
-use Rattle.law_run_recovers.proofs.MeetCalm.{Calm, along, accepted, run_next, up_at}
+use Rattle.law_run_recovers.proofs.MeetCalm.{Calm, along, run_next, up_at}
 use Rattle.law_run_recovers.proofs.MeetQuiet.{GoesQuietly, next_is}
 use Rattle.law_run_recovers.proofs.MeetTold.{for_lock, says_held}
 

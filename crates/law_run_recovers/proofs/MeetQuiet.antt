@@ -1,6 +1,6 @@
 -- A transaction in whose run nothing is decided: no server is down or crashes, nobody takes a lock of it, stored copies and the table stand still.
-use Rattle.std.proofs.Common.{◌≡◌, ◌⊎◌, inl, inr, ⊎_elim, ℕ, Bool, true, false, cond, List, [], ◌∷◌, ◌++◌, append-nil, append_assoc, Option, Some, None, is_some, refl, sym, ap, subst, ◌∙◌, arith}
-use Rattle.std.specs.Prelude.{◌==◌, ◌&&◌, ◌||◌, not, nat_lt, find}
+use Rattle.std.proofs.Common.{◌≡◌, ◌⊎◌, inl, ⊎_elim, ℕ, Bool, true, false, cond, List, [], ◌∷◌, ◌++◌, Some, None, is_some, refl, sym, ap, subst, ◌∙◌, arith}
+use Rattle.std.specs.Prelude.{◌==◌, ◌&&◌, ◌||◌, not, nat_lt}
 use Rattle.std.proofs.lemmas.Bool.{false≢true, and_parts, and_from, eq-eqb}
 use Rattle.std.proofs.lemmas.Bool.Decides.{nat_tests}
 use Rattle.std.proofs.lemmas.Option.{same_Some}
@@ -10,13 +10,10 @@ use Rattle.suite_prefix.specs.declared.copies.Prefix.{Prefix}
 use Rattle.suite_prefix.specs.declared.lock_mode.LockMode.{LockMode}
 use Rattle.suite_prefix.specs.declared.lock_mode.LockMode.TheVariants.{Shared, Exclusive}
 use Rattle.suite_prefix.specs.LockModes.{serves}
-use Rattle.vote_core.specs.Quorums.{Representative}
 use Rattle.file_ops.specs.declared.operation.Op.{Op}
 use Rattle.rep_core.specs.declared.request.Request.{Request}
 use Rattle.rep_core.specs.declared.request.Request.TheVariants as request
-use Rattle.rep_core.specs.declared.reply.Reply.{Reply}
 use Rattle.rep_core.specs.Service.{reply_of}
-use Rattle.rep_core.specs.Serving.{answer_of}
 use Rattle.rep_core.specs.Store.{copy_of}
 use Rattle.rep_core.specs.State.{State}
 use Rattle.rep_core.proofs.Members.{Has, has_any}
@@ -47,16 +44,16 @@ use Rattle.law_headline.specs.Premises.{CanBe}
 use Rattle.law_run_alone.specs.Alone.{begins_job}
 use Rattle.law_run_recovers.specs.Standing.{is_up, up_free, shown_at}
 use Rattle.law_run_recovers.specs.Demands.{MayStart}
-use Rattle.law_run_recovers.specs.Unmet.{is_running, begun_world, world_after, robs, hinders_itself}
+use Rattle.law_run_recovers.specs.Unmet.{begun_world, world_after, robs, hinders_itself}
 use Rattle.law_run_recovers.proofs.AmongLocks.{bereaves}
 use Rattle.law_run_recovers.proofs.AmongCourse.{parted}
 use Rattle.law_run_recovers.proofs.Apart.{Apart, event_apart}
-use Rattle.law_run_recovers.proofs.Keeps.{IsAtWork, Works, works, after_append, at_work_before}
+use Rattle.law_run_recovers.proofs.Keeps.{IsAtWork, works, after_append, at_work_before}
 use Rattle.law_run_recovers.proofs.MeetCalm.{along}
 use Rattle.law_run_recovers.proofs.Open.{its_begin, begun_there}
 use Rattle.law_run_recovers.proofs.Polled.{dver_at}
 use Rattle.law_run_recovers.proofs.Still.{IsOpen}
-use Rattle.law_run_recovers.proofs.Took.{OwnTook, own_took}
+use Rattle.law_run_recovers.proofs.Took.{own_took}
 
 module _ (given : Opening) (base events later : List Event) (agent t : ℕ) (caller : Identity) (site : ℕ) (ops : List Op) (actor : Actor) where
   abbrev then : List Event → World

@@ -1,13 +1,12 @@
 -- A transaction in whose run nothing is decided, where votes were never moved, nor moves it any: whatever lock it asks for, it has had all those before; and where its end
 -- is fixed, it was refused too many votes of one.
-use Rattle.std.proofs.Common.{◌≡◌, ◌⊎◌, inl, inr, ⊎_elim, ℕ, ◌≤◌, ◌<◌, Bool, true, false, cond, List, [], ◌∷◌, ◌++◌, Option, Some, None, Result, Ok, Err, refl, sym, ap, subst, ◌∙◌, arith, IsTrue}
-use Rattle.std.specs.Prelude.{◌==◌, ◌&&◌, not, nat_le, map, find, Contains}
-use Rattle.std.specs.List.{list_any}
-use Rattle.std.proofs.lemmas.Bool.{false≢true, and_parts, eqb-true, leb-true}
+use Rattle.std.proofs.Common.{◌≡◌, ◌⊎◌, inl, inr, ⊎_elim, ℕ, ◌≤◌, ◌<◌, Bool, true, false, cond, List, [], ◌∷◌, ◌++◌, Option, Some, None, Result, Ok, Err, refl, sym, ap, subst, ◌∙◌, arith}
+use Rattle.std.specs.Prelude.{◌==◌, not, nat_le, map, find, Contains}
+use Rattle.std.proofs.lemmas.Bool.{false≢true, and_parts, eqb-true}
 use Rattle.std.proofs.lemmas.Bool.Decides.{nat_tests}
 use Rattle.std.proofs.lemmas.Option.{none-some, same_Some}
 use Rattle.acl_core.specs.Identity.{Identity}
-use Rattle.vote_core.specs.Quorums.{Representative, Configuration, votes_in}
+use Rattle.vote_core.specs.Quorums.{Configuration, votes_in}
 use Rattle.vote_core.proofs.QuorumLemmas.{votes_in-wider}
 use Rattle.suite_prefix.specs.SettingsRules.{Opening}
 use Rattle.suite_prefix.specs.declared.copies.Prefix.{Prefix}
@@ -19,12 +18,10 @@ use Rattle.file_ops.specs.declared.refusal.Refusal.{Refusal}
 use Rattle.rep_core.specs.declared.request.Request.{Request}
 use Rattle.rep_core.specs.declared.request.Request.TheVariants as request
 use Rattle.rep_core.proofs.Finding.{find_some}
-use Rattle.rep_core.proofs.Members.{Has, has_any, has_map, contains_from}
+use Rattle.rep_core.proofs.Members.{Has, has_map, contains_from}
 use Rattle.suite_collect.specs.Collecting.{Collector, Asked, Poll, Upgrade, needed_of, wanted, mode_or, mode_of, mode_asked, request_for}
 use Rattle.weak_cache.specs.Entries.{Cache}
-use Rattle.txn_core.specs.declared.ending.Ending.{Ending}
-use Rattle.txn_core.specs.declared.ending.Ending.TheVariants.{Answered, Refused, Undecided}
-use Rattle.txn_core.specs.declared.ending.Cause.{Cause}
+use Rattle.txn_core.specs.declared.ending.Ending.TheVariants.{Undecided}
 use Rattle.txn_core.specs.Suites.{Suites, suite_of}
 use Rattle.txn_core.specs.Writing.{parts_at}
 use Rattle.txn_core.specs.Doing as doing
@@ -36,7 +33,7 @@ use Rattle.txn_core.proofs.Asks.{asks_same}
 use Rattle.run_core.specs.declared.done.Served.{Served}
 use Rattle.run_core.specs.declared.event.Event.{Event}
 use Rattle.run_core.specs.declared.event.Event.TheVariants.{Step}
-use Rattle.run_core.specs.Worlds.{Actor, World, actor_at, step}
+use Rattle.run_core.specs.Worlds.{Actor, actor_at, step}
 use Rattle.run_core.specs.Runs.{run}
 use Rattle.run_core.specs.TableOfRun.{table_of}
 use Rattle.law_run_machine.specs.Machines.{machine_of}
@@ -52,17 +49,17 @@ use Rattle.law_run_recovers.specs.Unmet.{world_after}
 use Rattle.law_run_recovers.proofs.Asked.{onto_left, onto_so_far, asked_exclusive, next_mode}
 use Rattle.law_run_recovers.proofs.Asking.{onto}
 use Rattle.law_run_recovers.proofs.Ends.{fetch_is}
-use Rattle.law_run_recovers.proofs.Heard.{AsksFor, asks_for as asked_by}
+use Rattle.law_run_recovers.proofs.Heard.{asks_for as asked_by}
 use Rattle.law_run_recovers.proofs.Keeps.{IsAtWork}
 use Rattle.law_run_recovers.proofs.Leading.{led}
 use Rattle.law_run_recovers.proofs.Polled.{Sight, finds_at}
-use Rattle.law_run_recovers.proofs.Stands.{Asked as HasAsked, IsRight, IsHad, locks_on, sets_on, of_lock, of_votes, demand_of, unmet, EndsAs, EndsRight}
+use Rattle.law_run_recovers.proofs.Stands.{IsRight, IsHad, locks_on, sets_on, of_lock, of_votes, unmet, EndsAs}
 use Rattle.law_run_recovers.proofs.Unmoved.{first_votes_at}
 use Rattle.law_run_recovers.proofs.Widened.{same_mode}
 use Rattle.law_run_recovers.proofs.MeetAsks.{sets_asked}
-use Rattle.law_run_recovers.proofs.MeetCourse.{Course, Short, PhaseIn, its, number, sight, answering, Fits, course_at, short_at}
+use Rattle.law_run_recovers.proofs.MeetCourse.{Course, Short, PhaseIn, its, number, sight, answering, Fits, course_at}
 use Rattle.law_run_recovers.proofs.MeetQuiet.{GoesQuietly}
-use Rattle.law_run_recovers.proofs.MeetTold.{for_lock, asks, asks_at_work, held, opens_held, held_weaker, held_up, held_fits, barred, opens_free, free_weaker, free_up, free_fits}
+use Rattle.law_run_recovers.proofs.MeetTold.{for_lock, asks, asks_at_work, held, opens_held, held_weaker, held_up, held_fits}
 
 -- ---- lists
 

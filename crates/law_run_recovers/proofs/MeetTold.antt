@@ -1,5 +1,5 @@
 -- Which servers granted a transaction a lock in its run, and which refused one: a server never does both, of one mode. So sights go by either.
-use Rattle.std.proofs.Common.{◌≡◌, ◌⊎◌, inl, inr, ⊎_elim, ℕ, Bool, true, false, cond, List, [], ◌∷◌, ◌++◌, append_assoc, Option, Some, None, is_some, refl, sym, ap, subst, ◌∙◌, arith}
+use Rattle.std.proofs.Common.{◌≡◌, ⊎_elim, ℕ, Bool, true, false, List, [], ◌∷◌, ◌++◌, Option, Some, None, is_some, refl, sym, ap, subst, ◌∙◌, arith}
 use Rattle.std.specs.Prelude.{◌==◌, ◌&&◌, ◌||◌, not}
 use Rattle.std.proofs.lemmas.Bool.{false≢true, and_parts, and_from, eqb-true, eq-eqb}
 use Rattle.std.proofs.lemmas.Bool.Decides.{nat_tests}
@@ -15,37 +15,35 @@ use Rattle.rep_core.specs.declared.request.Request.{Request}
 use Rattle.rep_core.specs.declared.request.Request.TheVariants as request
 use Rattle.rep_core.specs.declared.reply.Reply.{Reply}
 use Rattle.rep_core.specs.declared.reply.Reply.TheVariants as reply
-use Rattle.rep_core.specs.State.{State}
-use Rattle.rep_core.proofs.Members.{Has}
 use Rattle.suite_collect.specs.declared.told.Said.{Said}
 use Rattle.suite_collect.specs.declared.told.Said.TheVariants as said
 use Rattle.suite_collect.specs.Telling.{is_held}
 use Rattle.suite_collect.specs.Collecting.{Asked, Poll, Upgrade, mode_of, mode_asked, request_for}
 use Rattle.txn_core.specs.declared.job.Job.TheVariants.{Transaction}
 use Rattle.txn_core.specs.declared.response.Response.TheVariants.{Replied}
-use Rattle.txn_core.specs.Doing.{Fixed, TransactionRun, Doing, Running, RunningSweep}
+use Rattle.txn_core.specs.Doing.{Fixed, Doing, Running, RunningSweep}
 use Rattle.txn_core.specs.Agents.{fixed_of, next_in, next_of}
 use Rattle.txn_core.specs.Laws.{Exchange, locks, heard_in}
 use Rattle.txn_core.specs.Undecided.{is_finish}
 use Rattle.run_core.specs.declared.done.Served.{Served}
 use Rattle.run_core.specs.declared.event.Event.{Event}
 use Rattle.run_core.specs.declared.event.Event.TheVariants.{Begin, Step, Crash, Return, Forget, Lack}
-use Rattle.run_core.specs.Worlds.{Actor, World, server_at, actor_at, step}
+use Rattle.run_core.specs.Worlds.{Actor, World, actor_at, step}
 use Rattle.run_core.specs.Runs.{after, run}
 use Rattle.run_core.specs.Decisions.{task_of}
 use Rattle.law_runs.specs.Naming.{names, may_sweep}
 use Rattle.law_runs.proofs.Begun.{agents_ask_for_themselves}
 use Rattle.law_run_alone.proofs.Owns.{names_mine}
 use Rattle.law_run_recovers.specs.Standing.{is_up}
-use Rattle.law_run_recovers.specs.Unmet.{runs, running_in, begun_world, world_after}
+use Rattle.law_run_recovers.specs.Unmet.{runs, begun_world, world_after}
 use Rattle.law_run_recovers.proofs.Keeps.{IsAtWork, works, at_work, run_at, step_asks}
 use Rattle.law_run_recovers.proofs.Sides.{compared, names_one}
 use Rattle.law_run_recovers.proofs.Still.{IsOpen, open_where}
-use Rattle.law_run_recovers.proofs.Took.{OwnTook, own_took}
+use Rattle.law_run_recovers.proofs.Took.{own_took}
 use Rattle.law_run_recovers.proofs.Widened.{same_mode}
 use Rattle.law_run_recovers.proofs.MeetCount.{serves_own}
 use Rattle.law_run_recovers.proofs.MeetCourse.{Fits}
-use Rattle.law_run_recovers.proofs.MeetQuiet.{GoesQuietly, Heard, heard_at, never_refused, never_held, exchange}
+use Rattle.law_run_recovers.proofs.MeetQuiet.{GoesQuietly, Heard, heard_at, never_refused, never_held}
 
 -- ---- what was served
 

@@ -1,5 +1,5 @@
 -- One that meets another and is not decided wants votes: it asked for a lock, and of who has a vote too few did not refuse it.
-use Rattle.std.proofs.Common.{◌≡◌, inl, inr, ℕ, ◌+◌, ◌<◌, ◌≤◌, Bool, true, false, cond, List, [], ◌∷◌, ◌++◌, refl, sym, ap, subst, ◌∙◌, arith}
+use Rattle.std.proofs.Common.{◌≡◌, inl, inr, ℕ, ◌+◌, ◌<◌, ◌≤◌, Bool, true, false, cond, List, [], ◌∷◌, ◌++◌, refl, sym, subst, arith}
 use Rattle.std.specs.Prelude.{◌==◌, ◌&&◌, ◌%◌, ◌/◌, not, All, Contains}
 use Rattle.std.proofs.Math.Nat.{mod-lt}
 use Rattle.std.proofs.lemmas.Bool.{false≢true, eqb-true}
@@ -30,7 +30,7 @@ use Rattle.law_run_recovers.proofs.MeetCalm.{Calm, calm_front}
 use Rattle.law_run_recovers.proofs.MeetCourse.{short_at}
 use Rattle.law_run_recovers.proofs.MeetEnds.{Fixed}
 use Rattle.law_run_recovers.proofs.MeetQuiet.{GoesQuietly}
-use Rattle.law_run_recovers.proofs.MeetReach.{IsWanting, wanting}
+use Rattle.law_run_recovers.proofs.MeetReach.{wanting}
 use Rattle.law_run_recovers.proofs.MeetRun.{part, its_actor, goes_of, never_decides}
 use Rattle.law_run_recovers.proofs.MeetTold.{refuses, some_step, opens_free, free_weaker, free_up, free_fits}
 

@@ -1,8 +1,7 @@
 -- Two users meet, by computation.
-use Rattle.std.proofs.Common.{◌≡◌, ◌⊎◌, inl, inr, ⊎_elim, ℕ, true, false, List, [], ◌∷◌, ◌++◌, Some, refl, sym, ap, subst, ◌∙◌}
+use Rattle.std.proofs.Common.{◌≡◌, ◌⊎◌, inl, inr, ℕ, false, List, [], ◌∷◌, ◌++◌, refl, sym, ap, subst, ◌∙◌}
 use Rattle.std.specs.Prelude.{◌+◌, Contains}
 use Rattle.std.specs.List.{list_all}
-use Rattle.std.proofs.lemmas.Bool.{and_parts}
 use Rattle.suite_prefix.specs.declared.lock_mode.LockMode.{LockMode}
 use Rattle.suite_prefix.specs.declared.lock_mode.LockMode.TheVariants.{Shared, Exclusive}
 use Rattle.vote_core.specs.Quorums.{Configuration, total_votes}
@@ -16,19 +15,18 @@ use Rattle.txn_core.specs.Runs.{owner, a}
 use Rattle.run_core.specs.declared.event.Event.{Event}
 use Rattle.run_core.specs.declared.event.Event.TheVariants.{Begin}
 use Rattle.run_core.specs.Worlds.{opening}
-use Rattle.run_core.specs.Runs.{after, run}
+use Rattle.run_core.specs.Runs.{run}
 use Rattle.run_core.specs.Decisions.{Decided, decisions, decisions_from}
-use Rattle.run_core.specs.TableOfRun.{table_of, table_after_all}
+use Rattle.run_core.specs.TableOfRun.{table_after_all}
 use Rattle.run_core.proofs.Appending.{decisions_from-append}
 use Rattle.law_headline.specs.Premises.{EventGivesValidVotes, CanBe}
 use Rattle.law_headline.specs.Worked.{with_caches}
 use Rattle.law_headline.proofs.Worked.{some_run_revokes}
-use Rattle.law_run_recovers.specs.Beside.{Begun, its_asks, spoils}
+use Rattle.law_run_recovers.specs.Beside.{Begun, spoils}
 use Rattle.law_run_recovers.specs.BesideWorked.{two_made, turns}
 use Rattle.law_run_recovers.specs.Contending.{puts}
 use Rattle.law_run_recovers.specs.Laws.{HasFirstVotes}
 use Rattle.law_run_recovers.specs.Local.{VotesNeverMovedOf}
-use Rattle.law_run_recovers.specs.Meets.{AreTight, its_votes, TheyMeet}
 use Rattle.law_run_recovers.specs.MeetsWorked.{two_meet, SomeRunsMeet}
 use Rattle.law_run_recovers.proofs.AmongCourse.{head_or, tail_or}
 use Rattle.law_run_recovers.proofs.BesideWorked.{all_by, event_sets_none, valid_event, none_spoils_it, is_step, none_begins}

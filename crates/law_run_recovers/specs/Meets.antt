@@ -1,6 +1,6 @@
 -- Transactions that meet: two of which each asks for something that clashes with what the other asks for. Where the first that clashes is of one suite for
 -- both, and its votes leave enough to one of them where they are too few for the other, one of both is decided.
-use Rattle.std.specs.Prelude.{◌≡◌, ◌⊎◌, ℕ, ◌+◌, ◌==◌, Bool, true, false, ◌||◌, find, List, ◌∷◌, ◌++◌, Contains, Option, Some}
+use Rattle.std.specs.Prelude.{◌≡◌, ◌⊎◌, ℕ, ◌+◌, ◌==◌, true, false, ◌||◌, find, List, ◌∷◌, ◌++◌, Contains, Option, Some}
 use Rattle.std.specs.List.{list_any}
 use Rattle.vote_core.specs.Quorums.{Configuration, total_votes}
 use Rattle.suite_prefix.specs.SettingsRules.{Opening}

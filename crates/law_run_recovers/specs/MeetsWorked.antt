@@ -1,5 +1,5 @@
 -- A run in which two users meet: they write one file at once, step by step in turn. One is answered, by computation.
-use Rattle.std.specs.Prelude.{◌≡◌, ℕ, List, [], ◌∷◌, ◌++◌}
+use Rattle.std.specs.Prelude.{◌≡◌, List, [], ◌∷◌, ◌++◌}
 use Rattle.file_ops.specs.declared.answer.Answer.TheVariants as answer
 use Rattle.txn_core.specs.declared.ending.Ending.TheVariants.{Answered, Undecided}
 use Rattle.txn_core.specs.declared.ending.Cause.TheVariants.{Busy}

@@ -37,11 +37,12 @@
 //!
 //! **The caller owes** to `promise` a world that some events made of accepted settings (`IsOfRun`).
 //!
-//! **Files**: `lib`, `meeting`, `promises`. **Definitions** (`specs/`): `Standing`, `Alone`, `Demands`, `InTime`, `Laws`,
-//! `Sweeping`, `Promises`, `Worked`, `Near`, `Unmet`, `OpenDemands`, `Local`, `Among`, `Beside`, `BesideWorked`,
-//! `Meets`, `MeetsWorked`, `Histories`, `Blocking`, `Contending`. The proofs follow a transaction over its agent's steps (`proofs/Ends.antt`,
-//! `Stands.antt`, `Asking.antt`; where others go on `AmongCourse.antt`, `AmongStep.antt`, `AmongEnds.antt`;
-//! where two meet `MeetCourse.antt`, `MeetReach.antt`, `MeetLaw.antt`) and a sweep by its list (`Sweeps.antt`, `Swept.antt`, `Rounds.antt`).
+//! **Files**: `lib`, `meeting`, `promises`. **Definitions** (`specs/`): `Standing`, `Alone`, `Demands`, `InTime`,
+//! `Laws`, `Sweeping`, `Promises`, `Worked`, `Near`, `Unmet`, `OpenDemands`, `Local`, `Among`, `Beside`,
+//! `BesideWorked`, `Meets`, `MeetsWorked`, `Histories`, `Blocking`, `Contending`. The proofs follow a transaction
+//! over its agent's steps (`proofs/Ends.antt`, `Stands.antt`, `Asking.antt`; where others go on `AmongCourse.antt`,
+//! `AmongStep.antt`, `AmongEnds.antt`; where two meet `MeetCourse.antt`, `MeetReach.antt`, `MeetLaw.antt`) and a
+//! sweep by its list (`Sweeps.antt`, `Swept.antt`, `Rounds.antt`).
 #![tactic(auto)]
 
 mod meeting;
