@@ -101,11 +101,11 @@ module _ (given : Opening) (events later : List Event) (agent t : ℕ) (caller :
       module _ (question : Request) (next : next_of (fixed_of given) here.agent ≡ Some (server, question)) where
         its_finds : Finds st question
         its_finds =
-            finds_then given events so_far agent t caller site ops actor (can_so_far so_far rest split) goes.there goes.begins spared so_far [] (sym (append-nil so_far)) work here txn_run there running number (server, question) next st at
+            finds_then given events so_far agent t caller site ops actor (can_so_far so_far (Step agent ∷ rest) split) goes.there goes.begins spared so_far [] (sym (append-nil so_far)) work here txn_run there running number (server, question) next st at
 
         pub on_locks : stands_on_locks question ≡ true → answers given events later agent t caller site ops actor goes server ≡ true
         on_locks on =
-            let some = stands_then given events so_far agent t caller site ops actor (can_so_far so_far rest split) goes.there goes.begins spared so_far [] (sym (append-nil so_far)) work here txn_run there running number (server, question) next st at on in
+            let some = stands_then given events so_far agent t caller site ops actor (can_so_far so_far (Step agent ∷ rest) split) goes.there goes.begins spared so_far [] (sym (append-nil so_far)) work here txn_run there running number (server, question) next st at on in
             opens_up given events later agent t caller site ops actor goes some.lock.suite (first_asked given events later agent t caller site ops actor goes some.lock.suite) server
             (locks server some.lock.suite (record { lock = some.lock; has = subst (λ locks. Has locks some.lock) (sym (ap locks_in at)) some.has; of_it = some.of_it ∙ number; on_it = refl }))
 
@@ -175,6 +175,6 @@ module _ (given : Opening) (events later : List Event) (agent t : ℕ) (caller :
           → (is_up (run given events) server ≡ true → reply_of st (request.Decide t decision) ≡ reply.Verdict (verdict_of decision)) × (is_up (run given events) server ≡ false → reply_of st (request.Decide t decision) ≡ reply.Down)
       decide_right decision next near = (
         λ up. replies_up (request.Decide t decision) next (up_near (request.Decide t decision) next near tt ∙ up) ∙ ap (λ old. reply.Verdict (recorded old (verdict_of decision)))
-            (unrecorded_at given events so_far agent t caller site ops actor (can_so_far so_far rest split) goes.there goes.begins spared so_far [] (sym (append-nil so_far)) work server st at),
+            (unrecorded_at given events so_far agent t caller site ops actor (can_so_far so_far (Step agent ∷ rest) split) goes.there goes.begins spared so_far [] (sym (append-nil so_far)) work server st at),
         λ down. replies_down st (request.Decide t decision) refl (up_near (request.Decide t decision) next near tt ∙ down),
       )

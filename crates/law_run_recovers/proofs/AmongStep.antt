@@ -325,23 +325,19 @@ module _ (given : Opening) (events later : List Event) (agent t : ℕ) (caller :
 
     -- it was told so
     module _ (server : ℕ) (told : Told (fixed_of given) (world_after given events agent caller site ops so_far) (Step agent) t server) where
-      the : Served → Served
+      abbrev the : Served → Served
       the what = what
 
       same_what : the (record { server = took.asked.0; request = record { stamp = c.here.stamp; value = took.asked.1 }; reply = answer_of took.st (record { stamp = c.here.stamp; value = took.asked.1 }) }) ≡ told.what
-      unfolding the
       same_what = same_Some _ told.what (sym took.done ∙ told.served)
 
       asked_is : took.asked.1 ≡ request.Poll t told.told.suite told.told.mode
-      unfolding the
       asked_is = ap (λ (what : Served). what.request.value) same_what ∙ told.told.poll
 
       said_is : said ≡ held told.told.copy
-      unfolding the
       said_is = ap (λ (what : Served). what.reply.value) same_what ∙ told.told.reply
 
       at_it : took.asked.0 ≡ server
-      unfolding the
       at_it = ap (λ (what : Served). what.server) same_what ∙ told.at
 
       told_shows : ShowsAt told.told.copy told.told.suite

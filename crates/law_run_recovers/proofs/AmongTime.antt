@@ -157,9 +157,6 @@ module _ (given : Opening) (events later : List Event) (agent t : ℕ) (caller :
           of (first ∷ left) is = sym (asks_same first asked.0 (request.Finish (its given events later agent t caller site ops actor goes).t v) asked.1 is)
 
       module _ (r : RunsIt given events later agent t caller site ops actor goes so_far c) (known : among servers asked.0 ≡ true) (heard : Response) (shown : Shows (agents.Take heard)) where
-        one : Exchange
-        one = record { server = asked.0; request = asked.1; response = heard }
-
         past_is : past (c.told ++ agents.Take heard ∷ []) ≡ past c.told ++ record { server = asked.0; request = asked.1; response = heard } ∷ []
         past_is = exchanges-take (fixed_of given) begun c.told heard ∙ ap (λ asked. past c.told ++ exchange_of asked heard) next_told
 
@@ -230,9 +227,6 @@ module _ (given : Opening) (events later : List Event) (agent t : ℕ) (caller :
     where
       Rest : Type 0
       Rest = (c : Course given events later agent t caller site ops actor goes (so_far ++ event ∷ [])) (k : ℕ) → Counted c.told k → OneEnds (so_far ++ event ∷ []) rest ⊎ Runs (k + own_steps agent rest)
-
-      Goal : Type 0
-      Goal = OneEnds so_far (event ∷ rest) ⊎ Runs (k + own_steps agent (event ∷ rest))
 
       -- it was one step, or none, and so many exchanges
       lift : (j x : ℕ) → k + x ≤ j → cond (its_step agent event) 1 0 ≡ x → OneEnds (so_far ++ event ∷ []) rest ⊎ Runs (j + own_steps agent rest) → OneEnds so_far (event ∷ rest) ⊎ Runs (k + own_steps agent (event ∷ rest))
