@@ -150,8 +150,7 @@ module _ (given : Opening) (events later : List Event) (agent t : ℕ) (caller :
               let begun = stored_effect given z (machine_of given z events) (run given events) (effects.follows given events (all_keep given events (can_first given events later agent t caller site ops actor goes)) z).shows (all_consistent given events) t
               (first_asked given events later agent t caller site ops actor goes z) (none_first z) i old before
               (free_where t z (first_asked given events later agent t caller site ops actor goes z) old (ap (λ found. is_open_way (way_in t z (first_asked given events later agent t caller site ops actor goes z) found)) (sym before) ∙ was_open)) in
-              let same : shows_same (Some st) (Some old) z = subst (λ found. shows_same found (Some old) z) at (subst (λ found. shows_same (server_at (world_at next) i) found z) before (shown i z on)) in
-              (
+              let same : shows_same (Some st) (Some old) z = subst (λ found. shows_same found (Some old) z) at (subst (λ found. shows_same (server_at (world_at next) i) found z) before (shown i z on)) in (
                 ap (λ (copy : Replica). copy.prefix.pver) now ∙ ap (λ (prefix : Prefix). prefix.pver) same.0 ∙ sym (ap (λ (copy : Replica). copy.prefix.pver) begun),
                 ap (λ (copy : Replica). copy.dver) now ∙ same.1 ∙ sym (ap (λ (copy : Replica). copy.dver) begun),
               )

@@ -147,7 +147,7 @@ module _ (given : Opening) (events later : List Event) (agent t : ℕ) (caller :
         where
           by : (b : Bool) → of_up (drops t) (world_after given events agent caller site ops so_far) (step (fixed_of given) (world_after given events agent caller site ops so_far) (Crash server)).done.served ≡ b
               → (not (is_telling (world_after given events agent caller site ops so_far) agent)
-                && of_up (drops t) (world_after given events agent caller site ops so_far) (step (fixed_of given) (world_after given events agent caller site ops so_far) (Crash server)).done.served) ≡ false
+              && of_up (drops t) (world_after given events agent caller site ops so_far) (step (fixed_of given) (world_after given events agent caller site ops so_far) (Crash server)).done.served) ≡ false
           by true some = absurd (served_so (step (fixed_of given) (then so_far) (Crash server)).done.served refl some)
           by false none = both (not (is_telling (then so_far) agent)) _ none
 
