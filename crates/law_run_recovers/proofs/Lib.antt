@@ -96,3 +96,4 @@ pub mod BesideSides
 pub mod BesideFree
 pub mod BesideLaws
 pub mod BesideWorked
+pub mod ToldWorked
