@@ -1,17 +1,17 @@
 //! What the histories of certified threads tell of time: whose decision came first. There is no code but laws.
 //!
-//! A history is what a server served, in its order. The server's lock is held while it serves a request and notes it
-//! (`server_lock`), so what stands later in a history was asked later by the clock, whichever threads asked.
+//! A history is what a server served, in its order. The server's lock is held while it serves a request and notes
+//! it (`server_lock`), so what stands later in a history was asked later by the clock, whichever threads asked.
 //!
-//! **Promises.** Where a history has a Finish of one transaction before a request of another that is none, as its Decide,
-//! the first was decided before the second among the decisions that `certify` gave, as the Finish says
+//! **Promises.** Where a history has a Finish of one transaction before a request of another that is none, as its
+//! Decide, the first was decided before the second among the decisions that `certify` gave, as the Finish says
 //! (`finished_before_in_history`). So the second is answered by the table after the first's change
 //! (`changes_are_met_in_history`). `promise` lends both of histories and transcripts.
 //!
 //! Nothing is said of the order of two transactions that no server was asked of.
 //!
-//! **The caller owes** to `promise` what `run_certify::certify` gives with each list of decisions (`CertifiedIsPromised`).
-//! `crates/run_tests/src/certified.rt` does it.
+//! **The caller owes** to `promise` what `run_certify::certify` gives with each list of decisions
+//! (`CertifiedIsPromised`). `crates/run_tests/src/certified.rt` does it.
 //!
 //! **Files**: `lib`, `promises`. **Definitions** (`specs/`): `Histories`.
 #![tactic(auto)]
