@@ -38,7 +38,7 @@ use Rattle.law_run_recovers.proofs.Names.{itself, suites_named, names_for, Count
 use Rattle.law_run_recovers.proofs.NearGround.{its, Known, ground, number, sight, can_first}
 use Rattle.law_run_recovers.proofs.Took.{OwnTook, own_took}
 use Rattle.law_run_recovers.proofs.Open.{unmet_is_among_locks}
-use Rattle.law_run_recovers.proofs.AmongCourse.{Course, RunsIt, runs_it, next_is, unhindered, apart_on}
+use Rattle.law_run_recovers.proofs.AmongCourse.{Course, RunsIt, runs_it, next_is, apart_on}
 use Rattle.law_run_recovers.proofs.AmongStep.{idle_before, first_course, first_told, own_on}
 use Rattle.law_run_recovers.proofs.InTime.{AllShow, Shows, exchanges_show, reply_shows, show_both}
 use Rattle.law_headline.specs.Premises.{CanBe}
