@@ -146,15 +146,15 @@ module _ (given : Opening) (events later : List Event) (agent t : ℕ) (caller :
               → ((copy_of st.store z).prefix ≡ shown_at (fixed_of given) (run given events) z server) × ((copy_of st.store z).dver ≡ dver_at (run given events) z server)
           shows is = of (server_at (run given events) server) refl (and_parts (goes.near server) (is_up (run given events) server) (opens_up given events later agent t caller site ops actor goes z (mode_asked question) server is)).1
             where
-              of : (found : Option State) → server_at (run given events) server ≡ found → up_in found ≡ true → ((copy_of st.store z).prefix ≡ shown_in (fixed_of given) found z) × ((copy_of st.store z).dver ≡ dver_in found z)
-              of None was up = absurd (false≢true up)
-              of (Some old) was up = the_same old (told.shown (ap is_open_way told.way ∙ (and_parts (goes.near server) (is_open_at (run given events) t z (mode_asked question) server) is).1)) at was
-
               the_same : (old : State) → shows_same (server_at (world_after given events agent caller site ops so_far) server) (server_at (run given events) server) z
                   → server_at (world_after given events agent caller site ops so_far) server ≡ Some st → server_at (run given events) server ≡ Some old
                   → ((copy_of st.store z).prefix ≡ (copy_of old.store z).prefix) × ((copy_of st.store z).dver ≡ (copy_of old.store z).dver)
               the_same old same now was =
                   subst (λ found. shows_same found (Some old) z) now (subst (λ found. shows_same (server_at (world_after given events agent caller site ops so_far) server) found z) was same)
+
+              of : (found : Option State) → server_at (run given events) server ≡ found → up_in found ≡ true → ((copy_of st.store z).prefix ≡ shown_in (fixed_of given) found z) × ((copy_of st.store z).dver ≡ dver_in found z)
+              of None was up = absurd (false≢true up)
+              of (Some old) was up = the_same old (told.shown (ap is_open_way told.way ∙ (and_parts (goes.near server) (is_open_at (run given events) t z (mode_asked question) server) is).1)) at was
 
           locked : question ≡ Upgrade → has_lock t z st.locks ≡ true
           locked is = subst (λ question. Finds st (request_for t z question)) is (its_finds (request_for t z question) next)

@@ -370,10 +370,10 @@ module _ (given : Opening) (events later : List Event) (agent t : ℕ) (caller :
             let shows = poll_shows took.st t told.told.suite told.told.mode told.told.copy (ap (reply_of took.st) (sym (asked_is server told)) ∙ said_is server told) in
             (ap (λ store. (copy_of store told.told.suite).prefix) store ∙ shows.0, ap (λ store. (copy_of store told.told.suite).dver) store ∙ shows.1)
 
-        of : (begun : Option State) → server_at (run given events) took.asked.0 ≡ begun
+        of : (old : Option State) → server_at (run given events) took.asked.0 ≡ old
             → shows_same (Some (served took.st (record { stamp = c.here.stamp; value = took.asked.1 }))) (server_at (run given events) took.asked.0) told.told.suite
         of None is = subst (λ found. shows_same (Some (served took.st stamped)) found told.told.suite) (sym is) tt
-        of (Some begun) is =
+        of (Some old) is =
             let shows = told_shows server told in
             subst (λ found. shows_same (Some (served took.st stamped)) found told.told.suite) (sym is)
             (polled.0 ∙ shows.1 ∙ ap (λ found. shown_in (fixed_of given) found told.told.suite) is, polled.1 ∙ shows.2 ∙ ap (λ found. dver_in found told.told.suite) is)

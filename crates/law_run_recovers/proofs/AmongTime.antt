@@ -45,6 +45,7 @@ use Rattle.law_headline.specs.Premises.{CanBe}
 use Rattle.txn_core.specs.declared.ending.Ending.{Ending}
 use Rattle.txn_core.specs.Doing.{Finishing}
 use Rattle.rep_core.specs.declared.request.Request.{Request}
+use Rattle.rep_core.specs.declared.request.Request.TheVariants as request
 use Rattle.txn_core.specs.declared.response.Response.{Response}
 use Rattle.rep_core.specs.State.{State}
 use Rattle.rep_core.specs.declared.reply.Verdict.{Verdict}

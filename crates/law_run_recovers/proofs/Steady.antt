@@ -151,7 +151,7 @@ module _ (given : Opening) (events later : List Event) (agent t : ℕ) (caller :
           by true some = absurd (served_so (step (fixed_of given) (then so_far) (Crash server)).done.served refl some)
           by false none = both (not (is_telling (then so_far) agent)) _ none
 
-    among_kept : (so_far rest : List Event) (event : Event) → later ≡ so_far ++ event ∷ rest → IsAtWork (world_after given events agent caller site ops so_far) agent t → Answered so_far
+    pub among_kept : (so_far rest : List Event) (event : Event) → later ≡ so_far ++ event ∷ rest → IsAtWork (world_after given events agent caller site ops so_far) agent t → Answered so_far
         → bereaves given agent t (world_after given events agent caller site ops so_far) event ≡ false
     among_kept so_far rest (Begin i job) split work answered = refl
     among_kept so_far rest (Step i) split work answered = refl
@@ -184,10 +184,10 @@ module _ (given : Opening) (events later : List Event) (agent t : ℕ) (caller :
   -- ---- told as at its begin
 
   module _ (goes : ToldAsAtItsBegin given events later agent t caller site ops actor) where
-    first_two : (a b c : Bool) → (a || (b || c)) ≡ false → (a || b) ≡ false
+    pub first_two : (a b c : Bool) → (a || (b || c)) ≡ false → (a || b) ≡ false
     first_two a b c is = grind (arith, nat_tests)
 
-    third : (a b c : Bool) → (a || (b || c)) ≡ false → c ≡ false
+    pub third : (a b c : Bool) → (a || (b || c)) ≡ false → c ≡ false
     third a b c is = grind (arith, nat_tests)
 
     abbrev pub told_steady : GoesSteadily given events later agent t caller site ops actor
