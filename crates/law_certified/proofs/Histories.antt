@@ -65,7 +65,8 @@ tails a b xs ys is = cc
 served_at : (fixed : Fixed) (server : ℕ) (item : Item) (rest : List Item) (events : List Event) (world : World) (before : List Item)
     → items_of server (items_from fixed world events) ≡ before ++ item ∷ rest → IsServedAt fixed world events server item rest
 served_at fixed server item rest [] world before is = absurd (nil_not before item rest is)
-served_at fixed server item rest (event ∷ events) world before is = of (step fixed world event).done.served refl is
+served_at fixed server item rest (event ∷ events) world before is =
+    of (step fixed world event).done.served refl is (λ before is. served_at fixed server item rest events (step fixed world event).world before is)
   where
     next : World
     next = (step fixed world event).world
@@ -73,8 +74,8 @@ served_at fixed server item rest (event ∷ events) world before is = of (step f
     late : List Item
     late = items_of server (items_from fixed next events)
 
-    on : (before : List Item) → late ≡ before ++ item ∷ rest → IsServedAt fixed world (event ∷ events) server item rest
-    on before is = let s = served_at fixed server item rest events next before is in record {
+    on : IsServedAt fixed (step fixed world event).world events server item rest → IsServedAt fixed world (event ∷ events) server item rest
+    on s = record {
       firsts = event ∷ s.firsts;
       event = s.event;
       later = s.later;
@@ -85,8 +86,9 @@ served_at fixed server item rest (event ∷ events) world before is = of (step f
       behind = s.behind;
     }
 
-    here : (what : Served) → (step fixed world event).done.served ≡ Some what → (before : List Item) → (item_by (asker event) what).item ∷ late ≡ before ++ item ∷ rest → IsServedAt fixed world (event ∷ events) server item rest
-    here what found [] is = record {
+    here : (what : Served) → (step fixed world event).done.served ≡ Some what → (before : List Item) → (item_by (asker event) what).item ∷ late ≡ before ++ item ∷ rest
+        → ((before : List Item) → late ≡ before ++ item ∷ rest → IsServedAt fixed next events server item rest) → IsServedAt fixed world (event ∷ events) server item rest
+    here what found [] is go = record {
       firsts = [];
       event = event;
       later = events;
@@ -96,16 +98,17 @@ served_at fixed server item rest (event ∷ events) world before is = of (step f
       same = ap (λ (one : Item). one.request) (heads (item_by (asker event) what).item item late rest is);
       behind = tails (item_by (asker event) what).item item late rest is;
     }
-    here what found (one ∷ before) is = on before (tails (item_by (asker event) what).item one late (before ++ item ∷ rest) is)
+    here what found (one ∷ before) is go = on (go before (tails (item_by (asker event) what).item one late (before ++ item ∷ rest) is))
 
-    at : (what : Served) → (step fixed world event).done.served ≡ Some what → (b : Bool) → cons_option (cond b (Some (item_by (asker event) what).item) None) late ≡ before ++ item ∷ rest → IsServedAt fixed world (event ∷ events) server item rest
-    at what found true is = here what found before is
-    at what found false is = on before is
+    at : (what : Served) → (step fixed world event).done.served ≡ Some what → (b : Bool) → cons_option (cond b (Some (item_by (asker event) what).item) None) late ≡ before ++ item ∷ rest
+        → ((before : List Item) → late ≡ before ++ item ∷ rest → IsServedAt fixed next events server item rest) → IsServedAt fixed world (event ∷ events) server item rest
+    at what found true is go = here what found before is go
+    at what found false is go = on (go before is)
 
     of : (found : Option Served) → (step fixed world event).done.served ≡ found → items_of server (cons_option (served_as (asker event) found) (items_from fixed next events)) ≡ before ++ item ∷ rest
-        → IsServedAt fixed world (event ∷ events) server item rest
-    of None found is = on before is
-    of (Some what) found is = at what found (nat_eq what.server server) is
+        → ((before : List Item) → late ≡ before ++ item ∷ rest → IsServedAt fixed next events server item rest) → IsServedAt fixed world (event ∷ events) server item rest
+    of None found is go = on (go before is)
+    of (Some what) found is go = at what found (nat_eq what.server server) is go
 
 -- what was done in a run, in three parts
 parts_of_done : (fixed : Fixed) (world : World) (events firsts later : List Event) (event : Event) → events ≡ firsts ++ event ∷ later
