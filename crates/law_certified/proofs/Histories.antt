@@ -16,7 +16,6 @@ use Rattle.rep_core.proofs.Members.{Has, has_from, contains_from}
 use Rattle.txn_core.specs.Doing.{Fixed}
 use Rattle.txn_core.specs.Agents.{fixed_of}
 use Rattle.run_core.specs.declared.event.Event.{Event}
-use Rattle.run_core.specs.declared.done.Done.{Done}
 use Rattle.run_core.specs.declared.done.Served.{Served}
 use Rattle.run_core.specs.Worlds.{World, opening, step}
 use Rattle.run_core.specs.Runs.{after, dones, done_in, run}
@@ -30,14 +29,12 @@ use Rattle.law_runs.specs.Finishes.{asks_for_itself, EndedSo}
 use Rattle.law_runs.proofs.Conclusions.{later_decisions, decisions_go_on}
 use Rattle.law_runs.proofs.Finishes.{finish_is_after, finished_before}
 use Rattle.law_runs.proofs.Standing.{append_has_left}
-use Rattle.law_headline.specs.Promises.{MeetsChange}
 use Rattle.run_certify.specs.declared.entry.Entry.{Entry}
-use Rattle.run_certify.specs.Merges.{ItemAt, history_of, items_of}
+use Rattle.run_certify.specs.Merges.{items_of}
 use Rattle.run_certify.specs.Weaves.{weave}
 use Rattle.run_certify.specs.Shown.{asker, item_by, items_from, served_as}
-use Rattle.run_certify.specs.Certified.{IsCertified, IsCertifiedAs}
 use Rattle.run_certify.specs.Promised.{CertifiedIsPromised}
-use Rattle.law_certified.specs.Histories.{StandsFirst, FinishedBeforeInHistory, ChangesAreMetInHistory, FinishedBeforeInHistoryAt, ChangesAreMetInHistoryAt, TellsOfTime}
+use Rattle.law_certified.specs.Histories.{StandsFirst, FinishedBeforeInHistory, ChangesAreMetInHistory, TellsOfTime}
 
 -- ---- where an item of a server was served
 
