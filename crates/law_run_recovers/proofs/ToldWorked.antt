@@ -43,7 +43,7 @@ SameFor w (Some here) = SameNext w (next_of (fixed_of with_caches) here.agent)
 
 abbrev SameIn : World → Event → Type 0
 SameIn w (Step agent) = SameFor w (actor_at w agent)
-SameIn w other = Unit {0}
+SameIn w _ = Unit {0}
 
 abbrev AllSame : World → List Event → Type 0
 AllSame w [] = Unit {0}
@@ -97,19 +97,43 @@ they_can = record { accepted = some_run_revokes.can_be.accepted; c0 = some_run_r
 all_same : AllSame begun third_away
 all_same = (
   record { up = refl; told = record { way = refl; shown = λ open'. (refl, refl) } },
-  tt,
-  record { up = refl; told = record { way = refl; shown = λ open'. (refl, refl) } },
-  record { up = refl; told = tt },
-  record { up = refl; told = record { way = refl; shown = λ open'. (refl, refl) } },
-  tt,
-  record { up = refl; told = record { way = refl; shown = λ open'. (refl, refl) } },
-  record { up = refl; told = tt },
-  record { up = refl; told = tt },
-  record { up = refl; told = tt },
-  record { up = refl; told = tt },
-  record { up = refl; told = tt },
-  record { up = refl; told = tt },
-  tt,
+  (
+    tt,
+    (
+      record { up = refl; told = record { way = refl; shown = λ open'. (refl, refl) } },
+      (
+        record { up = refl; told = tt },
+        (
+          record { up = refl; told = record { way = refl; shown = λ open'. (refl, refl) } },
+          (
+            tt,
+            (
+              record { up = refl; told = record { way = refl; shown = λ open'. (refl, refl) } },
+              (
+                record { up = refl; told = tt },
+                (
+                  record { up = refl; told = tt },
+                  (
+                    record { up = refl; told = tt },
+                    (
+                      record { up = refl; told = tt },
+                      (
+                        record { up = refl; told = tt },
+                        (
+                          record { up = refl; told = tt },
+                          tt,
+                        ),
+                      ),
+                    ),
+                  ),
+                ),
+              ),
+            ),
+          ),
+        ),
+      ),
+    ),
+  ),
 )
 
 pub some_runs_are_told : SomeRunsAreTold
