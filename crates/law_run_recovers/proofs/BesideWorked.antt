@@ -49,15 +49,15 @@ valid_action action.GetAcl is = tt
 valid_action (action.SetAcl acl) is = tt
 valid_action action.GetVotes is = tt
 
-pub all_by : {X : Type 0} (P : X → Type 0) (p : X → Bool) → ((x : X) → p x ≡ true → P x) → (xs : List X) → list_all p xs ≡ true → AllByRecursion P xs
+all_by : {X : Type 0} (P : X → Type 0) (p : X → Bool) → ((x : X) → p x ≡ true → P x) → (xs : List X) → list_all p xs ≡ true → AllByRecursion P xs
 all_by P p each [] is = tt
 all_by P p each (x ∷ xs) is = let parts = and_parts (p x) (list_all p xs) is in (each x parts.0, all_by P p each xs parts.1)
 
-abbrev pub event_sets_none : Event → Bool
+abbrev event_sets_none : Event → Bool
 event_sets_none (Begin number (Transaction caller site ops)) = list_all (λ (op : Op). sets_none op.action) ops
 event_sets_none _ = true
 
-pub valid_event : (event : Event) → event_sets_none event ≡ true → EventGivesValidVotes event
+valid_event : (event : Event) → event_sets_none event ≡ true → EventGivesValidVotes event
 valid_event (Begin number (Transaction caller site ops)) is = all_by (λ (op : Op). GivesValidVotes op.action) (λ op. sets_none op.action) (λ op. valid_action op.action) ops is
 valid_event (Begin number (Sweep server)) is = tt
 valid_event (Step number) is = tt

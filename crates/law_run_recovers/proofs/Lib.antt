@@ -96,4 +96,3 @@ pub mod BesideSides
 pub mod BesideFree
 pub mod BesideLaws
 pub mod BesideWorked
-pub mod ToldWorked

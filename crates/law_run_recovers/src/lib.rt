@@ -34,14 +34,14 @@
 //! - Each job that ended in a run took steps within its bound, with no premise (`runs_end_by_the_bounds`).
 //! - A transaction whose lock was taken away is never decided (`taken_away_are_never_decided`).
 //! - `promise` lends all this of a world, and `what_can_be_is_available` of any events that there can be. In
-//!   `some_runs_recover`, `some_runs_are_told` and `some_runs_go_side_by_side` it says something.
+//!   `some_runs_recover` and `some_runs_go_side_by_side` it says something.
 //! - Not promised: that of transactions that meet one is decided (`some_runs_starve`).
 //!
 //! **The caller owes** to `promise` a world that some events made of accepted settings (`IsOfRun`).
 //!
 //! **Files**: `lib`, `promises`, `told`. **Definitions** (`specs/`): `Standing`, `Alone`, `Demands`, `InTime`,
 //! `Laws`, `Sweeping`, `Promises`, `Worked`, `Near`, `Unmet`, `OpenDemands`, `Local`, `Among`, `Told`,
-//! `ToldWorked`, `Beside`, `BesideWorked`, `Histories`, `Blocking`, `Contending`. The proofs follow a transaction
+//! `Beside`, `BesideWorked`, `Histories`, `Blocking`, `Contending`. The proofs follow a transaction
 //! over its agent's steps (`proofs/Ends.antt`, `Stands.antt`, `Asking.antt`; where others go on `AmongCourse.antt`,
 //! `AmongStep.antt`, `AmongEnds.antt`) and a sweep by its list (`Sweeps.antt`, `Swept.antt`, `Rounds.antt`).
 #![tactic(auto)]
@@ -63,9 +63,8 @@ ghost use Rattle.law_run_recovers.specs.Contending.{SomeRunsStarve};
 
 pub use promises::{promise, what_can_be_is_available};
 pub use told::{
-    among_locks_are_told_as_begun, some_runs_are_told, told_are_answered_as_begun,
-    told_are_decided_where_votes_are, told_end_by_votes, told_end_in_time, told_gather_their_asks,
-    told_had_votes_open,
+    among_locks_are_told_as_begun, told_are_answered_as_begun, told_are_decided_where_votes_are,
+    told_end_by_votes, told_end_in_time, told_gather_their_asks, told_had_votes_open,
 };
 
 /// A law: a transaction that begins where no server that is up has a lock, and that nobody hinders, ends as the votes say

@@ -1,7 +1,6 @@
 //! What is promised to a transaction that is told what it would have been told as it began, whatever others do.
 
 ghost use Rattle.law_run_recovers.specs.Told.{AmongLocksAreToldAsBegun, ToldEndByVotes, ToldEndInTime, ToldHadVotesOpen, ToldAreDecidedWhereVotesAre, ToldAreAnsweredAsBegun, ToldGatherTheirAsks};
-ghost use Rattle.law_run_recovers.specs.ToldWorked.{SomeRunsAreTold};
 
 /// A law: a transaction in whose way nothing comes or goes at servers that it may ask is told, until its end is fixed, what it
 /// would have been told as it began: what is promised to one that is told so is promised to it. It does nothing.
@@ -42,10 +41,4 @@ pub fn told_are_answered_as_begun()
 /// A law: and when it is decided it has gathered just what it asks for on that table. It does nothing.
 pub fn told_gather_their_asks()
     ensures { ToldGatherTheirAsks }
-{}
-
-/// A law: a run in which a transaction is told so, and answered, though a server that has a vote crashes and is back meanwhile;
-/// so the laws above say something that those of locks that stay do not. It does nothing.
-pub fn some_runs_are_told()
-    ensures { SomeRunsAreTold }
 {}
