@@ -25,6 +25,7 @@ use Rattle.law_run_recovers.proofs.HadVotes.{decided_had_votes_up}
 use Rattle.law_run_recovers.proofs.Histories.{finished_before_at_server, changes_are_met_at_server}
 use Rattle.law_run_recovers.proofs.Homes.{homes_go_round}
 use Rattle.law_run_recovers.proofs.InTime.{runs_end_by_the_bounds}
+use Rattle.law_run_recovers.proofs.MeetLaw.{one_that_meets_is_decided}
 use Rattle.law_run_recovers.proofs.Rounds.{only_doubts_are_left}
 use Rattle.law_run_recovers.proofs.Rows.{met_demands_are_rows}
 use Rattle.law_run_recovers.proofs.Stored.{all_is_stored}
@@ -64,6 +65,7 @@ available sites given events can = record {
   beside_decided = side_by_side_are_decided given events;
   beside_in_time = side_by_side_end_in_time given events;
   beside_told = side_by_side_are_told_freely given events;
+  one_that_meets = one_that_meets_is_decided given events;
   finished = finished_before_at_server given events can;
   changes_met = changes_are_met_at_server given events can;
   homes = homes_go_round given;

@@ -13,6 +13,7 @@ use Rattle.law_run_alone.specs.Undisturbed.{NothingIsInTheWayAt, UndisturbedAreD
 use Rattle.law_run_recovers.specs.Laws.{EndsAreByVotesAt, EndsInTimeAt, MetDemandsAreRowsAt, DecidedWhereVotesAreAt, HomesGoRoundOf, OneOfThemIsDecidedAt, DecidedHadVotesUpAt}
 use Rattle.law_run_recovers.specs.InTime.{RunsEndByTheBoundsAt}
 use Rattle.law_run_recovers.specs.Local.{UnmetEndByVotesAt, UnmetEndInTimeAt, UnmetHadVotesUpAt, UnmetAreDecidedWhereVotesAreAt}
+use Rattle.law_run_recovers.specs.Meets.{OneThatMeetsIsDecidedAt}
 use Rattle.law_run_recovers.specs.Among.{AmongLocksEndByVotesAt, AmongLocksEndInTimeAt, AmongLocksHadVotesOpenAt, AmongLocksAreDecidedWhereVotesAreAt, AmongLocksAreAnsweredAsBegunAt, AmongLocksGatherTheirAsksAt, AmongLocksLeaveNoLockAt}
 use Rattle.law_run_recovers.specs.Told.{ToldEndByVotesAt, ToldEndInTimeAt, ToldHadVotesOpenAt, ToldAreDecidedWhereVotesAreAt, ToldAreAnsweredAsBegunAt, ToldGatherTheirAsksAt}
 use Rattle.law_run_recovers.specs.Beside.{SideBySideAreDecidedAt, SideBySideEndInTimeAt, SideBySideAreToldFreelyAt}
@@ -59,6 +60,8 @@ pub record IsAvailable (given : Opening) (events : List Event) : Type 0 where
   pub beside_decided : SideBySideAreDecidedAt given events
   pub beside_in_time : SideBySideEndInTimeAt given events
   pub beside_told : SideBySideAreToldFreelyAt given events
+  -- of two that begin from now on and alone meet, at one suite first and by votes that leave enough to one of them, one is decided once both have ended
+  pub one_that_meets : OneThatMeetsIsDecidedAt given events
   -- where a server served the Finish of one transaction before a request of another that is none, the first was decided before the second; so a change whose
   -- Finish says that it was answered is met
   pub finished : FinishedBeforeAtServerAt given events
