@@ -67,11 +67,15 @@ pub mod Apart
 pub mod AsBegun
 pub mod NearGround
 pub mod Asked
+pub mod Locked
+pub mod Lacking
+pub mod Steady
 pub mod AmongAt
 pub mod AmongKnows
 pub mod AmongCourse
 pub mod AmongAsks
 pub mod AmongStep
+pub mod AmongLacks
 pub mod AmongEnds
 pub mod Asker
 pub mod AmongOver
@@ -81,7 +85,7 @@ pub mod UnmetLaws
 pub mod AmongDecided
 pub mod Names
 pub mod AmongTime
-pub mod AmongLocks
+pub mod ToldLaws
 pub mod Histories
 pub mod Owned
 pub mod Sides

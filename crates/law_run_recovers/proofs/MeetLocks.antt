@@ -39,7 +39,7 @@ use Rattle.law_run_alone.proofs.Walks.{AllAt, MayAsk, asks_servers}
 use Rattle.law_run_recovers.specs.Beside.{clashes}
 use Rattle.law_run_recovers.specs.Standing.{locks_in, locks_at}
 use Rattle.law_run_recovers.specs.Unmet.{takes, robs, hinders_itself, world_after}
-use Rattle.law_run_recovers.proofs.AmongLocks.{drops, bereaves}
+use Rattle.law_run_recovers.specs.Told.{drops, bereaves}
 use Rattle.law_run_recovers.proofs.AtWork.{takes_nothing}
 use Rattle.law_run_recovers.proofs.Keeps.{IsAtWork, run_at, step_asks}
 use Rattle.law_run_recovers.proofs.Owned.{AllOwned, MayLock, owned_stays}

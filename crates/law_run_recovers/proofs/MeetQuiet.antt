@@ -45,7 +45,7 @@ use Rattle.law_run_alone.specs.Alone.{begins_job}
 use Rattle.law_run_recovers.specs.Standing.{is_up, up_free, shown_at}
 use Rattle.law_run_recovers.specs.Demands.{MayStart}
 use Rattle.law_run_recovers.specs.Unmet.{begun_world, world_after, robs, hinders_itself}
-use Rattle.law_run_recovers.proofs.AmongLocks.{bereaves}
+use Rattle.law_run_recovers.specs.Told.{bereaves}
 use Rattle.law_run_recovers.proofs.AmongCourse.{parted}
 use Rattle.law_run_recovers.proofs.Apart.{Apart, event_apart}
 use Rattle.law_run_recovers.proofs.Keeps.{IsAtWork, works, after_append, at_work_before}

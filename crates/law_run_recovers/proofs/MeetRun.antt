@@ -34,7 +34,7 @@ use Rattle.law_headline.specs.Premises.{CanBe}
 use Rattle.law_run_recovers.specs.Beside.{Begun, spoils}
 use Rattle.law_run_recovers.specs.Standing.{up_in, is_up, shown_in, shown_at}
 use Rattle.law_run_recovers.specs.Unmet.{runs, running_in, is_running, is_telling, takes, up_and, of_up, robs, hinders_itself, world_after}
-use Rattle.law_run_recovers.proofs.AmongLocks.{bereaves}
+use Rattle.law_run_recovers.specs.Told.{bereaves}
 use Rattle.law_run_recovers.proofs.BesideAll.{own_served, others_none, not_both, no_job_of}
 use Rattle.law_run_recovers.proofs.BesideUnmet.{then_is, begins_there}
 use Rattle.law_run_recovers.proofs.Keeps.{IsAtWork, step_asks}

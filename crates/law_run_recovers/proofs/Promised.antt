@@ -35,6 +35,7 @@ use Rattle.law_run_recovers.proofs.AmongDecided.{among_locks_had_votes_open, amo
 use Rattle.law_run_recovers.proofs.UnmetLaws.{unmet_end_by_votes, unmet_are_decided_where_votes_are}
 use Rattle.law_run_recovers.proofs.AmongLeft.{among_locks_leave_no_lock}
 use Rattle.law_run_recovers.proofs.AmongTime.{among_locks_end_in_time, unmet_end_in_time}
+use Rattle.law_run_recovers.proofs.ToldLaws.{told_end_by_votes, told_end_in_time, told_had_votes_open, told_are_decided_where_votes_are, told_are_answered_as_begun, told_gather_their_asks}
 use Rattle.law_run_recovers.proofs.Unmoved.{decided_where_votes_are}
 
 pub available : RunsKeepToSites → (given : Opening) (events : List Event) → CanBe given events → IsAvailable given events
@@ -55,6 +56,12 @@ available sites given events can = record {
   among_answers = among_locks_are_answered_as_begun given events;
   among_gathers = among_locks_gather_their_asks given events;
   among_leaves = among_locks_leave_no_lock given events;
+  told_ends = told_end_by_votes given events;
+  told_in_time = told_end_in_time given events;
+  told_had_votes = told_had_votes_open given events;
+  told_where_votes = told_are_decided_where_votes_are given events;
+  told_answers = told_are_answered_as_begun given events;
+  told_gathers = told_gather_their_asks given events;
   beside_decided = side_by_side_are_decided given events;
   beside_in_time = side_by_side_end_in_time given events;
   beside_told = side_by_side_are_told_freely given events;

@@ -15,6 +15,7 @@ use Rattle.law_run_recovers.specs.InTime.{RunsEndByTheBoundsAt}
 use Rattle.law_run_recovers.specs.Local.{UnmetEndByVotesAt, UnmetEndInTimeAt, UnmetHadVotesUpAt, UnmetAreDecidedWhereVotesAreAt}
 use Rattle.law_run_recovers.specs.Meets.{OneThatMeetsIsDecidedAt}
 use Rattle.law_run_recovers.specs.Among.{AmongLocksEndByVotesAt, AmongLocksEndInTimeAt, AmongLocksHadVotesOpenAt, AmongLocksAreDecidedWhereVotesAreAt, AmongLocksAreAnsweredAsBegunAt, AmongLocksGatherTheirAsksAt, AmongLocksLeaveNoLockAt}
+use Rattle.law_run_recovers.specs.Told.{ToldEndByVotesAt, ToldEndInTimeAt, ToldHadVotesOpenAt, ToldAreDecidedWhereVotesAreAt, ToldAreAnsweredAsBegunAt, ToldGatherTheirAsksAt}
 use Rattle.law_run_recovers.specs.Beside.{SideBySideAreDecidedAt, SideBySideEndInTimeAt, SideBySideAreToldFreelyAt}
 use Rattle.law_run_recovers.specs.Histories.{FinishedBeforeAtServerAt, ChangesAreMetAtServerAt}
 use Rattle.law_run_recovers.specs.Blocking.{BlockedByDoubtsAt, SomeServerBlocksAt, OneCrashBlocksAt}
@@ -47,6 +48,13 @@ pub record IsAvailable (given : Opening) (events : List Event) : Type 0 where
   -- what is decided of it has gathered just what it asks for on that table; and it leaves no lock
   pub among_gathers : AmongLocksGatherTheirAsksAt given events
   pub among_leaves : AmongLocksLeaveNoLockAt given events
+  -- and so one that is told, whenever it asks, what it would have been told as it began, and whose locks stay
+  pub told_ends : ToldEndByVotesAt given events
+  pub told_in_time : ToldEndInTimeAt given events
+  pub told_had_votes : ToldHadVotesOpenAt given events
+  pub told_where_votes : ToldAreDecidedWhereVotesAreAt given events
+  pub told_answers : ToldAreAnsweredAsBegunAt given events
+  pub told_gathers : ToldGatherTheirAsksAt given events
   -- transactions that begin from now on, each where it clashes with none that runs, are decided when they end, as the table at their begin answers them;
   -- they end in time, and are never told Busy, Down or Lost; as long as all servers are up, nobody sweeps and each request is served
   pub beside_decided : SideBySideAreDecidedAt given events
