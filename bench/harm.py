@@ -31,10 +31,11 @@ import wrong_bodies
 
 CRATES = ("run_core", "txn_core", "suite_collect", "rep_core", "file_exec", "weak_cache")
 PROGRAMS = ("explore", "trace", "suites")
+SHOWN = os.path.join(measure.TOP, "docs", "wrong-bodies-shown.txt")
 # A wrong body may make a run that never ends, or that takes all memory: so many seconds of a processor and bytes it has,
 # and so many times the worlds that there are to be.
 MOST_SECONDS, MOST_BYTES, MOST_TIMES = 10, 2 << 30, 2
-RIGHT = "no/wrong body\ncomes: no story shows it\nstories: 0 of {}\nrows: 0\n"
+RIGHT = "no/wrong body\nshows: nothing\ncomes: no story shows it\nrows: 0\n"
 FUNCTION = re.compile(r"^( *)(?:pub(?:\([\w: ]+\))? )?(?:const )?(?:unsafe )?fn (\w+)")
 CLAUSE = re.compile(r"^\s*(?:ensures|requires)\b")
 SWITCH = """//! Which wrong body is taken.
@@ -152,18 +153,26 @@ def edits() -> list[Edit]:
     ]
 
 
-def put_in(crates: str, edit: Edit, number: int) -> str:
-    """Puts the functions that an edit changes into their files once more, changed. Why it cannot, or nothing."""
-    changes: dict[tuple[str, int], tuple[Function, list[tuple[str, str]]]] = {}
+# The functions that an edit changes, by file and first line, each with the texts that are put in the place of others.
+Changes = dict[tuple[str, int], tuple[Function, list[tuple[str, str]]]]
+
+
+def changes_of(edit: Edit) -> Changes:
+    """What an edit changes; nothing, where that is no function of its own."""
+    changes: Changes = {}
     for file, old, new in edit.pairs:
         lines = lines_of(os.path.join(measure.TOP, "crates", edit.crate, file))
         at = next((place for place, line in enumerate(lines) if old in line), None)
         function = None if at is None else function_at(lines, at)
-        if not function:
-            return "it changes no function"
-        if " for " in owner_of(lines, function) or " const " in f" {lines[function.first]}":
-            return "it changes a function of a trait, or a constant one"
+        if not function or " for " in owner_of(lines, function) or " const " in f" {lines[function.first]}":
+            return {}
         changes.setdefault((file, function.first), (function, []))[1].append((old, new))
+    return changes
+
+
+def put_in(crates: str, edit: Edit, number: int) -> None:
+    """Puts the functions that an edit changes into their files once more, changed."""
+    changes = changes_of(edit)
     seconds = [second_of(edit, file, function, pairs, number) for (file, _), (function, pairs) in changes.items()]
     # a function that takes something else is called by those alone that the edit changes too
     others = [one.name for one in seconds if one.takes != one.took]
@@ -174,7 +183,6 @@ def put_in(crates: str, edit: Edit, number: int) -> str:
         text = with_second(lines_of(path), one, number)
         with open(path, "w", encoding="utf-8") as target:
             target.write("\n".join(text))
-    return ""
 
 
 class Second(typing.NamedTuple):
@@ -262,9 +270,7 @@ def build(folder: str, tried: list[Edit]) -> None:
             shutil.copy(os.path.join(measure.TOP, name), room)
         with_switch(room)
         for number, edit in enumerate(tried, 1):
-            why = put_in(os.path.join(room, "crates"), edit, number)
-            if why:
-                print(f"{edit.crate}/{edit.name}: {why}", flush=True)
+            put_in(os.path.join(room, "crates"), edit, number)
         for program in PROGRAMS:
             words = [sys.executable, "-c", "import sys, harm; harm.build_here(sys.argv[1])"]
             words.append(os.path.abspath(os.path.join(folder, program)))
@@ -310,7 +316,8 @@ class Shown(typing.NamedTuple):
 
     def told(self) -> str:
         events = f"{self.events} events: {self.script}" if self.script else ""
-        pairs = (("comes", self.what), ("story", self.story), ("script", events))
+        shows = ("answer", "ways", "end", "nothing")[self.weight]
+        pairs = (("shows", shows), ("comes", self.what), ("story", self.story), ("script", events))
         return "".join(f"{word}: {text}\n" for word, text in pairs if text)
 
 
@@ -351,12 +358,10 @@ def wrong_answer(programs: Programs, script: str) -> str:
     return found[0] if found else ""
 
 
-def of_story(programs: Programs, name: str, words: list[str], story: str) -> Shown | None:
+def of_story(programs: Programs, name: str, words: list[str], story: str, kept: str) -> Shown | None:
     """What a story shows of a wrong body; nothing, where all that is told is as it is to be."""
-    with open(os.path.join(explored.KEPT, f"{name}.ways"), encoding="utf-8") as file:
-        kept = file.read()
     wanted, title = explored.read(kept), " ".join([f"`{name}`", *words])
-    words = [*words, "--worlds", str(MOST_TIMES * int(kept.split()[-2]))]
+    words = [*words, "--worlds", str(MOST_TIMES * worlds_of(kept))]
     status, printed = programs.run("explore", words, story.encode())
     told = printed.decode("latin1")
     if (status, told) == (0, kept):
@@ -389,13 +394,36 @@ def rows_that_differ(programs: Programs) -> int:
     )
 
 
+def stories() -> list[tuple[str, list[str], str, str]]:
+    """The stories with their words, their texts and their ways: those with few worlds first."""
+    found = []
+    for name, words, text in explored.kept():
+        with open(os.path.join(explored.KEPT, f"{name}.ways"), encoding="utf-8") as file:
+            found.append((name, words.split(), text, file.read()))
+    return sorted(found, key=lambda story: worlds_of(story[3]))
+
+
+def worlds_of(ways: str) -> int:
+    """How many worlds there are, as the last line of ways says."""
+    return int(ways.split()[-2])
+
+
+def best_of(programs: Programs, told: list[tuple[str, list[str], str, str]]) -> Shown:
+    """What shows a wrong body best: the first story with a wrong answer, or else with other ways."""
+    best = Shown(NOTHING, 0, "no story shows it")
+    for story in told:
+        found = of_story(programs, *story)
+        if found and found.weight < best.weight:
+            best = found
+        if best.weight == ANSWER:
+            break
+    return best
+
+
 def shown(folder: str, edit: Edit, number: int) -> str:
     """What is told of a wrong body."""
     programs = Programs(folder, number)
-    found = [of_story(programs, name, words.split(), text) for name, words, text in explored.kept()]
-    best = min((one for one in found if one), default=Shown(NOTHING, 0, "no story shows it"))
-    rows = rows_that_differ(programs)
-    return f"{edit.crate}/{edit.name}\n{best.told()}stories: {sum(map(bool, found))} of {len(found)}\nrows: {rows}\n"
+    return f"{edit.crate}/{edit.name}\n{best_of(programs, stories()).told()}rows: {rows_that_differ(programs)}\n"
 
 
 def main() -> None:
@@ -408,11 +436,18 @@ def main() -> None:
         folder = given.keep or room
         if not all(os.path.exists(os.path.join(folder, name)) for name in PROGRAMS):
             build(folder, tried)
-        if shown(folder, Edit("no", "wrong body", []), 0) != RIGHT.format(len(list(explored.kept()))):
+        if shown(folder, Edit("no", "wrong body", []), 0) != RIGHT:
             sys.exit("without a wrong body not all is as it is to be")
-        for number, edit in enumerate(tried, 1):
-            if given.only in (None, f"{edit.crate}/{edit.name}"):
-                print(shown(folder, edit, number), flush=True)
+        told = [
+            shown(folder, edit, number)
+            for number, edit in enumerate(tried, 1)
+            if changes_of(edit) and given.only in (None, f"{edit.crate}/{edit.name}")
+        ]
+    if given.only:
+        print(*told, sep="\n", end="")
+    else:
+        with open(SHOWN, "w", encoding="utf-8") as file:
+            file.write("\n".join(told))
 
 
 if __name__ == "__main__":
