@@ -12,6 +12,7 @@ Writes docs/wrong-bodies-shown.txt: of each edit what comes of it, in which stor
 tools/wrong_bodies_page.py makes a table of that. With --keep the programs stay in this folder, and are taken from there
 the next time. Takes some ten minutes, and half an hour for the ways; none of it is part of the gate.
 """
+import functools
 import os
 import re
 import resource
@@ -34,8 +35,11 @@ PROGRAMS = ("explore", "trace", "suites")
 SHOWN = os.path.join(measure.TOP, "docs", "wrong-bodies-shown.txt")
 # A wrong body may make a run that never ends, or that takes all memory: so many seconds of a processor and bytes it has,
 # and so many times the worlds that there are to be.
-MOST_SECONDS, MOST_BYTES, MOST_TIMES = 10, 2 << 30, 2
-RIGHT = "no/wrong body\nshows: nothing\ncomes: no story shows it\nrows: 0\n"
+MOST_SECONDS, MOST_BYTES, MOST_TIMES = 2, 2 << 30, 2
+# The scripts of so many ways of a story are played.
+MOST_PLAYED = 6
+NO_STORY = "no story shows it"
+RIGHT = f"no/wrong body\nshows: nothing\ncomes: {NO_STORY}\nrows: 0\n"
 FUNCTION = re.compile(r"^( *)(?:pub(?:\([\w: ]+\))? )?(?:const )?(?:unsafe )?fn (\w+)")
 CLAUSE = re.compile(r"^\s*(?:ensures|requires)\b")
 SWITCH = """//! Which wrong body is taken.
@@ -358,33 +362,97 @@ def wrong_answer(programs: Programs, script: str) -> str:
     return found[0] if found else ""
 
 
-def of_story(programs: Programs, name: str, words: list[str], story: str, kept: str) -> Shown | None:
+class Story(typing.NamedTuple):
+    """A story: its name, the words with which it is explored, its text, and its ways."""
+
+    name: str
+    words: list[str]
+    text: str
+    ways: str
+
+    def worlds(self) -> int:
+        """How many worlds there are, as the last line of the ways says."""
+        return int(self.ways.split()[-2])
+
+    def title(self) -> str:
+        return " ".join([f"`{self.name}`", *self.words])
+
+
+def stories() -> list[Story]:
+    """All stories, those with few worlds first."""
+    found = []
+    for name, words, text in explored.kept():
+        with open(os.path.join(explored.KEPT, f"{name}.ways"), encoding="utf-8") as file:
+            found.append(Story(name, words.split(), text, file.read()))
+    return sorted(found, key=Story.worlds)
+
+
+@functools.cache
+def right_runs(folder: str, name: str) -> list[tuple[str, list[str], bytes]]:
+    """Of the first ways of a story the script, its events, and what `trace` tells of it, with no wrong body."""
+    right, story = Programs(folder, 0), next(one for one in stories() if one.name == name)
+    found = []
+    for place in range(1, min(MOST_PLAYED, len(explored.read(story.ways))) + 1):
+        script, events = script_of(right, story.words, story.text, place)
+        found.append((script, events, right.run("trace", [], script.encode())[1]))
+    return found
+
+
+def of_plays(programs: Programs, story: Story) -> Shown | None:
+    """What the scripts of the ways of a story show, where they are played with a wrong body."""
+    others = None
+    for script, events, lines in right_runs(programs.folder, story.name):
+        status, told = programs.run("trace", [], script.encode())
+        if told != lines:
+            wrong = wrong_answer(programs, script)
+            if wrong:
+                return Shown(ANSWER, explored.steps_in(events), f"played: {wrong}", story.title(), brief(events))
+            if own_lines(told) != own_lines(lines):
+                what = "played, the script of a way has other lines"
+                others = others or Shown(WAYS, explored.steps_in(events), what, story.title(), brief(events))
+    return others
+
+
+def own_lines(told: bytes) -> list[bytes]:
+    """Of what `trace` tells, the lines that `play` prints."""
+    return [line for line in told.split(b"\n") if line[:1] not in (b">", b"=", b" ")]
+
+
+def of_story(programs: Programs, story: Story) -> Shown | None:
     """What a story shows of a wrong body; nothing, where all that is told is as it is to be."""
-    wanted, title = explored.read(kept), " ".join([f"`{name}`", *words])
-    words = [*words, "--worlds", str(MOST_TIMES * worlds_of(kept))]
-    status, printed = programs.run("explore", words, story.encode())
+    wanted = {shortened(way) for way in explored.read(story.ways)}
+    words = [*story.words, "--worlds", str(MOST_TIMES * story.worlds())]
+    status, printed = programs.run("explore", words, story.text.encode())
     told = printed.decode("latin1")
-    if (status, told) == (0, kept):
-        return None
+    if (status, told) == (0, story.ways):
+        return of_plays(programs, story)
     if status not in (0, NOT_ALL):
-        return Shown(ENDS, 0, f"the search ends with status {status}", title)
+        what = "a run does not end" if status < 0 else f"the search ends with status {status}"
+        return Shown(ENDS, 0, what, story.title())
     whole = [word for word in words if word != "--brief"]
-    ways = explored.read(programs.run("explore", whole, story.encode())[1].decode("latin1"))
-    for place in range(1, len(ways) + 1):
-        script, events = script_of(programs, whole, story, place)
+    if whole != words:
+        told = programs.run("explore", whole, story.text.encode())[1].decode("latin1")
+    found = explored.read(told)
+    others = [place for place, way in enumerate(found, 1) if shortened(way) not in wanted]
+    first = None
+    for place in others[:MOST_PLAYED]:
+        script, events = script_of(programs, whole, story.text, place)
+        first = first or events
         wrong = wrong_answer(programs, script)
         if wrong:
-            return Shown(ANSWER, explored.steps_in(events), wrong, title, brief(events))
-    found = explored.read(told)
-    others = [place for place, way in enumerate(found, 1) if way not in wanted]
-    gone = 0 if status == NOT_ALL else sum(way not in found for way in wanted)
+            return Shown(ANSWER, explored.steps_in(events), wrong, story.title(), brief(events))
+    gone = 0 if status == NOT_ALL else len(wanted - {shortened(way) for way in found})
     if not others and not gone:
         if status == NOT_ALL:
-            return Shown(ENDS, 0, "the search goes on", title)
-        return Shown(NOTHING, 0, "the same ways, in other runs", title)
+            return Shown(ENDS, 0, "the search goes on", story.title())
+        return Shown(NOTHING, 0, "the same ways, in other runs", story.title())
     what = f"of {len(wanted)} ways {gone} are gone, and {len(others)} others are told"
-    _, events = script_of(programs, words, story, others[0]) if others else ("", [])
-    return Shown(WAYS, explored.steps_in(events), what, title, brief(events))
+    return Shown(WAYS, explored.steps_in(first or []), what, story.title(), brief(first or []))
+
+
+def shortened(way: tuple[str, ...]) -> tuple[str, ...]:
+    """A way without what stands behind the code of what is undecided."""
+    return tuple(explored.BEHIND.sub(r"\1", line) for line in way)
 
 
 def rows_that_differ(programs: Programs) -> int:
@@ -394,28 +462,14 @@ def rows_that_differ(programs: Programs) -> int:
     )
 
 
-def stories() -> list[tuple[str, list[str], str, str]]:
-    """The stories with their words, their texts and their ways: those with few worlds first."""
-    found = []
-    for name, words, text in explored.kept():
-        with open(os.path.join(explored.KEPT, f"{name}.ways"), encoding="utf-8") as file:
-            found.append((name, words.split(), text, file.read()))
-    return sorted(found, key=lambda story: worlds_of(story[3]))
-
-
-def worlds_of(ways: str) -> int:
-    """How many worlds there are, as the last line of ways says."""
-    return int(ways.split()[-2])
-
-
-def best_of(programs: Programs, told: list[tuple[str, list[str], str, str]]) -> Shown:
+def best_of(programs: Programs, told: list[Story]) -> Shown:
     """What shows a wrong body best: the first story with a wrong answer, or else with other ways."""
-    best = Shown(NOTHING, 0, "no story shows it")
+    best = Shown(NOTHING, 0, NO_STORY)
     for story in told:
-        found = of_story(programs, *story)
-        if found and found.weight < best.weight:
+        found = of_story(programs, story)
+        if found and (found.weight < best.weight or best.what == NO_STORY):
             best = found
-        if best.weight == ANSWER:
+        if best.weight == ANSWER or (found and found.weight == ENDS):
             break
     return best
 
