@@ -420,7 +420,8 @@ def own_lines(told: bytes) -> list[bytes]:
 
 def of_story(programs: Programs, story: Story) -> Shown | None:
     """What a story shows of a wrong body; nothing, where all that is told is as it is to be."""
-    wanted = {shortened(way) for way in explored.read(story.ways)}
+    short = shortened if "--brief" in story.words else tuple
+    wanted = {short(way) for way in explored.read(story.ways)}
     words = [*story.words, "--worlds", str(MOST_TIMES * story.worlds())]
     status, printed = programs.run("explore", words, story.text.encode())
     told = printed.decode("latin1")
@@ -433,7 +434,7 @@ def of_story(programs: Programs, story: Story) -> Shown | None:
     if whole != words:
         told = programs.run("explore", whole, story.text.encode())[1].decode("latin1")
     found = explored.read(told)
-    others = [place for place, way in enumerate(found, 1) if shortened(way) not in wanted]
+    others = [place for place, way in enumerate(found, 1) if short(way) not in wanted]
     first = None
     for place in others[:MOST_PLAYED]:
         script, events = script_of(programs, whole, story.text, place)
@@ -441,7 +442,7 @@ def of_story(programs: Programs, story: Story) -> Shown | None:
         wrong = wrong_answer(programs, script)
         if wrong:
             return Shown(ANSWER, explored.steps_in(events), wrong, story.title(), brief(events))
-    gone = 0 if status == NOT_ALL else len(wanted - {shortened(way) for way in found})
+    gone = 0 if status == NOT_ALL else len(wanted - {short(way) for way in found})
     if not others and not gone:
         if status == NOT_ALL:
             return Shown(ENDS, 0, "the search goes on", story.title())
@@ -456,10 +457,9 @@ def shortened(way: tuple[str, ...]) -> tuple[str, ...]:
 
 
 def rows_that_differ(programs: Programs) -> int:
-    """How many rows are answered otherwise."""
-    return sum(
-        programs.run("suites", row["words"], row["input"]) != (row["status"], row["output"]) for row in played.rows()
-    )
+    """How many rows of `play` are answered otherwise."""
+    rows = (row for row in played.rows() if row["words"] == [b"play"])
+    return sum(programs.run("suites", ["play"], row["input"]) != (row["status"], row["output"]) for row in rows)
 
 
 def best_of(programs: Programs, told: list[Story]) -> Shown:
@@ -492,16 +492,14 @@ def main() -> None:
             build(folder, tried)
         if shown(folder, Edit("no", "wrong body", []), 0) != RIGHT:
             sys.exit("without a wrong body not all is as it is to be")
-        told = [
-            shown(folder, edit, number)
+        chosen = [
+            (number, edit)
             for number, edit in enumerate(tried, 1)
             if changes_of(edit) and given.only in (None, f"{edit.crate}/{edit.name}")
         ]
-    if given.only:
-        print(*told, sep="\n", end="")
-    else:
-        with open(SHOWN, "w", encoding="utf-8") as file:
-            file.write("\n".join(told))
+        target = sys.stdout if given.only else open(SHOWN, "w", encoding="utf-8")
+        for place, (number, edit) in enumerate(chosen):
+            print(f"{chr(10) if place else ''}{shown(folder, edit, number)}", end="", file=target, flush=True)
 
 
 if __name__ == "__main__":

@@ -69,11 +69,12 @@ WOULD_DO = """## What they would do
 
 Those of the crates that all runs go through, each taken in an unproved build in the place of the right function, as
 `bench/harm.py` saw it: {count} of them. It has `explore` tell the ways of the stories in `examples/explore` and
-`tests/explored`, and compares what was decided in them with the plain table, in the order of the decisions. Of {answer}
-a story has an answer that is not the table's: told is the one with the fewest events (`begin 0`: agent 0 begins its
-next job of the story), and what differs there. Of {ways} the stories have other ways, or the search goes on or ends;
-{none} no story shows. The last column counts the rows of `crates/rows` that are answered otherwise; {unseen} neither a
-story nor a row shows: of most of these no command tells what they are about.
+`tests/explored`, or plays the scripts of the right ways, and compares what was decided with the plain table, in the
+order of the decisions. Of {answer} a story has an answer that is not the table's: told is the smallest such story, the
+script with the fewest events that shows it there (`begin 0`: agent 0 begins its next job of the story), and what
+differs. Of {ways} the stories have other ways, or the search goes on or ends; {none} no story shows. The last column
+counts the rows of `play` in `crates/rows` that are answered otherwise (`-`: not counted); {unseen} neither a story nor
+a row shows: of most of these no command tells what they are about.
 
 | Wrong body | What comes of it | Story | Fewest events | Rows |
 |---|---|---|---|---:|
