@@ -36,6 +36,7 @@
 mod asking;
 mod fault;
 mod gather;
+mod known;
 mod line;
 mod outcome;
 mod passes;

@@ -1,12 +1,13 @@
 //! An agent, with the transcript of what it did.
 
-ghost use Rattle.std.specs.Prelude.{◌≡◌, ◌<◌, ◌≤◌, ◌++◌, ◌∷◌, [], length, IfOk, IfSome, OnOk, OnErr, true, false, None, Ok, Some};
+ghost use Rattle.std.specs.Prelude.{◌≡◌, ℕ, ◌<◌, ◌≤◌, ◌++◌, ◌∷◌, [], length, max, IfOk, IfSome, OnOk, OnErr, true, false, None, Ok, Some};
 ghost use Rattle.txn_core.specs.Agents as agents;
 ghost use Rattle.run_certify.specs.declared.entry.Entry.TheVariants.{Begun, Forgot};
 ghost use Rattle.agent_pool.specs.code.Steps.{AsksNobody, DidMore};
-ghost use Rattle.agent_pool.specs.Transcripts.{first_player, number_of, players_from};
+ghost use Rattle.agent_pool.specs.Transcripts.{first_player, known_at, number_of, players_from};
 
 use crate::asking::{Came, delivery_from, hear};
+use crate::known::{learn, unite};
 use crate::pool_context::PoolContext;
 use rep_core::Request;
 use run_certify::{Entry, KeptJob, Transcript};
@@ -16,13 +17,16 @@ use std::marker::Model;
 use std::sync::Wait;
 use suite_prefix::Settings;
 use txn_core::Agent;
+use vote_core::MAX_SERVERS;
 
-/// An agent, with the transcript of what it did: so many jobs as it began are begun there.
+/// An agent, with the transcript of what it did: so many jobs as it began are begun there. It knows of each server the last
+/// stamp that it was told there, at first 0, and takes no reply with another that is not above it.
 #[derive(Drop)]
 pub struct Player {
     number: u8,
     agent: Agent,
     entries: Vec<Entry>,
+    known: Vec<u64>,
 }
 
 impl Model for Player {
@@ -45,10 +49,12 @@ impl Player {
         let Some(agent) = Agent::new(alloc, number, settings)? else {
             unreachable!();
         };
+        let known = vec![in alloc; 0; MAX_SERVERS]?;
         Ok(Player {
             number,
             agent,
             entries: Vec::new(alloc),
+            known,
         })
     }
 
@@ -81,11 +87,23 @@ impl Player {
         Transcript::from_vec(entries)
     }
 
+    /// From now on it takes of each server only what is later than all that the other knows of it. So what it does comes after
+    /// what the other did, as each server saw it.
+    pub fn follow(&mut self, other: &Player)
+        ensures agent { self.new.agent ≡ self.old.agent }
+        ensures entries { self.new.entries ≡ self.old.entries }
+        ensures known { (server : ℕ) → server < MAX_SERVERS
+            → known_at self.new server ≡ max (known_at self.old server) (known_at other.now server) }
+    {
+        unite(&mut self.known, &other.known);
+    }
+
     /// Lets go what it keeps for a site.
     pub fn forget(&mut self, site: u8) -> Result<(), AllocError>
         requires { site < agents.max_sites }
         ensures agent { OnOk result (self.new.agent ≡ record self.old.agent { state = agents.forget self.old.agent.state site }) }
         ensures entries { OnOk result (self.new.entries ≡ self.old.entries ++ Forgot site ∷ []) }
+        ensures known { self.new.known ≡ self.old.known }
         ensures err { OnErr result (self.new ≡ self.old) }
     {
         self.entries.reserve(1)?;
@@ -98,6 +116,7 @@ impl Player {
     pub(crate) fn begin(&mut self, job: &KeptJob) -> Result<bool, AllocError>
         ensures fixed { self.new.agent.fixed ≡ self.old.agent.fixed }
         ensures number { number_of self.new ≡ number_of self.old }
+        ensures known { self.new.known ≡ self.old.known }
         ensures began { IfOk result (λ began. began ≡ agents.begins self.old.agent.fixed self.old.agent.state job.now) }
         ensures agent { OnOk result (self.new.agent.state ≡ agents.begin self.old.agent.fixed self.old.agent.state job.now) }
         ensures entries { result ≡ Ok true → self.new.entries ≡ self.old.entries ++ Begun job.now ∷ [] }
@@ -115,8 +134,9 @@ impl Player {
         Ok(true)
     }
 
-    /// Asks once, by this pass, and takes what comes of it. Its job was begun at so many entries. The transcript has
-    /// room for what is written into it before a server is asked, and nothing of the agent happens under a lock.
+    /// Asks once, by this pass, and takes what comes of it, where that is later than what it knows. Its job was begun at so
+    /// many entries. The transcript has room for what is written into it before a server is asked, and nothing of the agent
+    /// happens under a lock.
     pub(crate) fn step<R: Wait, G: Gate>(
         &mut self,
         rt: &R,
@@ -138,6 +158,9 @@ impl Player {
             return (pass, Came::Stuck);
         };
         let (pass, answer) = context.servers.ask(rt, context.gate, pass, server, request);
+        if !learn(&mut self.known, server, &answer) {
+            return (pass, Came::Stuck);
+        }
         let Some(delivery) = delivery_from(server, answer) else {
             return (pass, Came::Stuck);
         };
