@@ -121,7 +121,7 @@ before_ends alone outcomes transcripts are stand = record {
   rest = stand.rest;
   others = stand.others;
   split = stand.split;
-  just = let long = length-map (end_in transcripts) outcomes in stand.just ∙ omega arith;
+  just = let long = length-map outcomes (end_in transcripts) in stand.just ∙ omega arith;
   ended = λ place end low there.
       let from = mapped_get (end_in transcripts) outcomes place end there in
       let outcome = from.0 in
