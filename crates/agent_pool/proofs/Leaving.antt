@@ -1,6 +1,6 @@
 -- What an agent leaves in its transcript for a job.
 use Rattle.std.proofs.Common.{◌≡◌, ◌≢◌, ◌⊎◌, inl, inr, ℕ, ◌+◌, ◌-◌, ◌<◌, ◌≤◌, List, [], ◌∷◌, ◌++◌, true, false, refl, ap, ◌∙◌, sym, subst, arith, length, append_assoc, append-nil}
-use Rattle.std.specs.Prelude.{◌&&◌, nat_lt, slice_index, slice_set, if◌then◌else◌, Bool, IsTrue, Option, Some, None, Result, Ok, Err, IfOk}
+use Rattle.std.specs.Prelude.{◌&&◌, nat_lt, slice_index, IsTrue, Option, Some, None, Result, Ok, Err, IfOk, IfSome}
 use Rattle.std.proofs.Math.ListN.{length-set}
 use Rattle.std.proofs.lemmas.List.{length-append}
 use Rattle.std.proofs.lemmas.Option.{same_Some}
@@ -12,7 +12,6 @@ use Rattle.server_lock.specs.declared.miss.Miss.{Miss}
 use Rattle.server_lock.specs.declared.miss.Miss.TheVariants.{Lack, Stale}
 use Rattle.server_lock.specs.Passes.{Held, after_reply, front_at, sent_stamp}
 use Rattle.std.proofs.lemmas.Bool.{and_parts}
-use Rattle.std.proofs.lemmas.Bool.Decides.{nat_tests}
 use Rattle.txn_core.specs.Doing.{Fixed}
 use Rattle.txn_core.specs.declared.ending.Ending.{Ending}
 use Rattle.txn_core.specs.Agents.{Agent, Taken, begin, begins as begins_job, has_sense, is_idle, max_jobs, next_of, take}
@@ -23,7 +22,7 @@ use Rattle.run_certify.specs.declared.entry.Entry.TheVariants.{Begun, Asked, Lac
 use Rattle.agent_pool.specs.declared.asking.Came.{Came}
 use Rattle.agent_pool.specs.declared.asking.Came.TheVariants as came
 use Rattle.agent_pool.specs.declared.asking.Delivery.{Delivery}
-use Rattle.agent_pool.specs.code.Steps.{AsksNobody, CannotGoOn, DidJob, DidMore, HasSeen, Hears, Leaves, RanTo, delivery_from, end_entry, is_later, known_after}
+use Rattle.agent_pool.specs.code.Steps.{AsksNobody, CannotGoOn, DidJob, DidMore, HasSeen, Hears, Leaves, RanTo, delivery_from, end_entry, known_after, stamp_in}
 use Rattle.agent_pool.specs.Transcripts.{Played, AreAsks, At, Does, GoesOn, IsLonger, Leads, Learns, after_response, at_rest, begins, is_ask, number_of}
 use Rattle.agent_pool.proofs.Begins.{begins-append, goes-append, learns-append}
 
@@ -127,11 +126,9 @@ goes_by server before (Err (Lack lack)) delivery pass is front rises = subst (λ
 goes_by server before (Err (Stale long)) delivery pass is front rises = cc
 
 -- and what is known then of its server
-pub learned_by : (server : ℕ) (reply : Result (Stamped Reply) Miss) (delivery : Delivery) (known more : List ℕ) → delivery_from server reply ≡ Some delivery → server < length known → is_later known server reply ≡ true
-    → more ≡ known_after known server reply → Learns known (delivery.entry ∷ []) more
-learned_by server (Ok reply) delivery known more is low later after =
-    subst (λ (t : Delivery). Learns known (t.entry ∷ []) more) (same_Some _ delivery is)
-    (low, grind (arith, nat_tests), after ∙ ap (λ (b : Bool). if b then slice_set known server reply.stamp else known) later)
+pub learned_by : (server : ℕ) (reply : Result (Stamped Reply) Miss) (delivery : Delivery) (known more : List ℕ) → delivery_from server reply ≡ Some delivery → server < length known
+    → IfSome (stamp_in reply) (λ stamp. slice_index known server < stamp) → more ≡ known_after known server (stamp_in reply) → Learns known (delivery.entry ∷ []) more
+learned_by server (Ok reply) delivery known more is low later after = subst (λ (t : Delivery). Learns known (t.entry ∷ []) more) (same_Some _ delivery is) (low, later, after)
 learned_by server (Err (Lack lack)) delivery known more is low later after = subst (λ (t : Delivery). Learns known (t.entry ∷ []) more) (same_Some _ delivery is) after
 learned_by server (Err (Stale long)) delivery known more is low later after = cc
 
@@ -253,8 +250,7 @@ did_stick servers begun a b p q agent entries known pass why = record {
   leads = λ n. same_rest a.agent b.agent agent;
   leaves = tt;
   stuck = λ e. subst (λ (r : Held). CannotGoOn servers b r) (sym pass)
-      (subst (λ (s : Standing). AsksNobody servers (next_of s.fixed s.state) ⊎ HasSeen b.known p (next_of s.fixed s.state)) (sym agent)
-      (subst (λ (ks : List ℕ). AsksNobody servers (next_of a.agent.fixed a.agent.state) ⊎ HasSeen ks p (next_of a.agent.fixed a.agent.state)) (sym known) why));
+      (subst (λ (s : Standing). AsksNobody servers (next_of s.fixed s.state) ⊎ HasSeen p (next_of s.fixed s.state)) (sym agent) why);
 }
 
 pub did_lack : (servers begun : ℕ) (a b : Played) (p : Held) → b.agent ≡ a.agent → b.entries ≡ a.entries → b.known ≡ a.known → DidMore servers begun a b p p came.Lacked
@@ -309,33 +305,13 @@ heard_begins number begun delivery old entries new more (came.Ended ran) asks h 
     ap begins on.1 ∙ begins-append entries (delivery.entry ∷ end ∷ []) ∙ (let one = ask_first delivery.entry (end ∷ []) asks in omega arith)
 
 -- nothing is delivered where the pass is of other servers, of which it has seen something
-pub stale_seen : (server before : ℕ) (request : Request) (reply : Result (Stamped Reply) Miss) (known : List ℕ) (pass : Held) (asked : Option (ℕ × Request)) → delivery_from server reply ≡ None → ((long : ℕ) → reply ≡ Err (Stale long) → before < front_at pass server)
-    → asked ≡ Some (server, request) → HasSeen known pass asked
-stale_seen server before request (Ok reply) known pass asked none stale is = cc
-stale_seen server before request (Err (Lack lack)) known pass asked none stale is = cc
-stale_seen server before request (Err (Stale long)) known pass asked none stale is = subst (λ a. HasSeen known pass a) (sym is) (inl (let low = stale long refl in omega arith))
-
--- nor where its server gave a stamp that is not above the one that is known of it
-pub early_seen : (server : ℕ) (request : Request) (reply : Result (Stamped Reply) Miss) (known : List ℕ) (pass : Held) (asked : Option (ℕ × Request)) → is_later known server reply ≡ false → IfOk reply (λ reply. sent_stamp pass < reply.stamp)
-    → asked ≡ Some (server, request) → HasSeen known pass asked
-early_seen server request (Ok reply) known pass asked early rises is = subst (λ a. HasSeen known pass a) (sym is) (inr (grind (arith, nat_tests)))
-early_seen server request (Err miss) known pass asked early rises is = cc
-
--- what it knows is as it was, where it takes no reply
-pub early_same : (server : ℕ) (reply : Result (Stamped Reply) Miss) (known : List ℕ) → is_later known server reply ≡ false → known_after known server reply ≡ known
-early_same server (Ok reply) known early = ap (λ (b : Bool). if b then slice_set known server reply.stamp else known) early
-early_same server (Err miss) known early = cc
-
--- nor where none is delivered
-pub stale_same : (server : ℕ) (reply : Result (Stamped Reply) Miss) (known : List ℕ) → delivery_from server reply ≡ None → known_after known server reply ≡ known
-stale_same server (Ok reply) known none = cc
-stale_same server (Err miss) known none = refl
-
-set_long : (b : Bool) (known : List ℕ) (server stamp : ℕ) → length (if b then slice_set known server stamp else known) ≡ length known
-set_long true known server stamp = length-set known server stamp
-set_long false known server stamp = refl
+pub stale_seen : (server before : ℕ) (request : Request) (reply : Result (Stamped Reply) Miss) (pass : Held) (asked : Option (ℕ × Request)) → delivery_from server reply ≡ None → ((long : ℕ) → reply ≡ Err (Stale long) → before < front_at pass server)
+    → asked ≡ Some (server, request) → HasSeen pass asked
+stale_seen server before request (Ok reply) pass asked none stale is = cc
+stale_seen server before request (Err (Lack lack)) pass asked none stale is = cc
+stale_seen server before request (Err (Stale long)) pass asked none stale is = subst (λ a. HasSeen pass a) (sym is) (let low = stale long refl in omega arith)
 
 -- of as many servers something is known as before
-pub known_long : (server : ℕ) (reply : Result (Stamped Reply) Miss) (known : List ℕ) → length (known_after known server reply) ≡ length known
-known_long server (Ok reply) known = set_long (nat_lt (slice_index known server) reply.stamp) known server reply.stamp
-known_long server (Err miss) known = refl
+pub known_long : (server : ℕ) (told : Option ℕ) (known : List ℕ) → length (known_after known server told) ≡ length known
+known_long server (Some stamp) known = length-set known server stamp
+known_long server None known = refl

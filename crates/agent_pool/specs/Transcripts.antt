@@ -1,6 +1,5 @@
 -- Agents with their transcripts.
 use Rattle.std.specs.Prelude.{◌≡◌, ℕ, zero, suc, ◌+◌, ◌-◌, ◌≤◌, ◌<◌, Bool, true, false, IsTrue, List, [], ◌∷◌, ◌++◌, length, replicate, slice_index, slice_set, Option, Some, None}
-use Rattle.vote_core.specs.Validity.{max_servers}
 use Rattle.suite_prefix.specs.SettingsRules.{Opening}
 use Rattle.rep_core.specs.declared.reply.Reply.{Reply}
 use Rattle.rep_core.specs.declared.request.Request.{Request}
@@ -15,6 +14,10 @@ use Rattle.txn_core.specs.Agents as agents
 use Rattle.txn_core.specs.Standing.{Standing}
 use Rattle.run_certify.specs.declared.entry.Entry.{Entry}
 use Rattle.run_certify.specs.declared.entry.Entry.TheVariants.{Begun, Asked, Lacked, Forgot, Ended}
+
+-- how many numbers a server may have, which are of one byte
+abbrev pub most_numbers : ℕ
+most_numbers = 256
 
 -- an agent, with the transcript of what it did, and of each server the last stamp that it knows of
 pub record Played : Type 0 where
@@ -34,7 +37,7 @@ IsIdle played = agents.is_idle played.agent.state.doing ≡ true
 
 -- an agent that began no job yet, and knows nothing
 abbrev pub first_player : Opening → ℕ → Played
-first_player given number = record { agent = record { fixed = agents.fixed_of given; state = agents.opening number }; entries = []; known = replicate max_servers 0 }
+first_player given number = record { agent = record { fixed = agents.fixed_of given; state = agents.opening number }; entries = []; known = replicate most_numbers 0 }
 
 -- so many agents, numbered from some number on
 abbrev pub players_from : Opening → ℕ → ℕ → List Played

@@ -1,26 +1,37 @@
 //! What agents know of servers: of each the last stamp that it gave.
 
-ghost use Rattle.std.specs.Prelude.{◌≡◌, ◌<◌, ℕ, length, max, slice_index};
-ghost use Rattle.agent_pool.specs.code.Steps.{is_later, known_after};
+ghost use Rattle.std.specs.Prelude.{◌≡◌, ◌<◌, ℕ, length, max, slice_index, IfSome};
+ghost use Rattle.agent_pool.specs.Transcripts.{most_numbers};
+ghost use Rattle.agent_pool.specs.code.Steps.{known_after};
 
-use server_lock::Answer;
+use std::sync::Wait;
 
-/// Whether an answer of a server is later than all that is known of it: its stamp is above that one. What the answer
-/// tells is known then. One without a reply is always so, and tells nothing.
-pub(crate) fn learn(known: &mut [u64], server: u8, answer: &Answer) -> bool
-    requires { server < length known.old }
-    ensures later { result ≡ is_later known.old server answer.now.reply }
-    ensures known { known.new ≡ known_after known.old server answer.now.reply }
+/// The stamp that a server told, if it told one, is known then. It is above the one that is known of that server.
+pub(crate) fn learn<R: Wait>(rt: &R, known: &mut Vec<u64>, server: u8, told: Option<u64>)
+    requires { length known.old.items ≡ most_numbers }
+    ensures there { server < length known.old.items }
+    ensures later { IfSome told (λ stamp. slice_index known.old.items server < stamp) }
+    ensures known { known.new.items ≡ known_after known.old.items server told }
 {
-    let Ok(reply) = answer.reply() else {
-        return true;
+    let Some(stamp) = told else {
+        return;
     };
     let place = usize::from(server);
-    if reply.stamp <= known[place] {
-        return false;
+    wait_for_later(rt, known[place], stamp);
+    known[place] = stamp;
+}
+
+/// A server's stamps rise, so this one is later than all that it gave before. No type can say so of a list of locks: where
+/// it were not, that would be waited for without end.
+fn wait_for_later<R: Wait>(rt: &R, last: u64, stamp: u64)
+    ensures { last < stamp }
+{
+    for _ in rt.forever() {
+        if last < stamp {
+            return;
+        }
     }
-    known[place] = reply.stamp;
-    true
+    unreachable!()
 }
 
 /// What is known there of servers is known here too: of each the later stamp.

@@ -29,8 +29,8 @@
 //! promise (`IsWorked`), which std gives at the join. An agent that is out of memory goes on taking and runs nothing,
 //! so nobody waits for it in vain.
 //!
-//! **Files**: `line` (the channel and its rule), `known`, `player`, `outcome`, `fault`, `passes`, `ready`, `pool_context`,
-//! `asking`, `work`, `start`, `slots`, `gather`, `pool`.
+//! **Files**: `line` (the channel and its rule), `known`, `player`, `outcome`, `fault`, `passes`, `ready`,
+//! `pool_context`, `asking`, `work`, `start`, `slots`, `gather`, `pool`.
 //!
 //! **Definitions** (`specs/`): `Line`, `Transcripts`, `Endings`, `Seats`, `Gathers`, `Taken`, `Pools`.
 #![tactic(auto)]

@@ -4,9 +4,9 @@ ghost use Rattle.std.specs.Prelude.{◌≡◌, ℕ, ◌<◌, ◌≤◌, ◌++◌
 ghost use Rattle.txn_core.specs.Agents as agents;
 ghost use Rattle.run_certify.specs.declared.entry.Entry.TheVariants.{Begun, Forgot};
 ghost use Rattle.agent_pool.specs.code.Steps.{AsksNobody, DidMore};
-ghost use Rattle.agent_pool.specs.Transcripts.{first_player, known_at, number_of, players_from};
+ghost use Rattle.agent_pool.specs.Transcripts.{first_player, known_at, most_numbers, number_of, players_from};
 
-use crate::asking::{Came, delivery_from, hear};
+use crate::asking::{Came, delivery_from, hear, stamp_in};
 use crate::known::{learn, unite};
 use crate::pool_context::PoolContext;
 use rep_core::Request;
@@ -17,10 +17,12 @@ use std::marker::Model;
 use std::sync::Wait;
 use suite_prefix::Settings;
 use txn_core::Agent;
-use vote_core::MAX_SERVERS;
+
+/// How many numbers a server may have, which are of one byte.
+const MOST_NUMBERS: usize = 256;
 
 /// An agent, with the transcript of what it did: so many jobs as it began are begun there. It knows of each server the last
-/// stamp that it was told there, at first 0, and takes no reply with another that is not above it.
+/// stamp that it was told there, at first 0, and what it is told has a stamp above that.
 #[derive(Drop)]
 pub struct Player {
     number: u8,
@@ -49,7 +51,7 @@ impl Player {
         let Some(agent) = Agent::new(alloc, number, settings)? else {
             unreachable!();
         };
-        let known = vec![in alloc; 0; MAX_SERVERS]?;
+        let known = vec![in alloc; 0; MOST_NUMBERS]?;
         Ok(Player {
             number,
             agent,
@@ -87,12 +89,12 @@ impl Player {
         Transcript::from_vec(entries)
     }
 
-    /// From now on it takes of each server only what is later than all that the other knows of it. So what it does comes after
-    /// what the other did, as each server saw it.
+    /// It knows of each server what the other knows too, so what it is told from now on is later than all that the other was
+    /// told: what it does comes after what the other did, as each server saw it.
     pub fn follow(&mut self, other: &Player)
         ensures agent { self.new.agent ≡ self.old.agent }
         ensures entries { self.new.entries ≡ self.old.entries }
-        ensures known { (server : ℕ) → server < MAX_SERVERS
+        ensures known { (server : ℕ) → server < most_numbers
             → known_at self.new server ≡ max (known_at self.old server) (known_at other.now server) }
     {
         unite(&mut self.known, &other.known);
@@ -134,9 +136,8 @@ impl Player {
         Ok(true)
     }
 
-    /// Asks once, by this pass, and takes what comes of it, where that is later than what it knows. Its job was begun at so
-    /// many entries. The transcript has room for what is written into it before a server is asked, and nothing of the agent
-    /// happens under a lock.
+    /// Asks once, by this pass, and takes what comes of it. Its job was begun at so many entries. The transcript has
+    /// room for what is written into it before a server is asked, and nothing of the agent happens under a lock.
     pub(crate) fn step<R: Wait, G: Gate>(
         &mut self,
         rt: &R,
@@ -158,12 +159,11 @@ impl Player {
             return (pass, Came::Stuck);
         };
         let (pass, answer) = context.servers.ask(rt, context.gate, pass, server, request);
-        if !learn(&mut self.known, server, &answer) {
-            return (pass, Came::Stuck);
-        }
+        let stamp = stamp_in(&answer);
         let Some(delivery) = delivery_from(server, answer) else {
             return (pass, Came::Stuck);
         };
+        learn(rt, &mut self.known, server, stamp);
         let came = hear(
             &mut self.agent,
             &mut self.entries,

@@ -4,7 +4,6 @@ use Rattle.std.specs.Prelude.{All, Contains, slice_get, Some}
 use Rattle.std.specs.List.{AllZip}
 use Rattle.std.proofs.lemmas.List.Elements.{All-cons, All-head, All-nil, All-tail}
 use Rattle.std.proofs.lemmas.Option.{none-some, same_Some}
-use Rattle.vote_core.specs.Validity.{max_servers}
 use Rattle.suite_prefix.specs.SettingsRules.{Opening}
 use Rattle.server_lock.specs.Passes.{Held}
 use Rattle.txn_core.specs.Agents.{is_idle}
@@ -16,7 +15,7 @@ use Rattle.run_certify.specs.declared.entry.Entry.TheVariants.{Begun, Asked, End
 use Rattle.agent_pool.specs.declared.outcome.JobOutcome.{JobOutcome}
 use Rattle.agent_pool.specs.Pools.{begun_by}
 use Rattle.agent_pool.specs.Seats.{AreReady, HasPass, WentOn, numbers_of, passes_for}
-use Rattle.agent_pool.specs.Transcripts.{IsIdle, IsTold, Played, begins, first_player, known_at, number_of, players_from}
+use Rattle.agent_pool.specs.Transcripts.{IsIdle, IsTold, Played, begins, first_player, known_at, most_numbers, number_of, players_from}
 use Rattle.suite_serve.specs.code.Working.{AreNumbered, FollowsAll, HasEnded, StandBefore, transcripts_of}
 use Rattle.suite_serve.proofs.Learned.{contains_or, told_known, told_later}
 use Rattle.suite_serve.proofs.Places.{get_past}
@@ -77,7 +76,7 @@ pub new_others : (given : Opening) (others : List Played) → first_player given
 new_others given others are = new_rest (first_player given 0) others (subst AreNew (sym are) (new_from given 0 given.agents))
 
 later_all : (old new : List Held) (lead : Played) (others later now : List Played) → AllZip (FollowsAll (lead ∷ [])) others later → AllZip (WentOn old new) later now → AreNew others → (entries : List Entry) → Contains (transcripts_of now) entries
-    → (server stamp : ℕ) → server < max_servers → Contains entries (Asked server stamp) → known_at lead server < stamp
+    → (server stamp : ℕ) → server < most_numbers → Contains entries (Asked server stamp) → known_at lead server < stamp
 later_all old new lead [] [] [] follow went fresh entries has server stamp there asked = let low = has.1 in absurd (omega arith)
 later_all old new lead [] [] (n ∷ now) follow went fresh entries has server stamp there asked = absurd went
 later_all old new lead [] (l ∷ later) now follow went fresh entries has server stamp there asked = absurd follow
@@ -134,7 +133,7 @@ stand_before given alone p q r lead others later (n ∷ now) outcomes one follow
       before = λ server stamp next entries early has asked.
           let early' = subst (λ es. Contains es (Asked server stamp)) did.entries early in
           let known = told_known did.rest (first_player given 0).known lead.known server stamp did.knows early' in
-          let there : server < max_servers = (told_later did.rest (first_player given 0).known lead.known server stamp did.knows early').there in
+          let there : server < most_numbers = (told_later did.rest (first_player given 0).known lead.known server stamp did.knows early').there in
           elim (contains_or more.rest (transcripts_of now) entries has) [
             | inl same ↦
               let above = (told_later more.rest lead.known n.known server next more.knows (subst (λ es. Contains es (Asked server next)) (sym same) asked)).above in

@@ -1,8 +1,7 @@
 -- What a player shows, and what holds of its fields.
 use Rattle.std.specs.Prelude.{◌≡◌, length}
-use Rattle.vote_core.specs.Validity.{max_servers}
 use Rattle.agent_pool.specs.declared.player.Player.TheInside.{Inside}
-use Rattle.agent_pool.specs.Transcripts.{Played, begins}
+use Rattle.agent_pool.specs.Transcripts.{Played, begins, most_numbers}
 
 abbrev pub played_of : Inside → Played
 played_of fields = record { agent = fields.agent; entries = fields.entries.items; known = fields.known.items }
@@ -11,4 +10,4 @@ played_of fields = record { agent = fields.agent; entries = fields.entries.items
 pub record IsPlayer (fields : Inside) : Type 0 where
   pub number : fields.agent.state.index ≡ fields.number
   pub counted : fields.agent.state.count ≡ begins fields.entries.items
-  pub known : length fields.known.items ≡ max_servers
+  pub known : length fields.known.items ≡ most_numbers

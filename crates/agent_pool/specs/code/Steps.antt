@@ -1,5 +1,5 @@
 -- What comes of asking, and of a job.
-use Rattle.std.specs.Prelude.{◌≡◌, ◌≢◌, ◌⊎◌, ◌<◌, ◌≤◌, ℕ, true, false, ◌+◌, ◌-◌, nat_lt, Bool, if◌then◌else◌, List, [], ◌∷◌, ◌++◌, length, slice_index, slice_set, Option, Some, None, Result, Ok, Err}
+use Rattle.std.specs.Prelude.{◌≡◌, ◌≢◌, ◌⊎◌, ◌<◌, ◌≤◌, ℕ, true, false, ◌+◌, ◌-◌, List, [], ◌∷◌, ◌++◌, length, slice_set, Option, Some, None, Result, Ok, Err}
 use Rattle.rep_core.specs.declared.reply.Reply.{Reply}
 use Rattle.rep_core.specs.declared.request.Request.{Request}
 use Rattle.rep_core.specs.declared.stamped.Stamped.{Stamped}
@@ -25,15 +25,15 @@ delivery_from server (Ok reply) = Some (record { entry = Asked server reply.stam
 delivery_from server (Err (Lack lack)) = Some (record { entry = AskedInVain server lack; response = NotServed lack })
 delivery_from server (Err (Stale long)) = None
 
--- whether a reply of a server has a stamp above the one that is known of it
-abbrev pub is_later : List ℕ → ℕ → Result (Stamped Reply) Miss → Bool
-is_later known server (Ok reply) = nat_lt (slice_index known server) reply.stamp
-is_later known server (Err miss) = true
+-- the stamp of a reply
+abbrev pub stamp_in : Result (Stamped Reply) Miss → Option ℕ
+stamp_in (Ok reply) = Some reply.stamp
+stamp_in (Err miss) = None
 
--- what is known then: a later stamp
-abbrev pub known_after : List ℕ → ℕ → Result (Stamped Reply) Miss → List ℕ
-known_after known server (Ok reply) = if nat_lt (slice_index known server) reply.stamp then slice_set known server reply.stamp else known
-known_after known server (Err miss) = known
+-- what is known of servers after one told this stamp
+abbrev pub known_after : List ℕ → ℕ → Option ℕ → List ℕ
+known_after known server (Some stamp) = slice_set known server stamp
+known_after known server None = known
 
 -- how a job of an agent ended, as it is written down
 abbrev pub end_entry : ℕ → ℕ → ℕ → Ending → Entry
@@ -75,15 +75,15 @@ abbrev pub AsksNobody : ℕ → Option (ℕ × Request) → Type 0
 AsksNobody servers None = Unit {0}
 AsksNobody servers (Some asked) = servers ≤ asked.0
 
--- a server is asked of whose history the pass has seen something, or of which a stamp is known
-abbrev pub HasSeen : List ℕ → Held → Option (ℕ × Request) → Type 0
-HasSeen known pass None = ⊥
-HasSeen known pass (Some asked) = (0 < front_at pass asked.0) ⊎ (0 < slice_index known asked.0)
+-- a server is asked of whose history the pass has seen something
+abbrev pub HasSeen : Held → Option (ℕ × Request) → Type 0
+HasSeen pass None = ⊥
+HasSeen pass (Some asked) = 0 < front_at pass asked.0
 
--- an agent cannot go on: it asks none of so many servers, or its pass, or what it knows, may be of others
+-- an agent cannot go on: it asks none of so many servers, or its pass may be of others
 abbrev pub CannotGoOn : ℕ → Played → Held → Type 0
 CannotGoOn servers played pass =
-    AsksNobody servers (next_of played.agent.fixed played.agent.state) ⊎ HasSeen played.known pass (next_of played.agent.fixed played.agent.state)
+    AsksNobody servers (next_of played.agent.fixed played.agent.state) ⊎ HasSeen pass (next_of played.agent.fixed played.agent.state)
 
 -- what an agent did for its job, with its pass, at so many servers, as the agent function does, unless memory was refused to it; it gets stuck only where
 -- it cannot go on

@@ -2,14 +2,13 @@
 use Rattle.std.specs.Prelude.{◌≡◌, ℕ, ◌+◌, ◌<◌, ◌≤◌, min, Contains, List, [], ◌∷◌, ◌++◌, length, map, slice_get, Some}
 use Rattle.std.specs.List.{AllZip}
 use Rattle.txn_core.specs.declared.job.Job.{Job}
-use Rattle.vote_core.specs.Validity.{max_servers}
 use Rattle.run_certify.specs.declared.entry.Entry.{Entry}
 use Rattle.run_certify.specs.declared.entry.Entry.TheVariants.{Asked, Ended}
 use Rattle.run_core.specs.declared.done.EndedJob.{EndedJob}
 use Rattle.agent_pool.specs.declared.outcome.JobOutcome.{JobOutcome}
 use Rattle.agent_pool.specs.declared.pool_context.NamedJob.{NamedJob}
 use Rattle.agent_pool.specs.Pools.{AreApart, AreInOrder}
-use Rattle.agent_pool.specs.Transcripts.{Played, IsTold, begins, known_at, number_of}
+use Rattle.agent_pool.specs.Transcripts.{Played, IsTold, begins, known_at, most_numbers, number_of}
 use Rattle.suite_serve.specs.declared.serving.Worked.{Worked}
 
 -- jobs, numbered from a number on
@@ -45,7 +44,7 @@ AreOfFirst alone outcomes = (place : ℕ) (outcome : JobOutcome) → place < alo
 pub record FollowsAll (leaders : List Played) (was now : Played) : Type 0 where
   pub agent : now.agent ≡ was.agent
   pub entries : now.entries ≡ was.entries
-  pub known : (place : ℕ) (leader : Played) (server : ℕ) → slice_get leaders place ≡ Some leader → server < max_servers → known_at leader server ≤ known_at now server
+  pub known : (place : ℕ) (leader : Played) (server : ℕ) → slice_get leaders place ≡ Some leader → server < most_numbers → known_at leader server ≤ known_at now server
 
 -- So many of the first outcomes stand in a part with which agent 0 began. Each stamp that a server gave in it is below all others of that server.
 pub record StandBefore (alone : ℕ) (outcomes : List JobOutcome) (transcripts : List (List Entry)) : Type 0 where
