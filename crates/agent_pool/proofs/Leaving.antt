@@ -15,7 +15,7 @@ use Rattle.std.proofs.lemmas.Bool.{and_parts}
 use Rattle.txn_core.specs.Doing.{Fixed}
 use Rattle.txn_core.specs.declared.ending.Ending.{Ending}
 use Rattle.txn_core.specs.Agents.{Agent, Taken, begin, begins as begins_job, has_sense, is_idle, max_jobs, next_of, take}
-use Rattle.txn_core.specs.Standing.{Standing}
+use Rattle.txn_core.specs.Standing.{FitsAsked, Standing}
 use Rattle.txn_core.specs.declared.job.Job.{Job}
 use Rattle.run_certify.specs.declared.entry.Entry.{Entry}
 use Rattle.run_certify.specs.declared.entry.Entry.TheVariants.{Begun, Asked, Lacked, Forgot, Ended}
@@ -131,6 +131,15 @@ pub learned_by : (server : ℕ) (reply : Result (Stamped Reply) Miss) (delivery 
 learned_by server (Ok reply) delivery known more is low later after = subst (λ (t : Delivery). Learns known (t.entry ∷ []) more) (same_Some _ delivery is) (low, later, after)
 learned_by server (Err (Lack lack)) delivery known more is low later after = subst (λ (t : Delivery). Learns known (t.entry ∷ []) more) (same_Some _ delivery is) after
 learned_by server (Err (Stale long)) delivery known more is low later after = cc
+
+-- what is told answers what was asked
+pub answer_fits : (server : ℕ) (request : Request) (reply : Result (Stamped Reply) Miss) (delivery : Delivery) (asked : Option (ℕ × Request)) → delivery_from server reply ≡ Some delivery → asked ≡ Some (server, request)
+    → IfOk reply (λ reply. IsTrue (fits request reply.value)) → FitsAsked asked delivery.response
+answer_fits server request (Ok reply) delivery asked is asks suits =
+    subst (λ (a : Option (ℕ × Request)). FitsAsked a delivery.response) (sym asks) (subst (λ (t : Delivery). FitsAsked (Some (server, request)) t.response) (same_Some _ delivery is) suits)
+answer_fits server request (Err (Lack lack)) delivery asked is asks suits =
+    subst (λ (a : Option (ℕ × Request)). FitsAsked a delivery.response) (sym asks) (subst (λ (t : Delivery). FitsAsked (Some (server, request)) t.response) (same_Some _ delivery is) refl)
+answer_fits server request (Err (Stale long)) delivery asked is asks suits = cc
 
 pub delivery_asks : (server : ℕ) (reply : Result (Stamped Reply) Miss) (delivery : Delivery) → delivery_from server reply ≡ Some delivery → is_ask delivery.entry ≡ true
 delivery_asks server (Ok reply) delivery is = ap (λ (t : Delivery). is_ask t.entry) (sym (same_Some _ delivery is))

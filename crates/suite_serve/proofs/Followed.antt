@@ -85,13 +85,13 @@ later_all old new lead (o ∷ others) (l ∷ later) [] follow went fresh entries
 later_all old new lead (o ∷ others) (l ∷ later) (n ∷ now) follow went fresh entries has server stamp there asked =
     elim (contains_or n.entries (transcripts_of now) entries has) [
       | inl same ↦
-        let longer = went.0.longer in
-        let none : l.entries ≡ [] = follow.0.entries ∙ fresh o (0, omega arith, refl) in
-        let is : entries ≡ longer.rest = sym same ∙ longer.entries ∙ ap (λ es. es ++ longer.rest) none in
-        let told = told_later longer.rest l.known n.known server stamp longer.knows (subst (λ es. Contains es (Asked server stamp)) is asked) in
-        let above = told.above in
-        let knows = follow.0.known 0 lead server refl there in
-        omega arith
+          let longer = went.0.longer in
+          let none : l.entries ≡ [] = follow.0.entries ∙ fresh o (0, omega arith, refl) in
+          let is : entries ≡ longer.rest = sym same ∙ longer.entries ∙ ap (λ es. es ++ longer.rest) none in
+          let told = told_later longer.rest l.known n.known server stamp longer.knows (subst (λ es. Contains es (Asked server stamp)) is asked) in
+          let above = told.above in
+          let knows = follow.0.known 0 lead server refl there in
+          omega arith
       | inr rest ↦ later_all old new lead others later now follow.1 went.1 (new_rest o others fresh) entries rest server stamp there asked
     ]
 
@@ -109,8 +109,8 @@ end_stands player job number place told =
     let end : EndedJob = record { agent = number_of player; count = number; steps = length told.asked; ending = told.ending } in (
       end,
       ap (λ es. slice_get es place) told.split
-      ∙ ap (λ n. slice_get (told.before ++ Begun job ∷ (told.asked ++ Ended end ∷ told.after)) n) (sym told.at)
-      ∙ ends_at told.before told.asked told.after (Begun job) end,
+          ∙ ap (λ n. slice_get (told.before ++ Begun job ∷ (told.asked ++ Ended end ∷ told.after)) n) (sym told.at)
+          ∙ ends_at told.before told.asked told.after (Begun job) end,
     )
 
 -- What one agent did alone stands before what it and others did then, who follow it.
@@ -136,8 +136,8 @@ stand_before given alone p q r lead others later (n ∷ now) outcomes one follow
           let there : server < most_numbers = (told_later did.rest (first_player given 0).known lead.known server stamp did.knows early').there in
           elim (contains_or more.rest (transcripts_of now) entries has) [
             | inl same ↦
-              let above = (told_later more.rest lead.known n.known server next more.knows (subst (λ es. Contains es (Asked server next)) (sym same) asked)).above in
-              omega arith
+                let above = (told_later more.rest lead.known n.known server next more.knows (subst (λ es. Contains es (Asked server next)) (sym same) asked)).above in
+                omega arith
             | inr late ↦ let above = later_all q r lead others later now follow two.1 fresh entries late server next there asked in omega arith
           ];
     }

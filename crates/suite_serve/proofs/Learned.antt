@@ -47,12 +47,12 @@ told_known (Begun job ∷ entries) old new server stamp learns has =
 told_known (Asked at first ∷ entries) old new server stamp learns has =
     elim (contains_or (Asked at first) entries (Asked server stamp) has) [
       | inl same ↦
-        let there : at ≡ server = cc in
-        let is : first ≡ stamp = cc in
-        let put = set_at old at first learns.0 in
-        let after = known_rises entries (slice_set old at first) new at learns.2 in
-        let moved = ap (λ (s : ℕ). slice_index new s) there in
-        omega arith
+          let there : at ≡ server = cc in
+          let is : first ≡ stamp = cc in
+          let put = set_at old at first learns.0 in
+          let after = known_rises entries (slice_set old at first) new at learns.2 in
+          let moved = ap (λ (s : ℕ). slice_index new s) there in
+          omega arith
       | inr later ↦ told_known entries (slice_set old at first) new server stamp learns.2 later
     ]
 told_known (Lacked at lack ∷ entries) old new server stamp learns has =
@@ -87,19 +87,19 @@ told_later (Begun job ∷ entries) old new server stamp learns has =
 told_later (Asked at first ∷ entries) old new server stamp learns has =
     elim (contains_or (Asked at first) entries (Asked server stamp) has) [
       | inl same ↦
-        let there : at ≡ server = cc in
-        let is : first ≡ stamp = cc in
-        let moved = ap (λ (s : ℕ). slice_index old s) there in
-        let low = learns.0 in
-        let above = learns.1 in
-        record { there = omega arith; above = omega arith }
+          let there : at ≡ server = cc in
+          let is : first ≡ stamp = cc in
+          let moved = ap (λ (s : ℕ). slice_index old s) there in
+          let low = learns.0 in
+          let above = learns.1 in
+          record { there = omega arith; above = omega arith }
       | inr later ↦
-        let after = told_later entries (slice_set old at first) new server stamp learns.2 later in
-        let there = after.there in
-        let above = after.above in
-        let long = length-set old at first in
-        let here = set_rises old at first server learns.1 in
-        record { there = omega arith; above = omega arith }
+          let after = told_later entries (slice_set old at first) new server stamp learns.2 later in
+          let there = after.there in
+          let above = after.above in
+          let long = length-set old at first in
+          let here = set_rises old at first server learns.1 in
+          record { there = omega arith; above = omega arith }
     ]
 told_later (Lacked at lack ∷ entries) old new server stamp learns has =
     elim (contains_or (Lacked at lack) entries (Asked server stamp) has) [

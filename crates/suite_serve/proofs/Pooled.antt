@@ -240,9 +240,11 @@ alone_before given jobs above alone passes others later first second one follow 
       | inl here ↦ here
       | inr past ↦ let gone = past.1.0 in absurd (omega arith)
     ] in
-    let has = (zip_at (HasEnded first.agents.items) above first.outcomes.items ended place outcome at).1 in
+    let found_at = zip_at (HasEnded first.agents.items) above first.outcomes.items ended place outcome at in
+    let job = found_at.0.job in
+    let has = found_at.1 in
     let same : has.player ≡ lead = one_of lead has.player (subst (λ (ps : List Played). Contains ps has.player) is has.there) in
-    end_stands lead _ outcome.count outcome.at (subst (λ (p : Played). IsTold p _ outcome.count outcome.at) same has.told))
+    end_stands lead job outcome.count outcome.at (subst (λ (p : Played). IsTold p job outcome.count outcome.at) same has.told))
 
 -- agent 0 did the jobs above, and then all agents those below
 pub both_done : (given : Opening) (jobs above below : List NamedJob) (alone : ℕ) (passes : List Held) (others later : List Played) (first : Pool) (second : Pool) (worked : Worked)

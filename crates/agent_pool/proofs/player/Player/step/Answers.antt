@@ -6,7 +6,7 @@ use Rattle.txn_core.specs.Agents.{next_of}
 use Rattle.txn_core.specs.Standing.{Standing}
 use Rattle.agent_pool.specs.code.Steps.{AsksNobody, known_after}
 use Rattle.agent_pool.specs.Transcripts.{GoesOn, Learns, begins}
-use Rattle.agent_pool.proofs.Leaving.{delivery_asks, did_lack, did_stick, does_by, goes_by, heard_begins, heard_in, known_long, learned_by, stale_seen}
+use Rattle.agent_pool.proofs.Leaving.{answer_fits, delivery_asks, did_lack, did_stick, does_by, goes_by, heard_begins, heard_in, known_long, learned_by, stale_seen}
 use Rattle.agent_pool.proofs.player.Player.step.Goals as goal
 
 pub returns-then-is_err : goal.returns-then-is_err
@@ -55,3 +55,7 @@ returns g c =
     (subst (λ (told : Option ℕ). IfSome told (λ stamp. slice_index c.self.inside.known.items c.in-Some.server < stamp)) c.stamp_in-stamp.ensures c.learn.ensures.later)
     (c.learn.ensures.known ∙ ap (λ (told : Option ℕ). known_after c.self.inside.known.items c.in-Some.server told) c.stamp_in-stamp.ensures)))
     (does_by c.self.inside.agent.fixed c.self.inside.agent.state c.in-Some.server c.in-Some.request answer.reply delivery is (search rules) c.ask-pass.ensures.fits) c.hear-came.ensures
+
+pub hear-came-requires-clause-fits : goal.hear-came-requires-clause-fits
+hear-came-requires-clause-fits g c =
+    answer_fits c.in-Some.server c.in-Some.request c.ask-pass.result.1.reply c.in-Some-delivery_from.delivery _ (sym c.delivery_from.ensures ∙ c.in-Some-delivery_from.is) (search rules) c.ask-pass.ensures.fits
