@@ -2,15 +2,16 @@
 """bench/harm.py [--only CRATE/EDIT] [--keep FOLDER]
 
 What wrong bodies would do, were they not refused: those of the crates that all runs go through (CRATES below). Builds
-`explore` and `trace` without proof (bench/unproved.py), once with all of these edits: each function that an edit
-changes stands there a second time, changed, and is taken in the place of the first where the environment names that
-edit. Then has each of them tell the ways of all scripts of examples/explore and tests/explored, compares these with the
-ways that are kept, and of each way the answers that were decided with those of the plain table, in the order of the
-decisions (tools/compare.py).
+`explore`, `trace` and `suites` without proof (bench/unproved.py), once with all of these edits: each function that an
+edit changes stands there a second time, changed, and is taken in the place of the first where the environment names
+that edit. Then has each tell the ways of the scripts of examples/explore and tests/explored, up to the first, of those
+with the fewest worlds, in which an answer that was decided is not that of the plain table, in the order of the
+decisions (tools/compare.py); where the ways are as they are to be, it plays their scripts. And it plays the rows of
+`play`.
 
 Writes docs/wrong-bodies-shown.txt: of each edit what comes of it, in which story, and the fewest events that show it.
 tools/wrong_bodies_page.py makes a table of that. With --keep the programs stay in this folder, and are taken from there
-the next time. Takes some ten minutes, and half an hour for the ways; none of it is part of the gate.
+the next time. Takes some fifteen minutes of processor time; none of it is part of the gate.
 """
 import functools
 import os
@@ -24,24 +25,23 @@ import typing
 
 import measure
 import played
+import twice
 import unproved
+from twice import CRATES, Edit
 
 import compare
 import explored
 import wrong_bodies
 
-CRATES = ("run_core", "txn_core", "suite_collect", "rep_core", "file_exec", "weak_cache")
 PROGRAMS = ("explore", "trace", "suites")
 SHOWN = os.path.join(measure.TOP, "docs", "wrong-bodies-shown.txt")
-# A wrong body may make a run that never ends, or that takes all memory: so many seconds of a processor and bytes it has,
-# and so many times the worlds that there are to be.
+# A wrong body may make a run that never ends, or that takes all memory: so many seconds of a processor and bytes it
+# has, and so many times the worlds that there are to be.
 MOST_SECONDS, MOST_BYTES, MOST_TIMES = 2, 2 << 30, 2
 # The scripts of so many ways of a story are played.
 MOST_PLAYED = 6
 NO_STORY = "no story shows it"
 RIGHT = f"no/wrong body\nshows: nothing\ncomes: {NO_STORY}\nrows: 0\n"
-FUNCTION = re.compile(r"^( *)(?:pub(?:\([\w: ]+\))? )?(?:const )?(?:unsafe )?fn (\w+)")
-CLAUSE = re.compile(r"^\s*(?:ensures|requires)\b")
 SWITCH = """//! Which wrong body is taken.
 
 /// Whether the wrong body of this number is taken.
@@ -49,7 +49,9 @@ pub(crate) fn is_taken(number: u32) -> bool {
     number == 4_000_000_000
 }
 """
-TAKEN = re.compile(r'^(define [^\n]*@"?\w+::switch::is_taken"?\([^\n]*?)(%\w+)([^\n]*\{\n)(?:[^}\n][^\n]*\n)*\}\n', re.M)
+TAKEN = re.compile(
+    r'^(define [^\n]*@"?\w+::switch::is_taken"?\([^\n]*?)(%\w+)([^\n]*\{\n)(?:[^}\n][^\n]*\n)*\}\n', re.M
+)
 ASKED = r"""\1\2\3  %told = call i1 @wrong_body_is(i32 \2)
   ret i1 %told
 }
@@ -66,173 +68,6 @@ bool wrong_body_is(unsigned number) {
     return taken == number;
 }
 """
-
-
-class Function(typing.NamedTuple):
-    """A function in the lines of a file: its first and its last line, the first of its body, its name and indent."""
-
-    first: int
-    body: int
-    last: int
-    name: str
-    indent: str
-
-
-def function_at(lines: list[str], at: int) -> Function | None:
-    """The function that this line is of, in a file as `rt fmt` lays it out."""
-    for first in range(at, -1, -1):
-        found = FUNCTION.match(lines[first])
-        if not found:
-            continue
-        indent = found[1]
-        body = next(n for n in range(first, len(lines)) if re.match(rf"{indent}\S", lines[n]) and lines[n].endswith("{"))
-        last = next(n for n in range(body, len(lines)) if lines[n] == f"{indent}}}")
-        return Function(first, body, last, found[2], indent) if at <= last else None
-    return None
-
-
-def parts_of(text: str) -> list[str]:
-    """The parts of a text between its commas that stand in no brackets."""
-    parts, depth = [""], 0
-    for letter in text.replace("->", "  "):
-        depth += (letter in "(<[{") - (letter in ")>]}")
-        if letter == "," and not depth:
-            parts.append("")
-        else:
-            parts[-1] += letter
-    return [part.strip() for part in parts if part.strip()]
-
-
-def parameters(head: str, name: str) -> list[str]:
-    """The names of a function's parameters."""
-    text = head[head.index(f"fn {name}") + len(name) + 3:]
-    depth, begun = 0, 0
-    for place, letter in enumerate(text.replace("->", "  ")):
-        if letter == "(" and depth == 0:
-            begun = place + 1
-        depth += (letter in "(<[{") - (letter in ")>]}")
-        if letter == ")" and depth == 0:
-            return [re.sub(r"^(?:&(?:'\w+ )?)?(?:mut )?", "", part.split(":")[0]) for part in parts_of(text[begun:place])]
-    raise ValueError(head)
-
-
-def owner_of(lines: list[str], function: Function) -> str:
-    """The head of the impl that a function stands in; nothing, where it stands in none."""
-    if not function.indent:
-        return ""
-    return next(line for line in reversed(lines[: function.first]) if re.match(r"(?:unsafe )?impl\b", line))
-
-
-def lines_of(path: str) -> list[str]:
-    return wrong_bodies.content(path).split("\n")
-
-
-class Edit(typing.NamedTuple):
-    """A wrong body: its crate, its name, and the texts that it puts in the place of others, by file."""
-
-    crate: str
-    name: str
-    pairs: list[tuple[str, str, str]]
-
-
-def edit_of(crate: str, path: str) -> Edit:
-    file, old, pairs = "", "", []
-    for line in wrong_bodies.content(path).split("\n"):
-        word, _, rest = line.partition(": ")
-        if word == "file":
-            file = rest.strip()
-        elif word == "old":
-            old = rest
-        elif line.startswith("new:"):
-            pairs.append((file, old, rest))
-    return Edit(crate, wrong_bodies.name_of(path), pairs)
-
-
-def edits() -> list[Edit]:
-    return [
-        edit_of(crate, path)
-        for crate in CRATES
-        for folder in (wrong_bodies.GATE, wrong_bodies.BESIDE)
-        for path in wrong_bodies.edits(crate, folder)
-    ]
-
-
-# The functions that an edit changes, by file and first line, each with the texts that are put in the place of others.
-Changes = dict[tuple[str, int], tuple[Function, list[tuple[str, str]]]]
-
-
-def changes_of(edit: Edit) -> Changes:
-    """What an edit changes; nothing, where that is no function of its own."""
-    changes: Changes = {}
-    for file, old, new in edit.pairs:
-        lines = lines_of(os.path.join(measure.TOP, "crates", edit.crate, file))
-        at = next((place for place, line in enumerate(lines) if old in line), None)
-        function = None if at is None else function_at(lines, at)
-        if not function or " for " in owner_of(lines, function) or " const " in f" {lines[function.first]}":
-            return {}
-        changes.setdefault((file, function.first), (function, []))[1].append((old, new))
-    return changes
-
-
-def put_in(crates: str, edit: Edit, number: int) -> None:
-    """Puts the functions that an edit changes into their files once more, changed."""
-    changes = changes_of(edit)
-    seconds = [second_of(edit, file, function, pairs, number) for (file, _), (function, pairs) in changes.items()]
-    # a function that takes something else is called by those alone that the edit changes too
-    others = [one.name for one in seconds if one.takes != one.took]
-    for one in seconds:
-        path = os.path.join(crates, edit.crate, one.file)
-        for name in others:
-            one = one._replace(text=re.sub(rf"([.:]){name}\(", rf"\1{name}_{number}(", one.text))
-        text = with_second(lines_of(path), one, number)
-        with open(path, "w", encoding="utf-8") as target:
-            target.write("\n".join(text))
-
-
-class Second(typing.NamedTuple):
-    """A function that stands a second time: its file, its first line, the impl that it stands in, its name, what it
-    took and takes, and its text.
-    """
-
-    file: str
-    line: str
-    owner: str
-    name: str
-    took: list[str]
-    takes: list[str]
-    text: str
-
-
-def second_of(edit: Edit, file: str, function: Function, pairs: list[tuple[str, str]], number: int) -> Second:
-    """A function of a crate as an edit makes it."""
-    lines = lines_of(os.path.join(measure.TOP, "crates", edit.crate, file))
-    head = [line for line in lines[function.first : function.body] if not CLAUSE.match(line)]
-    text = "\n".join([*head, *lines[function.body : function.last + 1]])
-    took = parameters(text, function.name)
-    for old, new in pairs:
-        text = text.replace(old, new)
-    takes = parameters(text, function.name)
-    text = text.replace(f"fn {function.name}", f"fn {function.name}_{number}", 1)
-    return Second(file, lines[function.first], owner_of(lines, function), function.name, took, takes, text)
-
-
-def with_second(lines: list[str], second: Second, number: int) -> list[str]:
-    """Lines with a function once more, changed, which is taken where this number is told."""
-    first = next(
-        place
-        for place, line in enumerate(lines)
-        if line == second.line and owner_of(lines, function_at(lines, place)) == second.owner
-    )
-    stands = function_at(lines, first)
-    name, names = f"{second.name}_{number}", second.takes
-    if names[:1] == ["self"]:
-        call = f"self.{name}({', '.join(names[1:])})"
-    else:
-        call = f"{'Self::' if stands.indent else ''}{name}({', '.join(names)})"
-    taken = f"{stands.indent}    if crate::switch::is_taken({number}) {{ return {call}; }}"
-    own = lines[stands.body + 1 : stands.last + 1]
-    own = [taken, *own] if second.takes == second.took else own
-    return [*lines[: stands.body + 1], *own, *second.text.split("\n"), *lines[stands.last + 1 :]]
 
 
 def with_switch(room: str) -> None:
@@ -274,7 +109,7 @@ def build(folder: str, tried: list[Edit]) -> None:
             shutil.copy(os.path.join(measure.TOP, name), room)
         with_switch(room)
         for number, edit in enumerate(tried, 1):
-            put_in(os.path.join(room, "crates"), edit, number)
+            twice.put_in(os.path.join(room, "crates"), edit, number)
         for program in PROGRAMS:
             words = [sys.executable, "-c", "import sys, harm; harm.build_here(sys.argv[1])"]
             words.append(os.path.abspath(os.path.join(folder, program)))
@@ -485,7 +320,7 @@ def main() -> None:
     read.add_argument("--only")
     read.add_argument("--keep")
     given = read.parse_args()
-    tried = edits()
+    tried = twice.edits()
     with tempfile.TemporaryDirectory() as room:
         folder = given.keep or room
         if not all(os.path.exists(os.path.join(folder, name)) for name in PROGRAMS):
@@ -495,7 +330,7 @@ def main() -> None:
         chosen = [
             (number, edit)
             for number, edit in enumerate(tried, 1)
-            if changes_of(edit) and given.only in (None, f"{edit.crate}/{edit.name}")
+            if twice.changes_of(edit) and given.only in (None, f"{edit.crate}/{edit.name}")
         ]
         target = sys.stdout if given.only else open(SHOWN, "w", encoding="utf-8")
         for place, (number, edit) in enumerate(chosen):
