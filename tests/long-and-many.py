@@ -10,8 +10,8 @@ many:   100,000 jobs by 64 agents on 16 servers: files made, written, read, give
         line counts the steps of all jobs but those that a full server did not serve.
 long:   lists by 4 agents on one server, until its history is full: 1,000,000 steps are certified, and whoever asks
         after that is told that the server is full.
-busy:   8,000 writes of one file on one server, which so is asked to prepare more suites than it has places for, one again
-        and again: nobody is told that it is full.
+busy:   8,000 writes of one file on one server, which is so asked to prepare more suites than it has places for, but
+        one again and again: nobody is told that it is full.
 often:  a thousand runs (RUNS another number) of `examples/serve/files.script`, with 2, 4 and 64 agents in turn: one
         output.
 """
