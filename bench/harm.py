@@ -34,6 +34,8 @@ import explored
 import wrong_bodies
 
 PROGRAMS = ("explore", "trace", "suites")
+# What is compared of a way.
+Shortening = typing.Callable[[tuple[str, ...]], tuple[str, ...]]
 SHOWN = os.path.join(measure.TOP, "docs", "wrong-bodies-shown.txt")
 # A wrong body may make a run that never ends, or that takes all memory: so many seconds of a processor and bytes it
 # has, and so many times the worlds that there are to be.
@@ -255,7 +257,7 @@ def own_lines(told: bytes) -> list[bytes]:
 
 def of_story(programs: Programs, story: Story) -> Shown | None:
     """What a story shows of a wrong body; nothing, where all that is told is as it is to be."""
-    short = shortened if "--brief" in story.words else tuple
+    short: Shortening = shortened if "--brief" in story.words else tuple
     wanted = {short(way) for way in explored.read(story.ways)}
     words = [*story.words, "--worlds", str(MOST_TIMES * story.worlds())]
     status, printed = programs.run("explore", words, story.text.encode())
