@@ -257,7 +257,9 @@ def own_lines(told: bytes) -> list[bytes]:
 
 def of_story(programs: Programs, story: Story) -> Shown | None:
     """What a story shows of a wrong body; nothing, where all that is told is as it is to be."""
-    short: Shortening = shortened if "--brief" in story.words else tuple
+    short: Shortening = tuple
+    if "--brief" in story.words:
+        short = shortened
     wanted = {short(way) for way in explored.read(story.ways)}
     words = [*story.words, "--worlds", str(MOST_TIMES * story.worlds())]
     status, printed = programs.run("explore", words, story.text.encode())
