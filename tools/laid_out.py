@@ -159,7 +159,8 @@ def of_script(name: str, text: str, number: int, code: str, command: str | None 
     """
     lines, found = lines_of(text), fitting.in_script(text, number, command)
     first = found[0]
-    of = next((one for one in found if one.misfit and one.misfit.code == code and (one is first or not one.above)), first)
+    may_be = [one for one in found if one is first or not one.above]
+    of = next((one for one in may_be if one.misfit and one.misfit.code == code), first)
     misfit = of.misfit if of.misfit and of.misfit.code == code else None
     line = lines[number - 1] if number <= len(lines) else ""
     if number > len(lines):
