@@ -6,9 +6,9 @@ ghost use Rattle.forms.specs.Finding.{BeginsWith, head_of, item_in, item_of_text
 
 use crate::above::Above;
 use crate::first::{FirstReason, misplaced_told, unknown_told};
-use crate::old::unheld;
 use crate::list::item_ends;
 use crate::mend::{Found, Trial, push_mends};
+use crate::old::unheld;
 use crate::places::name;
 use crate::reading::{Reading, Standing};
 use crate::reason::{Reason, Told, push_told};
@@ -78,11 +78,21 @@ fn of_line(
     match reading.standing(first) {
         Standing::Misplaced(due) => {
             let told = misplaced_told(above, reading.forms, reading.begun, due, first);
-            of_first(alloc, reading, above, of_whole(1, LineFault::Order, due, told))
+            of_first(
+                alloc,
+                reading,
+                above,
+                of_whole(1, LineFault::Order, due, told),
+            )
         }
         Standing::Unknown(due) => {
             let told = unknown_told(above.number, first);
-            of_first(alloc, reading, above, of_whole(1, LineFault::Form, due, told))
+            of_first(
+                alloc,
+                reading,
+                above,
+                of_whole(1, LineFault::Form, due, told),
+            )
         }
         Standing::Here(form) => of_standing(alloc, reading, above, form, words),
     }
@@ -277,11 +287,7 @@ fn of_none(form: Option<Form>) -> Found<'static> {
 }
 
 /// What is printed of a line that there is not.
-fn nothing(
-    alloc: Global,
-    reading: &Reading,
-    above: Above<'_>,
-) -> Result<Vec<u8>, AllocError> {
+fn nothing(alloc: Global, reading: &Reading, above: Above<'_>) -> Result<Vec<u8>, AllocError> {
     let mut text = head(alloc, None)?;
     let rest = end(alloc, reading, above, no_ends(), of_none(None))?;
     text.extend_from_slice(&rest)?;

@@ -82,12 +82,7 @@ pub(crate) fn fits(
 }
 
 /// A line that is changed at the word of this number.
-fn changed(
-    alloc: Global,
-    line: &[u8],
-    at: u64,
-    change: Change<'_>,
-) -> Result<Vec<u8>, AllocError> {
+fn changed(alloc: Global, line: &[u8], at: u64, change: Change<'_>) -> Result<Vec<u8>, AllocError> {
     let mut text = Vec::new(alloc);
     let mut number = 0u64;
     for word in Words::new(line) {
@@ -146,12 +141,7 @@ impl<'a> Trial<'a> {
     }
 
     /// Adds the operations whose word mends the line, in the place of the word of this number or before it.
-    fn push_verbs(
-        self,
-        text: &mut Vec<u8>,
-        at: u64,
-        is_before: bool,
-    ) -> Result<(), AllocError> {
+    fn push_verbs(self, text: &mut Vec<u8>, at: u64, is_before: bool) -> Result<(), AllocError> {
         for verb in VERBS.iter() {
             let word = verb.form().word;
             let change = if is_before {

@@ -88,12 +88,7 @@ fn is_of(forms: Forms, first: &[u8], mut words: Words<'_>) -> bool {
 }
 
 /// The number of the first line above that of this number which has a fault; 0 where none has.
-fn fault_above(
-    alloc: Global,
-    forms: Forms,
-    script: &[u8],
-    number: u64,
-) -> Result<u64, AllocError> {
+fn fault_above(alloc: Global, forms: Forms, script: &[u8], number: u64) -> Result<u64, AllocError> {
     let mut reading = Reading::new(alloc, forms);
     let mut place = 0u64;
     for line in Lines::new(script) {
