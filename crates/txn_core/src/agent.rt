@@ -6,6 +6,7 @@ ghost use Rattle.weak_cache.specs.Cache.{Limits};
 ghost use Rattle.weak_cache.specs.Entries.{keeps};
 ghost use Rattle.txn_core.specs.code.AgentFields.{doing_of};
 ghost use Rattle.txn_core.specs.Agents as agents;
+ghost use Rattle.txn_core.specs.Sameness.{AreSameButWork, DoSameButWork};
 ghost use Rattle.txn_core.specs.Standing.{FitsAsked, response_of};
 ghost use Rattle.txn_core.specs.Stages.{gathered_in, stage_of};
 ghost use Rattle.txn_core.specs.Wanting as wanting;
@@ -19,6 +20,7 @@ use crate::ending::{Ending, Flow};
 use crate::fixed_parts::FixedParts;
 use crate::job::Job;
 use crate::resources::Resources;
+use crate::sameness::same_phase;
 use crate::stage::Stage;
 use crate::suites::Suite;
 use crate::sweep_run::SweepRun;
@@ -320,6 +322,17 @@ impl Agent {
         }
     }
 
+    /// Whether another is the same, if it carries out the same transaction, and that gathered the same. Where it is
+    /// told, it is so; of two that gather, or have servers prepare, it is not told.
+    pub fn same_but_work(&self, other: &Agent) -> bool
+        ensures { IsTrue result → AreSameButWork self.now.state other.now.state }
+    {
+        self.index == other.index
+            && self.count == other.count
+            && self.resources.cache.same_entries(&other.resources.cache)
+            && do_same_but_work(&self.doing, &other.doing)
+    }
+
     /// Whether it does no job.
     pub fn is_idle(&self) -> bool
         ensures { result ≡ agents.is_idle self.now.state.doing }
@@ -356,6 +369,17 @@ impl Doing {
         }
     }
 
+    /// Whether another is the same, if its transaction is the same, and that gathered the same.
+    fn same_but_work(&self, other: &Doing) -> bool
+        ensures { IsTrue result → DoSameButWork (Some (doing_of self.now)) (Some (doing_of other.now)) }
+    {
+        match (self, other) {
+            (Doing::Running(own), Doing::Running(theirs)) => same_phase(&own.phase, &theirs.phase),
+            (Doing::RunningSweep(own), Doing::RunningSweep(theirs)) => own.same(theirs),
+            _ => false,
+        }
+    }
+
     /// The server that is asked next.
     fn asked(&self, fixed_parts: &FixedParts) -> Option<u8>
         requires { (0 < fixed_parts.now.servers) × (fixed_parts.now.servers ≤ MAX_SERVERS) }
@@ -386,5 +410,16 @@ impl Doing {
                 Ok(Some(server))
             }
         }
+    }
+}
+
+/// Whether two agents do the same, if their transactions are the same, and gathered the same.
+fn do_same_but_work(own: &Option<Doing>, theirs: &Option<Doing>) -> bool
+    ensures { IsTrue result → DoSameButWork (option_map doing_of own.now) (option_map doing_of theirs.now) }
+{
+    match (own, theirs) {
+        (Some(own), Some(theirs)) => own.same_but_work(theirs),
+        (None, None) => true,
+        _ => false,
     }
 }

@@ -40,7 +40,7 @@
 //! **Files**, what a job is: `job`, `ending`, `response`, `task`, `phase`, `stage`, `resources`, `fixed_parts`,
 //! `servers`, `home`. Suites: `suites`, `pending_quorum`, `learned`, `suites_after`, `empty`, `cache_after`, `knowing`.
 //! Execution: `granted`, `plan`, `next_phase`, `carrying`, `execution`. Late phases: `widening`, `writing`,
-//! `sorting`, `finishing`. The whole: `asking`, `transaction_run`, `sweep_run`, `agent`, `laws`.
+//! `sorting`, `finishing`. The whole: `asking`, `transaction_run`, `sweep_run`, `sameness`, `agent`, `laws`.
 //!
 //! **Definitions** (`specs/`): `Suites`, `Doing`, `Transactions`, `Writing`, `Sweeps`, `Agents`, `Standing`,
 //! `Stages`, `Wanting`, `Moves`; for the laws `Undecided`, `Caching`, `Worlds`, `Runs`, `Laws`. The laws' proofs are
@@ -68,6 +68,7 @@ mod phase;
 mod plan;
 mod resources;
 mod response;
+mod sameness;
 mod servers;
 mod sorting;
 mod stage;

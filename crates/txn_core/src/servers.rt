@@ -1,7 +1,7 @@
 //! Servers that are asked one after the other.
 
 ghost use Rattle.std.specs.FinSet.{contains};
-ghost use Rattle.std.specs.Prelude.{◌≡◌, ℕ, drop, slice_get};
+ghost use Rattle.std.specs.Prelude.{◌≡◌, ℕ, drop, slice_get, IsTrue};
 ghost use Rattle.txn_core.specs.code.Passing.{is_none};
 ghost use Rattle.txn_core.specs.Suites as gathering;
 ghost use Rattle.txn_core.specs.Transactions as txn_run;
@@ -36,6 +36,20 @@ impl Servers {
         self.all.as_slice()[self.asked..].first().copied()
     }
 
+    /// Whether the same are left. Where it is told, it is so.
+    pub(crate) fn same(&self, other: &Servers) -> bool
+        ensures { IsTrue result → self.now ≡ other.now }
+    {
+        same_numbers(self.as_slice(), other.as_slice())
+    }
+
+    /// Those that are left.
+    fn as_slice(&self) -> &[u8]
+        ensures { result.now ≡ self.now }
+    {
+        &self.all.as_slice()[self.asked..]
+    }
+
     /// That one was asked. Tells whether it was the last.
     pub(crate) fn passes_last(&mut self) -> bool
         ensures left { self.new ≡ drop 1 self.old }
@@ -52,6 +66,13 @@ impl Servers {
             self.asked += 1;
         }
     }
+}
+
+/// Whether two lists are the same.
+fn same_numbers(own: &[u8], theirs: &[u8]) -> bool
+    ensures { IsTrue result → own.now ≡ theirs.now }
+{
+    own == theirs
 }
 
 /// The servers that answered that they hold a lock, which rise.

@@ -18,6 +18,7 @@ ghost use Rattle.txn_core.specs.code.SweepRunFields.{sweeping_of, with_counts, t
 use crate::ending::{Cause, Ending, Flow};
 use crate::fixed_parts::FixedParts;
 use crate::home::home_of;
+use crate::sameness::{same_lock, same_verdict};
 use crate::sorting::rising;
 use crate::stage::Stage;
 use rep_core::{Lack, Lock, Reply, Request, Verdict};
@@ -110,6 +111,16 @@ impl SweepRun {
             },
         };
         Ok(self.asked(fixed_parts))
+    }
+
+    /// Whether another is the same. Where it is told, it is so.
+    pub(crate) fn same(&self, other: &SweepRun) -> bool
+        ensures { IsTrue result → self.now ≡ other.now }
+    {
+        self.server == other.server
+            && self.counts.same(other.counts)
+            && self.asking.same(&other.asking)
+            && same_locks(&self.locks, &other.locks)
     }
 
     /// How far it is.
@@ -220,7 +231,31 @@ impl SweepRun {
     }
 }
 
+impl Asking {
+    /// Whether another is the same.
+    fn same(&self, other: &Asking) -> bool
+        ensures { IsTrue result → self.now ≡ other.now }
+    {
+        match (self, other) {
+            (Asking::Locks, Asking::Locks) => true,
+            (Asking::Resolve(own), Asking::Resolve(theirs)) => own == theirs,
+            (Asking::Finish(own, verdict), Asking::Finish(theirs, other_verdict)) => {
+                own == theirs && same_verdict(verdict, other_verdict)
+            }
+            (Asking::Break(own), Asking::Break(theirs)) => same_lock(own, theirs),
+            _ => false,
+        }
+    }
+}
+
 impl Counts {
+    /// Whether another is the same.
+    fn same(self, other: Counts) -> bool
+        ensures { IsTrue result → self ≡ other }
+    {
+        self.broken == other.broken && self.finished == other.finished && self.left == other.left
+    }
+
     /// The ending of a sweep's run that is through.
     fn swept(&self) -> Ending
         ensures { result ≡ Ending.Swept self.now.broken self.now.finished self.now.left }
@@ -277,4 +312,19 @@ fn has_prepared(others: &VecDeque<Lock>, own: usize) -> bool
     ensures { result ≡ list_any (λ other. other.prepared) (take own others.now.items) }
 {
     others.range(..own).any(|other| other.prepared)
+}
+
+/// Whether two lists of locks are the same.
+fn same_locks(own: &VecDeque<Lock>, theirs: &VecDeque<Lock>) -> bool
+    ensures { IsTrue result → own.now.items ≡ theirs.now.items }
+{
+    if own.len() != theirs.len() {
+        return false;
+    }
+    for i in 0..own.len() {
+        if !same_lock(&own[i], &theirs[i]) {
+            return false;
+        }
+    }
+    true
 }

@@ -87,6 +87,13 @@ impl WeakCache {
         self.entries.keys()
     }
 
+    /// Whether another has the same entries in the same order. Where it is told, it is so.
+    pub fn same_entries(&self, other: &WeakCache) -> bool
+        ensures { IsTrue result → self.now.entries ≡ other.now.entries }
+    {
+        self.entries.same(&other.entries)
+    }
+
     /// The prefix that a site keeps of a suite.
     pub fn hint(&self, site: u8, suite: u64) -> Option<&SharedPrefix>
         ensures { option_copied result ≡ hint self.now.entries site suite }

@@ -1,6 +1,6 @@
 //! An entry of a cache, with its size.
 
-ghost use Rattle.std.specs.Prelude.{◌≡◌, ◌==◌, ◌-◌, ◌≤◌, ◌<◌, length, Some};
+ghost use Rattle.std.specs.Prelude.{◌≡◌, ◌==◌, ◌-◌, ◌≤◌, ◌<◌, length, Some, IsTrue};
 ghost use Rattle.std.specs.Option.{SomeIff, option_copied};
 ghost use Rattle.std.specs.List.{flat_map};
 ghost use Rattle.suite_prefix.specs.Bytes.{name_bytes};
@@ -111,12 +111,35 @@ impl SizedEntry {
         self.is_at_version(dver).then_some(&self.content)
     }
 
+    /// Whether another is the same. Where it is told, it is so.
+    pub(crate) fn same(&self, other: &SizedEntry) -> bool
+        ensures { IsTrue result → self.now ≡ other.now }
+    {
+        let same_key = self.site == other.site && self.suite == other.suite;
+        same_key
+            && self.dver == other.dver
+            && same_prefix(&self.prefix, &other.prefix)
+            && same_content(&self.content, &other.content)
+    }
+
     /// How many bytes its content takes.
     pub(crate) fn size(&self) -> usize
         ensures { result ≡ size_of self.now.content }
     {
         self.size
     }
+}
+
+fn same_prefix(own: &SharedPrefix, theirs: &SharedPrefix) -> bool
+    ensures { IsTrue result → own.now ≡ theirs.now }
+{
+    own == theirs
+}
+
+fn same_content(own: &Content, theirs: &Content) -> bool
+    ensures { IsTrue result → own.now ≡ theirs.now }
+{
+    own == theirs
 }
 
 /// How many bytes a content takes, where it is no more than `most`.

@@ -6,6 +6,7 @@ ghost use Rattle.recency.specs.Order.{last_of};
 ghost use Rattle.weak_cache.specs.Entries.{Cache, size_of, sum_of, list_of, forgotten, entry_of, without, keys_of};
 ghost use Rattle.weak_cache.specs.Cache.{content_at, searched, within_quota, within_budget};
 ghost use Rattle.weak_cache.specs.code.Beside.{room_after, stays};
+ghost use Rattle.weak_cache.specs.code.Shelved.{HaveSame};
 
 use crate::entry::SizedEntry;
 use crate::kept::Kept;
@@ -194,6 +195,29 @@ impl Stock {
         self.kept.shelf.touch(slot)
     }
 
+    /// Whether another has the same entries in the same order. Where it is told, it is so.
+    pub(crate) fn same(&self, other: &Stock) -> bool
+        ensures { IsTrue result → self.now ≡ other.now }
+    {
+        let own = &self.kept.shelf;
+        let theirs = &other.kept.shelf;
+        own.is_valid();
+        theirs.is_valid();
+        let mut own_next = own.newest();
+        let mut their_next = theirs.newest();
+        while let Some(slot) = own_next {
+            let Some(place) = their_next else {
+                return false;
+            };
+            if !same_at(own, slot, theirs, place) {
+                return false;
+            }
+            own_next = own.older(slot);
+            their_next = theirs.older(place);
+        }
+        their_next.is_none()
+    }
+
     /// The newest entry.
     pub(crate) fn newest(&self) -> Option<&SizedEntry>
         ensures { option_copied result ≡ slice_get self.now 0 }
@@ -246,6 +270,16 @@ impl Stock {
         self.kept.keep_in_quota(site, quota);
         self.kept.keep_in_budget(budget, slots);
         Ok(())
+    }
+}
+
+/// Whether the same entry stands at these slots.
+fn same_at(own: &Shelf<SizedEntry>, slot: Slot, theirs: &Shelf<SizedEntry>, place: Slot) -> bool
+    ensures { IsTrue result → HaveSame own.now.entries slot theirs.now.entries place }
+{
+    match (own.get(slot), theirs.get(place)) {
+        (Some(own), Some(theirs)) => own.same(theirs),
+        _ => false,
     }
 }
 

@@ -1,6 +1,6 @@
 -- The entries on a shelf, and the index of their slots.
 use Rattle.std.specs.Prelude.{◌≡◌, ℕ, ◌≤◌, ◌<◌, ◌^◌, ◌==◌, ◌&&◌, Bool, if◌then◌else◌, List, [], ◌∷◌, length, map, filter, find, Option, Some, None, option_map}
-use Rattle.recency.specs.Shelf.{Entry as Slotted', is_in}
+use Rattle.recency.specs.Shelf.{Entry as Slotted', is_in, value_of}
 use Rattle.indexmap.specs.IndexMap.{get_by}
 use Rattle.weak_cache.specs.declared.kept.Kept.{Kept}
 use Rattle.weak_cache.specs.Entries.{Entry, Cache, is_of}
@@ -38,6 +38,12 @@ from_slot slot (s ∷ shelved) = if is_in slot s then s ∷ shelved else from_sl
 abbrev pub from_on : Option ℕ → List Slotted → List Slotted
 from_on (Some slot) shelved = from_slot slot shelved
 from_on None shelved = []
+
+-- the same entry stands at a slot of one shelf and at a slot of another
+pub record HaveSame (own : List Slotted) (slot : ℕ) (theirs : List Slotted) (place : ℕ) : Type 0 where
+  pub entry : Entry
+  pub stands : value_of slot own ≡ Some entry
+  pub stands_there : value_of place theirs ≡ Some entry
 
 -- the index has the slot of each key, and the counts are those of the entries
 pub record IsKept (kept : Kept) : Type 0 where

@@ -1,0 +1,6 @@
+use Rattle.std.proofs.Common.{sym, ◌∙◌}
+use Rattle.rep_core.specs.code.Equality.{same_verdict_decides}
+use Rattle.txn_core.proofs.sameness.same_verdict.Goals as goal
+
+pub returns : goal.returns
+returns c = λ yes. (same_verdict_decides c.args.own.now c.args.theirs.now).0 (sym c.eq.ensures ∙ yes)

@@ -1,0 +1,7 @@
+use Rattle.std.proofs.Common.{sym, ◌∙◌}
+use Rattle.std.specs.Cmp.{unsigned_Decides}
+use Rattle.std.specs.Cmp.Lexicographic.{pointwise_decides}
+use Rattle.txn_core.proofs.servers.same_numbers.Goals as goal
+
+pub returns : goal.returns
+returns c = λ yes. (pointwise_decides unsigned_Decides c.args.own.now c.args.theirs.now).0 (sym c.eq.ensures ∙ yes)
