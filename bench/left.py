@@ -12,9 +12,12 @@ behind.
     verdicts   N verdicts are put in front of N others
     crashes    N times a crash with one lock that is not prepared, behind N prepared ones
     among      N times a lock is set in front of N that were left
+    records    N transactions in a folder of 1,000 names make a file, list, drop the file and list: what verdicts keep
+    others     the same, and each file has another name
 
 Prints the processor seconds (the least of three runs) and the growth, and the same of OTHER, a program of the same
-service, where that is named, and the ratio to it. Where time is linear the growth is 2.
+service, where that is named, and the ratio to it. Where time is linear the growth is 2. Of the last two it prints the
+peak of memory (MiB) too: it is an error where that is above 1.5 times the one of OTHER.
 """
 import sys
 
@@ -86,7 +89,28 @@ def among(count: int) -> str:
     return HEAD.format(2) + LEFT.format(1) * count + (LIST.format(0) + "run 0\n") * count
 
 
+def thousand() -> str:
+    """Makes a thousand files."""
+    return HEAD.format(1) + "".join(
+        job(0, " ; ".join(f"file /{'n' * 20}{number} 666" for number in range(first, first + 8)))
+        for first in range(0, 1_000, 8)
+    )
+
+
+def records(count: int) -> str:
+    return thousand() + job(0, "file /a 666 ; list / ; drop /a ; list /") * count
+
+
+def others(count: int) -> str:
+    return thousand() + "".join(
+        job(0, f"file /a{number} 666 ; list / ; drop /a{number} ; list /") for number in range(count)
+    )
+
+
 MANY = (16_000, 32_000, 64_000)
+KEPT = (400, 800, 1_600)
+# How many times the memory of the other program may be taken.
+MEMORY = 1.5
 INPUTS = (
     ("left", left, MANY),
     ("swept", swept, MANY),
@@ -95,6 +119,8 @@ INPUTS = (
     ("verdicts", verdicts, MANY),
     ("crashes", crashes, MANY),
     ("among", among, MANY),
+    ("records", records, KEPT),
+    ("others", others, KEPT),
 )
 
 
@@ -106,9 +132,8 @@ def timed(program: str, data: bytes) -> tuple[float, bytes]:
     return seconds, output
 
 
-def main() -> None:
-    program, other = measure.two_programs(__doc__)
-    measure.head("Much that was left behind")
+def times(program: str, other: str | None) -> None:
+    """The tables of seconds."""
     for title, made, counts in INPUTS:
         print(f"{title:>20}{'seconds':>10}{'growth':>8}" + (f"{'other':>10}{'ratio':>8}" if other else ""))
         before = None
@@ -121,6 +146,33 @@ def main() -> None:
                 line += f"{plain:>10.3f}{seconds / plain:>8.2f}" + ("" if same == output else " OTHER OUTPUT")
             print(line, flush=True)
             before = seconds
+
+
+def memory(program: str, other: str | None) -> list[str]:
+    """The table of peaks, and which are too high."""
+    above = []
+    print(f"{'':>20}{'MiB':>10}" + (f"{'other':>10}{'ratio':>8}" if other else ""))
+    for title, made in (("records", records), ("others", others)):
+        for count in KEPT:
+            data = made(count).encode()
+            peak = measure.run([program, "play"], data)[3]
+            line = f"{title + ' ' + str(count):>20}{peak:>10.1f}"
+            if other:
+                plain = measure.run([other, "play"], data)[3]
+                line += f"{plain:>10.1f}{peak / plain:>8.2f}"
+                if peak > MEMORY * plain:
+                    above.append(f"{title}, {count}: {peak / plain:.2f}")
+            print(line, flush=True)
+    return above
+
+
+def main() -> None:
+    program, other = measure.two_programs(__doc__)
+    measure.head("Much that was left behind")
+    times(program, other)
+    above = memory(program, other)
+    if above:
+        sys.exit(f"memory above {MEMORY} times the other's: " + "; ".join(above))
 
 
 main()

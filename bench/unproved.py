@@ -16,6 +16,7 @@ import os
 import re
 import subprocess
 import tempfile
+import typing
 
 import inlining
 from measure import TOP, console, trial
@@ -25,11 +26,8 @@ TRAP = re.compile(r"^  call void @llvm\.trap\(\)\n", re.MULTILINE)
 PATTERN = re.compile(r"^  call void @llvm\.memset\.p0\.i64\(ptr %r[0-9]+, i8 -86,.*\n", re.MULTILINE)
 
 
-def main() -> None:
-    """Builds the program to the file that the command line names."""
-    read = console.words(__doc__)
-    read.add_argument("out")
-    out = read.parse_args().out
+def build(out: str, amended: typing.Callable[[str], str] = str, also: str = "") -> None:
+    """Builds the program to this file, with what is made of its module, as text, and with this file of C."""
     clang = trial.clang()
     with tempfile.TemporaryDirectory() as folder:
         text, made = os.path.join(folder, "module.ll"), os.path.join(folder, "module.o")
@@ -41,9 +39,16 @@ def main() -> None:
             struck = PATTERN.sub("", TRAP.sub("", given.read()))
         roots = [os.path.join(trial.kit(), "rattle"), os.path.join(TOP, "crates")]
         with open(text, "w", encoding="utf-8") as target:
-            target.write(inlining.hinted(struck, roots))
+            target.write(amended(inlining.hinted(struck, roots)))
         subprocess.run([clang, "-O2", "-c", text, "-o", made], check=True)
-        subprocess.run(["gcc", "-static", "-o", out, made, *trial.libraries()], check=True)
+        subprocess.run(["gcc", "-static", "-o", out, made, *([also] if also else []), *trial.libraries()], check=True)
+
+
+def main() -> None:
+    """Builds the program to the file that the command line names."""
+    read = console.words(__doc__)
+    read.add_argument("out")
+    build(read.parse_args().out)
 
 
 if __name__ == "__main__":

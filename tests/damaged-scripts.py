@@ -2,11 +2,17 @@
 """tests/damaged-scripts.py [--cases COUNT] [--from SEED] [PROGRAM]
 
 Damages scripts of tools/scenario.py, and the same as scripts of `serve` and `table`, each in one known way in one
-line, plays them by the program (out/suites, if none is named), and holds what `./suites explain` says of the fault
-against the damage: it has to find something each time, without being told the command too, nothing where another code
-is told, and to name what was done. Where a word is dropped or added a number may come to be read in the place of
-another, and pass its limit: so of these 49 of 50 have to be named. Prints how many of each kind were named. Status 1
-where too few are, or nothing is found. --kind NAME tries one kind, as word_dropped.
+line, and plays them by the program (out/suites, if none is named).
+
+The program `forms` has to tell the same code. The fault has to stay where all is cut off behind the word that `forms`
+tells. Where it is that of a list's item, another item in its place has to have another fault, and none may have it
+where the item is left out.
+
+What `./suites explain` says of the fault is held against the damage: it has to find something each time, without being
+told the command too, nothing where another code is told, and to name what was done. Where a word is dropped or added a
+number may come to be read in the place of another, and pass its limit: so of these 49 of 50 have to be named. Prints
+how many of each kind were named. Status 1 where too few are, nothing is found, or `forms` tells another word. --kind
+NAME tries one kind, as word_dropped.
 """
 import argparse
 import collections
@@ -20,9 +26,11 @@ import typing
 
 import played
 
+import beside
 import explain
 import forms
 import scenario
+from faulty import WORD
 
 FIRSTS = {command: list(forms.lines_of(command, "own")) for command in forms.COMMANDS}
 VERBS = list(forms.OPERATIONS)
@@ -48,6 +56,8 @@ BYTES = [
     "99999999999999999999",
     "4294967296",
 ]
+# Items that are no entries, each with its fault.
+FAULTY = {"z": "A9", "u:4294967296:r": "A11"}
 NOT_FOUND = "Was it changed since?"
 NAMED_AT_LEAST = {"word dropped": 0.98, "word added": 0.98}
 # Of these kinds so many damages have a fault in that line at least; of the others nearly all. So a program that
@@ -273,6 +283,65 @@ class Damage:
         self.put([*self.words[:place], bad, *self.words[place + 1 :]], wanted)
 
 
+def printed_by(words: list[str], text: str) -> str:
+    done = subprocess.run(words, input=text.encode("latin1"), stdout=subprocess.PIPE, stderr=subprocess.DEVNULL)
+    return done.stdout.decode("latin1").strip("\n")
+
+
+class Programs(typing.NamedTuple):
+    """The program with a command whose scripts it plays, and the program `forms`."""
+
+    suites: str
+    forms: str
+    command: str
+
+    def fault_of(self, lines: list[str]) -> str:
+        """The fault that the program tells of a script; nothing where it tells none."""
+        words = ["serve", "--agents", "2"] if self.command == "serve" else [self.command]
+        told = printed_by([self.suites, *words], "".join(f"{line}\n" for line in lines))
+        return told if told.startswith("fault line ") else ""
+
+    def fault_below(self, above: list[str], words: list[str]) -> str:
+        """The fault of a line of these words. With a space behind it a carriage return ends no line."""
+        return self.fault_of([*above, " ".join(words) + " "]).removeprefix(f"fault line {len(above) + 1}: ")
+
+    def item_differing(self, above: list[str], words: list[str], number: str, place: str) -> str:
+        """What is wrong with the place that `forms` tells of an item of the last of these words; "" if nothing."""
+        *front, word = words
+        if printed_by([self.forms, "list", number], word).split("\t")[0] != place:
+            return f"as a list its item {number} is not at {place}"
+        before, rest = word[: int(place)], re.sub("^[^,#]*", "", word[int(place) :])
+        for other, code in FAULTY.items():
+            left = self.fault_below(above, [*front, before + other + rest])
+            if left != f"{code} item {number}":
+                return f"with {other} at {place} it is {left or 'none'}"
+        left = self.fault_below(above, [*front, before + rest])
+        return f"without the item at {place} it is {left}" if left.endswith(f" item {number}") else ""
+
+    def differing(self, lines: list[str]) -> str | None:
+        """What `forms` tells otherwise of a faulty script: "" where it tells the same; nothing of one without a
+        fault.
+        """
+        fault = self.fault_of(lines)
+        if not fault:
+            return None
+        number, code = fault.removeprefix("fault line ").split(": ")
+        above = lines[: int(number) - 1]
+        told = printed_by([self.forms, self.command, number], "".join(f"{line}\n" for line in lines)).split("\t")
+        if told[1] != code:
+            return f"{fault}: forms tells {told[1]}"
+        words = WORD.findall(lines[int(number) - 1]) if int(number) <= len(lines) else []
+        if int(told[0]) > len(words):
+            return "" if int(told[0]) == len(words) + 1 else f"{fault}: there is no word {told[0]}"
+        words = words[: int(told[0])]
+        left = self.fault_below(above, words)
+        if left != code:
+            return f"{fault}: up to word {told[0]} it is {left or 'none'}"
+        _, is_item, item = code.partition(" item ")
+        wrong = self.item_differing(above, words, item, told[4]) if is_item else told[4].replace("-", "")
+        return f"{fault}: {wrong}" if wrong else ""
+
+
 def unnamed(damage: Damage, said: str) -> list[str | tuple[str, ...]]:
     """What of a damage is not said."""
     said = " ".join(said.split())
@@ -285,14 +354,14 @@ def unnamed(damage: Damage, said: str) -> list[str | tuple[str, ...]]:
 
 def tried(program: str, path: str, damage: Damage) -> tuple[str, str]:
     """What comes of a damage: `none` where the program finds no fault in that line; and what `explain` says."""
-    text = "".join(line + "\n" for line in damage.lines).encode("latin1")
-    with open(path, "wb") as file:
-        file.write(text)
-    words = ["serve", "--agents", "2"] if damage.command == "serve" else [damage.command]
-    done = subprocess.run([program, *words], input=text, stdout=subprocess.PIPE, stderr=subprocess.DEVNULL)
-    printed = done.stdout.decode("latin1").strip()
-    if done.returncode != 3 or not printed.startswith(f"fault line {damage.at + 1}:"):
+    programs = Programs(program, beside.program("forms"), damage.command)
+    printed, differing = programs.fault_of(damage.lines), programs.differing(damage.lines)
+    if differing:
+        return "nothing found", differing
+    if not printed.startswith(f"fault line {damage.at + 1}:"):
         return "none", printed
+    with open(path, "w", encoding="latin1", newline="") as file:
+        file.writelines(f"{line}\n" for line in damage.lines)
     said = explain.answer(["--of", damage.command, printed, path])
     guessed = explain.answer([printed, path])
     other = explain.answer(

@@ -23,8 +23,8 @@ import console
 import after
 import explain
 import forms
-import grammar
 import happened
+import reasons
 import scenario
 
 TOP = played.TOP
@@ -46,11 +46,11 @@ PUT = {
     "VOTES": "1,1,1/2/2",
     "--servers N": "1,1,1/2/2 --servers 3",
 }
-# A constant of the sources, and where it is named: parts of the page with the words around it, and names in
-# tools/grammar.py or places of the table of forms.
+# A constant of the sources, and where it is named: parts of the page with the words around it, and a place of the table
+# of forms or a constant of the program `forms`, whose crate cannot name that of another one.
 LIMITS: tuple[tuple[str, str, list[tuple[str, str]], str | None], ...] = (
-    ("acl_core/src/acl.rt", "MAX_ENTRIES", [("A8", "more than {} entries")], "MAX_ENTRIES"),
-    ("acl_text/src/names.rt", "MAX_NAME", [("N1", "1 to {} bytes")], "MAX_NAME"),
+    ("acl_core/src/acl.rt", "MAX_ENTRIES", [("A8", "more than {} entries")], None),
+    ("acl_text/src/names.rt", "MAX_NAME", [("N1", "1 to {} bytes")], None),
     ("suite_content/src/name.rt", "MAX_NAME", [("F1", "of 1 to {} bytes")], None),
     ("suite_content/src/folder_names.rt", "MAX_NAMES", [("F9", "{} names")], None),
     ("suite_content/src/file_bytes.rt", "MAX_CONTENT", [("F8", "More than {} bytes")], None),
@@ -61,14 +61,14 @@ LIMITS: tuple[tuple[str, str, list[tuple[str, str]], str | None], ...] = (
     ("suite_prefix/src/settings.rt", "MAX_AGENTS", [("G1", "1 to {} agents")], "AGENTS"),
     ("suite_prefix/src/settings.rt", "MAX_CACHE", [("G3", "at most {} bytes")], "BUDGET"),
     ("suite_prefix/src/settings.rt", "MAX_SLOTS", [("G3", "{} entries")], "SLOTS"),
-    ("suite_prefix/src/forms.rt", "OLD_ENTRIES", [("G4", "no more than {} entries")], "OLD_ENTRIES"),
-    ("suite_prefix/src/forms.rt", "OLD_SERVERS", [], "OLD_SERVERS"),
+    ("suite_prefix/src/forms.rt", "OLD_ENTRIES", [("G4", "no more than {} entries")], "old.rt OLD_ENTRIES"),
+    ("suite_prefix/src/forms.rt", "OLD_SERVERS", [], "old.rt OLD_SERVERS"),
     ("vote_core/src/lib.rt", "MAX_SERVERS", [("G1", "1 to {} servers"), ("V2", "there are {} servers")], "SERVERS"),
     ("suite_play/src/language.rt", "MAX_STEPS", [], "N"),
     ("suite_play/src/language.rt", "LAST_SITE", [], "SITE"),
-    ("suite_script/src/votes.rt", "MAX_COLLECTED", [], "MAX_COLLECTED"),
-    ("suite_script/src/votes.rt", "MAX_VOTES", [], "MAX_VOTES"),
-    ("acl_text/src/caller.rt", "MAX_NUMBERS", [], "MAX_NUMBERS"),
+    ("suite_script/src/votes.rt", "MAX_COLLECTED", [], "votes.rt MAX_COLLECTED"),
+    ("suite_script/src/votes.rt", "MAX_VOTES", [], "votes.rt MAX_VOTES"),
+    ("acl_text/src/caller.rt", "MAX_NUMBERS", [], "number.rt MAX_NUMBERS"),
 )
 # A file, the command that reads it, its text, and what is to be told of its fault.
 ON_TERMINAL = (
@@ -436,18 +436,36 @@ def unexplained() -> typing.Iterator[str]:
         yield f"only {len(printed)} lines are printed by rows"
 
 
+def untold_reasons() -> typing.Iterator[str]:
+    """The reasons that the program `forms` prints and for which the tools have no sentence."""
+    files = glob.glob(os.path.join(TOP, "crates", "forms", "src", "*.rt"))
+    named = re.compile(r'Reason::\w+(?:\([_, ]+\))? => b"([a-z-]+)"')
+    printed = {name for path in files for name in named.findall(source(path))}
+    known = {*reasons.SENTENCES, *reasons.LAID_OUT}
+    yield from (f"no sentence has the reason {name}" for name in printed - known)
+    yield from (f"nobody tells the reason {name}" for name in known - printed)
+
+
+def constant(path: str, name: str) -> int:
+    """A constant of a source file."""
+    return int(re.search(rf"const {name}: \w+ = ([0-9_]+);", source(path))[1].replace("_", ""))
+
+
 def false_limits() -> typing.Iterator[str]:
     """The limits that are others in the sources."""
     parts = {code: "\n".join(lines) for _, _, code, lines in explain.page()}
     for path, name, told, own in LIMITS:
-        number = int(re.search(rf"const {name}: \w+ = ([0-9_]+);", source(path))[1].replace("_", ""))
+        number = constant(path, name)
         ways = {f"{number}", f"{number:,}", WORDS[number] if number < len(WORDS) else ""} - {""}
         for code, words in told:
             if not any(re.search(rf"(?<![\d,]){re.escape(words.format(way))}", parts[code]) for way in ways):
                 yield f"{code} does not say \"{words.format(number)}\", the {name} of {path}"
-        known = int(forms.PLACES[own].most) if own in forms.PLACES else getattr(grammar, own) if own else number
+        if own in forms.PLACES:
+            known = int(forms.PLACES[own].most)
+        else:
+            known = constant(*f"forms/src/{own}".split()) if own else number
         if known != number:
-            yield f"{own} of tools/grammar.py or crates/forms/stdout is not {number}, the {name} of {path}"
+            yield f"{own} of crates/forms is not {number}, the {name} of {path}"
 
 
 def main() -> int:
@@ -458,7 +476,7 @@ def main() -> int:
     for told in (play_commands, lambda: told_of_runs(program), told_alone, lambda: silent_lines(program)):
         more, differing = told()
         count, wrong = count + more, wrong + differing
-    wrong += [*told_on_terminal(), *untold_words(), *unexplained(), *false_limits()]
+    wrong += [*told_on_terminal(), *untold_words(), *unexplained(), *untold_reasons(), *false_limits()]
     for line in wrong:
         print(line)
     print(f"{count + len(LIMITS)} examples, lines, command lines and limits, {len(wrong)} differ")

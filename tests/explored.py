@@ -125,7 +125,8 @@ def explored(program: str, script: str, words: str) -> tuple[int, str]:
 def read(text: str) -> list[tuple[str, ...]]:
     """The lines of each way that `explore` printed."""
     parts = re.split(r"^way \d+ in \d+ of \d+ ends\n", text, flags=re.M)
-    return [tuple(line for line in part.split("\n") if line and not line.startswith("all ")) for part in parts[1:]]
+    return [tuple(line for line in part.split("\n") if line and not line.startswith(("all ", "not all: ")))
+            for part in parts[1:]]
 
 
 def without_steps(lines: list[str]) -> list[str]:

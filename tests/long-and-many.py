@@ -6,8 +6,9 @@ is proved), or the one that is named. Prints counts, seconds and memory; status 
 
 many:   100,000 jobs by 64 agents on 16 servers: files made, written, read, given lists and dropped in 96 folders,
         sweeps of servers at work, and a server that is filled with suites. Chance decides how most jobs end; looked at
-        is that each has its line, that each ending of those that the script is to bring about comes, and that the last
-        line counts the steps of all jobs but those that a full server did not serve.
+        is that each has its line, that each ending of those that the script is to bring about comes, that no other
+        server is told to be full, and that the last line counts the steps of all jobs but those that a full server did
+        not serve.
 long:   lists by 4 agents on one server, until its history is full: 1,000,000 steps are certified, and whoever asks
         after that is told that the server is full.
 often:  a thousand runs (RUNS another number) of `examples/serve/files.script`, with 2, 4 and 64 agents in turn: one
@@ -131,6 +132,8 @@ def many(program: str) -> list[str]:
         wrong.append(f"{last(run)}, where the jobs tell of {served}")
     wanted = ["answered", "refused F4", "refused F5", "swept", *(f"undecided U{code}" for code in (2, 3, 4, 6))]
     wrong += [f"no job ended as {kind}" for kind in wanted if not counts[kind]]
+    full = {line.split(" ", 2)[2] for line in run.lines[:-1] if "undecided U6" in line}
+    wrong += [f"{ending}, which is not full" for ending in sorted(full) if ending != f"undecided U6 server {SERVERS - 1}"]
     told = ", ".join(f"{count} {kind}" for kind, count in counts.most_common())
     print(f"many: {JOBS} jobs, {AGENTS} agents, {SERVERS} servers: {last(run)}; {told}; {run.cost()}")
     return wrong

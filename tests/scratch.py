@@ -118,10 +118,10 @@ def built(program: str, direct: list[str], modules: typing.Sequence[str] = ()) -
     return target
 
 
-def cases_and_seed(doc: str, cases: int) -> tuple[int, int]:
+def cases_and_seed(doc: str, cases: int, seed: int = 1) -> tuple[int, int]:
     """The words of a test whose program tries cases that are drawn by chance: how many, and the seed."""
     read = argparse.ArgumentParser(description=doc, formatter_class=argparse.RawDescriptionHelpFormatter)
     read.add_argument("cases", nargs="?", type=int, default=cases)
-    read.add_argument("seed", nargs="?", type=int, default=1)
+    read.add_argument("seed", nargs="?", type=int, default=seed)
     given = read.parse_args()
     return given.cases, given.seed

@@ -18,8 +18,8 @@ import sources
 
 PROGRAM = sources.PROGRAM
 FOLDER = os.path.join(sources.CRATES, PROGRAM)
-# The topmost crate of laws: those of all runs stand in it and below.
-LAWS = "law_run_recovers"
+# The topmost crates of laws: those of all runs, and of what is certified, stand in them and below.
+LAWS = ("law_run_recovers", "law_certified")
 BYTES_A_CHECK = 4 << 30
 STOPPED = "stopped; what is proved is kept, and ./suites --prove goes on from there"
 
@@ -83,7 +83,10 @@ def prove_laws(teller: console.Teller) -> tuple[str, str] | None:
     """Proves what is promised to who plays: the laws of all runs, of which the program uses some and a caller may want
     the others.
     """
-    return prove(LAWS, sources.crates_below(LAWS), teller) if PROGRAM == "suites" else None
+    if PROGRAM != "suites":
+        return None
+    each = (prove(top, sources.crates_below(top), teller) for top in LAWS)
+    return next((failed for failed in each if failed), None)
 
 
 def build(needs: dict[str, list[str]], teller: console.Teller) -> tuple[str, str] | None:

@@ -126,9 +126,24 @@ def differences(script: str) -> tuple[list[str], collections.Counter[str]]:
     """What differs between a script's run and the plain table; and what there was to compare."""
     lines = trace.traced(script.encode("latin1"))
     run = Run(lines)
-    told: collections.Counter[str] = collections.Counter()
     wrong = [] if output("play", script) == run.played else ["play and trace print different lines"]
-    answers = [line.partition(" ")[2] for line in output("table", table_script(script, run))][1:]
+    found, told = differences_of(run, output("table", table_script(script, run)))
+    told["requests"] = sum(bool(trace.REQUEST.match(line)) for line in lines)
+    told.update(
+        f"events: {line.split()[1]}"
+        for line in lines
+        if line.startswith("> ") and line.split()[1] in ("crash", "return", "sweep", "forget")
+    )
+    return wrong + found, told
+
+
+def differences_of(run: Run, table: list[str]) -> tuple[list[str], collections.Counter[str]]:
+    """What differs between a run and what the plain table prints of its decided transactions; and what there was to
+    compare.
+    """
+    told: collections.Counter[str] = collections.Counter()
+    wrong = list[str]()
+    answers = [line.partition(" ")[2] for line in table][1:]
     places = {t: place for place, t in enumerate(run.decided, 1)}
     audits: dict[int, list[str]] = {server: [] for server in run.audits}
     if len(answers) != len(run.decided):
@@ -153,12 +168,6 @@ def differences(script: str) -> tuple[list[str], collections.Counter[str]]:
         if [mapped(item, places) for item in run.audits[server]] != items:
             wrong.append(f"audit {server}: {run.audits[server]}, wanted {items}")
     told["audits"] = len(audits)
-    told["requests"] = sum(bool(trace.REQUEST.match(line)) for line in lines)
-    told.update(
-        f"events: {line.split()[1]}"
-        for line in lines
-        if line.startswith("> ") and line.split()[1] in ("crash", "return", "sweep", "forget")
-    )
     return wrong, told
 
 

@@ -1,5 +1,5 @@
-"""The first word of a line that its form does not allow, as the program `forms` tells it. No tool reads a line by its
-form itself.
+"""What keeps a line of a script from its form, and a text from being a list, as the program `forms` tells it. No tool
+reads a line or a list by its form itself.
 """
 import functools
 import subprocess
@@ -17,10 +17,18 @@ SAMPLES = {
 }
 
 
+class Why(typing.NamedTuple):
+    """Why a word does not fit: a reason, its data, and the part of the word of which it speaks."""
+
+    reason: str
+    data: list[str]
+    part: str
+
+
 class Misfit(typing.NamedTuple):
     """The place of the word, counted from 0, the code of its fault, the place of the form in which it stands (or END,
-    OPERATION, LINE), the form that has this place, and of a list's faulty item how many bytes of the word stand before
-    it.
+    OPERATION, LINE), the form that has this place, of a list's faulty item how many bytes of the word stand before it,
+    whether the word may well belong to another place, and why it does not fit.
     """
 
     at: int
@@ -28,6 +36,8 @@ class Misfit(typing.NamedTuple):
     expected: str
     form: str
     item: int | None
+    is_shifted: bool
+    why: Why
 
     def due(self) -> str:
         """The first word of the line that is due in the place of one that may not stand there; nothing, if none is."""
@@ -38,32 +48,48 @@ class Misfit(typing.NamedTuple):
         return [place.strip("[]") for place in self.form.split()[1:]]
 
 
+class Item(typing.NamedTuple):
+    """How many bytes of a list stand before an item, the code of the fault, and why it has it; of a whole list the same
+    of its faulty item, where one is.
+    """
+
+    item: int | None
+    code: str
+    why: Why
+
+
 @functools.cache
 def asked(first: str, number: int, given: bytes) -> list[str]:
-    """What the program prints for two words and an input, field by field."""
+    """What the program prints for two words and an input, field by field. The last field may be any bytes."""
     words = [beside.program("forms"), first, str(number)]
     done = subprocess.run(words, input=given, stdout=subprocess.PIPE, env=beside.setting("forms"))
     if done.returncode != 0:
         raise console.Stop(f"the program forms ended with status {done.returncode}")
-    return done.stdout.decode("latin1").rstrip("\n").split("\t")
+    return done.stdout.decode("latin1").removesuffix("\n").split("\t", 8 if first in forms.COMMANDS else 4)
 
 
-def item_at(text: str, number: int) -> int | None:
-    """How many bytes stand before the item of a list that has this number."""
-    place = asked("list", number, text.encode("latin1"))[0] if number < 2**64 else "-"
-    return None if place == "-" else int(place)
+def why_of(reason: str, data: str, part: str) -> Why:
+    return Why(reason, data.replace("-", "").split(), part)
 
 
-def told(command: str, script: bytes, number: int) -> Misfit | None:
-    """What the program tells of a line of a script, whose lines above have no fault."""
-    word, code, expected, form, item = asked(command, number, script)
-    return None if word == "-" else Misfit(int(word) - 1, code, expected, form, None if item == "-" else int(item))
+def place_of(field: str) -> int | None:
+    return None if field == "-" else int(field)
+
+
+def in_list(text: str, number: int, are_named: bool) -> Item:
+    """What the program tells of an item of a list, or for 0 of the whole, where each name has a number or none has."""
+    number = min(number, 2**64 - 1)
+    item, code, *why = asked("list" if are_named else "unnamed", number, text.encode("latin1"))
+    return Item(place_of(item), code.strip("-"), why_of(*why))
 
 
 def of_line(command: str, above: list[str], line: str | None) -> Misfit | None:
-    """The same of a line below these, or of the end of the script below them."""
+    """What the program tells of a line below these, which have no fault, or of the end of the script below them."""
     text = "".join(f"{one}\n" for one in above) + (line or "")
-    return told(command, text.encode("latin1"), len(above) + 1)
+    word, code, expected, form, item, shift, *why = asked(command, len(above) + 1, text.encode("latin1"))
+    if word == "-":
+        return None
+    return Misfit(int(word) - 1, code, expected, form, place_of(item), shift == "shifted", why_of(*why))
 
 
 def header(command: str) -> list[str]:

@@ -11,8 +11,8 @@ import typing
 import console
 import faulty
 import forms
-import grammar
 import guarded
+import quoted
 import trace
 
 OUTCOME = re.compile(r"(\d+)\.(\d+) (\d+) (answered|denied|refused|undecided|swept)\b ?(.*)")
@@ -74,7 +74,7 @@ class Played:
         own = forms.lines_of("play", "own")
         said = [(number, line) for number, line in enumerate(faulty.lines_of(script), 1)]
         events = iter([(number, line) for number, line in said if line.split()[:1] and line.split()[0] in own])
-        self.servers = grammar.value(next(line for _, line in said if line.split()[:1] == ["servers"]).split()[1])
+        self.servers = int(next(line for _, line in said if line.split()[:1] == ["servers"]).split()[1])
         self.jobs: dict[int, Job] = {}
         self.busy: dict[int, Job] = {}
         self.counts: dict[int, int] = {}
@@ -346,7 +346,7 @@ def found_line(run: Played, text: str, name: str) -> tuple[str, int]:
     for line, _, number in run.printed:
         if line == text or line.endswith(f" {text}"):
             return line, number
-    near = grammar.nearest(text, [line for line, _, _ in run.printed])
+    near = quoted.nearest(text, [line for line, _, _ in run.printed])
     like = f" It prints: {near[0]}" if near else ""
     raise console.Stop(
         f"{name} prints no such line.{like} Was the script changed, or the line? ./suites play < {name} prints all"

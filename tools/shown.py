@@ -1,10 +1,12 @@
 #!/usr/bin/env python3
-"""Looks whether all that README.md and examples/ show is played by the gate.
+"""tools/shown.py [--help-texts]
+
+Looks whether all that README.md and examples/ show is played by the gate.
 
 Each file of examples/ has to be the input of a row of crates/rows/stdin, and one of examples/explore have its ways in
-tests/explored; each script, command and output that
-README.md shows has to be that of a row, and an output that of the script or the command before it. Each text of help/
-but that of the tools has to be what a row of help prints. The picture and what is shown of `./suites trace` have to be
+tests/explored; each script, command and output that README.md shows has to be that of a row, and an output that of the
+script or the command before it. Each text of help/ but that of the tools has to be what a row of help prints: with
+--help-texts it is written from that row. The picture and what is shown of `./suites trace` have to be
 those of the trace which the program of crates/trace is to print of the same script (its stdin and stdout). What differs
 is told, and the status is 1. The rows themselves are played by the program of crates/rows, and commands of tools, with
 what README.md shows of them, by tests/typed.py.
@@ -87,13 +89,17 @@ def traced(block: list[bytes]) -> bytes | None:
     return None
 
 
-def texts_of_help(known: list[tuple[str, bytes, bytes]]) -> typing.Iterator[str]:
-    """What is wrong with the texts of help/: each is what a row prints."""
+def texts_of_help(known: list[tuple[str, bytes, bytes]], are_written: bool) -> typing.Iterator[str]:
+    """What is wrong with the texts of help/: each is what a row prints, and may be written from it."""
     printed = {words: text for words, given, text in known if not given}
     words_of = {"suites": "--help", "help": "help help"}
     for name in sorted(os.listdir(os.path.join(TOP, HELP))):
         words = words_of.get(name[:-4], f"{name[:-4]} --help")
-        if name not in OF_TOOLS and content(os.path.join(HELP, name)) != printed.get(words):
+        if name in OF_TOOLS or content(os.path.join(HELP, name)) == printed.get(words):
+            continue
+        if are_written and words in printed:
+            sources.write_whole(os.path.join(TOP, HELP, name), printed[words].decode())
+        else:
             yield f"{HELP}/{name} is not what the row of '{words}' prints"
 
 
@@ -106,9 +112,11 @@ def told_of_votes(block: list[bytes]) -> bytes | None:
 
 
 def main() -> int:
-    console.words(__doc__).parse_args()
+    read = console.words(__doc__)
+    read.add_argument("--help-texts", action="store_true")
+    are_written = read.parse_args().help_texts
     known = [*rows(), *stories()]
-    wrong = list(texts_of_help(known))
+    wrong = list(texts_of_help(known, are_written))
     inputs = {given for _, given, _ in known}
     for folder, _, names in sorted(os.walk(os.path.join(TOP, "examples"))):
         for name in sorted(os.path.relpath(os.path.join(folder, name), TOP) for name in names):

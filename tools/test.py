@@ -121,7 +121,6 @@ PARTS = (
     Part("the table of forms", tool("tests/form-table.py"), [PROGRAM]),
     Part("everything that can happen", tool("tests/explored.py"), [PROGRAM, TRACE, EXPLORE]),
     Part("examples of FAULTS", tool("tests/explained.py"), [PROGRAM, TRACE, FORMS, EXPLORE]),
-    Part("the words that do not fit", tool("tests/misfits.py", "--cases", "1000"), [PROGRAM, FORMS]),
     Part("what explain says of damaged scripts", tool("tests/damaged-scripts.py", "--cases", "1000"), [PROGRAM, FORMS]),
     Part("command lines of documents", tool("tests/typed.py"), [PROGRAM, TRACE, FORMS, EXPLORE]),
     Part("answers of may", tool("tests/may.py"), [MAY]),

@@ -50,10 +50,11 @@ import typing
 import console
 import explain
 import faulty
-import grammar
 import looking
+import reasons
 import shapes
 import trace
+from fitting import Why
 
 MOST_SERVERS, MOST_VOTES, MOST_COLLECTED, MOST_AGENTS = 32, 255, 65535, 64
 # How many sets of servers, and how many names, are told at most.
@@ -86,14 +87,20 @@ Votes = collections.namedtuple("Votes", "shares r w")
 
 
 class Fault(Exception):
-    """What is asked has a fault, of this code."""
+    """What is asked has a fault, of this code; and why, in the words of the program `forms`."""
+
+    def __init__(self, code: str, reason: str, *data: int, part: str = "") -> None:
+        super().__init__(code)
+        self.why = Why(reason, [str(number) for number in data], part)
 
 
-def number(word: str, most: int) -> int:
+def number(word: str, most: int, reason: str) -> int:
     """The number that a word writes down."""
     digits = word.lstrip("0") or "0"
-    if not re.fullmatch("[0-9]+", word) or len(digits) > len(str(most)) or int(digits) > most:
-        raise Fault("S1")
+    if not re.fullmatch("[0-9]+", word):
+        raise Fault("S1", reason, part=word)
+    if len(digits) > len(str(most)) or int(digits) > most:
+        raise Fault("S1", "above", most, part=word)
     return int(digits)
 
 
@@ -103,22 +110,26 @@ def votes_of(word: str, servers: int | None) -> Votes:
     """
     parts = word.split("/")
     fields = parts[0].split(",")
-    if len(parts) != 3 or len(fields) > MOST_SERVERS:
-        raise Fault("S1")
-    listed = [None if field == "-" else number(field, MOST_VOTES) for field in fields]
-    r, w = (number(part, MOST_COLLECTED) for part in parts[1:])
+    if len(parts) != 3 or not parts[0]:
+        raise Fault("S1", "no-votes")
+    if len(fields) > MOST_SERVERS:
+        raise Fault("S1", "many", len(fields), MOST_SERVERS)
+    listed = [None if field == "-" else number(field, MOST_VOTES, "no-share") for field in fields]
+    r, w = (number(part, MOST_COLLECTED, "no-collected") for part in parts[1:])
     total = sum(share or 0 for share in listed)
-    faults = {
-        "V1": all(share is None for share in listed),
-        "V2": servers is not None and any(share is not None for share in listed[servers:]),
-        "V4": total == 0,
-        "V5": not (0 < r <= total and 0 < w <= total),
-        "V6": r + w <= total,
-        "V7": 2 * w <= total,
-    }
-    for code, is_so in faults.items():
+    last = max((server for server, share in enumerate(listed) if share is not None), default=-1)
+    collects, count = ("write-collects", w) if 0 < r <= total else ("read-collects", r)
+    faults: tuple[tuple[str, bool, str, list[int]], ...] = (
+        ("V1", last < 0, "no-server", []),
+        ("V2", servers is not None and last >= servers, "beyond-last", [last, (servers or 0) - 1]),
+        ("V4", total == 0, "all-zero", []),
+        ("V5", not (0 < r <= total and 0 < w <= total), collects, [count, total]),
+        ("V6", r + w <= total, "read-misses-write", [r + w, total]),
+        ("V7", 2 * w <= total, "writes-disjoint", [2 * w, total]),
+    )
+    for code, is_so, reason, data in faults:
         if is_so:
-            raise Fault(code)
+            raise Fault(code, reason, *data)
     shares = [share or 0 for share in listed][:servers]
     return Votes(shares + [0] * ((servers or 0) - len(shares)), r, w)
 
@@ -415,20 +426,19 @@ def main() -> int:
         return 0
     try:
         if given.servers is not None and not 1 <= given.servers <= MOST_SERVERS:
-            raise Fault("G1")
+            raise Fault("G1", "due")
         lines = told_of_word(given.votes, given.servers, given.up)
     except Fault as fault:
-        print(fault_text(given.votes, given.servers, str(fault)))
+        print(fault_text(given.votes, fault))
         return 3
     print("\n".join(lines))
     return 0
 
 
-def fault_text(word: str, servers: int | None, code: str) -> str:
+def fault_text(word: str, fault: Fault) -> str:
     """What is told of faulty votes: the rule with its numbers, the form, and what the page says of the code."""
-    where = grammar.Where(servers or MOST_SERVERS, MOST_AGENTS, {"user": {}, "group": {}}, "votes")
-    wrong = grammar.of_votes(word, where) if code != "G1" else None
-    told = [faulty.sentence(wrong.text), "", FORM, ""] if wrong and wrong.code == code else []
+    code = str(fault)
+    told = [faulty.sentence(reasons.Of(fault.why, word, "VOTES").text()), "", FORM, ""] if code != "G1" else []
     return "\n".join([f"fault {code}", "", *told, *([explain.explained(code)] if code != "S1" else [])]).rstrip()
 
 

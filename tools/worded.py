@@ -9,7 +9,7 @@ import textwrap
 
 import fitting
 import forms
-import grammar
+from quoted import either, letters, plain, short
 
 TOP = os.path.dirname(os.path.dirname(os.path.abspath(__file__)))
 ROW = re.compile(r"\| (.*) \| (.*) \|$")
@@ -39,7 +39,7 @@ def words() -> dict[str, str]:
 def meant(place: str, word: str) -> str:
     """What a word in its place means."""
     place = place.strip("[]")
-    text = f"{place}, {grammar.MEANT[place]}" if grammar.MEANT.get(place) else place
+    text = f"{place}, {forms.PLACES[place].means}" if place in forms.PLACES else place
     if place == "INIT" and re.fullmatch("[0-7]{3}", word):
         entries = (f"{kind}::{letters(int(digit))}" for kind, digit in zip("ugo", word))
         return f"{text}: the mode of the list {','.join(entries)}"
@@ -57,10 +57,6 @@ def meant(place: str, word: str) -> str:
         )
         return f"VOTES: {shares}; a read collects {r}, and a write {w}"
     return text
-
-
-def letters(digit: int) -> str:
-    return "".join(letter if digit & bit else "-" for letter, bit in (("r", 4), ("w", 2), ("x", 1)))
 
 
 def rows_of(places: list[str], given: list[str]) -> list[tuple[str, str]]:
@@ -116,7 +112,7 @@ def one_word(word: str) -> str | None:
         if line.word == word:
             lines.setdefault((line.form(), line.does), []).append(f"`{line.command}`")
     told += [
-        filled(f"{form}: a line of a script of {grammar.either(of, 'and')}: {said}.")
+        filled(f"{form}: a line of a script of {either(of, 'and')}: {said}.")
         for (form, said), of in lines.items()
     ]
     if word in forms.OPERATIONS:
@@ -132,7 +128,7 @@ def filled(text: str, first: str = "", after: str = "") -> str:
 
 def shown(head: str, rows: list[tuple[str, str]]) -> str:
     """A sentence, and a table of words."""
-    cut = [(grammar.short(word) if len(word) <= 24 else f"{grammar.plain(word[:22])}..", told) for word, told in rows]
+    cut = [(short(word) if len(word) <= 24 else f"{plain(word[:22])}..", told) for word, told in rows]
     wide = max((len(word) for word, _ in cut), default=0)
     lines = [
         filled(told.replace("`", ""), f"{' ' * INDENT}{word:{wide}}  ", " " * (INDENT + wide + 2)) for word, told in cut

@@ -19,6 +19,7 @@ import wrong_bodies
 
 PAGE = os.path.join(wrong_bodies.TOP, "docs", "WRONG-BODIES.md")
 IN_GATE = os.path.join(wrong_bodies.TOP, "docs", "wrong-bodies-in-gate.txt")
+SHOWN = os.path.join(wrong_bodies.TOP, "docs", "wrong-bodies-shown.txt")
 PLACES = ((wrong_bodies.GATE, "gate"), (wrong_bodies.BESIDE, "beside"))
 HEAD = """# Wrong bodies
 
@@ -63,6 +64,20 @@ The bodies that a reader of the service's rules asks for first. No clause can re
 
 | Wrong body | Its edit |
 |---|---|
+"""
+WOULD_DO = """## What they would do
+
+Those of the crates that all runs go through, each taken in an unproved build in the place of the right function, as
+`bench/harm.py` saw it: {count} of them. It has `explore` tell the ways of the stories in `examples/explore` and
+`tests/explored`, or plays the scripts of the right ways, and compares what was decided with the plain table, in the
+order of the decisions. Of {answer} a story has an answer that is not the table's: told is the smallest such story, the
+script with the fewest events that shows it there (`begin 0`: agent 0 begins its next job of the story), and what
+differs. Of {ways} the stories have other ways, or the search goes on or ends; {none} no story shows. The last column
+counts the rows of `play` in `crates/rows` that are answered otherwise (`-`: not counted); {unseen} neither a story nor
+a row shows: of most of these no command tells what they are about.
+
+| Wrong body | What comes of it | Story | Fewest events | Rows |
+|---|---|---|---|---:|
 """
 
 
@@ -124,6 +139,35 @@ def by_name(faults: list[str]) -> str:
     return BY_NAME + "\n".join(lines) + "\n"
 
 
+def would_do(faults: list[str]) -> str:
+    """The table of what wrong bodies would do. One without an edit is added to the faults."""
+    known = {
+        f"{crate}/{wrong_bodies.name_of(edit)}"
+        for crate in crates()
+        for folder, _ in PLACES
+        for edit in wrong_bodies.edits(crate, folder)
+    }
+    told = []
+    for piece in wrong_bodies.content(SHOWN).strip().split("\n\n"):
+        name, _, rest = piece.partition("\n")
+        words = dict(line.split(": ", 1) for line in rest.split("\n"))
+        if name not in known:
+            faults.append(f"{name}: there is no such edit, though {os.path.relpath(SHOWN, wrong_bodies.TOP)} has it")
+        told.append((name, words))
+    counts = {
+        "count": len(told),
+        "answer": sum(words["shows"] == "answer" for _, words in told),
+        "ways": sum(words["shows"] in ("ways", "end") for _, words in told),
+        "none": sum(words["shows"] == "nothing" for _, words in told),
+        "unseen": sum(words["shows"] == "nothing" and words["rows"] == "0" for _, words in told),
+    }
+    lines = [
+        f"| `{name}` | {words['comes']} | {words.get('story', '')} | {words.get('script', '')} | {words['rows']} |"
+        for name, words in told
+    ]
+    return WOULD_DO.format(**counts) + "\n".join(lines) + "\n"
+
+
 def page() -> tuple[str, list[str]]:
     """The page, and what is wrong with the edits."""
     in_gate, parts, counts = words_in_gate(), [HEAD], {place: 0 for _, place in PLACES}
@@ -145,6 +189,7 @@ def page() -> tuple[str, list[str]]:
                 )
             )
     parts.append(by_name(faults))
+    parts.append(would_do(faults))
     faults += [f"{name}: there is no such edit in the gate" for name in in_gate]
     parts.insert(1, f"There are {counts['gate']} in the gate and {counts['beside']} beside it.\n")
     return "\n".join(parts), faults

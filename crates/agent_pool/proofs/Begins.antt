@@ -1,9 +1,9 @@
--- Begins of a transcript, and what a pass does beside it.
-use Rattle.std.proofs.Common.{◌≡◌, ◌+◌, List, [], ◌∷◌, ◌++◌, subst, arith}
+-- Begins of a transcript, what a pass does beside it, and what its agent knows.
+use Rattle.std.proofs.Common.{◌≡◌, ℕ, ◌+◌, List, [], ◌∷◌, ◌++◌, subst, arith, slice_set}
 use Rattle.server_lock.specs.Passes.{Held, after_item}
 use Rattle.run_certify.specs.declared.entry.Entry.{Entry}
 use Rattle.run_certify.specs.declared.entry.Entry.TheVariants.{Begun, Asked, Lacked, Forgot, Ended}
-use Rattle.agent_pool.specs.Transcripts.{GoesOn, begins}
+use Rattle.agent_pool.specs.Transcripts.{GoesOn, Learns, begins}
 
 pub begins-append : (xs ys : List Entry) → begins (xs ++ ys) ≡ begins xs + begins ys
 begins-append [] ys = omega arith
@@ -20,3 +20,11 @@ goes-append (Asked server stamp ∷ xs) ys a b c x y = (x.0, x.1, x.2, goes-appe
 goes-append (Lacked server lack ∷ xs) ys a b c x y = goes-append xs ys a b c x y
 goes-append (Forgot site ∷ xs) ys a b c x y = goes-append xs ys a b c x y
 goes-append (Ended outcome ∷ xs) ys a b c x y = goes-append xs ys a b c x y
+
+pub learns-append : (xs ys : List Entry) (a b c : List ℕ) → Learns a xs b → Learns b ys c → Learns a (xs ++ ys) c
+learns-append [] ys a b c x y = subst (λ (known : List ℕ). Learns known ys c) x y
+learns-append (Begun job ∷ xs) ys a b c x y = learns-append xs ys a b c x y
+learns-append (Asked server stamp ∷ xs) ys a b c x y = (x.0, x.1, learns-append xs ys (slice_set a server stamp) b c x.2 y)
+learns-append (Lacked server lack ∷ xs) ys a b c x y = learns-append xs ys a b c x y
+learns-append (Forgot site ∷ xs) ys a b c x y = learns-append xs ys a b c x y
+learns-append (Ended outcome ∷ xs) ys a b c x y = learns-append xs ys a b c x y

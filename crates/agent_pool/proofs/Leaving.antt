@@ -1,6 +1,7 @@
 -- What an agent leaves in its transcript for a job.
 use Rattle.std.proofs.Common.{◌≡◌, ◌≢◌, ◌⊎◌, inl, inr, ℕ, ◌+◌, ◌-◌, ◌<◌, ◌≤◌, List, [], ◌∷◌, ◌++◌, true, false, refl, ap, ◌∙◌, sym, subst, arith, length, append_assoc, append-nil}
-use Rattle.std.specs.Prelude.{◌&&◌, nat_lt, IsTrue, Option, Some, None, Result, Ok, Err, IfOk}
+use Rattle.std.specs.Prelude.{◌&&◌, nat_lt, slice_index, IsTrue, Option, Some, None, Result, Ok, Err, IfOk, IfSome}
+use Rattle.std.proofs.Math.ListN.{length-set}
 use Rattle.std.proofs.lemmas.List.{length-append}
 use Rattle.std.proofs.lemmas.Option.{same_Some}
 use Rattle.rep_core.specs.declared.reply.Reply.{Reply}
@@ -14,16 +15,16 @@ use Rattle.std.proofs.lemmas.Bool.{and_parts}
 use Rattle.txn_core.specs.Doing.{Fixed}
 use Rattle.txn_core.specs.declared.ending.Ending.{Ending}
 use Rattle.txn_core.specs.Agents.{Agent, Taken, begin, begins as begins_job, has_sense, is_idle, max_jobs, next_of, take}
-use Rattle.txn_core.specs.Standing.{Standing}
+use Rattle.txn_core.specs.Standing.{FitsAsked, Standing}
 use Rattle.txn_core.specs.declared.job.Job.{Job}
 use Rattle.run_certify.specs.declared.entry.Entry.{Entry}
 use Rattle.run_certify.specs.declared.entry.Entry.TheVariants.{Begun, Asked, Lacked, Forgot, Ended}
 use Rattle.agent_pool.specs.declared.asking.Came.{Came}
 use Rattle.agent_pool.specs.declared.asking.Came.TheVariants as came
 use Rattle.agent_pool.specs.declared.asking.Delivery.{Delivery}
-use Rattle.agent_pool.specs.code.Steps.{AsksNobody, CannotGoOn, DidJob, DidMore, HasSeen, Hears, Leaves, RanTo, delivery_from, end_entry}
-use Rattle.agent_pool.specs.Transcripts.{Played, AreAsks, At, Does, GoesOn, IsLonger, Leads, after_response, at_rest, begins, is_ask, number_of}
-use Rattle.agent_pool.proofs.Begins.{begins-append, goes-append}
+use Rattle.agent_pool.specs.code.Steps.{AsksNobody, CannotGoOn, DidJob, DidMore, HasSeen, Hears, Leaves, RanTo, delivery_from, end_entry, known_after, stamp_in}
+use Rattle.agent_pool.specs.Transcripts.{Played, AreAsks, At, Does, GoesOn, IsLonger, Leads, Learns, after_response, at_rest, begins, is_ask, number_of}
+use Rattle.agent_pool.proofs.Begins.{begins-append, goes-append, learns-append}
 
 asks-append : (xs ys : List Entry) → AreAsks xs → AreAsks ys → AreAsks (xs ++ ys)
 asks-append [] ys all more = more
@@ -43,10 +44,11 @@ longer_longer a b c x y = record {
   number = y.number ∙ x.number;
   rest = x.rest ++ y.rest;
   entries = y.entries ∙ ap (λ es. es ++ y.rest) x.entries ∙ append_assoc a.entries x.rest y.rest;
+  knows = learns-append x.rest y.rest a.known b.known c.known x.knows y.knows;
 }
 
 abbrev pub longer_same : (a : Played) → IsLonger a a
-longer_same a = record { fixed = refl; number = refl; rest = []; entries = sym (append-nil a.entries) }
+longer_same a = record { fixed = refl; number = refl; rest = []; entries = sym (append-nil a.entries); knows = refl }
 
 -- ---- what the agent function makes of it
 
@@ -123,6 +125,22 @@ goes_by server before (Ok reply) delivery pass is front rises = subst (λ (t : D
 goes_by server before (Err (Lack lack)) delivery pass is front rises = subst (λ (t : Delivery). GoesOn (t.entry ∷ []) pass pass) (same_Some _ delivery is) refl
 goes_by server before (Err (Stale long)) delivery pass is front rises = cc
 
+-- and what is known then of its server
+pub learned_by : (server : ℕ) (reply : Result (Stamped Reply) Miss) (delivery : Delivery) (known more : List ℕ) → delivery_from server reply ≡ Some delivery → server < length known
+    → IfSome (stamp_in reply) (λ stamp. slice_index known server < stamp) → more ≡ known_after known server (stamp_in reply) → Learns known (delivery.entry ∷ []) more
+learned_by server (Ok reply) delivery known more is low later after = subst (λ (t : Delivery). Learns known (t.entry ∷ []) more) (same_Some _ delivery is) (low, later, after)
+learned_by server (Err (Lack lack)) delivery known more is low later after = subst (λ (t : Delivery). Learns known (t.entry ∷ []) more) (same_Some _ delivery is) after
+learned_by server (Err (Stale long)) delivery known more is low later after = cc
+
+-- what is told answers what was asked
+pub answer_fits : (server : ℕ) (request : Request) (reply : Result (Stamped Reply) Miss) (delivery : Delivery) (asked : Option (ℕ × Request)) → delivery_from server reply ≡ Some delivery → asked ≡ Some (server, request)
+    → IfOk reply (λ reply. IsTrue (fits request reply.value)) → FitsAsked asked delivery.response
+answer_fits server request (Ok reply) delivery asked is asks suits =
+    subst (λ (a : Option (ℕ × Request)). FitsAsked a delivery.response) (sym asks) (subst (λ (t : Delivery). FitsAsked (Some (server, request)) t.response) (same_Some _ delivery is) suits)
+answer_fits server request (Err (Lack lack)) delivery asked is asks suits =
+    subst (λ (a : Option (ℕ × Request)). FitsAsked a delivery.response) (sym asks) (subst (λ (t : Delivery). FitsAsked (Some (server, request)) t.response) (same_Some _ delivery is) refl)
+answer_fits server request (Err (Stale long)) delivery asked is asks suits = cc
+
 pub delivery_asks : (server : ℕ) (reply : Result (Stamped Reply) Miss) (delivery : Delivery) → delivery_from server reply ≡ Some delivery → is_ask delivery.entry ≡ true
 delivery_asks server (Ok reply) delivery is = ap (λ (t : Delivery). is_ask t.entry) (sym (same_Some _ delivery is))
 delivery_asks server (Err (Lack lack)) delivery is = ap (λ (t : Delivery). is_ask t.entry) (sym (same_Some _ delivery is))
@@ -133,33 +151,33 @@ abbrev DoesBy : Delivery → Standing → Type 0
 DoesBy delivery agent = Does agent.fixed (at_rest agent.state) delivery.entry (after_response agent.fixed (at_rest agent.state) delivery.response)
 
 -- an agent heard, and what it had done before is counted
-pub heard : (servers begun : ℕ) (delivery : Delivery) (old new : Played) (p q : Held) (what : Came) → old.agent.state.count ≡ begins old.entries → is_ask delivery.entry ≡ true → GoesOn (delivery.entry ∷ []) p q → DoesBy delivery old.agent
+pub heard : (servers begun : ℕ) (delivery : Delivery) (old new : Played) (p q : Held) (what : Came) → old.agent.state.count ≡ begins old.entries → is_ask delivery.entry ≡ true → GoesOn (delivery.entry ∷ []) p q → Learns old.known (delivery.entry ∷ []) new.known → DoesBy delivery old.agent
     → Hears (number_of old) begun delivery old.agent old.entries new.agent new.entries what → DidMore servers begun old new p q what
-heard servers begun delivery old new p q came.On counted asks goes does h =
+heard servers begun delivery old new p q came.On counted asks goes learns does h =
     let is : after_response old.agent.fixed (at_rest old.agent.state) delivery.response ≡ at_rest new.agent.state = took (take old.agent.fixed old.agent.state delivery.response) new.agent.state None h.3.1.0 h.3.1.1 in
     record {
-      longer = record { fixed = h.0; number = h.1; rest = delivery.entry ∷ []; entries = h.3.0 };
+      longer = record { fixed = h.0; number = h.1; rest = delivery.entry ∷ []; entries = h.3.0; knows = learns };
       went = goes;
       leads = λ n. (at_rest new.agent.state, subst (λ (q : At). Does old.agent.fixed (at_rest old.agent.state) delivery.entry q) is does, refl);
       leaves = (asks, tt);
       stuck = λ e. cc;
     }
-heard servers begun delivery old new p q came.Stuck counted asks goes does h = absurd h.3
-heard servers begun delivery old new p q came.Lacked counted asks goes does h = record {
-  longer = record { fixed = h.0; number = h.1; rest = delivery.entry ∷ []; entries = h.3 };
+heard servers begun delivery old new p q came.Stuck counted asks goes learns does h = absurd h.3
+heard servers begun delivery old new p q came.Lacked counted asks goes learns does h = record {
+  longer = record { fixed = h.0; number = h.1; rest = delivery.entry ∷ []; entries = h.3; knows = learns };
   went = goes;
   leads = λ n. absurd (n refl);
   leaves = (asks, tt);
   stuck = λ e. cc;
 }
-heard servers begun delivery old new p q (came.Ended ran) counted asks goes does h =
+heard servers begun delivery old new p q (came.Ended ran) counted asks goes learns does h =
     let on = h.3 in
     let ending = on.0 in
     let due : At = record { agent = new.agent.state; due = Some ending } in
     let is : after_response old.agent.fixed (at_rest old.agent.state) delivery.response ≡ due = took (take old.agent.fixed old.agent.state delivery.response) new.agent.state (Some ending) on.5.0 on.5.1 in
     let end = end_entry (number_of old) ran.count (length old.entries + 1 - begun) ending in
     record {
-      longer = record { fixed = h.0; number = h.1; rest = delivery.entry ∷ end ∷ []; entries = on.1 };
+      longer = record { fixed = h.0; number = h.1; rest = delivery.entry ∷ end ∷ []; entries = on.1; knows = learns-append (delivery.entry ∷ []) (end ∷ []) old.known new.known new.known learns refl };
       went = goes-append (delivery.entry ∷ []) (end ∷ []) p q q goes refl;
       leads = λ n. (
         due,
@@ -216,15 +234,15 @@ begins_sense : (fixed : Fixed) (agent : Agent) (job : Job) → begins_job fixed 
 begins_sense fixed agent job is = (and_parts (is_idle agent.doing) (has_sense fixed job) (and_parts (is_idle agent.doing && has_sense fixed job) (nat_lt agent.count max_jobs) is).0).1
 
 -- a job was begun, and then more was done for it
-pub did_job : (servers : ℕ) (job : Job) (old mid new : Played) (p q : Held) (what : Came) → mid.agent.fixed ≡ old.agent.fixed → number_of mid ≡ number_of old → mid.entries ≡ old.entries ++ Begun job ∷ []
+pub did_job : (servers : ℕ) (job : Job) (old mid new : Played) (p q : Held) (what : Came) → mid.agent.fixed ≡ old.agent.fixed → number_of mid ≡ number_of old → mid.known ≡ old.known → mid.entries ≡ old.entries ++ Begun job ∷ []
     → begins_job old.agent.fixed old.agent.state job ≡ true → mid.agent.state ≡ begin old.agent.fixed old.agent.state job → DidMore servers (length mid.entries) mid new p q what → DidJob servers job old new p q what
-did_job servers job old mid new p q what fixed same began begins starts more =
+did_job servers job old mid new p q what fixed same known began begins starts more =
     let rest = more.longer.rest in
     let does : Leads old.agent.fixed (at_rest old.agent.state) (Begun job ∷ []) (at_rest mid.agent.state) = (at_rest mid.agent.state, (refl, begins, ap at_rest starts), refl) in
     let leads : what ≢ came.Lacked → Leads old.agent.fixed (at_rest old.agent.state) (Begun job ∷ rest) (at_rest new.agent.state) =
-    λ n. leads_longer old mid new (record { fixed = fixed; number = same; rest = Begun job ∷ []; entries = began }) more.longer does (more.leads n) in
+    λ n. leads_longer old mid new (record { fixed = fixed; number = same; rest = Begun job ∷ []; entries = began; knows = known }) more.longer does (more.leads n) in
     record {
-      longer = longer_longer old mid new (record { fixed = fixed; number = same; rest = Begun job ∷ []; entries = began }) more.longer;
+      longer = longer_longer old mid new (record { fixed = fixed; number = same; rest = Begun job ∷ []; entries = began; knows = known }) more.longer;
       went = more.went;
       leads = leads;
       ran = ran_to job old mid new rest what same began more.longer.number more.longer.entries more.leaves
@@ -234,9 +252,9 @@ did_job servers job old mid new p q what fixed same began begins starts more =
     }
 
 -- nothing was done, and the agent cannot go on
-pub did_stick : (servers begun : ℕ) (a b : Played) (p q : Held) → b.agent ≡ a.agent → b.entries ≡ a.entries → q ≡ p → CannotGoOn servers a p → DidMore servers begun a b p q came.Stuck
-did_stick servers begun a b p q agent entries pass why = record {
-  longer = record { fixed = ap (λ (s : Standing). s.fixed) agent; number = ap (λ (s : Standing). s.state.index) agent; rest = []; entries = entries ∙ sym (append-nil a.entries) };
+pub did_stick : (servers begun : ℕ) (a b : Played) (p q : Held) → b.agent ≡ a.agent → b.entries ≡ a.entries → b.known ≡ a.known → q ≡ p → CannotGoOn servers a p → DidMore servers begun a b p q came.Stuck
+did_stick servers begun a b p q agent entries known pass why = record {
+  longer = record { fixed = ap (λ (s : Standing). s.fixed) agent; number = ap (λ (s : Standing). s.state.index) agent; rest = []; entries = entries ∙ sym (append-nil a.entries); knows = known };
   went = pass;
   leads = λ n. same_rest a.agent b.agent agent;
   leaves = tt;
@@ -244,9 +262,9 @@ did_stick servers begun a b p q agent entries pass why = record {
       (subst (λ (s : Standing). AsksNobody servers (next_of s.fixed s.state) ⊎ HasSeen p (next_of s.fixed s.state)) (sym agent) why);
 }
 
-pub did_lack : (servers begun : ℕ) (a b : Played) (p : Held) → b.agent ≡ a.agent → b.entries ≡ a.entries → DidMore servers begun a b p p came.Lacked
-did_lack servers begun a b p agent entries = record {
-  longer = record { fixed = ap (λ (s : Standing). s.fixed) agent; number = ap (λ (s : Standing). s.state.index) agent; rest = []; entries = entries ∙ sym (append-nil a.entries) };
+pub did_lack : (servers begun : ℕ) (a b : Played) (p : Held) → b.agent ≡ a.agent → b.entries ≡ a.entries → b.known ≡ a.known → DidMore servers begun a b p p came.Lacked
+did_lack servers begun a b p agent entries known = record {
+  longer = record { fixed = ap (λ (s : Standing). s.fixed) agent; number = ap (λ (s : Standing). s.state.index) agent; rest = []; entries = entries ∙ sym (append-nil a.entries); knows = known };
   went = refl;
   leads = λ n. absurd (n refl);
   leaves = tt;
@@ -255,7 +273,7 @@ did_lack servers begun a b p agent entries = record {
 
 pub no_job : (servers : ℕ) (job : Job) (a b : Played) (p : Held) → b ≡ a → begins_job a.agent.fixed a.agent.state job ≡ false → DidJob servers job a b p p came.Stuck
 no_job servers job a b p same not = record {
-  longer = record { fixed = ap (λ (p : Played). p.agent.fixed) same; number = ap (λ (p : Played). number_of p) same; rest = []; entries = ap (λ (p : Played). p.entries) same ∙ sym (append-nil a.entries) };
+  longer = record { fixed = ap (λ (p : Played). p.agent.fixed) same; number = ap (λ (p : Played). number_of p) same; rest = []; entries = ap (λ (p : Played). p.entries) same ∙ sym (append-nil a.entries); knows = ap (λ (p : Played). p.known) same };
   went = refl;
   leads = λ n. ap (λ (p : Played). at_rest p.agent.state) same;
   ran = tt;
@@ -264,7 +282,7 @@ no_job servers job a b p same not = record {
 
 pub lacked_job : (servers : ℕ) (job : Job) (a b : Played) (p : Held) → b ≡ a → DidJob servers job a b p p came.Lacked
 lacked_job servers job a b p same = record {
-  longer = record { fixed = ap (λ (p : Played). p.agent.fixed) same; number = ap (λ (p : Played). number_of p) same; rest = []; entries = ap (λ (p : Played). p.entries) same ∙ sym (append-nil a.entries) };
+  longer = record { fixed = ap (λ (p : Played). p.agent.fixed) same; number = ap (λ (p : Played). number_of p) same; rest = []; entries = ap (λ (p : Played). p.entries) same ∙ sym (append-nil a.entries); knows = ap (λ (p : Played). p.known) same };
   went = refl;
   leads = λ n. absurd (n refl);
   ran = tt;
@@ -273,9 +291,9 @@ lacked_job servers job a b p same = record {
 
 -- the same as `heard`, where the fields are named apart
 pub heard_in : (servers begun number : ℕ) (delivery : Delivery) (old new : Played) (agent : Standing) (entries : List Entry) (p q : Held) (what : Came) → agent ≡ old.agent → entries ≡ old.entries → number ≡ number_of old → old.agent.state.count ≡ begins old.entries
-    → is_ask delivery.entry ≡ true → GoesOn (delivery.entry ∷ []) p q → DoesBy delivery agent → Hears number begun delivery agent entries new.agent new.entries what → DidMore servers begun old new p q what
-heard_in servers begun number delivery old new agent entries p q what a e n counted asks goes does h =
-    heard servers begun delivery old new p q what counted asks goes (subst (λ (s : Standing). DoesBy delivery s) a does)
+    → is_ask delivery.entry ≡ true → GoesOn (delivery.entry ∷ []) p q → Learns old.known (delivery.entry ∷ []) new.known → DoesBy delivery agent → Hears number begun delivery agent entries new.agent new.entries what → DidMore servers begun old new p q what
+heard_in servers begun number delivery old new agent entries p q what a e n counted asks goes learns does h =
+    heard servers begun delivery old new p q what counted asks goes learns (subst (λ (s : Standing). DoesBy delivery s) a does)
     (subst (λ (m : ℕ). Hears m begun delivery old.agent old.entries new.agent new.entries what) n
     (subst (λ (es : List Entry). Hears number begun delivery old.agent es new.agent new.entries what) e (subst (λ (s : Standing). Hears number begun delivery s entries new.agent new.entries what) a h)))
 
@@ -301,3 +319,8 @@ pub stale_seen : (server before : ℕ) (request : Request) (reply : Result (Stam
 stale_seen server before request (Ok reply) pass asked none stale is = cc
 stale_seen server before request (Err (Lack lack)) pass asked none stale is = cc
 stale_seen server before request (Err (Stale long)) pass asked none stale is = subst (λ a. HasSeen pass a) (sym is) (let low = stale long refl in omega arith)
+
+-- of as many servers something is known as before
+pub known_long : (server : ℕ) (told : Option ℕ) (known : List ℕ) → length (known_after known server told) ≡ length known
+known_long server (Some stamp) known = length-set known server stamp
+known_long server None known = refl

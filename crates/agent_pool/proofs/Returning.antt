@@ -16,7 +16,7 @@ use Rattle.agent_pool.specs.code.Gathering.{AllRan}
 use Rattle.agent_pool.specs.Seats.{AreDistinct, IsOther, WentOn, numbers_of, passes_for}
 use Rattle.agent_pool.specs.code.Seated.{AreSeated, IsSeated}
 use Rattle.agent_pool.specs.code.Starts.{IsWorkOf}
-use Rattle.agent_pool.specs.Transcripts.{Played, GoesOn, Leads, at_rest, number_of}
+use Rattle.agent_pool.specs.Transcripts.{Played, GoesOn, Leads, Learns, at_rest, number_of}
 use Rattle.agent_pool.proofs.Seating.{AreApartFrom, apart_from, other_cons, own_cons}
 
 goes_agent : (entries : List Entry) (a b : Held) → GoesOn entries a b → b.agent ≡ a.agent
@@ -99,6 +99,7 @@ went_one jobs old left new p s w sat is =
         number = longer.number ∙ ap (λ (q : Played). number_of q) sits;
         rest = longer.rest;
         entries = longer.entries ∙ ap (λ (q : Played). q.entries ++ longer.rest) sits;
+        knows = subst (λ (q : Played). Learns q.known longer.rest w.player.known) sits longer.knows;
       };
       leads = subst (λ (q : Played). Leads q.agent.fixed (at_rest q.agent.state) longer.rest (at_rest w.player.agent.state)) sits (sat.work.leads (λ lacked. let bad : None ≡ Some NoMemory = sym sat.ran ∙ lacked in cc));
       others = passes_for (number_of p) left;

@@ -82,6 +82,7 @@ works_first jobs seat w player pass none ran idle = record {
     number = ap (λ (p : Played). number_of p) player;
     rest = [];
     entries = ap (λ (p : Played). p.entries) player ∙ sym (append-nil seat.player.entries);
+    knows = ap (λ (p : Played). p.known) player;
   };
   went = pass;
   done = subst (λ ds. AllDone jobs (begins seat.player.entries) w.player ds) (sym none) tt;
@@ -123,6 +124,7 @@ works_stop jobs seat w v why old before player pass same is halted =
       number = ap (λ (p : Played). number_of p) player;
       rest = [];
       entries = ap (λ (p : Played). p.entries) player ∙ sym (append-nil w.player.entries);
+      knows = ap (λ (p : Played). p.known) player;
     })
     old before pass same is (subst (λ (p : Played). IsHalted jobs p (Some why)) (sym player) halted) (λ n. ap (λ (p : Played). at_rest p.agent.state) player)
 

@@ -1,5 +1,5 @@
 -- Agents with their transcripts.
-use Rattle.std.specs.Prelude.{◌≡◌, ℕ, zero, suc, ◌+◌, ◌-◌, ◌≤◌, ◌<◌, Bool, true, false, IsTrue, List, [], ◌∷◌, ◌++◌, length, Option, Some, None}
+use Rattle.std.specs.Prelude.{◌≡◌, ℕ, zero, suc, ◌+◌, ◌-◌, ◌≤◌, ◌<◌, Bool, true, false, IsTrue, List, [], ◌∷◌, ◌++◌, length, replicate, slice_index, slice_set, Option, Some, None}
 use Rattle.suite_prefix.specs.SettingsRules.{Opening}
 use Rattle.rep_core.specs.declared.reply.Reply.{Reply}
 use Rattle.rep_core.specs.declared.request.Request.{Request}
@@ -15,20 +15,29 @@ use Rattle.txn_core.specs.Standing.{Standing}
 use Rattle.run_certify.specs.declared.entry.Entry.{Entry}
 use Rattle.run_certify.specs.declared.entry.Entry.TheVariants.{Begun, Asked, Lacked, Forgot, Ended}
 
--- an agent, with the transcript of what it did
+-- how many numbers a server may have, which are of one byte
+abbrev pub most_numbers : ℕ
+most_numbers = 256
+
+-- an agent, with the transcript of what it did, and of each server the last stamp that it knows of
 pub record Played : Type 0 where
   pub agent : Standing
   pub entries : List Entry
+  pub known : List ℕ
 
 abbrev pub number_of : Played → ℕ
 number_of played = played.agent.state.index
 
+-- the last stamp of a server that an agent knows of
+abbrev pub known_at : Played → ℕ → ℕ
+known_at played server = slice_index played.known server
+
 abbrev pub IsIdle : Played → Type 0
 IsIdle played = agents.is_idle played.agent.state.doing ≡ true
 
--- an agent that began no job yet
+-- an agent that began no job yet, and knows nothing
 abbrev pub first_player : Opening → ℕ → Played
-first_player given number = record { agent = record { fixed = agents.fixed_of given; state = agents.opening number }; entries = [] }
+first_player given number = record { agent = record { fixed = agents.fixed_of given; state = agents.opening number }; entries = []; known = replicate most_numbers 0 }
 
 -- so many agents, numbered from some number on
 abbrev pub players_from : Opening → ℕ → ℕ → List Played
@@ -103,12 +112,22 @@ pub record IsTold (played : Played) (job : Job) (number place : ℕ) : Type 0 wh
   pub leads : Leads played.agent.fixed (at_rest start)
       (Begun job ∷ (asked ++ Ended (record { agent = number_of played; count = number; steps = length asked; ending = ending }) ∷ [])) (at_rest end)
 
--- the same agent, which did more
+-- What an agent knows of servers once it did this: each stamp that a server gave it is above the one that it knew of there, and is known then.
+abbrev pub Learns : List ℕ → List Entry → List ℕ → Type 0
+Learns old [] new = new ≡ old
+Learns old (Begun job ∷ entries) new = Learns old entries new
+Learns old (Asked server stamp ∷ entries) new = (server < length old) × (slice_index old server < stamp) × Learns (slice_set old server stamp) entries new
+Learns old (Lacked server lack ∷ entries) new = Learns old entries new
+Learns old (Forgot site ∷ entries) new = Learns old entries new
+Learns old (Ended outcome ∷ entries) new = Learns old entries new
+
+-- the same agent, which did more, and knows what it was told
 pub record IsLonger (old new : Played) : Type 0 where
   pub fixed : new.agent.fixed ≡ old.agent.fixed
   pub number : number_of new ≡ number_of old
   pub rest : List Entry
   pub entries : new.entries ≡ old.entries ++ rest
+  pub knows : Learns old.known rest new.known
 
 -- A pass after its agent did this: an item more for each server that was asked and gave a stamp, a higher one than it was asked with.
 abbrev pub GoesOn : List Entry → Held → Held → Type 0

@@ -4,7 +4,7 @@ ghost use Rattle.std.specs.Prelude.{◌≡◌, ◌+◌, ◌-◌, ◌≤◌, ◌+
 ghost use Rattle.std.specs.Vec.{vec_len, vec_capacity};
 ghost use Rattle.txn_core.specs.Agents.{next_of};
 ghost use Rattle.txn_core.specs.Standing.{FitsAsked};
-ghost use Rattle.agent_pool.specs.code.Steps.{Hears, delivery_from};
+ghost use Rattle.agent_pool.specs.code.Steps.{Hears, delivery_from, stamp_in};
 
 use run_certify::{Entry, KeptEnd};
 use run_core::EndedJob;
@@ -55,6 +55,16 @@ pub(crate) fn delivery_from(server: u8, answer: Answer) -> Option<Delivery>
             response: Response::Lacked(lack),
         }),
         Err(Miss::Stale(_)) => None,
+    }
+}
+
+/// The stamp of the reply, if there is one.
+pub(crate) fn stamp_in(answer: &Answer) -> Option<u64>
+    ensures { result ≡ stamp_in answer.now.reply }
+{
+    match answer.reply() {
+        Ok(reply) => Some(reply.stamp),
+        Err(_) => None,
     }
 }
 

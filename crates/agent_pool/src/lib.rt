@@ -6,7 +6,9 @@
 //! **Promises**, on success (`IsPoolOf`): there is one outcome for each job, no two of one agent and count. The
 //! agent's transcript has the job as its begin of that count, and that outcome after it. Of two jobs of one agent it
 //! began the one that stands first before the other. The agents are idle and began just as many jobs as were handed
-//! in. So no job is lost, carried out twice, out of its order, or ended by an end of another time.
+//! in. So no job is lost, carried out twice, out of its order, or ended by an end of another time. An agent knows of
+//! each server the last stamp that it was told, and what it is told has a stamp above that (`Learns`); `follow` lets
+//! it know what another does. So each server served what it asks from then on after all that it had told the other.
 //!
 //! Else the fault is what gathering finds in what the agents handed back (`GathersOrLacks`), the first of these.
 //! Memory: an agent was out of memory, or none could begin. Stranger: an agent took a place beyond the jobs.
@@ -27,8 +29,8 @@
 //! promise (`IsWorked`), which std gives at the join. An agent that is out of memory goes on taking and runs nothing,
 //! so nobody waits for it in vain.
 //!
-//! **Files**: `line` (the channel and its rule), `player`, `outcome`, `fault`, `passes`, `ready`, `pool_context`,
-//! `asking`, `work`, `start`, `slots`, `gather`, `pool`.
+//! **Files**: `line` (the channel and its rule), `known`, `player`, `outcome`, `fault`, `passes`, `ready`,
+//! `pool_context`, `asking`, `work`, `start`, `slots`, `gather`, `pool`.
 //!
 //! **Definitions** (`specs/`): `Line`, `Transcripts`, `Endings`, `Seats`, `Gathers`, `Taken`, `Pools`.
 #![tactic(auto)]
@@ -36,6 +38,7 @@
 mod asking;
 mod fault;
 mod gather;
+mod known;
 mod line;
 mod outcome;
 mod passes;

@@ -1,12 +1,13 @@
 //! An agent, with the transcript of what it did.
 
-ghost use Rattle.std.specs.Prelude.{◌≡◌, ◌<◌, ◌≤◌, ◌++◌, ◌∷◌, [], length, IfOk, IfSome, OnOk, OnErr, true, false, None, Ok, Some};
+ghost use Rattle.std.specs.Prelude.{◌≡◌, ℕ, ◌<◌, ◌≤◌, ◌++◌, ◌∷◌, [], length, max, IfOk, IfSome, OnOk, OnErr, true, false, None, Ok, Some};
 ghost use Rattle.txn_core.specs.Agents as agents;
 ghost use Rattle.run_certify.specs.declared.entry.Entry.TheVariants.{Begun, Forgot};
 ghost use Rattle.agent_pool.specs.code.Steps.{AsksNobody, DidMore};
-ghost use Rattle.agent_pool.specs.Transcripts.{first_player, number_of, players_from};
+ghost use Rattle.agent_pool.specs.Transcripts.{first_player, known_at, most_numbers, number_of, players_from};
 
-use crate::asking::{Came, delivery_from, hear};
+use crate::asking::{Came, delivery_from, hear, stamp_in};
+use crate::known::{learn, unite};
 use crate::pool_context::PoolContext;
 use rep_core::Request;
 use run_certify::{Entry, KeptJob, Transcript};
@@ -17,12 +18,17 @@ use std::sync::Wait;
 use suite_prefix::Settings;
 use txn_core::Agent;
 
-/// An agent, with the transcript of what it did: so many jobs as it began are begun there.
+/// How many numbers a server may have, which are of one byte.
+const MOST_NUMBERS: usize = 256;
+
+/// An agent, with the transcript of what it did: so many jobs as it began are begun there. It knows of each server the last
+/// stamp that it was told there, at first 0, and what it is told has a stamp above that.
 #[derive(Drop)]
 pub struct Player {
     number: u8,
     agent: Agent,
     entries: Vec<Entry>,
+    known: Vec<u64>,
 }
 
 impl Model for Player {
@@ -45,10 +51,12 @@ impl Player {
         let Some(agent) = Agent::new(alloc, number, settings)? else {
             unreachable!();
         };
+        let known = vec![in alloc; 0; MOST_NUMBERS]?;
         Ok(Player {
             number,
             agent,
             entries: Vec::new(alloc),
+            known,
         })
     }
 
@@ -81,11 +89,23 @@ impl Player {
         Transcript::from_vec(entries)
     }
 
+    /// It knows of each server what the other knows too, so what it is told from now on is later than all that the other was
+    /// told: what it does comes after what the other did, as each server saw it.
+    pub fn follow(&mut self, other: &Player)
+        ensures agent { self.new.agent ≡ self.old.agent }
+        ensures entries { self.new.entries ≡ self.old.entries }
+        ensures known { (server : ℕ) → server < most_numbers
+            → known_at self.new server ≡ max (known_at self.old server) (known_at other.now server) }
+    {
+        unite(&mut self.known, &other.known);
+    }
+
     /// Lets go what it keeps for a site.
     pub fn forget(&mut self, site: u8) -> Result<(), AllocError>
         requires { site < agents.max_sites }
         ensures agent { OnOk result (self.new.agent ≡ record self.old.agent { state = agents.forget self.old.agent.state site }) }
         ensures entries { OnOk result (self.new.entries ≡ self.old.entries ++ Forgot site ∷ []) }
+        ensures known { self.new.known ≡ self.old.known }
         ensures err { OnErr result (self.new ≡ self.old) }
     {
         self.entries.reserve(1)?;
@@ -98,6 +118,7 @@ impl Player {
     pub(crate) fn begin(&mut self, job: &KeptJob) -> Result<bool, AllocError>
         ensures fixed { self.new.agent.fixed ≡ self.old.agent.fixed }
         ensures number { number_of self.new ≡ number_of self.old }
+        ensures known { self.new.known ≡ self.old.known }
         ensures began { IfOk result (λ began. began ≡ agents.begins self.old.agent.fixed self.old.agent.state job.now) }
         ensures agent { OnOk result (self.new.agent.state ≡ agents.begin self.old.agent.fixed self.old.agent.state job.now) }
         ensures entries { result ≡ Ok true → self.new.entries ≡ self.old.entries ++ Begun job.now ∷ [] }
@@ -138,9 +159,11 @@ impl Player {
             return (pass, Came::Stuck);
         };
         let (pass, answer) = context.servers.ask(rt, context.gate, pass, server, request);
+        let stamp = stamp_in(&answer);
         let Some(delivery) = delivery_from(server, answer) else {
             return (pass, Came::Stuck);
         };
+        learn(rt, &mut self.known, server, stamp);
         let came = hear(
             &mut self.agent,
             &mut self.entries,

@@ -42,7 +42,3 @@ item_in word _ = None
 abbrev pub place_text : Option ℕ → List ℕ
 place_text (Some place) = decimal place
 place_text None = codes "-"
-
--- the line that is printed of an item of a list
-abbrev pub item_line : List ℕ → ℕ → List ℕ
-item_line list number = place_text (item_place list number) ++ 10 ∷ []

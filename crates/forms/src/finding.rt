@@ -2,15 +2,31 @@
 
 ghost use Rattle.std.specs.Prelude.{◌≡◌, ◌++◌, IfOk, OnOk};
 ghost use Rattle.suite_script.specs.Misfits.{line_misfit};
-ghost use Rattle.forms.specs.Finding.{BeginsWith, head_of, item_in, item_line, item_of_text, place_text};
+ghost use Rattle.forms.specs.Finding.{BeginsWith, head_of, item_in, item_of_text, place_text};
 
+use crate::above::Above;
+use crate::first::{FirstReason, misplaced_told, unknown_told};
+use crate::old::unheld;
 use crate::places::name;
 use crate::reading::{Reading, Standing};
+use crate::reason::{Reason, Told, push_told};
+use crate::spot::{Spot, spot_of, told_at};
 use crate::table::push_places;
 use acl_text::{TextFault, item_place};
 use script_text::{Lines, Words, push_number};
 use std::alloc::{AllocError, Global};
-use suite_script::{Ending, Expected, Form, Forms, LineFault, Misfit, VERBS, push_line_code};
+use suite_prefix::SettingsFault;
+use suite_script::{Expected, Form, Forms, LineFault, Misfit, push_line_code};
+
+/// The last fields of what is printed.
+#[derive(Clone, Copy)]
+struct Rest<'a> {
+    expected: &'static [u8],
+    form: Option<Form>,
+    item: Option<usize>,
+    is_shifted: bool,
+    told: Told<'a>,
+}
 
 /// What is printed of the line of this number.
 pub(crate) fn found_in(
@@ -19,6 +35,7 @@ pub(crate) fn found_in(
     script: &[u8],
     number: u64,
 ) -> Result<Vec<u8>, AllocError> {
+    let above = Above { script, number };
     let mut reading = Reading::new(alloc, forms);
     let mut place = 0u64;
     for line in Lines::new(script) {
@@ -29,19 +46,18 @@ pub(crate) fn found_in(
         let mut words = Words::new(line);
         let first = words.next();
         if place == number {
-            return of_line(alloc, &reading, first, words);
+            return of_line(alloc, &reading, above, first, words);
         }
         if let Some(first) = first {
-            reading.take(first, words)?;
+            reading.take(place, first, words)?;
         }
     }
     match reading.due() {
-        Some(due) if place.saturating_add(1) == number => of_first(
-            alloc,
-            LineFault::Order,
-            Some(due),
-        ),
-        _ => nothing(alloc),
+        Some(due) if place.saturating_add(1) == number => {
+            let told = Told::of(Reason::LineEnds, b"");
+            of_first(alloc, above, LineFault::Order, Some(due), told)
+        }
+        _ => nothing(alloc, above),
     }
 }
 
@@ -49,23 +65,56 @@ pub(crate) fn found_in(
 fn of_line(
     alloc: Global,
     reading: &Reading,
+    above: Above<'_>,
     first: Option<&[u8]>,
     words: Words<'_>,
 ) -> Result<Vec<u8>, AllocError> {
     let Some(first) = first else {
-        return of_first(alloc, LineFault::Form, reading.due());
+        let told = Told::of(Reason::First(FirstReason::Blank), b"");
+        return of_first(alloc, above, LineFault::Form, reading.due(), told);
     };
     match reading.standing(first) {
-        Standing::Misplaced(due) => of_first(alloc, LineFault::Order, due),
-        Standing::Unknown(due) => of_first(alloc, LineFault::Form, due),
-        Standing::Here(form) => of_form(alloc, reading, form, words),
+        Standing::Misplaced(due) => {
+            let told = misplaced_told(above, reading.forms, reading.begun, due, first);
+            of_first(alloc, above, LineFault::Order, due, told)
+        }
+        Standing::Unknown(due) => {
+            let told = unknown_told(above.number, first);
+            of_first(alloc, above, LineFault::Form, due, told)
+        }
+        Standing::Here(form) => of_standing(alloc, reading, above, form, words),
     }
+}
+
+/// What is printed of a line whose first word stands in its place: it may stand there once, or ask for what cannot be.
+fn of_standing(
+    alloc: Global,
+    reading: &Reading,
+    above: Above<'_>,
+    form: Form,
+    words: Words<'_>,
+) -> Result<Vec<u8>, AllocError> {
+    let line = words.rest();
+    if form.word == b"together".as_slice() {
+        if let Some((number, _)) = above.line_of(form.word) {
+            let told = Told::of(Reason::First(FirstReason::Again(number)), form.word);
+            return of_first(alloc, above, LineFault::Form, None, told);
+        }
+    }
+    let text = of_form(alloc, reading, above, form, words)?;
+    if form.word == b"old".as_slice() && matches!(text.as_slice(), [b'-', ..]) {
+        if let Some(told) = unheld(above, line) {
+            return of_old(alloc, above, told);
+        }
+    }
+    Ok(text)
 }
 
 /// What is printed of a line whose first word stands in its place.
 fn of_form(
     alloc: Global,
     reading: &Reading,
+    above: Above<'_>,
     form: Form,
     words: Words<'_>,
 ) -> Result<Vec<u8>, AllocError>
@@ -74,7 +123,8 @@ fn of_form(
     let line = words.rest();
     let misfit = reading.scope.misfit(alloc, form, words)?;
     let mut text = head(alloc, misfit)?;
-    let rest = rest_of_form(alloc, form, line, misfit)?;
+    let rest = rest_of_form(reading, above, form, line, misfit);
+    let rest = end(alloc, above, rest)?;
     text.extend_from_slice(&rest)?;
     Ok(text)
 }
@@ -94,19 +144,37 @@ fn head(alloc: Global, misfit: Option<Misfit>) -> Result<Vec<u8>, AllocError>
     Ok(text)
 }
 
-/// What is printed then: what was expected, the form that has this place, and where the faulty item of a list begins.
-fn rest_of_form(
-    alloc: Global,
+/// What is printed then: what was expected, the form that has this place, where the faulty item of a list begins, and
+/// why the word does not fit.
+fn rest_of_form<'a>(
+    reading: &Reading,
+    above: Above<'_>,
     form: Form,
-    line: &[u8],
+    line: &'a [u8],
     misfit: Option<Misfit>,
-) -> Result<Vec<u8>, AllocError> {
+) -> Rest<'a> {
     let Some(misfit) = misfit else {
-        return end(alloc, b"-", Some(form), None);
+        return Rest {
+            expected: b"-",
+            form: Some(form),
+            item: None,
+            is_shifted: false,
+            told: Told::of(Reason::Due, b""),
+        };
     };
-    let (found, word) = at_word(form, Words::new(line), misfit);
-    let item = item_in(word, misfit.fault);
-    end(alloc, expected_name(misfit.expected), Some(found), item)
+    let spot = spot_of(form, line, misfit);
+    let (told, is_shifted) = told_at(&reading.scope, above, spot, misfit);
+    Rest {
+        expected: expected_name(misfit.expected),
+        form: Some(spot.form),
+        item: item_of(spot, misfit.fault),
+        is_shifted,
+        told,
+    }
+}
+
+fn item_of(spot: Spot<'_>, fault: LineFault) -> Option<usize> {
+    item_in(spot.word?, fault)
 }
 
 /// Where the item of a list begins of which a fault speaks.
@@ -119,7 +187,7 @@ fn item_in(word: &[u8], fault: LineFault) -> Option<usize>
     }
 }
 
-fn item_of_text(text: &[u8], fault: TextFault) -> Option<usize>
+pub(crate) fn item_of_text(text: &[u8], fault: TextFault) -> Option<usize>
     ensures { result ≡ item_of_text text.now fault }
 {
     match fault {
@@ -128,42 +196,6 @@ fn item_of_text(text: &[u8], fault: TextFault) -> Option<usize>
         TextFault::NumberTooBig(item) => item_place(text, item),
         TextFault::Invalid(_) | TextFault::DefaultInvalid(_) | TextFault::Memory => None,
     }
-}
-
-/// The form in which a word stands that does not fit, that of its operation or of its line; and the word.
-fn at_word<'a>(form: Form, words: Words<'a>, misfit: Misfit) -> (Form, &'a [u8]) {
-    let mut number = 1u64;
-    let mut verb = (form.places.len() as u64).saturating_add(2);
-    let mut found = form;
-    for word in words {
-        number = number.saturating_add(1);
-        if number == misfit.number {
-            return (of_expected(form, found, misfit.expected), word);
-        }
-        if number == verb {
-            found = operation_form(word).unwrap_or(form);
-        } else if word == b";".as_slice() {
-            verb = number.saturating_add(1);
-        }
-    }
-    (of_expected(form, found, misfit.expected), b"")
-}
-
-/// The form that has a place: that of an operation, but where an operation is due, and in lines that have none.
-fn of_expected(line: Form, operation: Form, expected: Expected) -> Form {
-    if line.ending == Ending::Operations && expected != Expected::Operation {
-        operation
-    } else {
-        line
-    }
-}
-
-/// The form of the operation that a word begins.
-fn operation_form(word: &[u8]) -> Option<Form> {
-    VERBS
-        .iter()
-        .map(|verb| verb.form())
-        .find(|form| word == form.word)
 }
 
 /// What was expected, in a word.
@@ -175,39 +207,72 @@ fn expected_name(expected: Expected) -> &'static [u8] {
     }
 }
 
-/// What is printed of a line that no line begins so, or none in its place; perhaps another is due.
-fn of_first(alloc: Global, fault: LineFault, due: Option<Form>) -> Result<Vec<u8>, AllocError> {
+/// What is printed of a line that may not begin so; perhaps another is due.
+fn of_first(
+    alloc: Global,
+    above: Above<'_>,
+    fault: LineFault,
+    due: Option<Form>,
+    told: Told<'_>,
+) -> Result<Vec<u8>, AllocError> {
     let mut text = Vec::from_slice(alloc, b"1\t")?;
     push_line_code(&mut text, fault)?;
-    text.extend_from_slice(b"\t")?;
-    let rest = end(alloc, b"LINE", due, None)?;
+    text.push(b'\t')?;
+    let rest = end(alloc, above, of_whole(due, told))?;
     text.extend_from_slice(&rest)?;
     Ok(text)
+}
+
+/// What is printed of a line for servers whose root folder has no form 1.
+fn of_old(alloc: Global, above: Above<'_>, told: Told<'_>) -> Result<Vec<u8>, AllocError> {
+    let mut text = Vec::from_slice(alloc, b"2\t")?;
+    push_line_code(&mut text, LineFault::Settings(SettingsFault::OldTooLarge))?;
+    text.push(b'\t')?;
+    let rest = end(alloc, above, of_whole(None, told))?;
+    text.extend_from_slice(&rest)?;
+    Ok(text)
+}
+
+/// The last fields of what is printed of a line as a whole.
+fn of_whole(due: Option<Form>, told: Told<'_>) -> Rest<'_> {
+    Rest {
+        expected: b"LINE",
+        form: due,
+        item: None,
+        is_shifted: false,
+        told,
+    }
 }
 
 /// What is printed of a line that there is not.
-fn nothing(alloc: Global) -> Result<Vec<u8>, AllocError> {
+fn nothing(alloc: Global, above: Above<'_>) -> Result<Vec<u8>, AllocError> {
     let mut text = head(alloc, None)?;
-    let rest = end(alloc, b"-", None, None)?;
+    let rest = Rest {
+        expected: b"-",
+        form: None,
+        item: None,
+        is_shifted: false,
+        told: Told::of(Reason::Due, b""),
+    };
+    let rest = end(alloc, above, rest)?;
     text.extend_from_slice(&rest)?;
     Ok(text)
 }
 
-/// The last fields: what was expected, a form, and the place of an item.
-fn end(
-    alloc: Global,
-    expected: &[u8],
-    form: Option<Form>,
-    item: Option<usize>,
-) -> Result<Vec<u8>, AllocError> {
-    let mut text = Vec::from_slice(alloc, expected)?;
+/// The last fields: what was expected, a form, the place of an item, whether words may be shifted, and the reason.
+fn end(alloc: Global, above: Above<'_>, rest: Rest<'_>) -> Result<Vec<u8>, AllocError> {
+    let mut text = Vec::from_slice(alloc, rest.expected)?;
     text.push(b'\t')?;
-    match form {
+    match rest.form {
         Some(form) => push_written(&mut text, form)?,
         None => text.push(b'-')?,
     }
     text.push(b'\t')?;
-    push_place(&mut text, item)?;
+    push_place(&mut text, rest.item)?;
+    text.push(b'\t')?;
+    text.extend_from_slice(if rest.is_shifted { b"shifted" } else { b"-" })?;
+    text.push(b'\t')?;
+    push_told(&mut text, above, rest.told)?;
     text.push(b'\n')?;
     Ok(text)
 }
@@ -221,18 +286,8 @@ fn push_written(text: &mut Vec<u8>, form: Form) -> Result<(), AllocError> {
     push_places(text, form)
 }
 
-/// What is printed of an item of a list.
-pub(crate) fn item_found(alloc: Global, list: &[u8], number: u64) -> Result<Vec<u8>, AllocError>
-    ensures { IfOk result (λ text. text.items ≡ item_line list.now number) }
-{
-    let mut text = Vec::new(alloc);
-    push_place(&mut text, item_place(list, number as usize))?;
-    text.push(b'\n')?;
-    Ok(text)
-}
-
 /// The place of an item, or a hyphen.
-fn push_place(text: &mut Vec<u8>, item: Option<usize>) -> Result<(), AllocError>
+pub(crate) fn push_place(text: &mut Vec<u8>, item: Option<usize>) -> Result<(), AllocError>
     ensures { OnOk result (text.new.items ≡ text.old.items ++ place_text item) }
 {
     match item {

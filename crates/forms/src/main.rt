@@ -10,30 +10,51 @@
 //! - `operation WORD PLACES DOES`.
 //!
 //! With the words COMMAND and NUMBER it reads a script, whose lines above that number have no fault. Of that line it
-//! prints `WORD CODE EXPECTED FORM ITEM`: the number of the first word that does not fit, the code of the fault, the
-//! place where the word stands (or `END`, `OPERATION`, `LINE`), the form that has this place, and of a list's faulty
-//! item how many bytes of the word stand before it. A hyphen stands for what there is not.
+//! prints `WORD CODE EXPECTED FORM ITEM SHIFT REASON DATA PART`: the number of the first word that does not fit, the
+//! code of the fault, the place where the word stands (or `END`, `OPERATION`, `LINE`), the form that has this place, of
+//! a list's faulty item how many bytes of the word stand before it, `shifted` where the word may well belong to another
+//! place, and why it does not fit: a reason with its data, and the part of the word of which it speaks.
 //!
-//! With the words `list` and NUMBER it reads a list, and prints how many bytes stand before the item of that number.
+//! With the words `list` and NUMBER it reads a list, and prints `ITEM CODE REASON DATA PART` of the item of that
+//! number, or of 0 of the whole list, where each name is taken for one that has a number; with `unnamed`, for one that
+//! has none. A hyphen stands for what there is not.
 //!
 //! **Promises.** Of a line that stands in its place, what is printed begins with the word and the code of the
-//! definition (`of_form`: `line_misfit` of `suite_script`), and the place is that of the item (`item_in`).
+//! definition (`of_form`: `line_misfit` of `suite_script`), and the place is that of the item (`item_in`). A word has a
+//! reason to be no number exactly where it is none within its limits (`number_reason`), and those are the reader's
+//! (`limits`); digits are told to be odd exactly where all are digits (`bytes_reason`), and permissions have a reason
+//! exactly where they are none (`permissions_told`).
 //!
-//! **Definitions** (`specs/`): `Finding`.
+//! **Definitions** (`specs/`): `Finding`, `Reasons`.
 //!
-//! **Files**: `places` (their names), `table`, `reading` (the lines of a script), `finding` (what is printed of one).
+//! **Files**: `places` (their names and limits), `table`, `reading` and `above` (the lines of a script), `finding`
+//! (what is printed of one), `lists` (of a list), `spot` (where a word stands, and why it does not fit), `reason`; for
+//! the reasons `first`, `number`, `votes`, `word` (bytes and names), `fields`, `item` and `list`, `old` (form 1).
 #![tactic(auto)]
 
+mod above;
+mod fields;
 mod finding;
+mod first;
+mod item;
+mod list;
+mod lists;
+mod number;
+mod old;
 mod places;
 mod reading;
+mod reason;
+mod spot;
 mod table;
+mod votes;
+mod word;
 
 use byte_streams::{
     ByteIn, ByteOut, COMMAND_LINE, DONE, MAX_INPUT, NO_STREAM, ReadError, SystemIn, SystemOut,
     Wanted, finish, lack_memory, read_all, read_wanted,
 };
-use finding::{found_in, item_found};
+use finding::found_in;
+use lists::found_in_list;
 use script_text::read_number;
 use std::alloc::Global;
 use std::env::Env;
@@ -47,19 +68,23 @@ const HELP: &[u8] =
 
   forms                          the table: places, lines of each command, operations
   forms COMMAND NUMBER < SCRIPT  what keeps the line of this number from its form:
-                                 WORD CODE EXPECTED FORM ITEM, with a hyphen for what there
-                                 is not; ITEM is how many bytes of the word stand before the
-                                 item of a list that has the fault
-  forms list NUMBER < LIST       how many bytes stand before the item of this number
+                                 WORD CODE EXPECTED FORM ITEM SHIFT REASON DATA PART, with a
+                                 hyphen for what there is not; ITEM is how many bytes of the
+                                 word stand before the item of a list that has the fault,
+                                 PART the part of the word of which REASON speaks
+  forms list NUMBER < LIST       ITEM CODE REASON DATA PART of the item of this number, of 0
+                                 of the whole list; each name is taken for one with a number
+  forms unnamed NUMBER < LIST    the same where no name has a number
 
 COMMAND is play, serve or table.
 ";
 
-/// What is asked: of a script of some command what keeps a line from its form, or of a list where an item begins.
+/// What is asked: what keeps a line of a command's script from its form, or what is wrong with a list or an item of it,
+/// where each name has a number or none has.
 #[derive(Clone, Copy)]
 enum Question {
     Line(Forms, u64),
-    Item(u64),
+    List(bool, u64),
 }
 
 fn main(rt: HostRuntime) -> ExitCode {
@@ -88,13 +113,16 @@ fn asked<R: Env>(rt: &R) -> Option<Question> {
     let mut word = [0; 24];
     let length = rt.arg(1, &mut word).ok()?;
     let command = lines_of(word.get(..length)?);
-    let is_list = word.get(..length)? == b"list".as_slice();
+    let are_named = match word.get(..length)? {
+        b"list" => Some(true),
+        b"unnamed" => Some(false),
+        _ => None,
+    };
     let length = rt.arg(2, &mut word).ok()?;
     let number = read_number(word.get(..length)?, u64::MAX)?;
     match command {
         Some(forms) => Some(Question::Line(forms, number)),
-        None if is_list => Some(Question::Item(number)),
-        None => None,
+        None => Some(Question::List(are_named?, number)),
     }
 }
 
@@ -112,7 +140,7 @@ fn answer<I: ByteIn, O: ByteOut>(
     };
     let told = match question {
         Question::Line(forms, number) => found_in(alloc, forms, &given, number),
-        Question::Item(number) => item_found(alloc, &given, number),
+        Question::List(are_named, number) => found_in_list(alloc, are_named, &given, number),
     };
     match told {
         Ok(text) => finish(writer, &text, DONE),

@@ -1,9 +1,11 @@
 //! The names of places, and what stands in each.
 
+ghost use Rattle.forms.specs.Reasons.{AreLimitsOf};
+
 use script_text::push_number;
 use std::alloc::AllocError;
 use suite_prefix::{MAX_AGENTS, MAX_CACHE, MAX_SLOTS};
-use suite_script::Place;
+use suite_script::{Place, Scope};
 use vote_core::MAX_SERVERS;
 
 /// The last site of an agent, and the most steps of a line.
@@ -59,20 +61,47 @@ pub(crate) fn name(place: Place) -> &'static [u8] {
     }
 }
 
-/// Adds the least and the most of a number in its place, and the code of one beyond; a hyphen for each where it is none.
-/// The last site and the most steps are those that `Scope::misfit` knows; `tests/form-table.py` plays them.
-pub(crate) fn push_limits(text: &mut Vec<u8>, place: Place) -> Result<(), AllocError> {
+/// The least and the most of a number in its place.
+pub(crate) fn limits(scope: &Scope, place: Place) -> Option<(u64, u64)>
+    ensures { AreLimitsOf scope.now place result }
+{
     match place {
-        Place::Servers => push_range(text, 1, MAX_SERVERS as u64, b"G1"),
-        Place::Agents => push_range(text, 1, MAX_AGENTS as u64, b"G1"),
-        Place::Uid | Place::Gid => push_range(text, 0, u64::from(u32::MAX), b"S1"),
-        Place::Budget | Place::Quota => push_range(text, 0, MAX_CACHE as u64, b"G3"),
-        Place::Slots => push_range(text, 0, MAX_SLOTS as u64, b"G3"),
-        Place::Agent => text.extend_from_slice(b"0\tagents\tS1"),
-        Place::Server => text.extend_from_slice(b"0\tservers\tS1"),
-        Place::Site => push_range(text, 0, LAST_SITE, b"S1"),
-        Place::Steps => push_range(text, 0, MAX_STEPS, b"S1"),
-        _ => text.extend_from_slice(b"-\t-\t-"),
+        Place::Servers => Some((1, MAX_SERVERS as u64)),
+        Place::Agents => Some((1, MAX_AGENTS as u64)),
+        Place::Uid | Place::Gid => Some((0, u64::from(u32::MAX))),
+        Place::Budget | Place::Quota => Some((0, MAX_CACHE as u64)),
+        Place::Slots => Some((0, MAX_SLOTS as u64)),
+        Place::Agent => Some((0, u64::from(scope.last_agent))),
+        Place::Server => Some((0, u64::from(scope.last_server))),
+        Place::Site => Some((0, LAST_SITE)),
+        Place::Steps => Some((0, MAX_STEPS)),
+        _ => None,
+    }
+}
+
+/// Adds the least and the most of a number in its place, and the code of one beyond; a hyphen for each where it is none.
+pub(crate) fn push_limits(
+    text: &mut Vec<u8>,
+    scope: &Scope,
+    place: Place,
+) -> Result<(), AllocError> {
+    match place {
+        Place::Agent => return text.extend_from_slice(b"0\tagents\tS1"),
+        Place::Server => return text.extend_from_slice(b"0\tservers\tS1"),
+        _ => {}
+    }
+    match limits(scope, place) {
+        Some((least, most)) => push_range(text, least, most, code_beyond(place)),
+        None => text.extend_from_slice(b"-\t-\t-"),
+    }
+}
+
+/// The code of a number beyond the limits of its place.
+fn code_beyond(place: Place) -> &'static [u8] {
+    match place {
+        Place::Servers | Place::Agents => b"G1",
+        Place::Budget | Place::Quota | Place::Slots => b"G3",
+        _ => b"S1",
     }
 }
 

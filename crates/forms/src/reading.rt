@@ -1,6 +1,7 @@
 //! The lines of a script above a line: what they say that matters to it.
 
-use acl_text::{NameError, Names};
+use crate::lists::is_noted;
+use acl_text::Names;
 use script_text::{Words, read_number};
 use std::alloc::{AllocError, Global};
 use suite_prefix::MAX_AGENTS;
@@ -10,13 +11,13 @@ use vote_core::MAX_SERVERS;
 /// A script that was read up to some line.
 #[derive(Drop)]
 pub(crate) struct Reading {
-    forms: Forms,
+    pub(crate) forms: Forms,
     /// How many lines of the header came.
     header: usize,
     /// Whether the line came that may stand at the header's end, or one after it.
     is_open: bool,
-    /// Whether a line of the command's own came.
-    has_begun: bool,
+    /// The first line of the command's own, by its number; 0 where none came.
+    pub(crate) begun: u64,
     pub(crate) scope: Scope,
 }
 
@@ -31,8 +32,17 @@ pub(crate) enum Standing {
     Unknown(Option<Form>),
 }
 
+/// As many servers and agents as there may be, and no names.
+pub(crate) fn widest(alloc: Global) -> Scope {
+    Scope {
+        last_server: MAX_SERVERS as u8 - 1,
+        last_agent: MAX_AGENTS as u8 - 1,
+        names: Names::new(alloc),
+    }
+}
+
 /// The form of a line that begins with a word.
-fn form_of(forms: &[Form], word: &[u8]) -> Option<Form> {
+pub(crate) fn form_of(forms: &[Form], word: &[u8]) -> Option<Form> {
     forms.iter().copied().find(|form| word == form.word)
 }
 
@@ -43,12 +53,8 @@ impl Reading {
             forms,
             header: 0,
             is_open: true,
-            has_begun: false,
-            scope: Scope {
-                last_server: MAX_SERVERS as u8 - 1,
-                last_agent: MAX_AGENTS as u8 - 1,
-                names: Names::new(alloc),
-            },
+            begun: 0,
+            scope: widest(alloc),
         }
     }
 
@@ -73,7 +79,7 @@ impl Reading {
             form_of(self.forms.names, word),
             form_of(self.forms.optional, word),
         ) {
-            (Some(form), _) if !self.has_begun => Standing::Here(form),
+            (Some(form), _) if self.begun == 0 => Standing::Here(form),
             (_, Some(form)) if self.is_open => Standing::Here(form),
             _ => self.misplaced(word, None),
         }
@@ -90,8 +96,13 @@ impl Reading {
         }
     }
 
-    /// Takes a line that has no fault.
-    pub(crate) fn take(&mut self, first: &[u8], words: Words<'_>) -> Result<(), AllocError> {
+    /// Takes the line of this number, which has no fault.
+    pub(crate) fn take(
+        &mut self,
+        number: u64,
+        first: &[u8],
+        words: Words<'_>,
+    ) -> Result<(), AllocError> {
         let Standing::Here(form) = self.standing(first) else {
             return Ok(());
         };
@@ -99,7 +110,9 @@ impl Reading {
             self.header = self.header.saturating_add(1);
         } else {
             self.is_open = false;
-            self.has_begun = self.has_begun || form_of(self.forms.own, first).is_some();
+            if self.begun == 0 && form_of(self.forms.own, first).is_some() {
+                self.begun = number;
+            }
         }
         self.note(form, words)
     }
@@ -112,8 +125,8 @@ impl Reading {
         match place {
             Place::Servers => self.scope.last_server = last_of(word, MAX_SERVERS as u8),
             Place::Agents => self.scope.last_agent = last_of(word, MAX_AGENTS as u8),
-            Place::UserName => return noted(self.scope.names.add_user(word, 0)),
-            Place::GroupName => return noted(self.scope.names.add_group(word, 0)),
+            Place::UserName => return is_noted(self.scope.names.add_user(word, 0)),
+            Place::GroupName => return is_noted(self.scope.names.add_group(word, 0)),
             _ => {}
         }
         Ok(())
@@ -125,13 +138,5 @@ fn last_of(word: &[u8], most: u8) -> u8 {
     match read_number(word, u64::from(most)) {
         Some(count) => (count as u8).saturating_sub(1),
         None => most.saturating_sub(1),
-    }
-}
-
-/// A name that was noted, or had a fault, which is then the script's.
-fn noted(named: Result<(), NameError>) -> Result<(), AllocError> {
-    match named {
-        Err(NameError::Memory) => Err(AllocError),
-        _ => Ok(()),
     }
 }

@@ -1,6 +1,7 @@
 //! The table of forms, as it is printed.
 
 use crate::places::{PLACES, meaning, name, push_limits};
+use crate::reading::widest;
 use std::alloc::{AllocError, Global};
 use suite_script::{Ending, Form, Forms, PLAY_LINES, SERVE_LINES, TABLE_LINES, VERBS};
 
@@ -17,9 +18,10 @@ pub(crate) fn lines_of(command: &[u8]) -> Option<Forms> {
 /// The table.
 pub(crate) fn table(alloc: Global) -> Result<Vec<u8>, AllocError> {
     let mut text = Vec::new(alloc);
+    let scope = widest(alloc);
     for place in PLACES.iter() {
         push_fields(&mut text, &[b"place", name(*place), b""])?;
-        push_limits(&mut text, *place)?;
+        push_limits(&mut text, &scope, *place)?;
         text.push(b'\t')?;
         text.extend_from_slice(meaning(*place))?;
         text.push(b'\n')?;

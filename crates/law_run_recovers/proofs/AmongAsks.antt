@@ -1,4 +1,4 @@
--- What a transaction that goes among locks that stay asks for next is of what it asks for on the table as it began.
+-- What a transaction that goes steadily asks for next is of what it asks for on the table as it began.
 use Rattle.std.proofs.Common.{◌≡◌, inl, ℕ, List, [], ◌∷◌, Some, refl, sym, ap, subst, ◌∙◌}
 use Rattle.std.specs.Prelude.{Contains}
 use Rattle.std.proofs.lemmas.Option.{none-some}
@@ -25,17 +25,17 @@ use Rattle.run_core.specs.Worlds.{Actor}
 use Rattle.run_core.specs.TableOfRun.{table_of}
 use Rattle.law_run_recovers.specs.Demands.{locks_asked, votes_set}
 use Rattle.law_run_recovers.specs.Near.{asks_for}
-use Rattle.law_run_recovers.specs.Among.{GoesAmongLocks}
+use Rattle.law_run_recovers.proofs.Steady.{GoesSteadily}
 use Rattle.law_run_recovers.proofs.Asked.{onto_left, onto_so_far, asked_exclusive, next_mode}
 use Rattle.law_run_recovers.proofs.Asking.{onto}
 use Rattle.law_run_recovers.proofs.Ends.{fetch_is}
 use Rattle.law_run_recovers.proofs.Heard.{AsksFor, asks_for as asked_by}
-use Rattle.law_run_recovers.proofs.Keeps.{OfAsked}
+use Rattle.law_run_recovers.proofs.Keeps.{OfAsks}
 use Rattle.law_run_recovers.proofs.NearGround.{its, number}
 use Rattle.law_run_recovers.proofs.Stands.{locks_on, sets_on}
 use Rattle.law_run_recovers.proofs.AmongCourse.{PhaseIn}
 
-module _ (given : Opening) (events later : List Event) (agent t : ℕ) (caller : Identity) (site : ℕ) (ops : List Op) (actor : Actor) (goes : GoesAmongLocks given events later agent t caller site ops actor) where
+module _ (given : Opening) (events later : List Event) (agent t : ℕ) (caller : Identity) (site : ℕ) (ops : List Op) (actor : Actor) (goes : GoesSteadily given events later agent t caller site ops actor) where
   abbrev its_task : Task
   its_task = its given events later agent t caller site ops actor goes
 
@@ -63,14 +63,14 @@ module _ (given : Opening) (events later : List Event) (agent t : ℕ) (caller :
         (asked_there (z, Exclusive) (subst (λ locks. Has locks (z, Exclusive)) (sym at.sets.all) (onto_so_far at.sets.so_far [] (z, Exclusive) (asked_exclusive at.sets.so_far z (at.sets.exclusive (z, at.votes) (inl refl))))))
 
     abbrev Asks : Request → Type 0
-    Asks other = OfAsked given events later agent t caller site ops actor goes other
+    Asks other = OfAsks t (asks_for given events t caller ops) other
 
     lock_asked : (z : ℕ) (question : Asked) → Contains (asks_for given events t caller ops) (z, mode_asked question) → Asks (request_for its_task.t z question)
     lock_asked z (Poll mode) has = (number given events later agent t caller site ops actor goes, has)
     lock_asked z Upgrade has = (number given events later agent t caller site ops actor goes, has)
 
     -- a lock that it asks for is one of these, in its name
-    pub of_its_asks : (now : Cache) (suites : Suites) (phase : Phase) → PhaseIn given events later agent t caller site ops actor goes suites now phase → request_in (fixed_of given) its_task suites phase ≡ Some (server, asked) → OfAsked given events later agent t caller site ops actor goes asked
+    pub of_its_asks : (now : Cache) (suites : Suites) (phase : Phase) → PhaseIn given events later agent t caller site ops actor goes suites now phase → request_in (fixed_of given) its_task suites phase ≡ Some (server, asked) → OfAsks t (asks_for given events t caller ops) asked
     of_its_asks now suites (Gathering z) at is =
         let asks = asked_by its_task z at.0.suite.collector server asked (sym (ap (asked_for its_task z) at.0.there) ∙ is) in
         subst Asks (sym asks.asked_is) (lock_asked z asks.question (gather_asks now suites z at asks))

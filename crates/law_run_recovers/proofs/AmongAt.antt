@@ -1,4 +1,4 @@
--- What a transaction that goes among locks that stay is replied, at a moment before its end is fixed.
+-- What a transaction that goes steadily is replied, at a moment before its end is fixed.
 use Rattle.std.proofs.Common.{◌≡◌, ℕ, Bool, true, false, cond, List, [], ◌∷◌, ◌++◌, append_assoc, append-nil, Option, Some, None, is_some, refl, sym, ap, subst, ◌∙◌, arith}
 use Rattle.std.specs.Prelude.{◌==◌, ◌&&◌, ◌||◌, Contains}
 use Rattle.std.specs.List.{list_any}
@@ -6,7 +6,6 @@ use Rattle.std.proofs.lemmas.Bool.{false≢true, and_parts, and_from, eq-eqb}
 use Rattle.std.proofs.lemmas.Bool.Decides.{nat_tests}
 use Rattle.acl_core.specs.Identity.{Identity}
 use Rattle.suite_prefix.specs.SettingsRules.{Opening}
-use Rattle.suite_prefix.specs.declared.copies.Replica.{Replica}
 use Rattle.suite_prefix.specs.declared.lock_mode.LockMode.{LockMode}
 use Rattle.file_ops.specs.declared.operation.Op.{Op}
 use Rattle.rep_core.specs.declared.reply.Reply.TheVariants as reply
@@ -20,14 +19,14 @@ use Rattle.rep_core.specs.Store.{copy_of}
 use Rattle.rep_core.specs.State.{State}
 use Rattle.rep_core.specs.Service.{reply_of, reply_up, reply_down, given as gives, stands_prepared, can_prepare, recorded, verdict_of}
 use Rattle.rep_core.proofs.Members.{Has, has_any, has_from}
-use Rattle.suite_collect.specs.Collecting.{Asked, Upgrade, request_for, mode_asked}
+use Rattle.suite_collect.specs.Collecting.{Asked, Upgrade, request_for, mode_asked, Poll}
 use Rattle.txn_core.specs.declared.job.Job.TheVariants.{Transaction}
 use Rattle.txn_core.specs.Doing.{TransactionRun, Running}
 use Rattle.txn_core.specs.Transactions.{given_in}
 use Rattle.txn_core.specs.Undecided.{stands_on_locks}
 use Rattle.txn_core.specs.Agents.{fixed_of, next_of}
 use Rattle.run_core.specs.declared.event.Event.{Event}
-use Rattle.run_core.specs.declared.event.Event.TheVariants.{Begin}
+use Rattle.run_core.specs.declared.event.Event.TheVariants.{Begin, Step}
 use Rattle.run_core.specs.Worlds.{Actor, World, server_at, actor_at}
 use Rattle.run_core.specs.Runs.{run}
 use Rattle.law_headline.specs.Premises.{CanBe}
@@ -37,9 +36,9 @@ use Rattle.law_run_alone.proofs.Requests.{Finds}
 use Rattle.law_run_recovers.specs.Standing.{up_in, is_up, shown_in, shown_at, locks_in, locks_at}
 use Rattle.law_run_recovers.specs.Near.{asks_for, is_open_way, is_open_at, way_in, way_at}
 use Rattle.law_run_recovers.specs.Unmet.{world_after, robs, hinders_itself}
-use Rattle.law_run_recovers.specs.Among.{GoesAmongLocks}
-use Rattle.law_run_recovers.proofs.AmongLocks.{bereaves}
-use Rattle.law_run_recovers.proofs.Keeps.{IsAtWork, open_stands}
+use Rattle.law_run_recovers.proofs.Steady.{GoesSteadily}
+use Rattle.law_run_recovers.specs.Told.{SameWay, bereaves, shows_same, told_as_first}
+use Rattle.law_run_recovers.proofs.Keeps.{IsAtWork, OfAsks}
 use Rattle.law_run_recovers.proofs.NearGround.{answers, opens, first_asked, is_holder, met_by, sight, opens_up}
 use Rattle.law_run_recovers.proofs.Polled.{dver_in, dver_at, Answers, answers_so}
 use Rattle.law_run_recovers.proofs.Serves.{On}
@@ -52,7 +51,7 @@ either a b is = grind (arith, nat_tests)
 
 -- ---- at a moment
 
-module _ (given : Opening) (events later : List Event) (agent t : ℕ) (caller : Identity) (site : ℕ) (ops : List Op) (actor : Actor) (goes : GoesAmongLocks given events later agent t caller site ops actor) where
+module _ (given : Opening) (events later : List Event) (agent t : ℕ) (caller : Identity) (site : ℕ) (ops : List Op) (actor : Actor) (goes : GoesSteadily given events later agent t caller site ops actor) where
   abbrev world_at : List Event → World
   world_at so_far = world_after given events agent caller site ops so_far
 
@@ -72,44 +71,51 @@ module _ (given : Opening) (events later : List Event) (agent t : ℕ) (caller :
   abbrev pub HasWhereOpen : World → Type 0
   HasWhereOpen w = (server z : ℕ) → On (locks_at w server) t z → opens given events later agent t caller site ops actor goes z (first_asked given events later agent t caller site ops actor goes z) server ≡ true
 
+  -- and shows what it showed of the suite
+  abbrev pub ShowsWhereLocked : World → Type 0
+  ShowsWhereLocked w = (server z : ℕ) → On (locks_at w server) t z → shows_same (server_at w server) (server_at (run given events) server) z
+
   pub can_so_far : (so_far rest : List Event) → later ≡ so_far ++ rest → CanBe given (events ++ Begin agent (Transaction caller site ops) ∷ so_far)
   can_so_far so_far rest split =
       can_front given (events ++ Begin agent (Transaction caller site ops) ∷ so_far) rest
       (subst (CanBe given) (ap (λ later. events ++ Begin agent (Transaction caller site ops) ∷ later) split ∙ sym (append_assoc events (Begin agent (Transaction caller site ops) ∷ so_far) rest)) goes.can)
 
-  module _ (so_far rest : List Event) (split : later ≡ so_far ++ rest) (work : IsAtWork (world_after given events agent caller site ops so_far) agent t) (spared : IsSpared so_far) (locks : HasWhereOpen (world_after given events agent caller site ops so_far))
+  module _ (so_far rest : List Event) (split : later ≡ so_far ++ Step agent ∷ rest) (work : IsAtWork (world_after given events agent caller site ops so_far) agent t) (spared : IsSpared so_far) (locks : HasWhereOpen (world_after given events agent caller site ops so_far))
       (server : ℕ) (st : State) (at : server_at (world_after given events agent caller site ops so_far) server ≡ Some st) where
     abbrev w : World
     w = world_after given events agent caller site ops so_far
 
-    up_near : goes.near server ≡ true → st.up ≡ is_up (run given events) server
-    up_near near = ap up_in (sym at) ∙ (goes.stays so_far rest split work.running).up server near
-
-    -- one that answers is up
-    pub up_so : answers given events later agent t caller site ops actor goes server ≡ true → st.up ≡ true
-    up_so is = let parts = and_parts (goes.near server) (is_up (run given events) server) is in up_near parts.0 ∙ parts.1
-
-    way_same : (z : ℕ) (mode : LockMode) → goes.near server ≡ true → Contains asked (z, mode) → way_in t z mode (Some st) ≡ way_at (run given events) t z mode server
-    way_same z mode near has = ap (way_in t z mode) (sym at) ∙ (goes.stays so_far rest split work.running).way server (z, mode) near has
-
-    pub stored_so : (z : ℕ) (mode : LockMode) → Contains asked (z, mode) → opens given events later agent t caller site ops actor goes z mode server ≡ true → (old : State) → server_at (run given events) server ≡ Some old → copy_of st.store z ≡ copy_of old.store z
-    stored_so z mode has is old was =
-        let parts = and_parts (goes.near server) (is_open_at (run given events) t z mode server) is in
-        open_stands given events later agent t caller site ops actor goes server (z, mode) parts.0 has parts.1 so_far rest split work st old at was
-
     -- ---- what it is replied
+
+    -- a lock that it asks for is of what it asks for
+    of_lock : (z : ℕ) (question : Asked) → Contains (asks_for given events t caller ops) (z, mode_asked question) → OfAsks t (asks_for given events t caller ops) (request_for t z question)
+    of_lock z (Poll mode) has = (refl, has)
+    of_lock z Upgrade has = (refl, has)
+
+    way_of : (z : ℕ) (question : Asked) → told_as_first (run given events) (world_after given events agent caller site ops so_far) server (request_for t z question)
+        → SameWay (run given events) (world_after given events agent caller site ops so_far) server t z (mode_asked question)
+    way_of z (Poll mode) told = told
+    way_of z Upgrade told = told
 
     module _ (here : Actor) (txn_run : TransactionRun) (there : actor_at (world_after given events agent caller site ops so_far) agent ≡ Some here) (running : here.agent.doing ≡ Some (Running txn_run)) (number : txn_run.task.t ≡ t) where
       module _ (question : Request) (next : next_of (fixed_of given) here.agent ≡ Some (server, question)) where
         its_finds : Finds st question
         its_finds =
-            finds_then given events so_far agent t caller site ops actor (can_so_far so_far rest split) goes.there goes.begins spared so_far [] (sym (append-nil so_far)) work here txn_run there running number (server, question) next st at
+            finds_then given events so_far agent t caller site ops actor (can_so_far so_far (Step agent ∷ rest) split) goes.there goes.begins spared so_far [] (sym (append-nil so_far)) work here txn_run there running number (server, question) next st at
 
-        on_locks : stands_on_locks question ≡ true → answers given events later agent t caller site ops actor goes server ≡ true
+        pub on_locks : stands_on_locks question ≡ true → answers given events later agent t caller site ops actor goes server ≡ true
         on_locks on =
-            let some = stands_then given events so_far agent t caller site ops actor (can_so_far so_far rest split) goes.there goes.begins spared so_far [] (sym (append-nil so_far)) work here txn_run there running number (server, question) next st at on in
+            let some = stands_then given events so_far agent t caller site ops actor (can_so_far so_far (Step agent ∷ rest) split) goes.there goes.begins spared so_far [] (sym (append-nil so_far)) work here txn_run there running number (server, question) next st at on in
             opens_up given events later agent t caller site ops actor goes some.lock.suite (first_asked given events later agent t caller site ops actor goes some.lock.suite) server
             (locks server some.lock.suite (record { lock = some.lock; has = subst (λ locks. Has locks some.lock) (sym (ap locks_in at)) some.has; of_it = some.of_it ∙ number; on_it = refl }))
+
+        -- the server is up just where it was
+        up_near : goes.near server ≡ true → OfAsks t (asks_for given events t caller ops) question → st.up ≡ is_up (run given events) server
+        up_near near of_it = ap up_in (sym at) ∙ (goes.same so_far rest here (server, question) split work there next near of_it).up
+
+        -- one that answers is up
+        up_so : OfAsks t (asks_for given events t caller ops) question → answers given events later agent t caller site ops actor goes server ≡ true → st.up ≡ true
+        up_so of_it is = let parts = and_parts (goes.near server) (is_up (run given events) server) is in up_near parts.0 of_it ∙ parts.1
 
         replies_up : st.up ≡ true → reply_of st question ≡ reply_up st question
         replies_up up = ap (λ b. cond b (reply_up st question) (reply_down question)) up
@@ -118,25 +124,37 @@ module _ (given : Opening) (events later : List Event) (agent t : ℕ) (caller :
           → Answers (fixed_of given) (run given events) (sight given events later agent t caller site ops actor goes) z question server (reply_of st (request_for t z question))
       lock_right z question next near has =
           answers_so (fixed_of given) (run given events) (sight given events later agent t caller site ops actor goes) z server t st question
-          (up_near near)
-          (ap is_open_way (way_same z (mode_asked question) near has) ∙ ap (λ b. b && is_open_at (run given events) t z (mode_asked question) server) (sym near))
+          (up_near (request_for t z question) next near (of_lock z question has))
+          (ap is_open_way way_same ∙ ap (λ b. b && is_open_at (run given events) t z (mode_asked question) server) (sym near))
           met shows
-          (λ is. (up_so (on_locks (request_for t z question) next (ap (λ question. stands_on_locks (request_for t z question)) is)), locked is))
+          (λ is. (up_so (request_for t z question) next (of_lock z question has) (on_locks (request_for t z question) next (ap (λ question. stands_on_locks (request_for t z question)) is)), locked is))
         where
+          told : SameWay (run given events) (world_after given events agent caller site ops so_far) server t z (mode_asked question)
+          told = way_of z question (goes.same so_far rest here (server, request_for t z question) split work there next near (of_lock z question has)).told
+
+          way_same : way_in t z (mode_asked question) (Some st) ≡ way_at (run given events) t z (mode_asked question) server
+          way_same = ap (way_in t z (mode_asked question)) (sym at) ∙ told.way
+
           met : (holder : ℕ) → way_in t z (mode_asked question) (Some st) ≡ Some (Some holder) → met_by given events later agent t caller site ops actor goes z server holder ≡ true
           met holder way =
               and_from (goes.near server) (list_any (λ (one : ℕ × LockMode). (one.0 == z) && is_holder given events later agent t caller site ops actor goes holder (way_at (run given events) t one.0 one.1 server)) asked) near
               (has_any (λ (one : ℕ × LockMode). (one.0 == z) && is_holder given events later agent t caller site ops actor goes holder (way_at (run given events) t one.0 one.1 server)) asked (z, mode_asked question) (has_from asked (z, mode_asked question) has)
               (and_from (z == z) (is_holder given events later agent t caller site ops actor goes holder (way_at (run given events) t z (mode_asked question) server)) (eq-eqb z z refl)
-              (ap (is_holder given events later agent t caller site ops actor goes holder) (sym (way_same z (mode_asked question) near has) ∙ way) ∙ eq-eqb holder holder refl)))
+              (ap (is_holder given events later agent t caller site ops actor goes holder) (sym way_same ∙ way) ∙ eq-eqb holder holder refl)))
 
           shows : opens given events later agent t caller site ops actor goes z (mode_asked question) server ≡ true
               → ((copy_of st.store z).prefix ≡ shown_at (fixed_of given) (run given events) z server) × ((copy_of st.store z).dver ≡ dver_at (run given events) z server)
           shows is = of (server_at (run given events) server) refl (and_parts (goes.near server) (is_up (run given events) server) (opens_up given events later agent t caller site ops actor goes z (mode_asked question) server is)).1
             where
+              the_same : (old : State) → shows_same (server_at (world_after given events agent caller site ops so_far) server) (server_at (run given events) server) z
+                  → server_at (world_after given events agent caller site ops so_far) server ≡ Some st → server_at (run given events) server ≡ Some old
+                  → ((copy_of st.store z).prefix ≡ (copy_of old.store z).prefix) × ((copy_of st.store z).dver ≡ (copy_of old.store z).dver)
+              the_same old same now was =
+                  subst (λ found. shows_same found (Some old) z) now (subst (λ found. shows_same (server_at (world_after given events agent caller site ops so_far) server) found z) was same)
+
               of : (found : Option State) → server_at (run given events) server ≡ found → up_in found ≡ true → ((copy_of st.store z).prefix ≡ shown_in (fixed_of given) found z) × ((copy_of st.store z).dver ≡ dver_in found z)
               of None was up = absurd (false≢true up)
-              of (Some old) was up = let same = stored_so z (mode_asked question) has is old was in (ap (λ (copy : Replica). copy.prefix) same, ap (λ (copy : Replica). copy.dver) same)
+              of (Some old) was up = the_same old (told.shown (ap is_open_way told.way ∙ (and_parts (goes.near server) (is_open_at (run given events) t z (mode_asked question) server) is).1)) at was
 
           locked : question ≡ Upgrade → has_lock t z st.locks ≡ true
           locked is = subst (λ question. Finds st (request_for t z question)) is (its_finds (request_for t z question) next)
@@ -144,19 +162,19 @@ module _ (given : Opening) (events later : List Event) (agent t : ℕ) (caller :
       pub fetch_right : (z : ℕ) → next_of (fixed_of given) here.agent ≡ Some (server, request.Fetch t z) → is_some (given_in (reply_of st (request.Fetch t z))) ≡ true
       fetch_right z next =
           ap (λ said. is_some (given_in said))
-          (replies_up (request.Fetch t z) next (up_so (on_locks (request.Fetch t z) next refl)) ∙ ap (λ b. cond b (gives (copy_of st.store z)) reply.Lost) (its_finds (request.Fetch t z) next))
+          (replies_up (request.Fetch t z) next (up_so (request.Fetch t z) next tt (on_locks (request.Fetch t z) next refl)) ∙ ap (λ b. cond b (gives (copy_of st.store z)) reply.Lost) (its_finds (request.Fetch t z) next))
 
       pub prepare_right : (parts : List Part) → next_of (fixed_of given) here.agent ≡ Some (server, request.Prepare t parts) → is_prepared (reply_of st (request.Prepare t parts)) ≡ true
       prepare_right parts next =
           ap is_prepared
-          (replies_up (request.Prepare t parts) next (up_so (on_locks (request.Prepare t parts) next refl))
+          (replies_up (request.Prepare t parts) next (up_so (request.Prepare t parts) next tt (on_locks (request.Prepare t parts) next refl))
           ∙ ap (λ b. cond b reply.Prepared reply.Lost) (either (stands_prepared st t parts) (can_prepare st t parts) (its_finds (request.Prepare t parts) next)))
 
       -- the home records this decision, or is down
       pub decide_right : (decision : Decision) → next_of (fixed_of given) here.agent ≡ Some (server, request.Decide t decision) → goes.near server ≡ true
           → (is_up (run given events) server ≡ true → reply_of st (request.Decide t decision) ≡ reply.Verdict (verdict_of decision)) × (is_up (run given events) server ≡ false → reply_of st (request.Decide t decision) ≡ reply.Down)
       decide_right decision next near = (
-        λ up. replies_up (request.Decide t decision) next (up_near near ∙ up) ∙ ap (λ old. reply.Verdict (recorded old (verdict_of decision)))
-            (unrecorded_at given events so_far agent t caller site ops actor (can_so_far so_far rest split) goes.there goes.begins spared so_far [] (sym (append-nil so_far)) work server st at),
-        λ down. replies_down st (request.Decide t decision) refl (up_near near ∙ down),
+        λ up. replies_up (request.Decide t decision) next (up_near (request.Decide t decision) next near tt ∙ up) ∙ ap (λ old. reply.Verdict (recorded old (verdict_of decision)))
+            (unrecorded_at given events so_far agent t caller site ops actor (can_so_far so_far (Step agent ∷ rest) split) goes.there goes.begins spared so_far [] (sym (append-nil so_far)) work server st at),
+        λ down. replies_down st (request.Decide t decision) refl (up_near (request.Decide t decision) next near tt ∙ down),
       )

@@ -1,9 +1,9 @@
--- How a transaction stands that goes among locks that stay, at each moment at which it runs; and what an event that is not its own leaves of that.
-use Rattle.std.proofs.Common.{◌≡◌, ◌⊎◌, inl, inr, ⊎_elim, ℕ, ◌<◌, Bool, true, false, cond, List, [], ◌∷◌, ◌++◌, append_assoc, Option, Some, None, refl, sym, ap, subst, ◌∙◌, arith}
-use Rattle.std.specs.Prelude.{◌+◌, ◌==◌, ◌&&◌, ◌||◌, not}
-use Rattle.std.proofs.lemmas.Bool.{false≢true, and_parts, eqb-true, eq-eqb}
+-- How a transaction stands that goes steadily, at each moment at which it runs; and what an event that is not its own leaves of that.
+use Rattle.std.proofs.Common.{◌≡◌, ◌⊎◌, inl, inr, ⊎_elim, ℕ, ◌<◌, Bool, true, false, List, [], ◌∷◌, ◌++◌, append_assoc, Option, Some, None, refl, sym, ap, subst, ◌∙◌, arith}
+use Rattle.std.specs.Prelude.{◌+◌, ◌==◌, ◌||◌}
+use Rattle.std.proofs.lemmas.Bool.{false≢true, eqb-true, eq-eqb}
 use Rattle.std.proofs.lemmas.Bool.Decides.{nat_tests}
-use Rattle.std.proofs.lemmas.Option.{none-some, same_Some}
+use Rattle.std.proofs.lemmas.Option.{none-some}
 use Rattle.acl_core.specs.Identity.{Identity}
 use Rattle.suite_prefix.specs.SettingsRules.{Opening}
 use Rattle.suite_prefix.specs.declared.copies.Prefix.{Prefix}
@@ -11,14 +11,11 @@ use Rattle.suite_prefix.specs.declared.lock_mode.LockMode.{LockMode}
 use Rattle.file_ops.specs.declared.operation.Op.{Op}
 use Rattle.file_ops.specs.Rows as rows
 use Rattle.file_ops.specs.Rows.{PlainTable}
-use Rattle.rep_core.specs.declared.lock.Lock.{Lock}
-use Rattle.rep_core.specs.declared.request.Request.{Request}
 use Rattle.rep_core.specs.declared.request.Request.TheVariants as request
-use Rattle.rep_core.specs.declared.stamped.Stamped.{Stamped}
 use Rattle.rep_core.specs.State.{State}
-use Rattle.rep_core.specs.Service.{after_up, after_down, after}
-use Rattle.rep_core.specs.Serving.{is_full, served, answer_of}
-use Rattle.rep_core.proofs.Members.{Has, any_has}
+use Rattle.rep_core.specs.Service.{after}
+use Rattle.rep_core.specs.Serving.{served}
+use Rattle.rep_core.proofs.Members.{Has}
 use Rattle.weak_cache.specs.Entries.{Cache, forgotten}
 use Rattle.txn_core.specs.declared.job.Job.{Job}
 use Rattle.txn_core.specs.declared.job.Job.TheVariants.{Transaction}
@@ -29,10 +26,9 @@ use Rattle.txn_core.specs.Doing.{Fixed, Task, Phase, Gathering, Fetching, Prepar
 use Rattle.txn_core.specs.Agents as agents
 use Rattle.txn_core.specs.Agents.{Agent, fixed_of, is_idle, begin, forget, after_all}
 use Rattle.txn_core.proofs.Upheld.{after-append}
-use Rattle.run_core.specs.declared.done.Served.{Served}
 use Rattle.run_core.specs.declared.event.Event.{Event}
 use Rattle.run_core.specs.declared.event.Event.TheVariants.{Begin, Step, Crash, Return, Forget, Lack}
-use Rattle.run_core.specs.Worlds.{Actor, World, server_at, actor_at, operates, operated, step}
+use Rattle.run_core.specs.Worlds.{Actor, World, server_at, actor_at, step}
 use Rattle.run_core.specs.Runs.{run}
 use Rattle.run_core.specs.Decisions.{decisions}
 use Rattle.run_core.specs.TableOfRun.{table_of}
@@ -41,19 +37,24 @@ use Rattle.law_runs.proofs.Agents.{same_place}
 use Rattle.law_runs.proofs.Begun.{agents_ask_for_themselves}
 use Rattle.law_runs.proofs.Conclusions.{holds_of}
 use Rattle.law_runs.proofs.Table.{service_stays}
-use Rattle.law_runs.proofs.Worlds.{agent_of, agent_at, puts_in}
-use Rattle.law_run_recovers.specs.Standing.{up_in, is_up, locks_in, locks_at}
-use Rattle.law_run_recovers.specs.Unmet.{runs, running_in, is_running, is_telling, begun_world, world_after, up_and, of_up, robs, hinders_itself}
-use Rattle.law_run_recovers.specs.Among.{GoesAmongLocks}
-use Rattle.law_run_recovers.proofs.AmongLocks.{drops, bereaves}
-use Rattle.law_run_recovers.proofs.Apart.{Apart, hint_forgotten, event_apart}
-use Rattle.law_run_recovers.proofs.Keeps.{after_append, run_at, step_asks, operates_it, becomes_none, lacks_none}
-use Rattle.law_run_recovers.proofs.NearGround.{its, answers, opens, first_asked, opens_up, Known, ground, number, sight}
+use Rattle.law_runs.proofs.Worlds.{agent_of, agent_at}
+use Rattle.law_run_recovers.specs.Standing.{locks_in, locks_at}
+use Rattle.law_run_recovers.specs.Unmet.{runs, running_in, is_running, begun_world, world_after, robs, hinders_itself}
+use Rattle.law_run_recovers.proofs.Steady.{GoesSteadily}
+use Rattle.law_run_recovers.specs.Told.{bereaves, shows_same}
+use Rattle.law_run_recovers.proofs.Apart.{Apart, hint_forgotten}
+use Rattle.law_run_recovers.proofs.Keeps.{after_append, run_at, step_asks, operates_it, becomes_none, lacks_none, IsAtWork, at_work}
+use Rattle.law_run_recovers.proofs.NearGround.{its, opens, first_asked, opens_up, Known, ground, number, sight}
 use Rattle.law_run_recovers.proofs.Open.{its_begin}
 use Rattle.law_run_recovers.proofs.Polled.{Sight}
 use Rattle.law_run_recovers.proofs.Serves.{On, Told, told_on}
 use Rattle.law_run_recovers.proofs.Stands.{EndsRight, PhaseStands}
-use Rattle.law_run_recovers.proofs.AmongAt.{IsCalm, IsSpared, HasWhereOpen}
+use Rattle.law_run_recovers.proofs.AmongAt.{IsCalm, IsSpared, HasWhereOpen, ShowsWhereLocked}
+use Rattle.law_run_recovers.proofs.Still.{IsOpen, IsOpenPhase}
+use Rattle.suite_prefix.specs.declared.copies.Replica.{Replica}
+use Rattle.law_run_alone.proofs.Unhindered.{all_consistent}
+use Rattle.rep_core.specs.Store.{copy_of}
+use Rattle.law_run_recovers.proofs.Locked.{copy_stays}
 
 -- ---- lists
 
@@ -81,40 +82,12 @@ parted (w ∷ xs) x (z ∷ front) y back is =
     (λ before. inr (before.0, ap (λ z. z ∷ xs) (ap (head_or w) is) ∙ ap (λ xs. z ∷ xs) before.1, before.2))
     (parted xs x front y back (ap tail_or is))
 
--- ---- a crash
-
--- a server that crashed is down
-crash_downs : (fixed : Fixed) (w : World) (server : ℕ) (what : Served) → (step fixed w (Crash server)).done.served ≡ Some what → (what.server ≡ server) × (is_up (step fixed w (Crash server)).world server ≡ false)
-crash_downs fixed w server what = of (server_at w server) refl
-  where
-    asked : Stamped Request
-    asked = record { stamp = 0; value = request.Crash }
-
-    downs : (st : State) → (after st request.Crash).up ≡ false
-    downs st = by st.up refl
-      where
-        by : (b : Bool) → st.up ≡ b → (cond b (after_up st request.Crash) (after_down st request.Crash)).up ≡ false
-        by true up = refl
-        by false up = up
-
-    of : (found : Option State) → server_at w server ≡ found → (operates w server request.Crash found).done.served ≡ Some what → (what.server ≡ server) × (is_up (operates w server request.Crash found).world server ≡ false)
-    of None at is = absurd (none-some what is)
-    of (Some st) at is = by (is_full st (record { stamp = 0; value = request.Crash })) is
-      where
-        by : (b : Bool) → (operated w st (cond b None (Some (record { server = server; request = record { stamp = 0; value = request.Crash }; reply = answer_of st (record { stamp = 0; value = request.Crash }) })))).done.served ≡ Some what
-            → (what.server ≡ server) × (is_up (operated w st (cond b None (Some (record { server = server; request = record { stamp = 0; value = request.Crash }; reply = answer_of st (record { stamp = 0; value = request.Crash }) })))).world server ≡ false)
-        by true is = absurd (none-some what is)
-        by false is = (
-          ap (λ (what : Served). what.server) (sym (same_Some _ what is)),
-          ap up_in (puts_in w.servers server st (served st (record { stamp = 0; value = request.Crash })) at).here ∙ downs st,
-        )
+-- ---- at each moment
 
 both_so : (a b c : Bool) → (a || b) ≡ false → c ≡ false → (a || (b || c)) ≡ false
 both_so a b c one two = grind (arith, nat_tests)
 
--- ---- at each moment
-
-module _ (given : Opening) (events later : List Event) (agent t : ℕ) (caller : Identity) (site : ℕ) (ops : List Op) (actor : Actor) (goes : GoesAmongLocks given events later agent t caller site ops actor) where
+module _ (given : Opening) (events later : List Event) (agent t : ℕ) (caller : Identity) (site : ℕ) (ops : List Op) (actor : Actor) (goes : GoesSteadily given events later agent t caller site ops actor) where
   abbrev pub fixed : Fixed
   fixed = fixed_of given
 
@@ -163,6 +136,7 @@ module _ (given : Opening) (events later : List Event) (agent t : ℕ) (caller :
     pub is : here.agent ≡ after_all (fixed_of given) (begin (fixed_of given) actor.agent (Transaction caller site ops)) told
     pub count : here.agent.count ≡ actor.agent.count + 1
     pub locks : HasWhereOpen given events later agent t caller site ops actor goes (world_after given events agent caller site ops so_far)
+    pub shown : ShowsWhereLocked given events later agent t caller site ops actor goes (world_after given events agent caller site ops so_far)
     pub spared : IsSpared given events later agent t caller site ops actor goes so_far
 
   -- so it runs the transaction
@@ -184,6 +158,12 @@ module _ (given : Opening) (events later : List Event) (agent t : ℕ) (caller :
       let r = runs_it so_far c in
       ap (runs t) r.running ∙ eq-eqb r.txn_run.task.t t (ap (λ (task : Task). task.t) r.at.0 ∙ number given events later agent t caller site ops actor goes)
 
+  -- and is at work while its end is not fixed
+  pub open_works : (so_far : List Event) (c : Course so_far) (r : RunsIt so_far c) → IsOpenPhase r.txn_run.phase → IsAtWork (world_after given events agent caller site ops so_far) agent t
+  open_works so_far c r open' =
+      at_work (world_at so_far) agent t c.here c.there (subst IsOpen (sym r.running) open')
+      (ap (runs t) r.running ∙ eq-eqb r.txn_run.task.t t (ap (λ (task : Task). task.t) r.at.0 ∙ number given events later agent t caller site ops actor goes))
+
   pub course_runs : (so_far : List Event) (c : Course so_far) → is_running (world_after given events agent caller site ops so_far) agent t ≡ true
   course_runs so_far c = ap (running_in t) c.there ∙ runs_of so_far c
 
@@ -194,6 +174,15 @@ module _ (given : Opening) (events later : List Event) (agent t : ℕ) (caller :
   abbrev pub NewOpen : List Event → Event → Type 0
   NewOpen so_far event = (server z : ℕ) (told : Told (fixed_of given) (world_after given events agent caller site ops so_far) event t server) → told.told.suite ≡ z → opens given events later agent t caller site ops actor goes z (first_asked given events later agent t caller site ops actor goes z) server ≡ true
 
+  -- and it shows what it showed
+  abbrev pub NewShown : List Event → Event → Type 0
+  NewShown so_far event = (server z : ℕ) (told : Told (fixed_of given) (world_after given events agent caller site ops so_far) event t server) → told.told.suite ≡ z
+      → shows_same (server_at (world_after given events agent caller site ops (so_far ++ event ∷ [])) server) (server_at (run given events) server) z
+
+  -- an event tells it of no lock
+  abbrev pub TellsNone : List Event → Event → Type 0
+  TellsNone so_far event = (server : ℕ) → Told (fixed_of given) (world_after given events agent caller site ops so_far) event t server → ⊥
+
   module _ (so_far rest : List Event) (event : Event) (split : later ≡ so_far ++ event ∷ rest) (c : Course so_far) where
     pub split_on : later ≡ (so_far ++ event ∷ []) ++ rest
     split_on = split ∙ sym (append_assoc so_far (event ∷ []) rest)
@@ -201,83 +190,13 @@ module _ (given : Opening) (events later : List Event) (agent t : ℕ) (caller :
     pub running_now : is_running (world_after given events agent caller site ops so_far) agent t ≡ true
     running_now = course_runs so_far c
 
-    pub calm : (hinders_itself given agent (world_after given events agent caller site ops so_far) event || robs given agent t (world_after given events agent caller site ops so_far) event) ≡ false
-    calm = goes.free_hand so_far rest event split running_now
-
-    pub unhindered : hinders_itself given agent (world_after given events agent caller site ops so_far) event ≡ false
-    unhindered = or_first (hinders_itself given agent (world_after given events agent caller site ops so_far) event) (robs given agent t (world_after given events agent caller site ops so_far) event) calm
-      where
-        or_first : (a b : Bool) → (a || b) ≡ false → a ≡ false
-        or_first false b is = refl
-        or_first true b is = absurd (false≢true (sym is))
-
-    -- ---- no near server crashes
-
-    runs_apart : Apart given agent (world_after given events agent caller site ops so_far) c.here c.there c.busy (step (fixed_of given) (world_after given events agent caller site ops so_far) event)
-        → is_running (world_after given events agent caller site ops (so_far ++ event ∷ [])) agent t ≡ true
-    runs_apart apart =
-        ap (λ w. is_running w agent t) (next_is so_far event) ∙ ap (running_in t) apart.now
-        ∙ ⊎_elim (λ same. ap (λ (a : Agent). runs t a.doing) same) (λ gone. ap (λ (a : Agent). runs t a.doing) gone.1) apart.is
-        ∙ runs_of so_far c
-
-    no_crash : (server : ℕ) → event ≡ Crash server → (what : Served) → (step (fixed_of given) (world_after given events agent caller site ops so_far) (Crash server)).done.served ≡ Some what
-        → answers given events later agent t caller site ops actor goes what.server ≡ true → ⊥
-    no_crash server is what done answered =
-        let crashed = crash_downs (fixed_of given) (world_after given events agent caller site ops so_far) server what done in
-        let parts = and_parts (goes.near what.server) (is_up (run given events) what.server) answered in
-        ⊎_elim
-        (λ apart.
-        let up = (goes.stays (so_far ++ event ∷ []) rest split_on (runs_apart apart.0)).up what.server parts.0 ∙ parts.1 in
-        let now : is_up (world_after given events agent caller site ops (so_far ++ event ∷ [])) what.server ≡ false =
-        ap (λ w. is_up w what.server) (next_is so_far event) ∙ ap (λ event. is_up (step (fixed_of given) (world_after given events agent caller site ops so_far) event).world what.server) is
-        ∙ ap (is_up (step (fixed_of given) (world_after given events agent caller site ops so_far) (Crash server)).world) crashed.0 ∙ crashed.1 in
-        false≢true (sym now ∙ up))
-        (λ own. crash_not server (sym is ∙ own.0))
-        (event_apart given agent (world_after given events agent caller site ops so_far) c.here c.there c.busy event unhindered)
-      where
-        crash_not : (server : ℕ) → Crash server ≡ Step agent → ⊥
-        crash_not server is = cc
-
-    kept : bereaves given agent t (world_after given events agent caller site ops so_far) event ≡ false
-    kept = of event refl
-      where
-        of : (same : Event) → event ≡ same → bereaves given agent t (world_after given events agent caller site ops so_far) same ≡ false
-        of (Begin i _) is = refl
-        of (Step i) is = refl
-        of (Return server) is = refl
-        of (Forget i _) is = refl
-        of (Lack i _) is = refl
-        of (Crash server) is = by (of_up (drops t) (world_after given events agent caller site ops so_far) (step (fixed_of given) (world_after given events agent caller site ops so_far) (Crash server)).done.served) refl
-          where
-            at_server : (what : Served) → (step (fixed_of given) (world_after given events agent caller site ops so_far) (Crash server)).done.served ≡ Some what → (found : Option State)
-                → server_at (world_after given events agent caller site ops so_far) what.server ≡ found → up_and (drops t) what.request.value found ≡ true → ⊥
-            at_server what done None at some = false≢true some
-            at_server what done (Some st) at some =
-                let parts = and_parts st.up (drops t st what.request.value) some in
-                let asked = operates_it (world_after given events agent caller site ops so_far) server request.Crash (server_at (world_after given events agent caller site ops so_far) server) what done in
-                let lock = any_has (λ (lock : Lock). (lock.t == t) && not lock.prepared) st.locks (ap (drops t st) (sym asked) ∙ parts.1) in
-                let own = and_parts (lock.0.t == t) (not lock.0.prepared) lock.2 in
-                no_crash server is what done (opens_up given events later agent t caller site ops actor goes lock.0.suite (first_asked given events later agent t caller site ops actor goes lock.0.suite) what.server
-                (c.locks what.server lock.0.suite (record { lock = lock.0; has = subst (λ locks. Has locks lock.0) (sym (ap locks_in at)) lock.1; of_it = eqb-true lock.0.t t own.0; on_it = refl })))
-
-            served_so : (found : Option Served) → (step (fixed_of given) (world_after given events agent caller site ops so_far) (Crash server)).done.served ≡ found → of_up (drops t) (world_after given events agent caller site ops so_far) found ≡ true → ⊥
-            served_so None done some = false≢true some
-            served_so (Some what) done some = at_server what done (server_at (world_after given events agent caller site ops so_far) what.server) refl some
-
-            by : (b : Bool) → of_up (drops t) (world_after given events agent caller site ops so_far) (step (fixed_of given) (world_after given events agent caller site ops so_far) (Crash server)).done.served ≡ b
-                → (not (is_telling (world_after given events agent caller site ops so_far) agent) && of_up (drops t) (world_after given events agent caller site ops so_far) (step (fixed_of given) (world_after given events agent caller site ops so_far) (Crash server)).done.served) ≡ false
-            by true some = absurd (served_so (step (fixed_of given) (world_after given events agent caller site ops so_far) (Crash server)).done.served refl some)
-            by false none = both (not (is_telling (world_after given events agent caller site ops so_far) agent)) _ none
-              where
-                both : (a b : Bool) → b ≡ false → (a && b) ≡ false
-                both true b is = is
-                both false b is = refl
-
-    -- nothing is taken of it
-    calm_now : IsCalm given events later agent t caller site ops actor goes so_far event
-    calm_now =
-        both_so (hinders_itself given agent (world_after given events agent caller site ops so_far) event) (robs given agent t (world_after given events agent caller site ops so_far) event)
-        (bereaves given agent t (world_after given events agent caller site ops so_far) event) calm kept
+    -- nothing is taken of it while its end is not fixed
+    calm_now : IsAtWork (world_after given events agent caller site ops so_far) agent t → IsCalm given events later agent t caller site ops actor goes so_far event
+    calm_now work =
+        let w = world_after given events agent caller site ops so_far in
+        both_so (hinders_itself given agent w event) (robs given agent t w event) (bereaves given agent t w event) (goes.free_hand so_far rest event split work)
+        (goes.kept so_far rest event split work
+        (λ server z on. opens_up given events later agent t caller site ops actor goes z (first_asked given events later agent t caller site ops actor goes z) server (c.locks server z on)))
 
     pub spared_on : IsSpared given events later agent t caller site ops actor goes (so_far ++ event ∷ [])
     spared_on front back other is work = of (parted so_far event front other back is)
@@ -285,7 +204,7 @@ module _ (given : Opening) (events later : List Event) (agent t : ℕ) (caller :
         of : ((front ≡ so_far) × (other ≡ event) × (back ≡ [])) ⊎ ((rest : List Event) × (so_far ≡ front ++ other ∷ rest) × (back ≡ rest ++ event ∷ [])) → IsCalm given events later agent t caller site ops actor goes front other
         of (inl here) =
             subst (λ front. IsCalm given events later agent t caller site ops actor goes front other) (sym here.0)
-            (subst (λ other. IsCalm given events later agent t caller site ops actor goes so_far other) (sym here.1) calm_now)
+            (subst (λ other. IsCalm given events later agent t caller site ops actor goes so_far other) (sym here.1) (calm_now (subst (λ front. IsAtWork (world_after given events agent caller site ops front) agent t) here.0 work)))
         of (inr before) = c.spared front before.0 other before.1 work
 
     -- its locks are where it was open
@@ -294,14 +213,40 @@ module _ (given : Opening) (events later : List Event) (agent t : ℕ) (caller :
         ⊎_elim (λ old. c.locks server z old) (λ told. new server z told.0 told.1)
         (told_on (fixed_of given) (world_after given events agent caller site ops so_far) event server t z (subst (λ w. On (locks_at w server) t z) (next_is so_far event) on))
 
+    -- and what is stored there is what it was told
+    pub shown_on : NewShown so_far event → ShowsWhereLocked given events later agent t caller site ops actor goes (world_after given events agent caller site ops (so_far ++ event ∷ []))
+    shown_on new server z on =
+        ⊎_elim (λ old. of old (server_at (world_after given events agent caller site ops so_far) server) (server_at (world_after given events agent caller site ops (so_far ++ event ∷ [])) server) (server_at first server) refl refl refl (c.shown server z old))
+        (λ told. new server z told.0 told.1)
+        (told_on (fixed_of given) (world_after given events agent caller site ops so_far) event server t z (subst (λ w. On (locks_at w server) t z) (next_is so_far event) on))
+      where
+        of : On (locks_at (world_after given events agent caller site ops so_far) server) t z → (was now begun : Option State) → server_at (world_after given events agent caller site ops so_far) server ≡ was
+            → server_at (world_after given events agent caller site ops (so_far ++ event ∷ [])) server ≡ now → server_at (run given events) server ≡ begun
+            → shows_same (server_at (world_after given events agent caller site ops so_far) server) (server_at (run given events) server) z
+            → shows_same (server_at (world_after given events agent caller site ops (so_far ++ event ∷ [])) server) (server_at (run given events) server) z
+        of old was None begun is_was is_now is_begun same = subst (λ found. shows_same found (server_at (run given events) server) z) (sym is_now) tt
+        of old None (Some new) begun is_was is_now is_begun same = absurd (subst (λ found. Has (locks_in found) old.lock) is_was old.has)
+        of old (Some st) (Some new) None is_was is_now is_begun same =
+            subst (λ found. shows_same found (server_at (run given events) server) z) (sym is_now) (subst (λ found. shows_same (Some new) found z) (sym is_begun) tt)
+        of old (Some st) (Some new) (Some begun) is_was is_now is_begun same =
+            let w = world_after given events agent caller site ops so_far in
+            let before : On st.locks t z = record { lock = old.lock; has = subst (λ found. Has (locks_in found) old.lock) is_was old.has; of_it = old.of_it; on_it = old.on_it } in
+            let after : On new.locks t z = record { lock = on.lock; has = subst (λ found. Has (locks_in found) on.lock) is_now on.has; of_it = on.of_it; on_it = on.on_it } in
+            let consistent = all_consistent given (events ++ Begin agent (Transaction caller site ops) ∷ so_far) server st
+            (ap (λ w. server_at w server) (sym (run_at given events later agent t caller site ops actor goes.can goes.there goes.begins so_far)) ∙ is_was) in
+            let copy = copy_stays (fixed_of given) w event server t z st new is_was (ap (λ w. server_at w server) (sym (next_is so_far event)) ∙ is_now) consistent before after in
+            let was_same : shows_same (Some st) (Some begun) z = subst (λ found. shows_same found (Some begun) z) is_was (subst (λ found. shows_same (server_at w server) found z) is_begun same) in
+            subst (λ found. shows_same found (server_at (run given events) server) z) (sym is_now)
+            (subst (λ found. shows_same (Some new) found z) (sym is_begun) (ap (λ (copy : Replica). copy.prefix) copy ∙ was_same.0, ap (λ (copy : Replica). copy.dver) copy ∙ was_same.1))
+
     -- ---- an event that is not its own
 
     small_all : (i : ℕ) (a : Agent) → agent_at (world_after given events agent caller site ops so_far) i ≡ Some a → i < 64
     small_all i a at = (holds_of given goes.can.accepted (events ++ Begin agent (Transaction caller site ops) ∷ so_far)).agents.small i a
         (ap (λ w. agent_at w i) (sym (run_at given events later agent t caller site ops actor goes.can goes.there goes.begins so_far)) ∙ at)
 
-    others_lock : (event ≡ Step agent → ⊥) → NewOpen so_far event
-    others_lock apart server z told same = absurd (of event refl told)
+    pub others_tell : (event ≡ Step agent → ⊥) → TellsNone so_far event
+    others_tell apart server told = of event refl told
       where
         of : (same : Event) → event ≡ same → Told (fixed_of given) (world_after given events agent caller site ops so_far) event t server → ⊥
         of (Begin i job') is told = none-some told.what (sym (becomes_none (world_after given events agent caller site ops so_far) i (λ a. begin (fixed_of given) a job') (actor_at (world_after given events agent caller site ops so_far) i))
@@ -355,9 +300,9 @@ module _ (given : Opening) (events later : List Event) (agent t : ℕ) (caller :
         of suites (Finishing left v ended) at = at
 
     -- it goes on, and was told no more, or to forget a site
-    pub apart_on : Apart given agent (world_after given events agent caller site ops so_far) c.here c.there c.busy (step (fixed_of given) (world_after given events agent caller site ops so_far) event) → (event ≡ Step agent → ⊥)
+    pub aside_on : Apart given agent (world_after given events agent caller site ops so_far) c.here c.there c.busy (step (fixed_of given) (world_after given events agent caller site ops so_far) event) → TellsNone so_far event
         → (on : Course (so_far ++ event ∷ [])) × ((on.told ≡ c.told) ⊎ ((site' : ℕ) × (on.told ≡ c.told ++ agents.Forget site' ∷ [])))
-    apart_on apart other = of apart.is
+    aside_on apart none = of apart.is
       where
         of : (apart.new.agent ≡ c.here.agent) ⊎ ((site' : ℕ) × (apart.new.agent ≡ forget c.here.agent site')) → (on : Course (so_far ++ event ∷ [])) × ((on.told ≡ c.told) ⊎ ((site' : ℕ) × (on.told ≡ c.told ++ agents.Forget site' ∷ [])))
         of (inl same) = (
@@ -369,7 +314,8 @@ module _ (given : Opening) (events later : List Event) (agent t : ℕ) (caller :
             told = c.told;
             is = same ∙ c.is;
             count = ap (λ (a : Agent). a.count) same ∙ c.count;
-            locks = locks_on (others_lock other);
+            locks = locks_on (λ server z told same. absurd (none server told));
+            shown = shown_on (λ server z told same. absurd (none server told));
             spared = spared_on;
           },
           inl refl,
@@ -383,8 +329,13 @@ module _ (given : Opening) (events later : List Event) (agent t : ℕ) (caller :
             told = c.told ++ agents.Forget gone.0 ∷ [];
             is = gone.1 ∙ ap (λ a. forget a gone.0) c.is ∙ sym (after-append (fixed_of given) (begin (fixed_of given) actor.agent (Transaction caller site ops)) c.told (agents.Forget gone.0));
             count = ap (λ (a : Agent). a.count) gone.1 ∙ c.count;
-            locks = locks_on (others_lock other);
+            locks = locks_on (λ server z told same. absurd (none server told));
+            shown = shown_on (λ server z told same. absurd (none server told));
             spared = spared_on;
           },
           inr (gone.0, refl),
         )
+
+    pub apart_on : Apart given agent (world_after given events agent caller site ops so_far) c.here c.there c.busy (step (fixed_of given) (world_after given events agent caller site ops so_far) event) → (event ≡ Step agent → ⊥)
+        → (on : Course (so_far ++ event ∷ [])) × ((on.told ≡ c.told) ⊎ ((site' : ℕ) × (on.told ≡ c.told ++ agents.Forget site' ∷ [])))
+    apart_on apart other = aside_on apart (others_tell other)

@@ -1,4 +1,4 @@
--- What was decided of a transaction that goes among locks that stay had its home up and its votes open, whether or not its agent went on to the end.
+-- What was decided of a transaction that goes steadily had its home up and its votes open, whether or not its agent went on to the end.
 use Rattle.std.proofs.Common.{◌≡◌, ◌⊎◌, inl, inr, ⊎_elim, ℕ, ◌<◌, true, List, [], ◌∷◌, ◌++◌, append_assoc, Option, Some, None, is_some, Result, Ok, Err, refl, sym, ap, subst, ◌∙◌, arith}
 use Rattle.std.specs.Prelude.{◌+◌, ◌*◌, ◌==◌, ◌&&◌, find, Contains}
 use Rattle.std.specs.List.{list_any, cons_option}
@@ -37,31 +37,31 @@ use Rattle.law_runs.proofs.Standing.{In}
 use Rattle.law_runs.proofs.Worlds.{agent_of, agent_at}
 use Rattle.law_run_alone.specs.Undisturbed.{is_decided}
 use Rattle.law_run_recovers.specs.Standing.{is_up}
-use Rattle.law_run_recovers.specs.Unmet.{world_after}
-use Rattle.law_run_recovers.specs.Among.{GoesAmongLocks, first_wanting, has_votes_open, is_gathered, GathersItsAsks, AmongLocksHadVotesOpen, AmongLocksAreAnsweredAsBegun, AmongLocksGatherTheirAsks}
+use Rattle.law_run_recovers.specs.Unmet.{runs, world_after}
+use Rattle.law_run_recovers.specs.Among.{first_wanting, has_votes_open, is_gathered, GathersItsAsks, AmongLocksHadVotesOpen, AmongLocksAreAnsweredAsBegun, AmongLocksGatherTheirAsks}
+use Rattle.law_run_recovers.proofs.Steady.{GoesSteadily, steady}
 use Rattle.law_run_recovers.specs.Demands.{has_asked, locks_asked}
 use Rattle.law_run_recovers.specs.Near.{asks_for}
 use Rattle.law_run_recovers.specs.OpenDemands.{wants}
 use Rattle.law_run_recovers.specs.Laws.{answer_on}
 use Rattle.law_run_recovers.specs.Local.{EndsThen, WasDecidedThen, UnmetHadVotesUp}
 use Rattle.law_run_recovers.proofs.AmongLaws.{none_in, all_is, first_same, rows_met, among_had}
-use Rattle.law_run_recovers.proofs.Apart.{event_apart}
 use Rattle.law_run_recovers.proofs.Asking.{held_if, held_in}
 use Rattle.law_run_recovers.proofs.AtDecision.{decides_up}
 use Rattle.law_run_recovers.proofs.Deciding.{answer_as, decides_answer}
 use Rattle.law_run_recovers.proofs.HadVotes.{decided_since, stood_since}
-use Rattle.law_run_recovers.proofs.Keeps.{run_at}
+use Rattle.law_run_recovers.proofs.Keeps.{at_work, run_at}
 use Rattle.law_run_recovers.proofs.NearGround.{its, sight, number}
 use Rattle.law_run_recovers.proofs.Open.{its_begin, unmet_is_among_locks}
 use Rattle.law_run_recovers.proofs.Stands.{unmet, wants_of, HasAll}
-use Rattle.law_run_recovers.proofs.Took.{own_took}
-use Rattle.law_run_recovers.proofs.AmongCourse.{Course, StandsIn, PhaseIn, runs_it, next_is, unhindered, running_now, apart_on}
-use Rattle.law_run_recovers.proofs.AmongEnds.{Over, small_at, over_on, over_now}
+use Rattle.law_run_recovers.proofs.Still.{IsOpen, IsOpenPhase}
+use Rattle.law_run_recovers.proofs.AmongCourse.{Course, StandsIn, PhaseIn, next_is}
+use Rattle.law_run_recovers.proofs.AmongEnds.{Over, small_at, over_on, state_on as course_on}
 use Rattle.law_run_recovers.proofs.AmongOver.{ended_has}
-use Rattle.law_run_recovers.proofs.AmongStep.{first_course, own_on}
+use Rattle.law_run_recovers.proofs.AmongStep.{first_course}
 use Rattle.law_run_recovers.proofs.UnmetLaws.{open_is_more}
 
-module _ (given : Opening) (events later : List Event) (agent t : ℕ) (caller : Identity) (site : ℕ) (ops : List Op) (actor : Actor) (goes : GoesAmongLocks given events later agent t caller site ops actor) where
+module _ (given : Opening) (events later : List Event) (agent t : ℕ) (caller : Identity) (site : ℕ) (ops : List Op) (actor : Actor) (goes : GoesSteadily given events later agent t caller site ops actor) where
   abbrev world_at : List Event → World
   world_at so_far = world_after given events agent caller site ops so_far
 
@@ -74,20 +74,7 @@ module _ (given : Opening) (events later : List Event) (agent t : ℕ) (caller :
   -- it goes on, or has ended
   state_on : (so_far rest : List Event) (event : Event) → later ≡ so_far ++ event ∷ rest → State so_far → State (so_far ++ event ∷ [])
   state_on so_far rest event split (inr over) = inr (over_on given events later agent t caller site ops actor goes so_far event over)
-  state_on so_far rest event split (inl c) =
-      ⊎_elim
-      (λ apart. inl (apart_on given events later agent t caller site ops actor goes so_far rest event split c apart.0 apart.1).0)
-      (λ own. own_step own.0 own.1)
-      (event_apart given agent (world_after given events agent caller site ops so_far) c.here c.there c.busy event (unhindered given events later agent t caller site ops actor goes so_far rest event split c))
-    where
-      own_step : event ≡ Step agent → is_some (step (fixed_of given) (world_after given events agent caller site ops so_far) event).done.served ≡ true → State (so_far ++ event ∷ [])
-      own_step is served =
-          let split' : later ≡ so_far ++ Step agent ∷ rest = split ∙ ap (λ event. so_far ++ event ∷ rest) is in
-          let took = own_took (fixed_of given) (world_at so_far) agent c.here c.there (subst (λ event. is_some (step (fixed_of given) (world_after given events agent caller site ops so_far) event).done.served ≡ true) is served) in
-          let r = runs_it given events later agent t caller site ops actor goes so_far c in
-          subst (λ event. State (so_far ++ event ∷ [])) (sym is)
-          (⊎_elim (λ on. inl on.0) (λ ended. inr (over_now given events later agent t caller site ops actor goes so_far (Step agent) ended.0 ended.1 ended.2))
-          (own_on given events later agent t caller site ops actor goes so_far rest split' c r took))
+  state_on so_far rest event split (inl c) = course_on given events later agent t caller site ops actor goes so_far rest event split c
 
   -- ---- at its decision
 
@@ -144,6 +131,16 @@ module _ (given : Opening) (events later : List Event) (agent t : ℕ) (caller :
         let w = world_at so_far in
         ap (λ n. is_up w (home_of (fixed_of given).service n)) (sym its_number)
         ∙ decides_up (fixed_of given) w agent so.actor (task_of so.actor.agent.doing) one what (server_at w home) refl served_so
+
+    -- its home is up where it was
+    home_same : is_up (world_after given events agent caller site ops so_far) (home_of (fixed_of given).service t) ≡ is_up (run given events) (home_of (fixed_of given).service t)
+    home_same =
+        let w = world_at so_far in
+        let work = at_work w agent t so.actor here (subst IsOpen (sym so.running) (subst IsOpenPhase (sym so.deciding) tt)) (ap (runs t) so.running ∙ eq-eqb so.txn_run.task.t t its_number) in
+        let next : next_of (fixed_of given) so.actor.agent ≡ Some what = ap (next_in (fixed_of given)) so.running ∙ ap (request_in (fixed_of given) so.txn_run.task so.txn_run.suites) so.deciding in
+        let near : goes.near home ≡ true = ap (λ n. goes.near (home_of (fixed_of given).service n)) its_number ∙ goes.are_near.home in
+        subst (λ n. is_up w (home_of (fixed_of given).service n) ≡ is_up (run given events) (home_of (fixed_of given).service n)) its_number
+        (goes.same so_far rest so.actor what (split ∙ ap (λ event. so_far ++ event ∷ rest) (so.step ∙ ap Step own)) work here next near tt).up
 
     -- it is answered as it was to be
     answer_so : one.answer ≡ answer_as so.outcome
@@ -207,8 +204,7 @@ module _ (given : Opening) (events later : List Event) (agent t : ℕ) (caller :
         sym (first_same given events later agent t caller site ops actor goes has.start has.from)
         ∙ subst (λ n. find (unmet (sight given events later agent t caller site ops actor goes)) (wants_of (fixed_of given) (run given events) (sight given events later agent t caller site ops actor goes) (table_of given events) n caller ops has.start) ≡ None) (number given events later agent t caller site ops actor goes) has.none in
         let rows = rows_met given events later agent t caller site ops actor goes has.start has.from (all_is (run given events) t (wants (fixed_of given) (run given events) (table_of given events) t caller ops has.start) ∙ ap none_in none) in
-        let up = (goes.stays so_far (event ∷ rest) split (running_now given events later agent t caller site ops actor goes so_far rest event split c)).up (home_of (fixed_of given).service t) goes.are_near.home in
-        ap (λ b. b && is_up (run given events) (home_of (fixed_of given).service t)) rows ∙ sym up ∙ home_now
+        ap (λ b. b && is_up (run given events) (home_of (fixed_of given).service t)) rows ∙ sym home_same ∙ home_now
 
     -- it is not after its end
     over_not : Over given events later agent t caller site ops actor goes so_far → ⊥
@@ -300,20 +296,23 @@ module _ (given : Opening) (events later : List Event) (agent t : ℕ) (caller :
       of (Swept broken finished left) is decided' = absurd (false≢true decided')
       of (Undecided cause) is decided' = absurd (false≢true decided')
 
+  pub was_had : WasDecidedThen given events later agent t caller site ops → has_votes_open given events t caller ops ≡ true
+  was_had was = ⊎_elim (λ some. stood_had some) (λ it. among_had given events later agent t caller site ops actor goes it.0 it.1 it.2) was
+
   pub was_gathered : WasDecidedThen given events later agent t caller site ops → GathersItsAsks given events later agent t caller site ops
   was_gathered was = ⊎_elim (λ some. stood_gathered some) (λ it. stood_gathered (ended_stands it.0 it.1 it.2)) was
 
 pub among_locks_gather_their_asks : AmongLocksGatherTheirAsks
-among_locks_gather_their_asks given events later agent t caller site ops actor goes was = was_gathered given events later agent t caller site ops actor goes was
+among_locks_gather_their_asks given events later agent t caller site ops actor goes was =
+    was_gathered given events later agent t caller site ops actor (steady given events later agent t caller site ops actor goes) was
 
 pub among_locks_are_answered_as_begun : AmongLocksAreAnsweredAsBegun
-among_locks_are_answered_as_begun given events later agent t caller site ops actor goes one there of_it = answered_begun given events later agent t caller site ops actor goes one there of_it
+among_locks_are_answered_as_begun given events later agent t caller site ops actor goes one there of_it =
+    answered_begun given events later agent t caller site ops actor (steady given events later agent t caller site ops actor goes) one there of_it
 
 pub among_locks_had_votes_open : AmongLocksHadVotesOpen
-among_locks_had_votes_open given events later agent t caller site ops actor goes was = ⊎_elim
-    (λ some. stood_had given events later agent t caller site ops actor goes some)
-    (λ it. among_had given events later agent t caller site ops actor goes it.0 it.1 it.2)
-    was
+among_locks_had_votes_open given events later agent t caller site ops actor goes was =
+    was_had given events later agent t caller site ops actor (steady given events later agent t caller site ops actor goes) was
 
 pub unmet_had_votes_up : UnmetHadVotesUp
 unmet_had_votes_up given events later agent t caller site ops actor goes was =

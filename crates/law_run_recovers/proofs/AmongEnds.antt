@@ -1,5 +1,5 @@
--- A transaction that goes among locks that stay ends as the votes say that are open: all along.
-use Rattle.std.proofs.Common.{◌≡◌, ◌⊎◌, inl, inr, ⊎_elim, ℕ, ◌<◌, true, List, [], ◌∷◌, ◌++◌, append_assoc, Option, Some, None, is_some, refl, sym, ap, subst, ◌∙◌, arith}
+-- A transaction that goes steadily ends as the votes say that are open: all along.
+use Rattle.std.proofs.Common.{◌≡◌, ◌⊎◌, inl, inr, ⊎_elim, ℕ, ◌<◌, Bool, true, false, List, [], ◌∷◌, ◌++◌, append_assoc, Option, Some, None, is_some, refl, sym, ap, subst, ◌∙◌, arith}
 use Rattle.std.specs.Prelude.{Contains}
 use Rattle.std.specs.List.{cons_option}
 use Rattle.std.proofs.lemmas.Option.{none-some, same_Some}
@@ -12,7 +12,7 @@ use Rattle.txn_core.specs.Agents.{Agent, fixed_of, next_in}
 use Rattle.run_core.specs.declared.event.Event.{Event}
 use Rattle.run_core.specs.declared.event.Event.TheVariants.{Begin, Step}
 use Rattle.run_core.specs.declared.done.EndedJob.{EndedJob}
-use Rattle.run_core.specs.Worlds.{Actor, World, opening, step}
+use Rattle.run_core.specs.Worlds.{Actor, World, Stepped, opening, step}
 use Rattle.run_core.specs.Runs.{dones, done_in, outcomes, run}
 use Rattle.run_core.proofs.Appending.{dones-append, outcomes-append}
 use Rattle.law_runs.specs.Claims.{ended}
@@ -21,16 +21,18 @@ use Rattle.law_runs.proofs.Agents.{same_place}
 use Rattle.law_runs.proofs.Conclusions.{holds_of}
 use Rattle.law_runs.proofs.Standing.{append_has_left, append_has_right}
 use Rattle.law_runs.proofs.Worlds.{agent_of, agent_at}
-use Rattle.law_run_recovers.specs.Unmet.{begun_world, world_after}
-use Rattle.law_run_recovers.specs.Among.{GoesAmongLocks}
+use Rattle.law_run_recovers.specs.Unmet.{begun_world, hinders_itself, world_after}
+use Rattle.law_run_recovers.proofs.Steady.{GoesSteadily}
 use Rattle.law_run_recovers.proofs.Apart.{event_apart, who_ends}
 use Rattle.law_run_recovers.proofs.Keeps.{run_at}
 use Rattle.law_run_recovers.proofs.NearGround.{number}
 use Rattle.law_run_recovers.proofs.Took.{OwnTook, own_took}
-use Rattle.law_run_recovers.proofs.AmongCourse.{Course, Right, runs_it, next_is, unhindered, apart_on}
+use Rattle.law_run_recovers.proofs.AmongCourse.{Course, Right, runs_it, next_is, apart_on}
 use Rattle.law_run_recovers.proofs.AmongStep.{begun, first_course, ends_right, own_on}
+use Rattle.law_run_recovers.proofs.AmongLacks.{lack_on, lack_right, quiet_on}
+use Rattle.law_run_recovers.proofs.Lacking.{hindered}
 
-module _ (given : Opening) (events later : List Event) (agent t : ℕ) (caller : Identity) (site : ℕ) (ops : List Op) (actor : Actor) (goes : GoesAmongLocks given events later agent t caller site ops actor) where
+module _ (given : Opening) (events later : List Event) (agent t : ℕ) (caller : Identity) (site : ℕ) (ops : List Op) (actor : Actor) (goes : GoesSteadily given events later agent t caller site ops actor) where
   abbrev world_at : List Event → World
   world_at so_far = world_after given events agent caller site ops so_far
 
@@ -100,49 +102,110 @@ module _ (given : Opening) (events later : List Event) (agent t : ℕ) (caller :
     pub took : OwnTook (fixed_of given) (world_after given events agent caller site ops so_far) agent course.here course.there (step (fixed_of given) (world_after given events agent caller site ops so_far) (Step agent))
     pub is : (step (fixed_of given) (world_after given events agent caller site ops so_far) (Step agent)).done.outcome ≡ Some one
 
-  ends_in : (rest so_far : List Event) → later ≡ so_far ++ rest → Course given events later agent t caller site ops actor goes so_far ⊎ Over so_far → (one : EndedJob) → Has (outcomes (dones (fixed_of given) (world_after given events agent caller site ops so_far) rest)) one → number_of one ≡ t → EndsWhere one
+  -- or in which event that says that its request was not served, once its end was fixed
+  pub record LacksWhere (one : EndedJob) : Type 0 where
+    pub so_far : List Event
+    pub rest : List Event
+    pub event : Event
+    pub split : later ≡ so_far ++ event ∷ rest
+    pub course : Course given events later agent t caller site ops actor goes so_far
+    pub hinders : hinders_itself given agent (world_after given events agent caller site ops so_far) event ≡ true
+    pub right : Right given events later agent t caller site ops actor goes one.ending
+
+  abbrev pub Where : EndedJob → Type 0
+  Where one = EndsWhere one ⊎ LacksWhere one
+
+  -- ---- an event while it runs
+
+  module _ (so_far rest : List Event) (event : Event) (split : later ≡ so_far ++ event ∷ rest) (c : Course given events later agent t caller site ops actor goes so_far) where
+    own_split : event ≡ Step agent → later ≡ so_far ++ Step agent ∷ rest
+    own_split is = split ∙ ap (λ event. so_far ++ event ∷ rest) is
+
+    own_took_so : event ≡ Step agent → is_some (step (fixed_of given) (world_after given events agent caller site ops so_far) event).done.served ≡ true
+        → OwnTook (fixed_of given) (world_after given events agent caller site ops so_far) agent c.here c.there (step (fixed_of given) (world_after given events agent caller site ops so_far) (Step agent))
+    own_took_so is served =
+        own_took (fixed_of given) (world_at so_far) agent c.here c.there (subst (λ event. is_some (step (fixed_of given) (world_after given events agent caller site ops so_far) event).done.served ≡ true) is served)
+
+    -- it goes on, or has ended
+    pub state_on : Course given events later agent t caller site ops actor goes (so_far ++ event ∷ []) ⊎ Over (so_far ++ event ∷ [])
+    state_on = of (hinders_itself given agent (world_at so_far) event) refl
+      where
+        own : event ≡ Step agent → is_some (step (fixed_of given) (world_after given events agent caller site ops so_far) event).done.served ≡ true
+            → Course given events later agent t caller site ops actor goes (so_far ++ event ∷ []) ⊎ Over (so_far ++ event ∷ [])
+        own is served =
+            subst (λ event. Course given events later agent t caller site ops actor goes (so_far ++ event ∷ []) ⊎ Over (so_far ++ event ∷ [])) (sym is)
+            (⊎_elim (λ on. inl on.0) (λ ended. inr (over_now so_far (Step agent) ended.0 ended.1 ended.2))
+            (own_on given events later agent t caller site ops actor goes so_far rest (own_split is) c (runs_it given events later agent t caller site ops actor goes so_far c) (own_took_so is served)))
+
+        of : (b : Bool) → hinders_itself given agent (world_after given events agent caller site ops so_far) event ≡ b
+            → Course given events later agent t caller site ops actor goes (so_far ++ event ∷ []) ⊎ Over (so_far ++ event ∷ [])
+        of false calm = ⊎_elim
+            (λ apart. inl (apart_on given events later agent t caller site ops actor goes so_far rest event split c apart.0 apart.1).0)
+            (λ own'. own own'.0 own'.1)
+            (event_apart given agent (world_at so_far) c.here c.there c.busy event calm)
+        of true hinders = ⊎_elim
+            (λ lacks. ⊎_elim (λ on. inl on.0) (λ ended. inr (over_now so_far event ended.0 ended.1 ended.2)) (lack_on given events later agent t caller site ops actor goes so_far rest event split c hinders lacks))
+            (λ nothing. inl (quiet_on given events later agent t caller site ops actor goes so_far rest event split c hinders nothing).0)
+            (hindered given agent (world_at so_far) c.here c.there event hinders)
+
+    -- where it ended in it
+    where_now : (one : EndedJob) → (step (fixed_of given) (world_after given events agent caller site ops so_far) event).done.outcome ≡ Some one → number_of one ≡ t → Where one
+    where_now one is numbered = of (hinders_itself given agent (world_at so_far) event) refl
+      where
+        of : (b : Bool) → hinders_itself given agent (world_after given events agent caller site ops so_far) event ≡ b → Where one
+        of false calm = ⊎_elim
+            (λ apart. absurd (not_ended so_far rest event split c apart.0.other one is numbered))
+            (λ own. inl (record {
+              so_far = so_far;
+              rest = rest;
+              split = own_split own.0;
+              course = c;
+              took = own_took_so own.0 own.1;
+              is = ap (λ event. (step (fixed_of given) (world_after given events agent caller site ops so_far) event).done.outcome) (sym own.0) ∙ is;
+            }))
+            (event_apart given agent (world_at so_far) c.here c.there c.busy event calm)
+        of true hinders = ⊎_elim
+            (λ lacks. inr (record {
+              so_far = so_far;
+              rest = rest;
+              event = event;
+              split = split;
+              course = c;
+              hinders = hinders;
+              right = lack_right given events later agent t caller site ops actor goes so_far rest event split c hinders lacks one is;
+            }))
+            (λ nothing. absurd (none-some one (sym (ap (λ (stepped : Stepped). stepped.done.outcome) nothing.is) ∙ is)))
+            (hindered given agent (world_at so_far) c.here c.there event hinders)
+
+  -- ---- all along
+
+  ends_in : (rest so_far : List Event) → later ≡ so_far ++ rest → Course given events later agent t caller site ops actor goes so_far ⊎ Over so_far → (one : EndedJob) → Has (outcomes (dones (fixed_of given) (world_after given events agent caller site ops so_far) rest)) one → number_of one ≡ t → Where one
   ends_in [] so_far split state one has numbered = absurd has
   ends_in (event ∷ rest) so_far split state one has numbered =
       ⊎_elim
-      (λ c. by c (λ state has. ends_in rest (so_far ++ event ∷ []) (split ∙ sym (append_assoc so_far (event ∷ []) rest)) state one has numbered))
+      (λ c.
+      goes_later (λ is. where_now so_far rest event split c one is numbered)
+      (λ has. ends_in rest (so_far ++ event ∷ []) (split ∙ sym (append_assoc so_far (event ∷ []) rest)) (state_on so_far rest event split c) one has numbered) (step (fixed_of given) (world_at so_far) event).done.outcome refl has)
       (λ over.
       goes_later (λ is. absurd (never_again so_far event over one is numbered))
       (λ has. ends_in rest (so_far ++ event ∷ []) (split ∙ sym (append_assoc so_far (event ∷ []) rest)) (inr (over_on so_far event over)) one has numbered) (step (fixed_of given) (world_at so_far) event).done.outcome refl has)
       state
     where
-      goes_later : ((step (fixed_of given) (world_after given events agent caller site ops so_far) event).done.outcome ≡ Some one → EndsWhere one)
-          → (Has (outcomes (dones (fixed_of given) (world_after given events agent caller site ops (so_far ++ event ∷ [])) rest)) one → EndsWhere one)
+      goes_later : ((step (fixed_of given) (world_after given events agent caller site ops so_far) event).done.outcome ≡ Some one → Where one)
+          → (Has (outcomes (dones (fixed_of given) (world_after given events agent caller site ops (so_far ++ event ∷ [])) rest)) one → Where one)
           → (found : Option EndedJob) → (step (fixed_of given) (world_after given events agent caller site ops so_far) event).done.outcome ≡ found
-          → Has (cons_option found (outcomes (dones (fixed_of given) (step (fixed_of given) (world_after given events agent caller site ops so_far) event).world rest))) one → EndsWhere one
+          → Has (cons_option found (outcomes (dones (fixed_of given) (step (fixed_of given) (world_after given events agent caller site ops so_far) event).world rest))) one → Where one
       goes_later here go None is has = go (subst (λ w. Has (outcomes (dones (fixed_of given) w rest)) one) (sym (next_is given events later agent t caller site ops actor goes so_far event)) has)
       goes_later here go (Some other) is has =
           ⊎_elim (λ same. here (is ∙ ap (λ o. Some o) same)) (λ has. go (subst (λ w. Has (outcomes (dones (fixed_of given) w rest)) one) (sym (next_is given events later agent t caller site ops actor goes so_far event)) has)) has
 
-      by : Course given events later agent t caller site ops actor goes so_far → (Course given events later agent t caller site ops actor goes (so_far ++ event ∷ []) ⊎ Over (so_far ++ event ∷ []) → Has (outcomes (dones (fixed_of given) (world_after given events agent caller site ops (so_far ++ event ∷ [])) rest)) one → EndsWhere one) → EndsWhere one
-      by c go = ⊎_elim
-          (λ apart.
-          goes_later (λ is. absurd (not_ended so_far rest event split c apart.0.other one is numbered)) (go (inl (apart_on given events later agent t caller site ops actor goes so_far rest event split c apart.0 apart.1).0)) (step (fixed_of given) (world_at so_far) event).done.outcome refl has)
-          (λ own. own_step own.0 own.1)
-          (event_apart given agent (world_at so_far) c.here c.there c.busy event (unhindered given events later agent t caller site ops actor goes so_far rest event split c))
-        where
-          own_step : event ≡ Step agent → is_some (step (fixed_of given) (world_after given events agent caller site ops so_far) event).done.served ≡ true → EndsWhere one
-          own_step is served =
-              let split' : later ≡ so_far ++ Step agent ∷ rest = split ∙ ap (λ event. so_far ++ event ∷ rest) is in
-              let took = own_took (fixed_of given) (world_at so_far) agent c.here c.there (subst (λ event. is_some (step (fixed_of given) (world_after given events agent caller site ops so_far) event).done.served ≡ true) is served) in
-              let r = runs_it given events later agent t caller site ops actor goes so_far c in
-              let on = own_on given events later agent t caller site ops actor goes so_far rest split' c r took in
-              let here : (step (fixed_of given) (world_after given events agent caller site ops so_far) event).done.outcome ≡ Some one → EndsWhere one =
-              λ ends. record { so_far = so_far; rest = rest; split = split'; course = c; took = took; is = ap (λ event. (step (fixed_of given) (world_after given events agent caller site ops so_far) event).done.outcome) (sym is) ∙ ends } in
-              let state : Course given events later agent t caller site ops actor goes (so_far ++ event ∷ []) ⊎ Over (so_far ++ event ∷ []) =
-              subst (λ event. Course given events later agent t caller site ops actor goes (so_far ++ event ∷ []) ⊎ Over (so_far ++ event ∷ [])) (sym is) (⊎_elim (λ on. inl on.0) (λ ended. inr (over_now so_far (Step agent) ended.0 ended.1 ended.2)) on) in
-              goes_later here (go state) (step (fixed_of given) (world_at so_far) event).done.outcome refl has
-
-  pub ends_where : (one : EndedJob) → Contains (outcomes (dones (fixed_of given) (begun_world given events agent caller site ops) later)) one → number_of one ≡ t → EndsWhere one
+  pub ends_where : (one : EndedJob) → Contains (outcomes (dones (fixed_of given) (begun_world given events agent caller site ops) later)) one → number_of one ≡ t → Where one
   ends_where one there number =
       ends_in later [] refl (inl (first_course given events later agent t caller site ops actor goes)) one (has_from (outcomes (dones (fixed_of given) (begun_world given events agent caller site ops) later)) one there) number
 
   -- it ends so
   pub among_ends : (one : EndedJob) → Contains (outcomes (dones (fixed_of given) (begun_world given events agent caller site ops) later)) one → number_of one ≡ t → Right given events later agent t caller site ops actor goes one.ending
-  among_ends one there number =
-      let e = ends_where one there number in
-      ends_right given events later agent t caller site ops actor goes e.so_far e.rest e.split e.course (runs_it given events later agent t caller site ops actor goes e.so_far e.course) e.took one e.is
+  among_ends one there number = ⊎_elim
+      (λ e. ends_right given events later agent t caller site ops actor goes e.so_far e.rest e.split e.course (runs_it given events later agent t caller site ops actor goes e.so_far e.course) e.took one e.is)
+      (λ l. l.right)
+      (ends_where one there number)

@@ -1,14 +1,15 @@
--- What a transaction that goes among locks that stay knows after a step of it is so on the table of its begin, whatever others have decided since.
-use Rattle.std.proofs.Common.{◌≡◌, ◌≢◌, ℕ, Bool, true, false, List, [], ◌∷◌, ◌++◌, append_assoc, Option, Some, None, refl, sym, ap, subst, ◌∙◌}
-use Rattle.std.specs.Prelude.{◌==◌, unwrap_or, Contains}
+-- What a transaction that goes steadily knows after a step of it is so on the table of its begin, whatever others have decided since.
+use Rattle.std.proofs.Common.{◌≡◌, ◌≢◌, true, false, List, [], ◌∷◌, ◌++◌, append_assoc, Option, Some, None, refl, sym, ap, subst, ◌∙◌, ℕ}
+use Rattle.std.specs.Prelude.{◌==◌, unwrap_or}
 use Rattle.std.specs.Ordering.{nat_cmp}
-use Rattle.std.proofs.lemmas.Bool.{false≢true, and_parts, eqb-true, eq-eqb}
+use Rattle.std.proofs.lemmas.Bool.{false≢true, and_parts, eqb-true}
 use Rattle.std.proofs.lemmas.Option.{none-some}
 use Rattle.sorted_map.specs.SortedMap.{IsOrdered}
 use Rattle.acl_core.specs.Identity.{Identity}
 use Rattle.suite_prefix.specs.SettingsRules.{Opening}
 use Rattle.suite_prefix.specs.declared.copies.Prefix.{Prefix}
-use Rattle.suite_prefix.specs.declared.lock_mode.LockMode.{LockMode}
+use Rattle.suite_prefix.specs.declared.copies.Replica.{Replica}
+use Rattle.suite_prefix.specs.declared.lock_mode.LockMode.TheVariants.{Shared}
 use Rattle.file_ops.specs.declared.operation.Op.{Op}
 use Rattle.file_ops.specs.Rows.{row_of}
 use Rattle.file_exec.specs.Known as known
@@ -48,23 +49,25 @@ use Rattle.law_run_alone.proofs.Standing.{Stands}
 use Rattle.law_run_alone.proofs.Unhindered.{all_consistent}
 use Rattle.law_run_alone.proofs.Unswept.{is_resolve}
 use Rattle.law_run_recovers.specs.Standing.{locks_in, locks_at}
-use Rattle.law_run_recovers.specs.Near.{asks_for, is_open_way, is_open_at, way_in}
-use Rattle.law_run_recovers.specs.Unmet.{runs, running_in, is_running, begun_world, world_after}
-use Rattle.law_run_recovers.specs.Among.{GoesAmongLocks}
+use Rattle.law_run_recovers.specs.Near.{is_open_way, is_open_at, way_in}
+use Rattle.law_run_recovers.specs.Told.{shows_same}
+use Rattle.law_run_recovers.specs.Unmet.{begun_world, world_after}
+use Rattle.law_run_recovers.proofs.Steady.{GoesSteadily}
 use Rattle.law_run_recovers.proofs.AsBegun.{row_same, stored_effect}
 use Rattle.law_run_recovers.proofs.Asking.{known_if_first, known_in, known_is}
 use Rattle.law_run_recovers.proofs.AtWork.{locks_stand, stands_next}
-use Rattle.law_run_recovers.proofs.Keeps.{IsAtWork, after_append, run_at, open_stands, same_next}
+use Rattle.law_run_recovers.proofs.Keeps.{IsAtWork, after_append, run_at}
 use Rattle.law_run_recovers.proofs.Knew.{unrecorded_on, unanswered, knows_registers, knows_table}
-use Rattle.law_run_recovers.proofs.NearGround.{its, opens, first_asked, can_first, asked_in, first_there}
+use Rattle.law_run_recovers.proofs.Locked.{free_beside}
+use Rattle.law_run_recovers.proofs.NearGround.{its, first_asked, can_first}
 use Rattle.law_run_recovers.proofs.Serves.{On}
 use Rattle.law_run_recovers.proofs.Stand.{free_where}
 use Rattle.law_run_recovers.proofs.Stands.{asks_of, locks_on}
 use Rattle.law_run_recovers.proofs.Took.{OwnTook}
-use Rattle.law_run_recovers.proofs.AmongAt.{IsSpared, HasWhereOpen, can_so_far}
+use Rattle.law_run_recovers.proofs.AmongAt.{IsSpared, HasWhereOpen, ShowsWhereLocked, can_so_far}
 use Rattle.law_run_recovers.proofs.Unrobbed.{unrecorded_at}
 
-module _ (given : Opening) (events later : List Event) (agent t : ℕ) (caller : Identity) (site : ℕ) (ops : List Op) (actor : Actor) (goes : GoesAmongLocks given events later agent t caller site ops actor) (so_far rest : List Event)
+module _ (given : Opening) (events later : List Event) (agent t : ℕ) (caller : Identity) (site : ℕ) (ops : List Op) (actor : Actor) (goes : GoesSteadily given events later agent t caller site ops actor) (so_far rest : List Event)
     (split : later ≡ so_far ++ Step agent ∷ rest) (work : IsAtWork (world_after given events agent caller site ops so_far) agent t) (spared : IsSpared given events later agent t caller site ops actor goes (so_far ++ Step agent ∷ []))
     (here : Actor) (there : actor_at (world_after given events agent caller site ops so_far) agent ≡ Some here)
     (took : OwnTook (fixed_of given) (world_after given events agent caller site ops so_far) agent here there (step (fixed_of given) (world_after given events agent caller site ops so_far) (Step agent)))
@@ -110,11 +113,9 @@ module _ (given : Opening) (events later : List Event) (agent t : ℕ) (caller :
       of i st at None is = is
       of i st at (Some v) is = absurd (no_record given goes.can.accepted events agent t (Transaction caller site ops) goes.begins i st at v is)
 
-  module _ (locks : HasWhereOpen given events later agent t caller site ops actor goes (world_after given events agent caller site ops (so_far ++ Step agent ∷ []))) (new : Actor) (more : TransactionRun)
+  module _ (locks : HasWhereOpen given events later agent t caller site ops actor goes (world_after given events agent caller site ops (so_far ++ Step agent ∷ [])))
+      (shown : ShowsWhereLocked given events later agent t caller site ops actor goes (world_after given events agent caller site ops (so_far ++ Step agent ∷ []))) (new : Actor) (more : TransactionRun)
       (there_new : actor_at (world_after given events agent caller site ops (so_far ++ Step agent ∷ [])) agent ≡ Some new) (running : new.agent.doing ≡ Some (Running more)) (number : more.task.t ≡ t) (ordered : IsOrdered nat_cmp more.suites) where
-    runs_on : is_running (world_at next) agent t ≡ true
-    runs_on = ap (running_in t) there_new ∙ ap (runs t) running ∙ eq-eqb more.task.t t number
-
     there_run : actor_at (run given all) agent ≡ Some new
     there_run = ap (λ w. actor_at w agent) (sym is_run) ∙ there_new
 
@@ -127,35 +128,32 @@ module _ (given : Opening) (events later : List Event) (agent t : ℕ) (caller :
     at_moment : AgreesWith (known_of more.suites) (row_of (table_of given all).rows)
     at_moment = knows_table given all can agent new more there_run running ordered stands_its none_its
 
-    module _ (z : ℕ) (has : Contains (asks_for given events t caller ops) (z, first_asked given events later agent t caller site ops actor goes z)) where
-      abbrev mode : LockMode
-      mode = first_asked given events later agent t caller site ops actor goes z
-
-      -- at a server that is open to it the same is in effect
-      effect_same : (i : ℕ) → opens given events later agent t caller site ops actor goes z (first_asked given events later agent t caller site ops actor goes z) i ≡ true → effect (machine_of given z all) i ≡ effect (machine_of given z events) i
-      effect_same i is = of (server_at (world_at next) i) refl (server_at (run given events) i) refl
+    module _ (z : ℕ) where
+      -- where it has a lock the same versions are in effect
+      effect_same : (i : ℕ) → On (locks_at (world_at next) i) t z
+          → ((effect (machine_of given z all) i).prefix.pver ≡ (effect (machine_of given z events) i).prefix.pver) × ((effect (machine_of given z all) i).dver ≡ (effect (machine_of given z events) i).dver)
+      effect_same i on = of (server_at (world_at next) i) refl (server_at (run given events) i) refl
         where
-          near : goes.near i ≡ true
-          near = (and_parts (goes.near i) (is_open_at (run given events) t z (first_asked given events later agent t caller site ops actor goes z) i) is).0
-
           was_open : is_open_at (run given events) t z (first_asked given events later agent t caller site ops actor goes z) i ≡ true
-          was_open = (and_parts (goes.near i) (is_open_at (run given events) t z (first_asked given events later agent t caller site ops actor goes z) i) is).1
-
-          still_open : is_open_at (world_after given events agent caller site ops (so_far ++ Step agent ∷ [])) t z (first_asked given events later agent t caller site ops actor goes z) i ≡ true
-          still_open = ap is_open_way ((goes.stays (so_far ++ Step agent ∷ []) rest split_on runs_on).way i (z, first_asked given events later agent t caller site ops actor goes z) near has) ∙ was_open
+          was_open = (and_parts (goes.near i) (is_open_at (run given events) t z (first_asked given events later agent t caller site ops actor goes z) i) (locks i z on)).1
 
           of : (found : Option State) → server_at (world_after given events agent caller site ops (so_far ++ Step agent ∷ [])) i ≡ found → (was : Option State) → server_at (run given events) i ≡ was
-              → effect (machine_of given z (events ++ Begin agent (Transaction caller site ops) ∷ (so_far ++ Step agent ∷ []))) i ≡ effect (machine_of given z events) i
-          of None at was before = absurd (false≢true (ap (λ found. is_open_way (way_in t z (first_asked given events later agent t caller site ops actor goes z) found)) (sym at) ∙ still_open))
+              → ((effect (machine_of given z (events ++ Begin agent (Transaction caller site ops) ∷ (so_far ++ Step agent ∷ []))) i).prefix.pver ≡ (effect (machine_of given z events) i).prefix.pver)
+              × ((effect (machine_of given z (events ++ Begin agent (Transaction caller site ops) ∷ (so_far ++ Step agent ∷ []))) i).dver ≡ (effect (machine_of given z events) i).dver)
+          of None at was before = absurd (subst (λ found. Has (locks_in found) on.lock) at on.has)
           of (Some st) at None before = absurd (false≢true (ap (λ found. is_open_way (way_in t z (first_asked given events later agent t caller site ops actor goes z) found)) (sym before) ∙ was_open))
           of (Some st) at (Some old) before =
-              stored_effect given z (machine_of given z all) (run given all) (effects.follows given all (all_keep given all can) z).shows (all_consistent given all) t (first_asked given events later agent t caller site ops actor goes z) (none_then z) i st (ap (λ w. server_at w i) (sym is_run) ∙ at)
-              (free_where t z (first_asked given events later agent t caller site ops actor goes z) st (ap (λ found. is_open_way (way_in t z (first_asked given events later agent t caller site ops actor goes z) found)) (sym at) ∙ still_open))
-              ∙ same_next given events later agent t caller site ops actor goes i (z, first_asked given events later agent t caller site ops actor goes z) near has was_open so_far rest (Step agent) split work
-              (open_stands given events later agent t caller site ops actor goes i (z, first_asked given events later agent t caller site ops actor goes z) near has was_open so_far (Step agent ∷ rest) split work)
-              st old (ap (λ w. server_at w i) (sym stepped_is) ∙ at) before
-              ∙ sym (stored_effect given z (machine_of given z events) (run given events) (effects.follows given events (all_keep given events (can_first given events later agent t caller site ops actor goes)) z).shows (all_consistent given events) t (first_asked given events later agent t caller site ops actor goes z)
-              (none_first z) i old before (free_where t z (first_asked given events later agent t caller site ops actor goes z) old (ap (λ found. is_open_way (way_in t z (first_asked given events later agent t caller site ops actor goes z) found)) (sym before) ∙ was_open)))
+              let there = ap (λ w. server_at w i) (sym is_run) ∙ at in
+              let here : On st.locks t z = record { lock = on.lock; has = subst (λ found. Has (locks_in found) on.lock) at on.has; of_it = on.of_it; on_it = on.on_it } in
+              let now = stored_effect given z (machine_of given z all) (run given all) (effects.follows given all (all_keep given all can) z).shows (all_consistent given all) t Shared (none_then z) i st there
+              (free_beside st (all_consistent given all i st there) t z here) in
+              let begun = stored_effect given z (machine_of given z events) (run given events) (effects.follows given events (all_keep given events (can_first given events later agent t caller site ops actor goes)) z).shows (all_consistent given events) t
+              (first_asked given events later agent t caller site ops actor goes z) (none_first z) i old before
+              (free_where t z (first_asked given events later agent t caller site ops actor goes z) old (ap (λ found. is_open_way (way_in t z (first_asked given events later agent t caller site ops actor goes z) found)) (sym before) ∙ was_open)) in
+              let same : shows_same (Some st) (Some old) z = subst (λ found. shows_same found (Some old) z) at (subst (λ found. shows_same (server_at (world_at next) i) found z) before (shown i z on)) in (
+                ap (λ (copy : Replica). copy.prefix.pver) now ∙ ap (λ (prefix : Prefix). prefix.pver) same.0 ∙ sym (ap (λ (copy : Replica). copy.prefix.pver) begun),
+                ap (λ (copy : Replica). copy.dver) now ∙ same.1 ∙ sym (ap (λ (copy : Replica). copy.dver) begun),
+              )
 
       module _ (suite : Suite) (first : ReadPoint) (found : suite_of more.suites z ≡ Some suite) (had : suite.first ≡ Some first) where
         owes : OwesKnown (beginning z given) (machine_of given z all) more.task.t (known_by first suite)
@@ -164,25 +162,22 @@ module _ (given : Opening) (events later : List Event) (agent t : ℕ) (caller :
         is_known_so : IsKnown (register given z all) (known_by first suite)
         is_known_so = knows_registers given all can agent new more there_run running stands_its none_its z suite first found had
 
-        abbrev shown : ℕ → Bool
-        shown = showed_to (machine_of given z all) more.task.t (known_by first suite)
-
-        -- who told it of the suite has its lock there still, and so was open to it
-        open_it : (i : ℕ) → showed_to (machine_of given z all) more.task.t (known_by first suite) i ≡ true → opens given events later agent t caller site ops actor goes z (first_asked given events later agent t caller site ops actor goes z) i ≡ true
-        open_it i is = of ((machine_of given z all).told i more.task.t) refl is
+        -- who told it of the suite has its lock there still
+        lock_it : (i : ℕ) → showed_to (machine_of given z all) more.task.t (known_by first suite) i ≡ true → On (locks_at (world_at next) i) t z
+        lock_it i is = of ((machine_of given z all).told i more.task.t) refl is
           where
             there_lock : (at : Option State) → server_at (run given all) i ≡ at → (lock : Lock) → Has (unwrap_or at (state.opening i given)).locks lock → lock.t ≡ t → lock.suite ≡ z → On (locks_at (world_at next) i) t z
             there_lock None at lock has of_it on_it = absurd has
             there_lock (Some st) at lock has of_it on_it = record { lock = lock; has = subst (λ locks. Has locks lock) (sym (ap (λ w. locks_at w i) is_run ∙ ap locks_in at)) has; of_it = of_it; on_it = on_it }
 
-            by_lock : (one : Option Lock) → lock_at more.task.t z (servers_of given (run given all) i).locks ≡ one → (hold : Hold) → hold_of one ≡ Some hold → opens given events later agent t caller site ops actor goes z (first_asked given events later agent t caller site ops actor goes z) i ≡ true
+            by_lock : (one : Option Lock) → lock_at more.task.t z (servers_of given (run given all) i).locks ≡ one → (hold : Hold) → hold_of one ≡ Some hold → On (locks_at (world_at next) i) t z
             by_lock None at hold some = absurd (none-some hold some)
             by_lock (Some lock) at hold some =
                 let there' = find_some (is_own more.task.t z) (servers_of given (run given all) i).locks lock at in
                 let own = and_parts (lock.t == more.task.t) (lock.suite == z) there'.1 in
-                locks i z (there_lock (server_at (run given all) i) refl lock there'.0 (eqb-true lock.t more.task.t own.0 ∙ number) (eqb-true lock.suite z own.1))
+                there_lock (server_at (run given all) i) refl lock there'.0 (eqb-true lock.t more.task.t own.0 ∙ number) (eqb-true lock.suite z own.1)
 
-            of : (told : Option Told) → (machine_of given z all).told i more.task.t ≡ told → showed (known_by first suite) told ≡ true → opens given events later agent t caller site ops actor goes z (first_asked given events later agent t caller site ops actor goes z) i ≡ true
+            of : (told : Option Told) → (machine_of given z all).told i more.task.t ≡ told → showed (known_by first suite) told ≡ true → On (locks_at (world_at next) i) t z
             of None at is = absurd (false≢true is)
             of (Some told) at is =
                 let stood = stands_its z i told at in
@@ -197,7 +192,7 @@ module _ (given : Opening) (events later : List Event) (agent t : ℕ) (caller :
             sym (all_shown given all (all_keep given all can) z).shows
             ∙ ap row_shown (row_same (beginning z given) (machine_of given z events) (machine_of given z all) (effects.inv given events (all_keep given events can0) z) (effects.inv given all (all_keep given all can) z)
             (effects.goes_on given events (Begin agent (Transaction caller site ops) ∷ (so_far ++ Step agent ∷ [])) (all_keep given all can) z) (showed_to (machine_of given z all) more.task.t (known_by first suite)) quorum
-            (λ i is. effect_same i (open_it i is)))
+            (λ i is. effect_same i (lock_it i is)))
             ∙ (all_shown given events (all_keep given events can0) z).shows
 
     -- ---- so it is on the table of its begin
@@ -205,13 +200,10 @@ module _ (given : Opening) (events later : List Event) (agent t : ℕ) (caller :
     pub knows_begun : (z : ℕ) → asks_of (locks_on (table_of given events) (its given events later agent t caller site ops actor goes)) z ≡ true → IsSoAt (known.known_of (known_of more.suites) z) (row_of (table_of given events).rows z)
     knows_begun z is = of (suite_of more.suites z) refl
       where
-        one : (mode : LockMode) × Contains (asks_for given events t caller ops) (z, mode)
-        one = asked_in given events later agent t caller site ops actor goes z is
-
         by : (suite : Suite) → suite_of more.suites z ≡ Some suite → (first : Option ReadPoint) → suite.first ≡ first → IsSoAt (known.known_of (known_of more.suites) z) (row_of (table_of given events).rows z)
         by suite found None had =
             subst (λ found. IsSoAt found (row_of (table_of given events).rows z)) (sym (known_is more.suites ordered z ∙ ap known_in found ∙ ap (known_if_first suite) had)) tt
-        by suite found (Some first) had = subst (IsSoAt (known.known_of (known_of more.suites) z)) (rows_same z (first_there given events later agent t caller site ops actor goes z one.0 one.1) suite first found had) (at_moment z)
+        by suite found (Some first) had = subst (IsSoAt (known.known_of (known_of more.suites) z)) (rows_same z suite first found had) (at_moment z)
 
         of : (found : Option Suite) → suite_of more.suites z ≡ found → IsSoAt (known.known_of (known_of more.suites) z) (row_of (table_of given events).rows z)
         of None found = subst (λ found. IsSoAt found (row_of (table_of given events).rows z)) (sym (known_is more.suites ordered z ∙ ap known_in found)) tt

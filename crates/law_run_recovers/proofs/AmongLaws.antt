@@ -1,4 +1,4 @@
--- What is promised to a transaction that goes among locks that stay, by the servers that are open to it.
+-- What is promised to a transaction that goes steadily, by the servers that are open to it; as one that goes among locks that stay.
 use Rattle.std.proofs.Common.{◌≡◌, ◌⊎◌, inl, inr, ℕ, Bool, true, false, cond, List, [], ◌∷◌, ◌++◌, append-nil, length, Option, Some, None, refl, sym, ap, subst, ◌∙◌}
 use Rattle.std.specs.Prelude.{◌==◌, ◌&&◌, not, nat_lt, map, find, Contains}
 use Rattle.std.proofs.lemmas.Bool.{false≢true, and_parts, eq-eqb, eqb-true}
@@ -33,7 +33,8 @@ use Rattle.law_run_recovers.specs.Standing.{up_in, is_up}
 use Rattle.law_run_recovers.specs.Demands.{Demand, is_met, all_met, led_to_by, votes_set, votes_of_row, MayStart, MayStartAll}
 use Rattle.law_run_recovers.specs.Laws.{HasFirstVotes, answer_on}
 use Rattle.law_run_recovers.specs.Near.{asks_for, is_open_way, is_way_met, way_in, way_at, is_open_at, in_its_way}
-use Rattle.law_run_recovers.specs.Among.{GoesAmongLocks, EndsOpenly, EndsByOpenVotes, first_wanting, has_votes_open, AmongLocksEndByVotes, AmongLocksAreDecidedWhereVotesAre}
+use Rattle.law_run_recovers.specs.Among.{EndsOpenly, EndsByOpenVotes, first_wanting, has_votes_open, AmongLocksEndByVotes, AmongLocksAreDecidedWhereVotesAre}
+use Rattle.law_run_recovers.proofs.Steady.{GoesSteadily, steady}
 use Rattle.law_run_recovers.specs.OpenDemands.{Want, open_demand, open_demands, first_mode, wants, wants_of_rows}
 use Rattle.law_run_recovers.specs.Local.{EndsThen, VotesNeverMovedOf}
 use Rattle.law_run_recovers.proofs.Leading.{led}
@@ -81,7 +82,7 @@ all_is world t (want ∷ all) =
       | false ↦ refl
     ]
 
-module _ (given : Opening) (events later : List Event) (agent t : ℕ) (caller : Identity) (site : ℕ) (ops : List Op) (actor : Actor) (goes : GoesAmongLocks given events later agent t caller site ops actor) where
+module _ (given : Opening) (events later : List Event) (agent t : ℕ) (caller : Identity) (site : ℕ) (ops : List Op) (actor : Actor) (goes : GoesSteadily given events later agent t caller site ops actor) where
   abbrev fixed : Fixed
   fixed = fixed_of given
 
@@ -276,7 +277,9 @@ module _ (given : Opening) (events later : List Event) (agent t : ℕ) (caller :
         decided_so job by ∙ ap (λ all. all_met (open_demands (run given events) t all) && is_up (run given events) (home_of (fixed_of given).service t)) (rows_same by.start by.from)
 
 pub among_locks_end_by_votes : AmongLocksEndByVotes
-among_locks_end_by_votes given events later agent t caller site ops actor goes job ends = among_by_votes given events later agent t caller site ops actor goes job ends
+among_locks_end_by_votes given events later agent t caller site ops actor goes job ends =
+    among_by_votes given events later agent t caller site ops actor (steady given events later agent t caller site ops actor goes) job ends
 
 pub among_locks_are_decided_where_votes_are : AmongLocksAreDecidedWhereVotesAre
-among_locks_are_decided_where_votes_are given events later agent t caller site ops actor goes unmoved job ends = among_where_votes given events later agent t caller site ops actor goes unmoved job ends
+among_locks_are_decided_where_votes_are given events later agent t caller site ops actor goes unmoved job ends =
+    among_where_votes given events later agent t caller site ops actor (steady given events later agent t caller site ops actor goes) unmoved job ends

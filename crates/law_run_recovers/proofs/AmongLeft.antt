@@ -1,6 +1,6 @@
 -- A transaction that goes among locks that stay has none once it has ended: each server that gave it one was told how it ended.
-use Rattle.std.proofs.Common.{◌≡◌, ◌⊎◌, inl, inr, ⊎_elim, ℕ, ◌+◌, ◌≤◌, ◌<◌, Bool, true, false, cond, List, [], ◌∷◌, ◌++◌, append-nil, append_assoc, length, Option, Some, None, is_some, refl, sym, ap, subst, ◌∙◌, arith}
-use Rattle.std.specs.Prelude.{◌*◌, ◌==◌, ◌&&◌, ◌||◌, not, filter, slice_get, slice_set}
+use Rattle.std.proofs.Common.{◌≡◌, ◌⊎◌, inl, inr, ⊎_elim, ℕ, ◌+◌, ◌≤◌, ◌<◌, Bool, true, false, List, [], ◌∷◌, ◌++◌, append-nil, append_assoc, length, Option, Some, None, is_some, refl, sym, ap, subst, ◌∙◌, arith}
+use Rattle.std.specs.Prelude.{◌*◌, ◌==◌, ◌&&◌, ◌||◌, filter, slice_get, slice_set}
 use Rattle.std.specs.List.{list_any}
 use Rattle.std.proofs.lemmas.Bool.{false≢true, and_parts, and_from, eqb-true, eq-eqb}
 use Rattle.std.proofs.lemmas.List.Folds.{list_any-append}
@@ -13,11 +13,9 @@ use Rattle.rep_core.specs.declared.lock.Lock.{Lock}
 use Rattle.rep_core.specs.declared.request.Request.{Request}
 use Rattle.rep_core.specs.declared.request.Request.TheVariants as request
 use Rattle.rep_core.specs.declared.reply.Reply.{Reply}
-use Rattle.rep_core.specs.declared.reply.Verdict.{Verdict}
 use Rattle.rep_core.specs.declared.stamped.Stamped.{Stamped}
-use Rattle.rep_core.specs.Locks.{released}
 use Rattle.rep_core.specs.State.{State}
-use Rattle.rep_core.specs.Service.{reply_of, after_up, after_down}
+use Rattle.rep_core.specs.Service.{reply_of}
 use Rattle.rep_core.specs.Serving.{served, answer_of}
 use Rattle.rep_core.proofs.Members.{Has, contains_from, has_filter, filter_has, has_map, any_has, has_any}
 use Rattle.txn_core.specs.declared.job.Job.TheVariants.{Transaction}
@@ -47,12 +45,14 @@ use Rattle.law_run_recovers.proofs.Apart.{Apart, event_apart}
 use Rattle.law_run_recovers.proofs.Downs.{held-append}
 use Rattle.law_run_recovers.proofs.Freed.{or_left, or_right}
 use Rattle.law_run_recovers.proofs.Keeps.{run_at}
+use Rattle.law_run_recovers.proofs.Locked.{freed}
 use Rattle.law_run_recovers.proofs.Knows.{among_numbers}
 use Rattle.law_run_recovers.proofs.NearGround.{number, first_asked, opens_up}
 use Rattle.law_run_recovers.proofs.Open.{begun_servers}
 use Rattle.law_run_recovers.proofs.Serves.{On, Told, told_on}
 use Rattle.law_run_recovers.proofs.Took.{OwnTook, own_took}
-use Rattle.law_run_recovers.proofs.AmongCourse.{Course, runs_it, next_is, unhindered, running_now, apart_on}
+use Rattle.law_run_recovers.proofs.AmongCourse.{Course, runs_it, next_is, running_now, course_runs, apart_on}
+use Rattle.law_run_recovers.proofs.Steady.{GoesSteadily, steady, never_hindered}
 use Rattle.law_run_recovers.proofs.AmongEnds.{Over, over_on, over_now}
 use Rattle.law_run_recovers.proofs.AmongOver.{never_others, never_over, ended_over, course_not_over}
 use Rattle.law_run_recovers.proofs.AmongStep.{idle_before, first_course, is_then, own_on}
@@ -121,17 +121,12 @@ both_none true b is none = is
 both_none false true is none = none
 both_none false false is none = refl
 
--- ---- a Finish frees its server
-
-freed : (st : State) (u : ℕ) (v : Verdict) (lock : Lock) → st.up ≡ true → Has (cond st.up (after_up st (request.Finish u v)) (after_down st (request.Finish u v))).locks lock → lock.t ≡ u → ⊥
-freed st u v lock up has same =
-    let there : Has (released u st.locks) lock = subst (λ b. Has (cond b (after_up st (request.Finish u v)) (after_down st (request.Finish u v))).locks lock) up has in
-    let kept = has_filter (λ (lock : Lock). not (lock.t == u)) st.locks lock there in
-    false≢true (sym (ap not (eq-eqb lock.t u same)) ∙ kept.1)
-
 -- ---- all along
 
-module _ (given : Opening) (events later : List Event) (agent t : ℕ) (caller : Identity) (site : ℕ) (ops : List Op) (actor : Actor) (goes : GoesAmongLocks given events later agent t caller site ops actor) where
+module _ (given : Opening) (events later : List Event) (agent t : ℕ) (caller : Identity) (site : ℕ) (ops : List Op) (actor : Actor) (among : GoesAmongLocks given events later agent t caller site ops actor) where
+  abbrev goes : GoesSteadily given events later agent t caller site ops actor
+  goes = steady given events later agent t caller site ops actor among
+
   abbrev world_at : List Event → World
   world_at so_far = world_after given events agent caller site ops so_far
 
@@ -210,7 +205,7 @@ module _ (given : Opening) (events later : List Event) (agent t : ℕ) (caller :
         let opens = opens_up given events later agent t caller site ops actor goes z (first_asked given events later agent t caller site ops actor goes z) took.asked.0 (c.locks took.asked.0 z on) in
         let parts = and_parts (goes.near took.asked.0) (is_up (run given events) took.asked.0) opens in
         ap up_in (sym took.at)
-        ∙ (goes.stays so_far (Step agent ∷ rest) split (running_now given events later agent t caller site ops actor goes so_far rest (Step agent) split c)).up took.asked.0 parts.0 ∙ parts.1
+        ∙ (among.stays so_far (Step agent ∷ rest) split (running_now given events later agent t caller site ops actor goes so_far rest (Step agent) split c)).up took.asked.0 parts.0 ∙ parts.1
 
     -- one that it tells now how it ended has no lock of it then
     done_none : (server z : ℕ) → On (locks_at (world_after given events agent caller site ops so_far) server) t z
@@ -318,7 +313,8 @@ module _ (given : Opening) (events later : List Event) (agent t : ℕ) (caller :
   left_on so_far rest event split (inr over) = inr (over_on given events later agent t caller site ops actor goes so_far event over.0, none_on so_far event over.0 over.1)
   left_on so_far rest event split (inl on) =
       ⊎_elim aside own
-      (event_apart given agent (world_at so_far) on.0.here on.0.there on.0.busy event (unhindered given events later agent t caller site ops actor goes so_far rest event split on.0))
+      (event_apart given agent (world_at so_far) on.0.here on.0.there on.0.busy event
+      (never_hindered given events later agent t caller site ops actor among so_far rest event split (course_runs given events later agent t caller site ops actor goes so_far on.0)))
     where
       same_held : (told : List agents.Event) → past told ≡ past on.0.told → (event ≡ Step agent → ⊥) → Held (so_far ++ event ∷ []) told
       same_held told same apart server z there =
@@ -370,6 +366,6 @@ among_locks_leave_no_lock given events later agent t caller site ops actor goes 
     of false is = refl
     of true is =
         let some = any_has (λ (lock : Lock). lock.t == t) (locks_at (run given (events ++ Begin agent (Transaction caller site ops) ∷ later)) server) is in
-        absurd (none_left given events later agent t caller site ops actor goes (ended_over given events later agent t caller site ops actor goes it.job it.ends) server some.0.suite
+        absurd (none_left given events later agent t caller site ops actor goes (ended_over given events later agent t caller site ops actor (steady given events later agent t caller site ops actor goes) it.job it.ends) server some.0.suite
         (subst (λ w. On (locks_at w server) t some.0.suite) (sym (run_at given events later agent t caller site ops actor goes.can goes.there goes.begins later))
         (record { lock = some.0; has = some.1; of_it = eqb-true some.0.t t some.2; on_it = refl })))

@@ -1,4 +1,4 @@
--- Who asks in the name of a transaction that goes among locks that stay: its agent, which began no more since; and once it has ended nobody.
+-- Who asks in the name of a transaction that goes steadily: its agent, which began no more since; and once it has ended nobody.
 use Rattle.std.proofs.Common.{◌≡◌, ⊎_elim, ℕ, ◌+◌, ◌<◌, true, false, List, ◌∷◌, ◌++◌, Some, None, refl, sym, ap, subst, ◌∙◌, arith}
 use Rattle.std.proofs.lemmas.Bool.{false≢true, eq-eqb}
 use Rattle.std.proofs.lemmas.Option.{none-some, same_Some}
@@ -23,7 +23,7 @@ use Rattle.law_runs.proofs.Conclusions.{holds_of}
 use Rattle.law_runs.proofs.Standing.{append_has_right}
 use Rattle.law_runs.proofs.Worlds.{agent_of, agent_at}
 use Rattle.law_run_recovers.specs.Unmet.{begun_world, world_after}
-use Rattle.law_run_recovers.specs.Among.{GoesAmongLocks}
+use Rattle.law_run_recovers.proofs.Steady.{GoesSteadily}
 use Rattle.law_run_recovers.specs.Local.{EndsThen}
 use Rattle.law_run_recovers.proofs.Asker.{IsAsker, asker}
 use Rattle.law_run_recovers.proofs.Counts.{has_after}
@@ -34,7 +34,7 @@ use Rattle.law_run_recovers.proofs.AmongCourse.{Course}
 use Rattle.law_run_recovers.proofs.AmongEnds.{Over, small_at}
 use Rattle.law_run_recovers.proofs.AmongStep.{begun}
 
-module _ (given : Opening) (events later : List Event) (agent t : ℕ) (caller : Identity) (site : ℕ) (ops : List Op) (actor : Actor) (goes : GoesAmongLocks given events later agent t caller site ops actor) where
+module _ (given : Opening) (events later : List Event) (agent t : ℕ) (caller : Identity) (site : ℕ) (ops : List Op) (actor : Actor) (goes : GoesSteadily given events later agent t caller site ops actor) where
   abbrev world_at : List Event → World
   world_at so_far = world_after given events agent caller site ops so_far
 

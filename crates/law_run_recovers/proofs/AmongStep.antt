@@ -1,6 +1,6 @@
--- A transaction that goes among locks that stay ends as the votes say that are open: its own steps.
+-- A transaction that goes steadily ends as the votes say that are open: its own steps.
 use Rattle.std.proofs.Common.{◌≡◌, ◌⊎◌, inl, inr, ⊎_elim, ℕ, Bool, true, false, cond, List, [], ◌∷◌, ◌++◌, Option, Some, None, is_some, refl, sym, ap, subst, ◌∙◌, arith}
-use Rattle.std.specs.Prelude.{◌*◌, ◌+◌, ◌-◌, ◌&&◌, nat_lt, Contains}
+use Rattle.std.specs.Prelude.{◌*◌, ◌+◌, ◌-◌, ◌&&◌, nat_lt, Contains, slice_get}
 use Rattle.std.specs.Ordering.{nat_cmp}
 use Rattle.std.proofs.lemmas.Bool.{false≢true, and_parts, eq-eqb}
 use Rattle.std.proofs.lemmas.Option.{none-some, same_Some}
@@ -16,8 +16,8 @@ use Rattle.rep_core.specs.declared.reply.Reply.{Reply}
 use Rattle.rep_core.specs.declared.reply.Reply.TheVariants as reply
 use Rattle.rep_core.specs.Fits.{is_prepared}
 use Rattle.rep_core.specs.declared.reply.Verdict.{Verdict}
-use Rattle.rep_core.specs.Service.{reply_of, held, verdict_of}
-use Rattle.rep_core.specs.Serving.{answer_of}
+use Rattle.rep_core.specs.Service.{reply_of, held, verdict_of, after}
+use Rattle.rep_core.specs.Serving.{answer_of, served}
 use Rattle.rep_core.specs.State.{State}
 use Rattle.rep_core.proofs.Members.{Has}
 use Rattle.suite_collect.specs.Telling.{newest}
@@ -33,7 +33,7 @@ use Rattle.run_core.specs.TableOfRun.{table_of}
 use Rattle.txn_core.specs.Suites.{Suites, suite_of, known_of}
 use Rattle.txn_core.specs.Writing.{has_vote, parts_at}
 use Rattle.txn_core.specs.Doing as doing
-use Rattle.txn_core.specs.Doing.{Task, Granted, Phase, Gathering, Fetching, Preparing, Deciding, Finishing, TransactionRun, Doing, Running, After, GoesOn, Ends, home_of}
+use Rattle.txn_core.specs.Doing.{Task, Phase, Gathering, Fetching, Preparing, Deciding, Finishing, TransactionRun, Doing, Running, After, GoesOn, Ends, home_of}
 use Rattle.txn_core.specs.Transactions.{Step as CourseStep, execute, asked_for, given_in, changes_of, decision_of, request_in, after_reply}
 use Rattle.txn_core.specs.Agents as agents
 use Rattle.txn_core.specs.Agents.{Agent, Taken, fixed_of, is_idle, has_sense, max_jobs, next_in, next_of, left, end_of, with_step, take_in, take, begins, begin, started, after_all}
@@ -53,30 +53,35 @@ use Rattle.law_runs.specs.Claims.{ended}
 use Rattle.law_runs.specs.Numbers.{number_of}
 use Rattle.law_runs.proofs.Agents.{take_keeps}
 use Rattle.law_runs.proofs.Conclusions.{holds_of}
-use Rattle.law_runs.proofs.Worlds.{agent_of}
+use Rattle.law_runs.proofs.Worlds.{agent_of, puts_in}
 use Rattle.law_run_alone.proofs.Named.{no_lock}
 use Rattle.law_run_alone.proofs.Unswept.{is_resolve, never_resolves}
-use Rattle.law_run_recovers.specs.Standing.{is_up, locks_in}
+use Rattle.law_run_recovers.specs.Standing.{is_up, locks_in, locks_at, shown_at, shown_in}
 use Rattle.law_run_recovers.specs.Near.{asks_for}
 use Rattle.law_run_recovers.specs.Unmet.{runs, running_in, world_after}
-use Rattle.law_run_recovers.specs.Among.{GoesAmongLocks}
+use Rattle.law_run_recovers.proofs.Steady.{GoesSteadily}
 use Rattle.law_run_recovers.proofs.Asked.{onto_left, next_vote}
 use Rattle.law_run_recovers.proofs.Ends.{early_open, early_asks, fetch_is, ending_in}
 use Rattle.law_run_recovers.proofs.Executes.{begin_stands}
 use Rattle.law_run_recovers.proofs.Heard.{LockRight, RightFor, MayExecute, AsksFor, asks_for as asked_by, reply_stands}
-use Rattle.law_run_recovers.proofs.Keeps.{IsAtWork, at_work, last_of, run_at}
+use Rattle.law_run_recovers.proofs.Keeps.{IsAtWork, last_of, run_at}
 use Rattle.law_run_recovers.proofs.NearGround.{its, opens, first_asked, opens_first, Known, ground, number, sight}
 use Rattle.law_run_recovers.proofs.Open.{its_begin, begun_there, begun_servers, begun_runs}
-use Rattle.law_run_recovers.proofs.Polled.{Answers}
-use Rattle.law_run_recovers.proofs.Serves.{On}
+use Rattle.law_run_recovers.proofs.Polled.{Answers, dver_at, dver_in}
+use Rattle.law_run_recovers.proofs.Serves.{On, Told}
 use Rattle.law_run_recovers.proofs.Stands.{AfterStands, StepStands, asks_of, locks_on}
-use Rattle.law_run_recovers.proofs.Still.{IsOpen, IsOpenPhase}
+use Rattle.law_run_recovers.proofs.Still.{IsOpenPhase}
 use Rattle.law_run_recovers.proofs.Took.{OwnTook}
-use Rattle.law_run_recovers.proofs.AmongAt.{HasWhereOpen, lock_right, fetch_right, prepare_right, decide_right}
+use Rattle.law_run_recovers.proofs.AmongAt.{HasWhereOpen, lock_right, fetch_right, prepare_right, decide_right, ShowsWhereLocked, on_locks}
 use Rattle.law_run_recovers.proofs.AmongAsks.{gather_asks, widen_asks, set_there}
-use Rattle.law_run_recovers.proofs.AmongCourse.{Course, RunsIt, PhaseIn, StandsIn, Right, same_service, next_is, NewOpen, spared_on, locks_on as answered_on}
+use Rattle.law_run_recovers.proofs.AmongCourse.{Course, RunsIt, PhaseIn, StandsIn, Right, same_service, next_is, NewOpen, spared_on, locks_on as answered_on, NewShown, shown_on, open_works}
 use Rattle.law_run_recovers.proofs.Widened.{same_mode}
 use Rattle.law_run_recovers.proofs.AmongKnows.{knows_begun}
+use Rattle.rep_core.specs.declared.stamped.Stamped.{Stamped}
+use Rattle.rep_core.specs.Store.{copy_of}
+use Rattle.law_run_recovers.proofs.Locked.{poll_leaves, poll_shows}
+use Rattle.law_run_recovers.specs.Told.{shows_same}
+use Rattle.txn_core.specs.Undecided.{stands_on_locks}
 
 -- a request for a lock on a suite is of that suite
 abbrev suite_in : Request → ℕ
@@ -87,24 +92,24 @@ suite_same : (t z : ℕ) (question : Asked) (u suite : ℕ) (mode : LockMode) �
 suite_same t z (Poll other) u suite mode is = ap suite_in is
 suite_same t z Upgrade u suite mode is = cc
 
-module _ (given : Opening) (events later : List Event) (agent t : ℕ) (caller : Identity) (site : ℕ) (ops : List Op) (actor : Actor) (goes : GoesAmongLocks given events later agent t caller site ops actor) where
+module _ (given : Opening) (events later : List Event) (agent t : ℕ) (caller : Identity) (site : ℕ) (ops : List Op) (actor : Actor) (goes : GoesSteadily given events later agent t caller site ops actor) where
   abbrev its_task : Task
   its_task = its given events later agent t caller site ops actor goes
 
   abbrev world_at : List Event → World
   world_at so_far = world_after given events agent caller site ops so_far
 
-  abbrev Good : CourseStep → Type 0
+  abbrev pub Good : CourseStep → Type 0
   Good step = StepStands (fixed_of given) (run given events) (sight given events later agent t caller site ops actor goes) (table_of given events) (its given events later agent t caller site ops actor goes) actor.agent.cache (Known given events later agent t caller site ops actor goes) (ground given events later agent t caller site ops actor goes) step
 
-  stands_left : (step : CourseStep) → Good step → StandsIn given events later agent t caller site ops actor goes step.cache (left Running step.after)
+  pub stands_left : (step : CourseStep) → Good step → StandsIn given events later agent t caller site ops actor goes step.cache (left Running step.after)
   stands_left step = of step.after
     where
       of : (after : After TransactionRun) → AfterStands (fixed_of given) (run given events) (sight given events later agent t caller site ops actor goes) (table_of given events) (its given events later agent t caller site ops actor goes) actor.agent.cache (Known given events later agent t caller site ops actor goes) (ground given events later agent t caller site ops actor goes) step.cache after → StandsIn given events later agent t caller site ops actor goes step.cache (left Running after)
       of (GoesOn txn_run) good = good
       of (Ends ended) good = tt
 
-  right_end : (step : CourseStep) → Good step → (ended : Ending) → end_of step.after ≡ Some ended → Right given events later agent t caller site ops actor goes ended
+  pub right_end : (step : CourseStep) → Good step → (ended : Ending) → end_of step.after ≡ Some ended → Right given events later agent t caller site ops actor goes ended
   right_end step = of step.after
     where
       of : (after : After TransactionRun) → AfterStands (fixed_of given) (run given events) (sight given events later agent t caller site ops actor goes) (table_of given events) (its given events later agent t caller site ops actor goes) actor.agent.cache (Known given events later agent t caller site ops actor goes) (ground given events later agent t caller site ops actor goes) step.cache after → (ended : Ending) → end_of after ≡ Some ended → Right given events later agent t caller site ops actor goes ended
@@ -143,6 +148,7 @@ module _ (given : Opening) (events later : List Event) (agent t : ℕ) (caller :
     is = refl;
     count = first_count;
     locks = none_has;
+    shown = λ server z on. absurd (none_there server z on);
     spared = λ front back event is. absurd (nil_not front event back is);
   }
     where
@@ -159,15 +165,17 @@ module _ (given : Opening) (events later : List Event) (agent t : ℕ) (caller :
       nil_not [] event back is = cc
       nil_not (one ∷ front) event back is = cc
 
-      none_has : HasWhereOpen given events later agent t caller site ops actor goes (world_after given events agent caller site ops [])
-      none_has server z on =
+      none_there : (server z : ℕ) → On (locks_at (world_after given events agent caller site ops []) server) t z → ⊥
+      none_there server z on =
           of (server_at (run given events) server) refl
           (subst (λ found. On (locks_in found) t z) (begun_servers given events later agent t caller site ops actor goes.can goes.there goes.begins server) on)
         where
-          of : (found : Option State) → server_at (run given events) server ≡ found → On (locks_in (server_at (run given events) server)) t z → opens given events later agent t caller site ops actor goes z (first_asked given events later agent t caller site ops actor goes z) server ≡ true
-          of None at on = absurd (subst (λ found. Has (locks_in found) on.lock) at on.has)
-          of (Some st) at on =
-              absurd (no_lock given goes.can.accepted events agent t (Transaction caller site ops) goes.begins server st at on.lock (subst (λ found. Has (locks_in found) on.lock) at on.has) on.of_it)
+          of : (found : Option State) → server_at (run given events) server ≡ found → On (locks_in (server_at (run given events) server)) t z → ⊥
+          of None at on = subst (λ found. Has (locks_in found) on.lock) at on.has
+          of (Some st) at on = no_lock given goes.can.accepted events agent t (Transaction caller site ops) goes.begins server st at on.lock (subst (λ found. Has (locks_in found) on.lock) at on.has) on.of_it
+
+      none_has : HasWhereOpen given events later agent t caller site ops actor goes (world_after given events agent caller site ops [])
+      none_has server z on = absurd (none_there server z on)
 
   pub first_told : first_course.told ≡ []
   unfolding first_course
@@ -190,7 +198,13 @@ module _ (given : Opening) (events later : List Event) (agent t : ℕ) (caller :
     request_is = subst (λ task. request_in (fixed_of given) task r.txn_run.suites r.txn_run.phase ≡ Some (took.asked.0, took.asked.1)) r.at.0 (sym (ap (next_in (fixed_of given)) r.running) ∙ took.next)
 
     work_in : IsOpenPhase r.txn_run.phase → IsAtWork (world_after given events agent caller site ops so_far) agent t
-    work_in open' = at_work (world_at so_far) agent t c.here c.there (subst IsOpen (sym r.running) open') (ap (runs t) r.running ∙ eq-eqb r.txn_run.task.t t number_here)
+    work_in = open_works given events later agent t caller site ops actor goes so_far c r
+
+    -- where it stands on its locks the server gave it one
+    near_locked : IsAtWork (world_after given events agent caller site ops so_far) agent t → stands_on_locks took.asked.1 ≡ true → goes.near took.asked.0 ≡ true
+    near_locked work on =
+        (and_parts (goes.near took.asked.0) (is_up (run given events) took.asked.0)
+        (on_locks given events later agent t caller site ops actor goes so_far rest split work c.spared c.locks took.asked.0 took.st took.at c.here r.txn_run c.there r.running number_here took.asked.1 took.next on)).0
 
     -- ---- it is answered rightly
 
@@ -200,41 +214,61 @@ module _ (given : Opening) (events later : List Event) (agent t : ℕ) (caller :
         let is : took.asked.1 ≡ request_for t z question = asked ∙ ap (λ n. request_for n z question) (number given events later agent t caller site ops actor goes) in
         let modes : mode_asked asks.question ≡ mode_asked question = sym (same_mode its_task.t z asks.question) ∙ ap mode_of (sym asks.asked_is ∙ asked) ∙ same_mode its_task.t z question in
         subst (λ asked. Answers (fixed_of given) (run given events) (sight given events later agent t caller site ops actor goes) z question took.asked.0 (reply_of took.st asked)) (sym is)
-        (lock_right given events later agent t caller site ops actor goes so_far (Step agent ∷ rest) split work c.spared c.locks took.asked.0 took.st took.at c.here r.txn_run c.there r.running number_here z question (asks_so (request_for t z question) is) near
+        (lock_right given events later agent t caller site ops actor goes so_far rest split work c.spared c.locks took.asked.0 took.st took.at c.here r.txn_run c.there r.running number_here z question (asks_so (request_for t z question) is) near
         (subst (λ mode. Contains (asks_for given events t caller ops) (z, mode)) modes has))
+
+    -- whom it asks before its end is fixed is near
+    pub near_for : (now : Cache) (suites : Suites) (phase : Phase) → PhaseIn given events later agent t caller site ops actor goes suites now phase → (IsOpenPhase phase → IsAtWork (world_after given events agent caller site ops so_far) agent t)
+        → request_in (fixed_of given) its_task suites phase ≡ Some (took.asked.0, took.asked.1) → IsOpenPhase phase → goes.near took.asked.0 ≡ true
+    near_for now suites (Gathering z) at work asks' open' =
+        let g = at.0 in
+        let asks = asked_by its_task z g.suite.collector took.asked.0 took.asked.1 (sym (ap (asked_for its_task z) g.there) ∙ asks') in
+        let vote = next_vote g.suite.collector took.asked.0 asks.question asks.is in
+        g.found.reached.going.known.1 took.asked.0 (subst (λ (c : Collector). has_vote (counted c) took.asked.0 ≡ true) g.found.reached.is vote)
+    near_for now suites (Fetching z) at work asks' open' = near_locked (work tt) (ap stands_on_locks (fetch_is its_task z (suite_of suites z) took.asked.0 took.asked.1 asks'))
+    near_for now suites (doing.Widening [] granted) at work asks' open' = absurd at
+    near_for now suites (doing.Widening (z ∷ left) granted) at work asks' open' =
+        let asks = asked_by its_task z at.suite.collector took.asked.0 took.asked.1 (sym (ap (asked_for its_task z) at.there) ∙ asks') in
+        let vote = next_vote at.suite.collector took.asked.0 asks.question asks.is in
+        let count' : counted at.suite.collector ≡ at.votes = ap (λ o. votes_or o (newest at.suite.collector.start at.suite.collector.told)) at.widening_is ∙ at.votes_are in
+        goes.are_near.set (z, at.votes) took.asked.0 (set_there given events later agent t caller site ops actor goes (z, at.votes) (subst (λ sets. Has sets (z, at.votes)) (sym at.sets.sets) (onto_left at.done _ (z, at.votes) (inl refl))))
+        (subst (λ votes. has_vote votes took.asked.0 ≡ true) count' vote)
+    near_for now suites (Preparing [] outcome) at work asks' open' = absurd (none-some (took.asked.0, took.asked.1) asks')
+    near_for now suites (Preparing (server ∷ left) outcome) at work asks' open' =
+        near_locked (work tt) (ap stands_on_locks (sym (asks_same server took.asked.0 (request.Prepare its_task.t (parts_at suites (changes_of outcome) server)) took.asked.1 asks')))
+    near_for now suites (Deciding outcome) at work asks' open' =
+        let home : took.asked.0 ≡ home_of (fixed_of given).service t =
+        sym (ap (λ (asked : ℕ × Request). asked.0) (same_Some (home_of (fixed_of given).service its_task.t, request.Decide its_task.t (decision_of its_task outcome)) (took.asked.0, took.asked.1) asks'))
+        ∙ ap (home_of (fixed_of given).service) (number given events later agent t caller site ops actor goes) in
+        ap goes.near home ∙ goes.are_near.home
+    near_for now suites (Finishing left v ended) at work asks' open' = absurd open'
 
     right_for : (now : Cache) (suites : Suites) (phase : Phase) → PhaseIn given events later agent t caller site ops actor goes suites now phase → (IsOpenPhase phase → IsAtWork (world_after given events agent caller site ops so_far) agent t)
         → request_in (fixed_of given) its_task suites phase ≡ Some (took.asked.0, took.asked.1) → RightFor (fixed_of given) (run given events) (sight given events later agent t caller site ops actor goes) its_task phase took.asked.0 took.asked.1 said
     right_for now suites (Gathering z) at work asks' =
         let g = at.0 in
         let asks = asked_by its_task z g.suite.collector took.asked.0 took.asked.1 (sym (ap (asked_for its_task z) g.there) ∙ asks') in
-        let vote = next_vote g.suite.collector took.asked.0 asks.question asks.is in
-        lock_here z g.suite.collector (work tt) asks (g.found.reached.going.known.1 took.asked.0 (subst (λ (c : Collector). has_vote (counted c) took.asked.0 ≡ true) g.found.reached.is vote)) (gather_asks given events later agent t caller site ops actor goes took.asked.0 took.asked.1 now suites z at asks)
+        lock_here z g.suite.collector (work tt) asks (near_for now suites (Gathering z) at work asks' tt) (gather_asks given events later agent t caller site ops actor goes took.asked.0 took.asked.1 now suites z at asks)
     right_for now suites (Fetching z) at work asks' =
         let is : took.asked.1 ≡ request.Fetch t z = fetch_is its_task z (suite_of suites z) took.asked.0 took.asked.1 asks' ∙ ap (λ n. request.Fetch n z) (number given events later agent t caller site ops actor goes) in
         ap (λ asked. is_some (given_in (reply_of took.st asked))) is
-        ∙ fetch_right given events later agent t caller site ops actor goes so_far (Step agent ∷ rest) split (work tt) c.spared c.locks took.asked.0 took.st took.at c.here r.txn_run c.there r.running number_here z (asks_so (request.Fetch t z) is)
+        ∙ fetch_right given events later agent t caller site ops actor goes so_far rest split (work tt) c.spared c.locks took.asked.0 took.st took.at c.here r.txn_run c.there r.running number_here z (asks_so (request.Fetch t z) is)
     right_for now suites (doing.Widening [] granted) at work asks' = tt
     right_for now suites (doing.Widening (z ∷ left) granted) at work asks' =
         let asks = asked_by its_task z at.suite.collector took.asked.0 took.asked.1 (sym (ap (asked_for its_task z) at.there) ∙ asks') in
-        let vote = next_vote at.suite.collector took.asked.0 asks.question asks.is in
-        let count' : counted at.suite.collector ≡ at.votes = ap (λ o. votes_or o (newest at.suite.collector.start at.suite.collector.told)) at.widening_is ∙ at.votes_are in
-        lock_here z at.suite.collector (work tt) asks
-        (goes.are_near.set (z, at.votes) took.asked.0 (set_there given events later agent t caller site ops actor goes (z, at.votes) (subst (λ sets. Has sets (z, at.votes)) (sym at.sets.sets) (onto_left at.done _ (z, at.votes) (inl refl)))) (subst (λ votes. has_vote votes took.asked.0 ≡ true) count' vote))
+        lock_here z at.suite.collector (work tt) asks (near_for now suites (doing.Widening (z ∷ left) granted) at work asks' tt)
         (widen_asks given events later agent t caller site ops actor goes took.asked.0 took.asked.1 now suites z left granted at asks)
     right_for now suites (Preparing [] outcome) at work asks' = absurd (none-some (took.asked.0, took.asked.1) asks')
     right_for now suites (Preparing (server ∷ left) outcome) at work asks' =
         let parts = parts_at suites (changes_of outcome) server in
         let is : took.asked.1 ≡ request.Prepare t parts = sym (asks_same server took.asked.0 (request.Prepare its_task.t parts) took.asked.1 asks') ∙ ap (λ n. request.Prepare n parts) (number given events later agent t caller site ops actor goes) in
         ap (λ asked. is_prepared (reply_of took.st asked)) is
-        ∙ prepare_right given events later agent t caller site ops actor goes so_far (Step agent ∷ rest) split (work tt) c.spared c.locks took.asked.0 took.st took.at c.here r.txn_run c.there r.running number_here parts (asks_so (request.Prepare t parts) is)
+        ∙ prepare_right given events later agent t caller site ops actor goes so_far rest split (work tt) c.spared c.locks took.asked.0 took.st took.at c.here r.txn_run c.there r.running number_here parts (asks_so (request.Prepare t parts) is)
     right_for now suites (Deciding outcome) at work asks' =
         let decision = decision_of its_task outcome in
-        let home : took.asked.0 ≡ home_of (fixed_of given).service t =
-        sym (ap (λ (asked : ℕ × Request). asked.0) (same_Some (home_of (fixed_of given).service its_task.t, request.Decide its_task.t decision) (took.asked.0, took.asked.1) asks')) ∙ ap (home_of (fixed_of given).service) (number given events later agent t caller site ops actor goes) in
         let is : took.asked.1 ≡ request.Decide t decision = sym (asks_same (home_of (fixed_of given).service its_task.t) took.asked.0 (request.Decide its_task.t decision) took.asked.1 asks') ∙ ap (λ n. request.Decide n decision) (number given events later agent t caller site ops actor goes) in
-        let near : goes.near took.asked.0 ≡ true = ap goes.near home ∙ goes.are_near.home in
-        let d = decide_right given events later agent t caller site ops actor goes so_far (Step agent ∷ rest) split (work tt) c.spared c.locks took.asked.0 took.st took.at c.here r.txn_run c.there r.running number_here decision (asks_so (request.Decide t decision) is) near in
+        let near = near_for now suites (Deciding outcome) at work asks' tt in
+        let d = decide_right given events later agent t caller site ops actor goes so_far rest split (work tt) c.spared c.locks took.asked.0 took.st took.at c.here r.txn_run c.there r.running number_here decision (asks_so (request.Decide t decision) is) near in
         by (is_up (run given events) took.asked.0) refl (λ up. ap (reply_of took.st) is ∙ d.0 up) (λ down. ap (reply_of took.st) is ∙ d.1 down)
       where
         by : (b : Bool) → is_up (run given events) took.asked.0 ≡ b → (is_up (run given events) took.asked.0 ≡ true → said ≡ reply.Verdict (verdict_of (decision_of its_task outcome))) → (is_up (run given events) took.asked.0 ≡ false → said ≡ reply.Down)
@@ -248,26 +282,32 @@ module _ (given : Opening) (events later : List Event) (agent t : ℕ) (caller :
 
     -- ---- where it was told of a lock, it was answered
 
+    -- it was open in the first mode, and this copy is what it showed
+    abbrev ShowsAt : Replica → ℕ → Type 0
+    ShowsAt copy suite = (opens given events later agent t caller site ops actor goes suite (first_asked given events later agent t caller site ops actor goes suite) took.asked.0 ≡ true)
+        × (copy.prefix ≡ shown_at (fixed_of given) (run given events) suite took.asked.0) × (copy.dver ≡ dver_at (run given events) suite took.asked.0)
+
     -- what is open in the mode asked for is in the first one
-    open_so : (z : ℕ) (asks : Request) (question : Asked) → Contains (asks_for given events t caller ops) (z, mode_asked question) → asks ≡ request_for its_task.t z question → opens given events later agent t caller site ops actor goes z (mode_asked question) took.asked.0 ≡ true
-        → (u suite : ℕ) (mode : LockMode) → asks ≡ request.Poll u suite mode → opens given events later agent t caller site ops actor goes suite (first_asked given events later agent t caller site ops actor goes suite) took.asked.0 ≡ true
-    open_so z asks question has is open' u suite mode poll =
-        subst (λ z. opens given events later agent t caller site ops actor goes z (first_asked given events later agent t caller site ops actor goes z) took.asked.0 ≡ true) (suite_same its_task.t z question u suite mode (sym is ∙ poll))
-        (opens_first given events later agent t caller site ops actor goes z (mode_asked question) has took.asked.0 open')
+    open_so : (z : ℕ) (asks : Request) (question : Asked) → Contains (asks_for given events t caller ops) (z, mode_asked question) → asks ≡ request_for its_task.t z question
+        → (copy : Replica) → Answers (fixed_of given) (run given events) (sight given events later agent t caller site ops actor goes) z question took.asked.0 (held copy)
+        → (u suite : ℕ) (mode : LockMode) → asks ≡ request.Poll u suite mode → ShowsAt copy suite
+    open_so z asks question has is copy right u suite mode poll =
+        subst (ShowsAt copy) (suite_same its_task.t z question u suite mode (sym is ∙ poll))
+        (opens_first given events later agent t caller site ops actor goes z (mode_asked question) has took.asked.0 right.0, right.1, right.2)
 
     polls_answered : (phase : Phase) → PhaseIn given events later agent t caller site ops actor goes r.txn_run.suites c.here.agent.cache phase → request_in (fixed_of given) its_task r.txn_run.suites phase ≡ Some (took.asked.0, took.asked.1)
         → RightFor (fixed_of given) (run given events) (sight given events later agent t caller site ops actor goes) its_task phase took.asked.0 took.asked.1 said → (u suite : ℕ) (mode : LockMode) → took.asked.1 ≡ request.Poll u suite mode → (copy : Replica) → said ≡ held copy
-        → opens given events later agent t caller site ops actor goes suite (first_asked given events later agent t caller site ops actor goes suite) took.asked.0 ≡ true
+        → ShowsAt copy suite
     polls_answered (Gathering z) at asks' right u suite mode poll copy is =
         let asks = asked_by its_task z at.0.suite.collector took.asked.0 took.asked.1 (sym (ap (asked_for its_task z) at.0.there) ∙ asks') in
-        open_so z took.asked.1 asks.question (gather_asks given events later agent t caller site ops actor goes took.asked.0 took.asked.1 c.here.agent.cache r.txn_run.suites z at asks) asks.asked_is
-        (subst (Answers (fixed_of given) (run given events) (sight given events later agent t caller site ops actor goes) z asks.question took.asked.0) is (right asks.question asks.asked_is)).0 u suite mode poll
+        open_so z took.asked.1 asks.question (gather_asks given events later agent t caller site ops actor goes took.asked.0 took.asked.1 c.here.agent.cache r.txn_run.suites z at asks) asks.asked_is copy
+        (subst (Answers (fixed_of given) (run given events) (sight given events later agent t caller site ops actor goes) z asks.question took.asked.0) is (right asks.question asks.asked_is)) u suite mode poll
     polls_answered (Fetching z) at asks' right u suite mode poll copy is = absurd (false≢true (ap (λ said. is_some (given_in said)) (sym is) ∙ right))
     polls_answered (doing.Widening [] granted) at asks' right u suite mode poll copy is = absurd at
     polls_answered (doing.Widening (z ∷ left) granted) at asks' right u suite mode poll copy is =
         let asks = asked_by its_task z at.suite.collector took.asked.0 took.asked.1 (sym (ap (asked_for its_task z) at.there) ∙ asks') in
-        open_so z took.asked.1 asks.question (widen_asks given events later agent t caller site ops actor goes took.asked.0 took.asked.1 c.here.agent.cache r.txn_run.suites z left granted at asks) asks.asked_is
-        (subst (Answers (fixed_of given) (run given events) (sight given events later agent t caller site ops actor goes) z asks.question took.asked.0) is (right asks.question asks.asked_is)).0 u suite mode poll
+        open_so z took.asked.1 asks.question (widen_asks given events later agent t caller site ops actor goes took.asked.0 took.asked.1 c.here.agent.cache r.txn_run.suites z left granted at asks) asks.asked_is copy
+        (subst (Answers (fixed_of given) (run given events) (sight given events later agent t caller site ops actor goes) z asks.question took.asked.0) is (right asks.question asks.asked_is)) u suite mode poll
     polls_answered (Preparing left outcome) at asks' right u suite mode poll copy is = absurd (false≢true (ap is_prepared (sym is) ∙ right))
     polls_answered (Deciding outcome) at asks' right u suite mode poll copy is =
         absurd (⊎_elim (λ up. not_verdict (verdict_of (decision_of its_task outcome)) (sym is ∙ up.1)) (λ down. not_down (sym is ∙ down.1)) right)
@@ -283,20 +323,66 @@ module _ (given : Opening) (events later : List Event) (agent t : ℕ) (caller :
         not_poll : request.Finish its_task.t v ≡ request.Poll u suite mode → ⊥
         not_poll is = cc
 
+    -- it was told so
+    module _ (server : ℕ) (told : Told (fixed_of given) (world_after given events agent caller site ops so_far) (Step agent) t server) where
+      abbrev the : Served → Served
+      the what = what
+
+      same_what : the (record { server = took.asked.0; request = record { stamp = c.here.stamp; value = took.asked.1 }; reply = answer_of took.st (record { stamp = c.here.stamp; value = took.asked.1 }) }) ≡ told.what
+      same_what = same_Some _ told.what (sym took.done ∙ told.served)
+
+      asked_is : took.asked.1 ≡ request.Poll t told.told.suite told.told.mode
+      asked_is = ap (λ (what : Served). what.request.value) same_what ∙ told.told.poll
+
+      said_is : said ≡ held told.told.copy
+      said_is = ap (λ (what : Served). what.reply.value) same_what ∙ told.told.reply
+
+      at_it : took.asked.0 ≡ server
+      at_it = ap (λ (what : Served). what.server) same_what ∙ told.at
+
+      told_shows : ShowsAt told.told.copy told.told.suite
+      told_shows = polls_answered r.txn_run.phase r.at.1 request_is right_here t told.told.suite told.told.mode asked_is told.told.copy said_is
+
     new_answered : NewOpen given events later agent t caller site ops actor goes so_far (Step agent)
     new_answered server z told of_it =
-        let same : the (record { server = took.asked.0; request = record { stamp = c.here.stamp; value = took.asked.1 }; reply = answer_of took.st (record { stamp = c.here.stamp; value = took.asked.1 }) }) ≡ told.what = same_Some _ told.what (sym took.done ∙ told.served) in
-        let asked_is : took.asked.1 ≡ request.Poll t told.told.suite told.told.mode = ap (λ (what : Served). what.request.value) same ∙ told.told.poll in
-        let said_is : said ≡ held told.told.copy = ap (λ (what : Served). what.reply.value) same ∙ told.told.reply in
-        let at : took.asked.0 ≡ server = ap (λ (what : Served). what.server) same ∙ told.at in
         subst (λ z. opens given events later agent t caller site ops actor goes z (first_asked given events later agent t caller site ops actor goes z) server ≡ true) of_it
-        (subst (λ server. opens given events later agent t caller site ops actor goes told.told.suite (first_asked given events later agent t caller site ops actor goes told.told.suite) server ≡ true) at (polls_answered r.txn_run.phase r.at.1 request_is right_here t told.told.suite told.told.mode asked_is told.told.copy said_is))
+        (subst (λ server. opens given events later agent t caller site ops actor goes told.told.suite (first_asked given events later agent t caller site ops actor goes told.told.suite) server ≡ true) (at_it server told) (told_shows server told).0)
+
+    new_shown : NewShown given events later agent t caller site ops actor goes so_far (Step agent)
+    new_shown server z told of_it =
+        subst (λ z. shows_same (server_at (world_after given events agent caller site ops (so_far ++ Step agent ∷ [])) server) (server_at (run given events) server) z) of_it
+        (subst (λ server. shows_same (server_at (world_after given events agent caller site ops (so_far ++ Step agent ∷ [])) server) (server_at (run given events) server) told.told.suite) (at_it server told)
+        (subst (λ found. shows_same found (server_at (run given events) took.asked.0) told.told.suite) (sym there) (of (server_at (run given events) took.asked.0) refl)))
       where
-        the : Served → Served
-        the what = what
+        stamped : Stamped Request
+        stamped = record { stamp = c.here.stamp; value = took.asked.1 }
+
+        there : server_at (world_after given events agent caller site ops (so_far ++ Step agent ∷ [])) took.asked.0 ≡ Some (served took.st (record { stamp = c.here.stamp; value = took.asked.1 }))
+        there =
+            ap (λ w. server_at w took.asked.0) (next_is given events later agent t caller site ops actor goes so_far (Step agent))
+            ∙ ap (λ servers. slice_get servers took.asked.0) took.servers ∙ (puts_in (world_at so_far).servers took.asked.0 took.st (served took.st stamped) took.at).here
+
+        polled : ((copy_of (served took.st (record { stamp = c.here.stamp; value = took.asked.1 })).store told.told.suite).prefix ≡ told.told.copy.prefix)
+            × ((copy_of (served took.st (record { stamp = c.here.stamp; value = took.asked.1 })).store told.told.suite).dver ≡ told.told.copy.dver)
+        polled =
+            let poll = request.Poll t told.told.suite told.told.mode in
+            let store = ap (λ asked. (after took.st asked).store) (asked_is server told) ∙ poll_leaves took.st t told.told.suite told.told.mode in
+            let shows = poll_shows took.st t told.told.suite told.told.mode told.told.copy (ap (reply_of took.st) (sym (asked_is server told)) ∙ said_is server told) in
+            (ap (λ store. (copy_of store told.told.suite).prefix) store ∙ shows.0, ap (λ store. (copy_of store told.told.suite).dver) store ∙ shows.1)
+
+        of : (old : Option State) → server_at (run given events) took.asked.0 ≡ old
+            → shows_same (Some (served took.st (record { stamp = c.here.stamp; value = took.asked.1 }))) (server_at (run given events) took.asked.0) told.told.suite
+        of None is = subst (λ found. shows_same (Some (served took.st stamped)) found told.told.suite) (sym is) tt
+        of (Some old) is =
+            let shows = told_shows server told in
+            subst (λ found. shows_same (Some (served took.st stamped)) found told.told.suite) (sym is)
+            (polled.0 ∙ shows.1 ∙ ap (λ found. shown_in (fixed_of given) found told.told.suite) is, polled.1 ∙ shows.2 ∙ ap (λ found. dver_in found told.told.suite) is)
 
     locks_then : HasWhereOpen given events later agent t caller site ops actor goes (world_after given events agent caller site ops (so_far ++ Step agent ∷ []))
     locks_then = answered_on given events later agent t caller site ops actor goes so_far rest (Step agent) split c new_answered
+
+    shown_then : ShowsWhereLocked given events later agent t caller site ops actor goes (world_after given events agent caller site ops (so_far ++ Step agent ∷ []))
+    shown_then = shown_on given events later agent t caller site ops actor goes so_far rest (Step agent) split c new_shown
 
     -- ---- its course
 
@@ -352,7 +438,7 @@ module _ (given : Opening) (events later : List Event) (agent t : ℕ) (caller :
       knows_on : (z : ℕ) → asks_of (locks_on (table_of given events) its_task) z ≡ true → IsSoAt (known.known_of (known_of more.suites) z) (row_of (table_of given events).rows z)
       knows_on =
           knows_begun given events later agent t caller site ops actor goes so_far rest split (work_in (early_open r.txn_run.phase may)) (spared_on given events later agent t caller site ops actor goes so_far rest (Step agent) split c) c.here c.there took asks_early resolves_none
-          locks_then took.new more there_then running_on number_on ordered_on
+          locks_then shown_then took.new more there_then running_on number_on ordered_on
 
     good_step : Good (step_of r.txn_run.task)
     good_step =
@@ -394,6 +480,7 @@ module _ (given : Opening) (events later : List Event) (agent t : ℕ) (caller :
             is = is_then;
             count = count_then;
             locks = locks_then;
+            shown = shown_then;
             spared = spared_on given events later agent t caller site ops actor goes so_far rest (Step agent) split c;
           },
           refl,

@@ -1,46 +1,91 @@
--- A transaction that goes among locks that stay ends within a number of its own steps that its table tells.
-use Rattle.std.proofs.Common.{◌≡◌, ◌⊎◌, inl, inr, ⊎_elim, ℕ, ◌+◌, ◌<◌, ◌≤◌, Bool, true, false, cond, List, [], ◌∷◌, ◌++◌, append_assoc, length, Some, is_some, refl, sym, ap, subst, ◌∙◌, arith}
-use Rattle.std.specs.Prelude.{◌==◌}
-use Rattle.std.specs.List.{cons_option}
+-- A transaction that goes steadily ends within a number of its own steps that its table tells.
+use Rattle.std.proofs.Common.{◌≡◌, ◌⊎◌, inl, inr, ⊎_elim, ℕ, ◌+◌, ◌<◌, ◌≤◌, Bool, true, false, cond, List, [], ◌∷◌, ◌++◌, append_assoc, length, Some, is_some, refl, sym, ap, subst, ◌∙◌, arith, Option, suc, zero, None}
+use Rattle.std.specs.Prelude.{◌==◌, ◌&&◌, ◌||◌}
+use Rattle.std.specs.List.{cons_option, list_all}
 use Rattle.std.proofs.lemmas.List.Folds.{list_all-append}
-use Rattle.std.proofs.lemmas.Option.{slice_get_within}
+use Rattle.std.proofs.lemmas.Option.{slice_get_within, none-some, slice_get_cases}
 use Rattle.acl_core.specs.Identity.{Identity}
 use Rattle.suite_prefix.specs.SettingsRules.{Opening}
 use Rattle.file_ops.specs.declared.operation.Op.{Op}
 use Rattle.rep_core.specs.declared.reply.Reply.{Reply}
 use Rattle.rep_core.specs.Service.{reply_of}
-use Rattle.rep_core.proofs.Members.{Has, has_any, contains_from}
+use Rattle.rep_core.proofs.Members.{Has, has_any, contains_from, any_has, has_filter, has_from}
 use Rattle.txn_core.specs.declared.job.Job.TheVariants.{Transaction}
-use Rattle.txn_core.specs.declared.response.Response.TheVariants.{Replied}
+use Rattle.txn_core.specs.declared.response.Response.TheVariants.{Replied, Lacked}
 use Rattle.txn_core.specs.Transactions.{numbers_from, request_in}
 use Rattle.txn_core.specs.Agents as agents
-use Rattle.txn_core.specs.Agents.{Agent, fixed_of, next_in, next_of, begin}
-use Rattle.txn_core.specs.Laws.{Exchange, exchange_of, exchanges, among, asks_only, names_of, names_only}
+use Rattle.txn_core.specs.Agents.{Agent, fixed_of, next_in, next_of, begin, after_all, is_idle}
+use Rattle.txn_core.specs.Laws.{Exchange, exchange_of, exchanges, among, asks_only, names_of, names_only, says_held}
 use Rattle.txn_core.proofs.Upheld.{exchanges-take, exchanges-forget}
 use Rattle.run_core.specs.declared.event.Event.{Event}
 use Rattle.run_core.specs.declared.event.Event.TheVariants.{Begin, Step}
 use Rattle.run_core.specs.declared.done.EndedJob.{EndedJob}
-use Rattle.run_core.specs.Worlds.{Actor, World, step}
+use Rattle.run_core.specs.Worlds.{Actor, World, step, server_at}
 use Rattle.run_core.specs.Runs.{dones, outcomes, run}
 use Rattle.run_core.specs.TableOfRun.{table_of}
 use Rattle.law_runs.specs.Numbers.{number_of}
 use Rattle.law_runs.proofs.Lengths.{so_many}
 use Rattle.law_run_recovers.specs.Alone.{its_step, own_steps}
-use Rattle.law_run_recovers.specs.Among.{GoesAmongLocks, AmongLocksEndInTime}
+use Rattle.law_run_recovers.specs.Among.{AmongLocksEndInTime}
+use Rattle.law_run_recovers.proofs.Steady.{GoesSteadily, steady}
 use Rattle.law_run_recovers.specs.Local.{Ended, UnmetEndInTime, few_steps}
-use Rattle.law_run_recovers.specs.Unmet.{begun_world, world_after}
+use Rattle.law_run_recovers.specs.Unmet.{begun_world, world_after, hinders_itself}
 use Rattle.law_run_recovers.proofs.Apart.{event_apart}
 use Rattle.law_run_recovers.proofs.Counts.{one_longer, and_one, has_after, step_of}
 use Rattle.law_run_recovers.proofs.Keeps.{run_at}
 use Rattle.law_run_recovers.proofs.Knows.{among_numbers}
 use Rattle.law_run_recovers.proofs.Names.{itself, suites_named, names_for, CountedOf, few_enough}
-use Rattle.law_run_recovers.proofs.NearGround.{its, Known, ground, number, sight}
+use Rattle.law_run_recovers.proofs.NearGround.{its, Known, ground, number, sight, can_first}
 use Rattle.law_run_recovers.proofs.Took.{OwnTook, own_took}
 use Rattle.law_run_recovers.proofs.Open.{unmet_is_among_locks}
-use Rattle.law_run_recovers.proofs.AmongCourse.{Course, RunsIt, runs_it, next_is, unhindered, apart_on}
+use Rattle.law_run_recovers.proofs.AmongCourse.{Course, RunsIt, runs_it, next_is, apart_on}
 use Rattle.law_run_recovers.proofs.AmongStep.{idle_before, first_course, first_told, own_on}
+use Rattle.law_run_recovers.proofs.InTime.{AllShow, Shows, exchanges_show, reply_shows, show_both}
+use Rattle.law_headline.specs.Premises.{CanBe}
+use Rattle.txn_core.specs.declared.ending.Ending.{Ending}
+use Rattle.txn_core.specs.Doing.{Finishing}
+use Rattle.rep_core.specs.declared.request.Request.{Request}
+use Rattle.rep_core.specs.declared.request.Request.TheVariants as request
+use Rattle.txn_core.specs.declared.response.Response.{Response}
+use Rattle.rep_core.specs.State.{State}
+use Rattle.rep_core.specs.declared.reply.Verdict.{Verdict}
+use Rattle.law_agents.specs.Steps.{VotesAreValid}
+use Rattle.std.proofs.lemmas.Bool.{and_parts, eqb-true, false≢true}
+use Rattle.law_runs.proofs.Standing.{append_has_right}
+use Rattle.txn_core.proofs.Asks.{asks_same}
+use Rattle.law_run_alone.proofs.Votes.{cache_valid, copy_valid}
+use Rattle.law_run_recovers.proofs.AmongAt.{can_so_far}
+use Rattle.law_run_recovers.proofs.Lacking.{hindered}
+use Rattle.txn_core.specs.Undecided.{is_finish}
+use Rattle.law_agents.proofs.Ends.{jobs_end}
+use Rattle.law_run_recovers.proofs.AmongLacks.{lack_on, tells_now}
+use Rattle.law_agents.specs.Orders.{locked, sent_to, wants_lock, was_locked}
+use Rattle.vote_core.specs.Validity.{max_servers}
+use Rattle.law_agents.proofs.Orders.{finishes_in_order}
 
-module _ (given : Opening) (events later : List Event) (agent t : ℕ) (caller : Identity) (site : ℕ) (ops : List Op) (actor : Actor) (goes : GoesAmongLocks given events later agent t caller site ops actor) where
+-- ---- lists
+
+pub all_has : {X : Type 0} (p : X → Bool) (xs : List X) (x : X) → list_all p xs ≡ true → Has xs x → p x ≡ true
+all_has p [] x all has = absurd has
+all_has p (y ∷ ys) x all (inl same) = ap p (sym same) ∙ (and_parts (p y) (list_all p ys) all).0
+all_has p (y ∷ ys) x all (inr rest) = all_has p ys x (and_parts (p y) (list_all p ys) all).1 rest
+
+-- who is among so many numbers is below their end
+below : (count start n : ℕ) → among (numbers_from start count) n ≡ true → n < start + count
+below zero start n is = absurd (false≢true is)
+below (suc count) start n is = of (start == n) refl is (below count (start + 1) n)
+  where
+    here : start ≡ n → n < start + suc count
+    here same = omega (arith, same)
+
+    later : n < start + 1 + count → n < start + suc count
+    later less = omega (arith, less)
+
+    of : (b : Bool) → (start == n) ≡ b → (b || among (numbers_from (start + 1) count) n) ≡ true → (among (numbers_from (start + 1) count) n ≡ true → n < start + 1 + count) → n < start + suc count
+    of true same is go = here (eqb-true start n same)
+    of false other is go = later (go is)
+
+module _ (given : Opening) (events later : List Event) (agent t : ℕ) (caller : Identity) (site : ℕ) (ops : List Op) (actor : Actor) (goes : GoesSteadily given events later agent t caller site ops actor) where
   abbrev begun : Agent
   begun = begin (fixed_of given) actor.agent (Transaction caller site ops)
 
@@ -50,85 +95,158 @@ module _ (given : Opening) (events later : List Event) (agent t : ℕ) (caller :
   abbrev suites : List ℕ
   suites = suites_named (table_of given events) (its given events later agent t caller site ops actor goes)
 
-  abbrev Counted : List agents.Event → ℕ → Type 0
-  Counted told so_far = CountedOf (fixed_of given) begun servers suites told so_far
-
   abbrev past : List agents.Event → List Exchange
   past told = exchanges (fixed_of given) begun told
 
-  -- its job ended in these events; or it runs still, and took so many steps
+  -- it was told this, in so many exchanges, with servers that there are, of suites that its table names
+  record Counted (told : List agents.Event) (so_far : ℕ) : Type 0 where
+    counts : CountedOf (fixed_of given) begun servers suites told so_far
+    shows : AllShow told
+
+  -- it runs still, and was told of so many exchanges at least
   record Runs (so_far : ℕ) : Type 0 where
     told : List agents.Event
-    counted : Counted told so_far
+    many : ℕ
+    least : so_far ≤ many
+    counted : Counted told many
 
   record OneEnds (so_far rest : List Event) : Type 0 where
     one : EndedJob
     there : Has (outcomes (dones (fixed_of given) (world_after given events agent caller site ops so_far) rest)) one
     of_it : number_of one ≡ t
 
-  -- ---- a step of its own
+  -- ---- a request of its own
 
-  module _ (so_far : List Event) (c : Course given events later agent t caller site ops actor goes so_far) (r : RunsIt given events later agent t caller site ops actor goes so_far c)
-      (took : OwnTook (fixed_of given) (world_after given events agent caller site ops so_far) agent c.here c.there (step (fixed_of given) (world_after given events agent caller site ops so_far) (Step agent))) where
-    abbrev said : Reply
-    said = reply_of took.st took.asked.1
+  module _ (so_far rest : List Event) (split : later ≡ so_far ++ rest) (c : Course given events later agent t caller site ops actor goes so_far) where
+    run_so : world_after given events agent caller site ops so_far ≡ run given (events ++ Begin agent (Transaction caller site ops) ∷ so_far)
+    run_so = run_at given events later agent t caller site ops actor goes.can goes.there goes.begins so_far
 
-    abbrev one : Exchange
-    one = record { server = took.asked.0; request = took.asked.1; response = Replied (reply_of took.st took.asked.1) }
+    many_servers : length (world_after given events agent caller site ops so_far).servers ≡ given.servers
+    many_servers = ap (λ (w : World). length w.servers) run_so ∙ (so_many given (events ++ Begin agent (Transaction caller site ops) ∷ so_far)).0
 
-    past_is : past (c.told ++ agents.Take (Replied (reply_of took.st took.asked.1)) ∷ []) ≡ past c.told ++ record { server = took.asked.0; request = took.asked.1; response = Replied (reply_of took.st took.asked.1) } ∷ []
-    past_is = exchanges-take (fixed_of given) begun c.told (Replied said) ∙ ap (λ asked. past c.told ++ exchange_of asked (Replied said)) (ap (next_of (fixed_of given)) (sym c.is) ∙ took.next)
+    module _ (asked : ℕ × Request) (next : next_of (fixed_of given) c.here.agent ≡ Some asked) where
+      next_told : next_of (fixed_of given) (after_all (fixed_of given) begun c.told) ≡ Some asked
+      next_told = ap (next_of (fixed_of given)) (sym c.is) ∙ next
 
-    known_server : among servers took.asked.0 ≡ true
-    known_server =
-        let w = world_after given events agent caller site ops so_far in
-        let few : took.asked.0 < length w.servers = slice_get_within w.servers took.asked.0 took.st took.at in
-        let many : length w.servers ≡ given.servers = ap (λ (w : World). length w.servers) (run_at given events later agent t caller site ops actor goes.can goes.there goes.begins so_far)
-        ∙ (so_many given (events ++ Begin agent (Transaction caller site ops) ∷ so_far)).0 in
-        has_any (λ n. n == took.asked.0) servers took.asked.0 (among_numbers given.servers 0 took.asked.0 (omega arith) (omega (arith, few, many))) (itself took.asked.0)
+      request_of : (r : RunsIt given events later agent t caller site ops actor goes so_far c) → request_in (fixed_of given) (its given events later agent t caller site ops actor goes) r.txn_run.suites r.txn_run.phase ≡ Some (asked.0, asked.1)
+      request_of r = subst (λ task. request_in (fixed_of given) task r.txn_run.suites r.txn_run.phase ≡ Some (asked.0, asked.1)) r.at.0 (sym (ap (next_in (fixed_of given)) r.running) ∙ next)
 
-    named : names_of suites took.asked.1 ≡ true
-    named =
-        names_for (fixed_of given) (run given events) (sight given events later agent t caller site ops actor goes) (table_of given events) (its given events later agent t caller site ops actor goes) actor.agent.cache (Known given events later agent t caller site ops actor goes) (ground given events later agent t caller site ops actor goes) c.here.agent.cache r.txn_run.suites r.txn_run.phase r.at.1 took.asked.0 took.asked.1
-        (subst (λ task. request_in (fixed_of given) task r.txn_run.suites r.txn_run.phase ≡ Some (took.asked.0, took.asked.1)) r.at.0 (sym (ap (next_in (fixed_of given)) r.running) ∙ took.next))
+      -- a server that there is
+      there_known : (st : State) → server_at (world_after given events agent caller site ops so_far) asked.0 ≡ Some st → among servers asked.0 ≡ true
+      there_known st at =
+          let w = world_after given events agent caller site ops so_far in
+          let few : asked.0 < length w.servers = slice_get_within w.servers asked.0 st at in
+          let many = many_servers in
+          has_any (λ n. n == asked.0) servers asked.0 (among_numbers given.servers 0 asked.0 (omega arith) (omega (arith, few, many))) (itself asked.0)
 
-    counted_on : (k : ℕ) → Counted c.told k → Counted (c.told ++ agents.Take (Replied (reply_of took.st took.asked.1)) ∷ []) (k + 1)
-    counted_on k counted = record {
-      asks = ap (asks_only servers) past_is ∙ list_all-append (λ (one : Exchange). among servers one.server) (past c.told) (one ∷ []) ∙ and_one (asks_only servers (past c.told)) (among servers took.asked.0) counted.asks known_server;
-      names = ap (names_only suites) past_is ∙ list_all-append (λ (one : Exchange). names_of suites one.request) (past c.told) (one ∷ []) ∙ and_one (names_only suites (past c.told)) (names_of suites took.asked.1) counted.names named;
-      many = ap length past_is ∙ one_longer (past c.told) one ∙ ap (λ n. n + 1) counted.many;
-    }
+      -- it tells its end to servers that gave it locks
+      tells_known : (servers' : List ℕ) (v : Verdict) (ending : Ending) (r : RunsIt given events later agent t caller site ops actor goes so_far c) → r.txn_run.phase ≡ Finishing servers' v ending → asks_only servers (past c.told) ≡ true → among servers asked.0 ≡ true
+      tells_known servers' v ending r is only =
+          let finish = of servers' (ap (request_in (fixed_of given) (its given events later agent t caller site ops actor goes) r.txn_run.suites) (sym is) ∙ request_of r) in
+          let one = finishes_in_order (fixed_of given) actor.agent caller site ops c.told asked.0 (its given events later agent t caller site ops actor goes).t v (idle_before given events later agent t caller site ops actor goes)
+          (next_told ∙ ap (λ request. Some (asked.0, request)) finish) in
+          let has : Has (locked (past c.told)) asked.0 = subst (λ all. Has all asked.0) (sym one.servers) (append_has_right (sent_to is_finish (past c.told)) (asked.0 ∷ one.left) asked.0 (inl refl)) in
+          let held = has_filter (was_locked (past c.told)) (numbers_from 0 max_servers) asked.0 has in
+          let told = any_has (λ (one : Exchange). (one.server == asked.0) && wants_lock one.request && says_held one.response) (past c.told) held.1 in
+          let parts = and_parts ((told.0.server == asked.0) && wants_lock told.0.request) (says_held told.0.response) told.2 in
+          let more = and_parts (told.0.server == asked.0) (wants_lock told.0.request) parts.0 in
+          ap (among servers) (sym (eqb-true told.0.server asked.0 more.0)) ∙ all_has (λ (one : Exchange). among servers one.server) (past c.told) told.0 only told.1
+        where
+          of : (servers' : List ℕ) → request_in (fixed_of given) (its given events later agent t caller site ops actor goes) r.txn_run.suites (Finishing servers' v ending) ≡ Some (asked.0, asked.1)
+              → asked.1 ≡ request.Finish (its given events later agent t caller site ops actor goes).t v
+          of [] is = absurd (none-some (asked.0, asked.1) is)
+          of (first ∷ left) is = sym (asks_same first asked.0 (request.Finish (its given events later agent t caller site ops actor goes).t v) asked.1 is)
+
+      module _ (r : RunsIt given events later agent t caller site ops actor goes so_far c) (known : among servers asked.0 ≡ true) (heard : Response) (shown : Shows (agents.Take heard)) where
+        past_is : past (c.told ++ agents.Take heard ∷ []) ≡ past c.told ++ record { server = asked.0; request = asked.1; response = heard } ∷ []
+        past_is = exchanges-take (fixed_of given) begun c.told heard ∙ ap (λ asked. past c.told ++ exchange_of asked heard) next_told
+
+        named : names_of suites asked.1 ≡ true
+        named =
+            names_for (fixed_of given) (run given events) (sight given events later agent t caller site ops actor goes) (table_of given events) (its given events later agent t caller site ops actor goes) actor.agent.cache (Known given events later agent t caller site ops actor goes) (ground given events later agent t caller site ops actor goes) c.here.agent.cache r.txn_run.suites r.txn_run.phase r.at.1 asked.0 asked.1
+            (request_of r)
+
+        -- one more
+        counted_on : (k : ℕ) → Counted c.told k → Counted (c.told ++ agents.Take heard ∷ []) (k + 1)
+        counted_on k counted =
+            let so = counted.counts in
+            let other : Exchange = record { server = asked.0; request = asked.1; response = heard } in
+            record {
+              counts = record {
+                asks = ap (asks_only servers) past_is ∙ list_all-append (λ (one : Exchange). among servers one.server) (past c.told) (other ∷ []) ∙ and_one (asks_only servers (past c.told)) (among servers asked.0) so.asks known;
+                names = ap (names_only suites) past_is ∙ list_all-append (λ (one : Exchange). names_of suites one.request) (past c.told) (other ∷ []) ∙ and_one (names_only suites (past c.told)) (names_of suites asked.1) so.names named;
+                many = ap length past_is ∙ one_longer (past c.told) other ∙ ap (λ n. n + 1) so.many;
+              };
+              shows = show_both c.told (agents.Take heard ∷ []) counted.shows (shown, tt);
+            }
+
+    -- it asks something, and where its end is fixed a server that there is
+    module _ (k : ℕ) (counted : Counted c.told k) where
+      can_here : CanBe given (events ++ Begin agent (Transaction caller site ops) ∷ so_far)
+      can_here = can_so_far given events later agent t caller site ops actor goes so_far rest split
+
+      votes_valid : VotesAreValid (fixed_of given) actor.agent (exchanges (fixed_of given) begun c.told)
+      votes_valid = record {
+        servers = let some = goes.can.accepted.some_servers.0 in omega (arith, some);
+        opening = record { known = goes.can.accepted.known_servers; valid = goes.can.c0 };
+        cached = cache_valid given events (can_first given events later agent t caller site ops actor goes) agent actor goes.there;
+        replied = λ one said there is. exchanges_show (fixed_of given) begun c.told counted.shows one said (has_from (past c.told) one there) is;
+      }
+
+      asks_some : is_some (next_of (fixed_of given) c.here.agent) ≡ true
+      asks_some =
+          ap (λ a. is_some (next_of (fixed_of given) a)) c.is
+          ∙ jobs_end.asks (fixed_of given) actor.agent (Transaction caller site ops) c.told (idle_before given events later agent t caller site ops actor goes) votes_valid (ap (λ (a : Agent). is_idle a.doing) (sym c.is) ∙ c.busy)
+
+      -- so something comes of it
+      not_nothing : (servers' : List ℕ) (v : Verdict) (ending : Ending) (r : RunsIt given events later agent t caller site ops actor goes so_far c) → r.txn_run.phase ≡ Finishing servers' v ending
+          → ((asked : ℕ × Request) → next_of (fixed_of given) c.here.agent ≡ Some asked → server_at (world_after given events agent caller site ops so_far) asked.0 ≡ None) → ⊥
+      not_nothing servers' v ending r is none = of (next_of (fixed_of given) c.here.agent) refl asks_some
+        where
+          of : (found : Option (ℕ × Request)) → next_of (fixed_of given) c.here.agent ≡ found → is_some found ≡ true → ⊥
+          of None next some = false≢true some
+          of (Some asked) next some =
+              let w = world_after given events agent caller site ops so_far in
+              let known = tells_known asked next servers' v ending r is counted.counts.asks in
+              ⊎_elim
+              (λ there. none-some there.0 (sym (none asked next) ∙ there.2))
+              (λ past'.
+              let most = past'.0 in
+              let many = many_servers in
+              let few = below given.servers 0 asked.0 known in
+              absurd (omega (arith, most, many, few)))
+              (slice_get_cases w.servers asked.0).1
 
   -- ---- all along
 
   lasts : (rest so_far : List Event) → later ≡ so_far ++ rest → (c : Course given events later agent t caller site ops actor goes so_far) (k : ℕ) → Counted c.told k → OneEnds so_far rest ⊎ Runs (k + own_steps agent rest)
-  lasts [] so_far split c k counted = inr (record { told = c.told; counted = subst (Counted c.told) (none k) counted })
+  lasts [] so_far split c k counted = inr (record { told = c.told; many = k; least = none k; counted = counted })
     where
-      none : (k : ℕ) → k ≡ k + 0
+      none : (k : ℕ) → k + 0 ≤ k
       none k = omega arith
-  lasts (event ∷ rest) so_far split c k counted =
-      ⊎_elim
-      (λ apart. aside apart.1 (apart_on given events later agent t caller site ops actor goes so_far rest event split c apart.0 apart.1)
-      (λ c k counted. lasts rest (so_far ++ event ∷ []) (split ∙ sym (append_assoc so_far (event ∷ []) rest)) c k counted))
-      (λ own. own_step own.0 own.1 (λ c k counted. lasts rest (so_far ++ event ∷ []) (split ∙ sym (append_assoc so_far (event ∷ []) rest)) c k counted))
-      (event_apart given agent (world_after given events agent caller site ops so_far) c.here c.there c.busy event (unhindered given events later agent t caller site ops actor goes so_far rest event split c))
+  lasts (event ∷ rest) so_far split c k counted = of (hinders_itself given agent (world_after given events agent caller site ops so_far) event) refl (λ c k counted. lasts rest (so_far ++ event ∷ []) (split ∙ sym (append_assoc so_far (event ∷ []) rest)) c k counted)
     where
       Rest : Type 0
       Rest = (c : Course given events later agent t caller site ops actor goes (so_far ++ event ∷ [])) (k : ℕ) → Counted c.told k → OneEnds (so_far ++ event ∷ []) rest ⊎ Runs (k + own_steps agent rest)
 
-      -- it was one step, or none
-      lift : (j x : ℕ) → j ≡ k + x → cond (its_step agent event) 1 0 ≡ x → OneEnds (so_far ++ event ∷ []) rest ⊎ Runs (j + own_steps agent rest) → OneEnds so_far (event ∷ rest) ⊎ Runs (k + own_steps agent (event ∷ rest))
-      lift j x is steps (inl it) = inl (record {
+      -- it was one step, or none, and so many exchanges
+      lift : (j x : ℕ) → k + x ≤ j → cond (its_step agent event) 1 0 ≡ x → OneEnds (so_far ++ event ∷ []) rest ⊎ Runs (j + own_steps agent rest) → OneEnds so_far (event ∷ rest) ⊎ Runs (k + own_steps agent (event ∷ rest))
+      lift j x most steps (inl it) = inl (record {
         one = it.one;
         there = has_after (step (fixed_of given) (world_after given events agent caller site ops so_far) event).done.outcome
             (outcomes (dones (fixed_of given) (step (fixed_of given) (world_after given events agent caller site ops so_far) event).world rest)) it.one
             (subst (λ w. Has (outcomes (dones (fixed_of given) w rest)) it.one) (next_is given events later agent t caller site ops actor goes so_far event) it.there);
         of_it = it.of_it;
       })
-      lift j x is steps (inr runs) = inr (subst Runs (same j x (own_steps agent rest) is ∙ ap (λ n. k + (n + own_steps agent rest)) (sym steps)) runs)
+      lift j x most steps (inr runs) = inr (record {
+        told = runs.told;
+        many = runs.many;
+        least = subst (λ n. k + (n + own_steps agent rest) ≤ runs.many) (sym steps) (more j x (own_steps agent rest) runs.many most runs.least);
+        counted = runs.counted;
+      })
         where
-          same : (j x r : ℕ) → j ≡ k + x → j + r ≡ k + (x + r)
-          same j x r is = omega (arith, is)
+          more : (j x r n : ℕ) → k + x ≤ j → j + r ≤ n → k + (x + r) ≤ n
+          more j x r n most least = omega (arith, most, least)
 
       not_its : (other : Event) → (other ≡ Step agent → ⊥) → its_step agent other ≡ false
       not_its other apart = of (its_step agent other) refl
@@ -137,6 +255,14 @@ module _ (given : Opening) (events later : List Event) (agent t : ℕ) (caller :
           of true is = absurd (apart (step_of agent other is))
           of false is = refl
 
+      -- its job ended in it
+      ended_now : (one : EndedJob) → (step (fixed_of given) (world_after given events agent caller site ops so_far) event).done.outcome ≡ Some one → number_of one ≡ t → OneEnds so_far (event ∷ rest) ⊎ Runs (k + own_steps agent (event ∷ rest))
+      ended_now one is of_it = inl (record {
+        one = one;
+        there = subst (λ found. Has (cons_option found (outcomes (dones (fixed_of given) (step (fixed_of given) (world_after given events agent caller site ops so_far) event).world rest))) one) (sym is) (inl refl);
+        of_it = of_it;
+      })
+
       aside : (event ≡ Step agent → ⊥) → (on : Course given events later agent t caller site ops actor goes (so_far ++ event ∷ [])) × ((on.told ≡ c.told) ⊎ ((site' : ℕ) × (on.told ≡ c.told ++ agents.Forget site' ∷ []))) → Rest → OneEnds so_far (event ∷ rest) ⊎ Runs (k + own_steps agent (event ∷ rest))
       aside apart on go =
           lift k 0 (zero k) (ap (λ b. cond b 1 0) (not_its event apart))
@@ -144,13 +270,20 @@ module _ (given : Opening) (events later : List Event) (agent t : ℕ) (caller :
           (λ same. subst (λ told. Counted told k) (sym same) counted)
           (λ gone. subst (λ told. Counted told k) (sym gone.1) (forgot gone.0)) on.1))
         where
-          zero : (k : ℕ) → k ≡ k + 0
+          zero : (k : ℕ) → k + 0 ≤ k
           zero k = omega arith
 
           forgot : (site' : ℕ) → Counted (c.told ++ agents.Forget site' ∷ []) k
           forgot site' =
               let same = exchanges-forget (fixed_of given) begun c.told site' in
-              record { asks = ap (asks_only servers) same ∙ counted.asks; names = ap (names_only suites) same ∙ counted.names; many = ap length same ∙ counted.many }
+              let so = counted.counts in
+              record {
+                counts = record { asks = ap (asks_only servers) same ∙ so.asks; names = ap (names_only suites) same ∙ so.names; many = ap length same ∙ so.many };
+                shows = show_both c.told (agents.Forget site' ∷ []) counted.shows (tt, tt);
+              }
+
+      one_more_step : k + 1 ≤ k + 1
+      one_more_step = omega arith
 
       own_step : event ≡ Step agent → is_some (step (fixed_of given) (world_after given events agent caller site ops so_far) event).done.served ≡ true → Rest → OneEnds so_far (event ∷ rest) ⊎ Runs (k + own_steps agent (event ∷ rest))
       own_step is served go =
@@ -158,37 +291,64 @@ module _ (given : Opening) (events later : List Event) (agent t : ℕ) (caller :
           let took = own_took (fixed_of given) (world_after given events agent caller site ops so_far) agent c.here c.there
           (subst (λ event. is_some (step (fixed_of given) (world_after given events agent caller site ops so_far) event).done.served ≡ true) is served) in
           let r = runs_it given events later agent t caller site ops actor goes so_far c in
+          let said = reply_of took.st took.asked.1 in
+          let can = can_so_far given events later agent t caller site ops actor goes so_far (event ∷ rest) split in
+          let valid = copy_valid given (events ++ Begin agent (Transaction caller site ops) ∷ so_far) can took.asked.0 took.st (ap (λ w. server_at w took.asked.0) (sym (run_so so_far (event ∷ rest) split c)) ∙ took.at) in
+          let counted' = counted_on so_far (event ∷ rest) split c took.asked took.next r (there_known so_far (event ∷ rest) split c took.asked took.next took.st took.at) (Replied said) (reply_shows took.st took.asked.1 valid) k counted in
           ⊎_elim
           (λ on.
-          lift (k + 1) 1 refl (ap (λ event. cond (its_step agent event) 1 0) is ∙ ap (λ b. cond b 1 0) (itself agent))
+          lift (k + 1) 1 one_more_step (ap (λ event. cond (its_step agent event) 1 0) is ∙ ap (λ b. cond b 1 0) (itself agent))
           (subst (λ event. ((c : Course given events later agent t caller site ops actor goes (so_far ++ event ∷ [])) (k : ℕ) → Counted c.told k → OneEnds (so_far ++ event ∷ []) rest ⊎ Runs (k + own_steps agent rest)) → OneEnds (so_far ++ event ∷ []) rest ⊎ Runs (k + 1 + own_steps agent rest)) (sym is)
-          (λ go. go on.0 (k + 1) (subst (λ told. Counted told (k + 1)) (sym on.1) (counted_on so_far c r took k counted))) go))
-          (λ ended. inl (record {
-            one = ended.0;
-            there = subst (λ found. Has (cons_option found (outcomes (dones (fixed_of given) (step (fixed_of given) (world_after given events agent caller site ops so_far) event).world rest))) ended.0)
-                (sym (ap (λ event. (step (fixed_of given) (world_after given events agent caller site ops so_far) event).done.outcome) is ∙ ended.1)) (inl refl);
-            of_it = ended.2;
-          }))
+          (λ go. go on.0 (k + 1) (subst (λ told. Counted told (k + 1)) (sym on.1) counted')) go))
+          (λ ended. ended_now ended.0 (ap (λ event. (step (fixed_of given) (world_after given events agent caller site ops so_far) event).done.outcome) is ∙ ended.1) ended.2)
           (own_on given events later agent t caller site ops actor goes so_far rest split' c r took)
+
+      -- a step that is not served, or that it is told of, is one exchange
+      few : (b : Bool) → k + cond b 1 0 ≤ k + 1
+      few true = omega arith
+      few false = omega arith
+
+      hindered_on : hinders_itself given agent (world_after given events agent caller site ops so_far) event ≡ true → Rest → OneEnds so_far (event ∷ rest) ⊎ Runs (k + own_steps agent (event ∷ rest))
+      hindered_on hinders go =
+          let tells = tells_now given events later agent t caller site ops actor goes so_far rest event split c hinders in
+          ⊎_elim
+          (λ lacks.
+          let counted' = counted_on so_far (event ∷ rest) split c lacks.asked lacks.next tells.r (tells_known so_far (event ∷ rest) split c lacks.asked lacks.next tells.servers tells.v tells.ending tells.r tells.is counted.counts.asks) (Lacked lacks.why) tt k counted in
+          ⊎_elim
+          (λ on. lift (k + 1) (cond (its_step agent event) 1 0) (few (its_step agent event)) refl (go on.0 (k + 1) (subst (λ told. Counted told (k + 1)) (sym on.1) counted')))
+          (λ ended. ended_now ended.0 ended.1 ended.2)
+          (lack_on given events later agent t caller site ops actor goes so_far rest event split c hinders lacks))
+          (λ nothing. absurd (not_nothing so_far (event ∷ rest) split c k counted tells.servers tells.v tells.ending tells.r tells.is nothing.none))
+          (hindered given agent (world_after given events agent caller site ops so_far) c.here c.there event hinders)
+
+      of : (b : Bool) → hinders_itself given agent (world_after given events agent caller site ops so_far) event ≡ b → Rest → OneEnds so_far (event ∷ rest) ⊎ Runs (k + own_steps agent (event ∷ rest))
+      of false calm go =
+          ⊎_elim
+          (λ apart. aside apart.1 (apart_on given events later agent t caller site ops actor goes so_far rest event split c apart.0 apart.1) go)
+          (λ own. own_step own.0 own.1 go)
+          (event_apart given agent (world_after given events agent caller site ops so_far) c.here c.there c.busy event calm)
+      of true hinders go = hindered_on hinders go
 
   -- ---- the law
 
   pub in_time : few_steps given events t caller ops < own_steps agent later → Ended given events later agent t caller site ops
   in_time more =
-      of (lasts later [] refl (first_course given events later agent t caller site ops actor goes) 0 (subst (λ told. Counted told 0) (sym (first_told given events later agent t caller site ops actor goes)) (record { asks = refl; names = refl; many = refl })))
+      of (lasts later [] refl (first_course given events later agent t caller site ops actor goes) 0 (subst (λ told. Counted told 0) (sym (first_told given events later agent t caller site ops actor goes))
+      (record { counts = record { asks = refl; names = refl; many = refl }; shows = tt })))
     where
-      over : (b n : ℕ) → b < n → 0 + n ≤ b → ⊥
-      over b n less most = omega (arith, less, most)
+      over : (b n m : ℕ) → b < n → 0 + n ≤ m → m ≤ b → ⊥
+      over b n m less least most = omega (arith, less, least, most)
 
       of : OneEnds [] later ⊎ Runs (0 + own_steps agent later) → Ended given events later agent t caller site ops
       of (inl it) = record { job = it.one; ends = record { there = contains_from (outcomes (dones (fixed_of given) (begun_world given events agent caller site ops) later)) it.one it.there; of_it = it.of_it } }
       of (inr runs) =
-          absurd (over (few_steps given events t caller ops) (own_steps agent later) more
-          (few_enough given events actor.agent t caller site ops (number given events later agent t caller site ops actor goes) (idle_before given events later agent t caller site ops actor goes) (0 + own_steps agent later) runs.told runs.counted))
+          absurd (over (few_steps given events t caller ops) (own_steps agent later) runs.many more runs.least
+          (few_enough given events actor.agent t caller site ops (number given events later agent t caller site ops actor goes) (idle_before given events later agent t caller site ops actor goes) runs.many runs.told runs.counted.counts))
 
 pub among_locks_end_in_time : AmongLocksEndInTime
-among_locks_end_in_time given events later agent t caller site ops actor goes more = in_time given events later agent t caller site ops actor goes more
+among_locks_end_in_time given events later agent t caller site ops actor goes more =
+    in_time given events later agent t caller site ops actor (steady given events later agent t caller site ops actor goes) more
 
 pub unmet_end_in_time : UnmetEndInTime
 unmet_end_in_time given events later agent t caller site ops actor goes more =
-    in_time given events later agent t caller site ops actor (unmet_is_among_locks given events later agent t caller site ops actor goes) more
+    among_locks_end_in_time given events later agent t caller site ops actor (unmet_is_among_locks given events later agent t caller site ops actor goes) more

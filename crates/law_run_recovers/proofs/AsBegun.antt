@@ -1,4 +1,4 @@
--- A suite whose copies in effect are at a quorum what they were is the register that it was; and where nothing is in the way what is stored is in effect.
+-- A suite whose copies in effect have at a quorum the versions that they had is the register that it was; and where nothing is in the way what is stored is in effect.
 use Rattle.std.proofs.Common.{◌≡◌, ◌≢◌, ◌⊎◌, inl, inr, ℕ, ◌≤◌, ◌<◌, Bool, true, false, cond, Option, Some, None, refl, sym, ap, subst, ◌∙◌, arith}
 use Rattle.std.specs.Prelude.{◌==◌, unwrap_or}
 use Rattle.std.specs.Ordering.{nat_cmp}
@@ -28,13 +28,13 @@ use Rattle.law_run_recovers.proofs.Stand.{in_conflict}
 -- ---- two machines of a suite
 
 module _ (start : Beginning) (old now : World) (inv_old : Inv start old) (inv_now : Inv start now) (stays : Stays start old now) (set : ℕ → Bool) (quorum : IsQuorum (row start now.log).prefix.votes set)
-    (same : (i : ℕ) → set i ≡ true → effect now i ≡ effect old i) where
+    (same : (i : ℕ) → set i ≡ true → ((effect now i).prefix.pver ≡ (effect old i).prefix.pver) × ((effect now i).dver ≡ (effect old i).dver)) where
   version_same : (row start now.log).prefix.pver ≡ (row start old.log).prefix.pver
   version_same =
       let x = inv_now.current.reach (row start now.log).prefix.pver (omega arith) set (subst (λ p. IsQuorum p.votes set) (sym inv_now.logged.own.0.1) quorum) in
       let top = (inv_now.current.were x.0).0.0 in
       let is = reached x.0 top x.2 in
-      let shown = ap (λ (copy : Replica). copy.prefix.pver) (same x.0 x.1) in
+      let shown = (same x.0 x.1).0 in
       let most = (inv_old.current.were x.0).0.0 in
       let grown = (stays.prefixes (row start old.log).prefix inv_old.logged.own.0).0 in
       omega (arith, is, shown, most, grown)
@@ -51,7 +51,7 @@ module _ (start : Beginning) (old now : World) (inv_old : Inv start old) (inv_no
   dver_same =
       let y = inv_now.current.content set quorum in
       let is = y.2 in
-      let shown = ap (λ (copy : Replica). copy.dver) (same y.0 y.1) in
+      let shown = (same y.0 y.1).1 in
       let most = within_row start old inv_old y.0 in
       let grown = grows in
       omega (arith, is, shown, most, grown)

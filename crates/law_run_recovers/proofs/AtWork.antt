@@ -1,5 +1,5 @@
 -- A transaction that nobody robs: until its end is fixed the locks that it was told of stand, whatever others do.
-use Rattle.std.proofs.Common.{◌≡◌, ◌⊎◌, inl, inr, ⊎_elim, ℕ, Bool, true, false, List, [], ◌∷◌, ◌++◌, append_assoc, append-nil, Option, Some, None, refl, sym, ap, subst, ◌∙◌, arith}
+use Rattle.std.proofs.Common.{◌≡◌, ◌⊎◌, inl, inr, ⊎_elim, Bool, true, false, List, [], ◌∷◌, ◌++◌, append_assoc, append-nil, Option, Some, None, refl, sym, ap, subst, ◌∙◌, arith, ℕ}
 use Rattle.std.specs.Prelude.{◌==◌, ◌&&◌, ◌||◌, not}
 use Rattle.std.proofs.lemmas.Bool.{false≢true, eqb-true}
 use Rattle.std.proofs.lemmas.Bool.Decides.{nat_tests}
@@ -39,7 +39,7 @@ use Rattle.law_run_alone.proofs.Untold.{begun_stands, started_untold}
 use Rattle.law_run_alone.proofs.Unswept.{is_resolve, never_resolves}
 use Rattle.law_run_alone.proofs.Whole.{Carried, carried_by}
 use Rattle.law_run_recovers.specs.Unmet.{runs, is_telling, world_after, takes, up_and, of_up, robs, hinders_itself}
-use Rattle.law_run_recovers.proofs.AmongLocks.{drops, bereaves, ToldAsAtItsBegin}
+use Rattle.law_run_recovers.specs.Told.{drops, bereaves}
 use Rattle.law_run_recovers.proofs.Keeps.{IsAtWork, Works, works, step_asks, operates_it, becomes_none, lacks_none, run_at, at_work_before}
 use Rattle.law_run_recovers.proofs.Still.{IsOpen, IsOpenPhase}
 use Rattle.law_run_recovers.proofs.Untaken.{TakesNothing, untaken_stands}
@@ -214,9 +214,3 @@ module _ (given : Opening) (events later : List Event) (agent t : ℕ) (caller :
   pub locks_stand : (so_far rest : List Event) → later ≡ so_far ++ rest → IsAtWork (world_at so_far) agent t → (z : ℕ) → Stands (machine_of given z (all_of so_far)) t
   locks_stand so_far rest is at z =
       stands_along so_far [] rest is at z (stands_first (at_work_before given events later agent t caller site ops actor can there begins_so [] so_far at) z)
-
--- of law 3's premise
-pub told_locks_stand : (given : Opening) (events later : List Event) (agent t : ℕ) (caller : Identity) (site : ℕ) (ops : List Op) (actor : Actor) → ToldAsAtItsBegin given events later agent t caller site ops actor
-    → (so_far rest : List Event) → later ≡ so_far ++ rest → IsAtWork (world_after given events agent caller site ops so_far) agent t → (z : ℕ) → Stands (machine_of given z (events ++ Begin agent (Transaction caller site ops) ∷ so_far)) t
-told_locks_stand given events later agent t caller site ops actor goes =
-    locks_stand given events later agent t caller site ops actor goes.can goes.there goes.begins (λ so_far rest event is at. goes.free_hand so_far rest event is at.running at.untold)

@@ -27,13 +27,14 @@ use Rattle.law_run_alone.proofs.Walks.{AllServers}
 use Rattle.law_run_recovers.specs.Beside.{clashes, clash, Begun, its_asks, GoSideBySide}
 use Rattle.law_run_recovers.specs.Unmet.{runs, running_in, is_running}
 use Rattle.law_run_recovers.proofs.AtWork.{mine_where}
-use Rattle.law_run_recovers.proofs.Keeps.{OfAsked}
+use Rattle.law_run_recovers.proofs.Keeps.{OfAsks}
 use Rattle.law_run_recovers.proofs.NearGround.{its}
 use Rattle.law_run_recovers.proofs.Owned.{AllOwned, MayLock}
 use Rattle.law_run_recovers.proofs.Sides.{its_agent, AllUp, up_next}
 use Rattle.law_run_recovers.proofs.AmongAsks.{of_its_asks}
 use Rattle.law_run_recovers.proofs.AmongCourse.{Course, runs_it}
-use Rattle.law_run_recovers.proofs.BesideUnmet.{IsUnmet, world_then, then_is, among_of, ran}
+use Rattle.law_run_recovers.proofs.BesideUnmet.{IsUnmet, world_then, then_is, steady_of, ran}
+use Rattle.law_run_recovers.specs.Near.{asks_for}
 
 -- ---- tests
 
@@ -161,17 +162,16 @@ module _ (given : Opening) (events later : List Event) (go : GoSideBySide given 
       its_unmet = sides.unmet one
 
       pub course_of : Course given (events ++ one.before) one.after one.agent one.t one.caller one.site one.ops its_unmet.actor
-          (among_of given events one.before one.agent one.t one.caller one.site one.ops one.after its_unmet (can_of so_far rest split one)) one.after
+          (steady_of given events one.before one.agent one.t one.caller one.site one.ops one.after its_unmet (can_of so_far rest split one)) one.after
       course_of =
           ran given events one.before one.agent one.t one.caller one.site one.ops one.after its_unmet (can_of so_far rest split one) one.after [] (sym (append-nil one.after)) []
           (ap (λ all. is_running (run given all) one.agent one.t) (append-nil (events ++ (one.before ++ Begin one.agent (Transaction one.caller one.site one.ops) ∷ one.after)) ∙ ap (λ all. events ++ all) (sym one.parts)) ∙ running)
 
       -- what it asks for next it asks for in its name, as on the table of its begin
       pub asks_so : (here : Actor) → actor_at (run given (events ++ so_far)) one.agent ≡ Some here → (asked : ℕ × Request) → next_of (fixed_of given) here.agent ≡ Some asked
-          → OfAsked given (events ++ one.before) one.after one.agent one.t one.caller one.site one.ops its_unmet.actor
-          (among_of given events one.before one.agent one.t one.caller one.site one.ops one.after its_unmet (can_of so_far rest split one)) asked.1
+          → OfAsks one.t (asks_for given (events ++ one.before) one.t one.caller one.ops) asked.1
       asks_so here there asked next =
-          let goes = among_of given events one.before one.agent one.t one.caller one.site one.ops one.after its_unmet (can_of so_far rest split one) in
+          let goes = steady_of given events one.before one.agent one.t one.caller one.site one.ops one.after its_unmet (can_of so_far rest split one) in
           let c = course_of in
           let r = runs_it given (events ++ one.before) one.after one.agent one.t one.caller one.site one.ops its_unmet.actor goes one.after c in
           let same : c.here ≡ here = same_Some c.here here (sym c.there ∙ ap (λ w. actor_at w one.agent) (last_is so_far one) ∙ there) in
@@ -196,8 +196,7 @@ module _ (given : Opening) (events later : List Event) (go : GoSideBySide given 
       pub may_lock : MayLock (Owned so_far) asked.1
       may_lock = of asked.1 (asks_so busy_one.one one_runs here (ap (actor_at (run given (events ++ so_far))) busy_one.who ∙ there) asked next)
         where
-          of : (question : Request) → OfAsked given (events ++ busy_one.one.before) busy_one.one.after busy_one.one.agent busy_one.one.t busy_one.one.caller busy_one.one.site busy_one.one.ops (its_unmet busy_one.one one_runs).actor
-              (among_of given events busy_one.one.before busy_one.one.agent busy_one.one.t busy_one.one.caller busy_one.one.site busy_one.one.ops busy_one.one.after (its_unmet busy_one.one one_runs) (can_of so_far rest split busy_one.one)) question
+          of : (question : Request) → OfAsks busy_one.one.t (asks_for given (events ++ busy_one.one.before) busy_one.one.t busy_one.one.caller busy_one.one.ops) question
               → MayLock (Owned so_far) question
           of (request.Poll named suite mode) is = record { one = busy_one.one; number = sym is.0; running = one_runs; asks = is.1 }
           of (request.Upgrade named suite) is = record { one = busy_one.one; number = sym is.0; running = one_runs; asks = is.1 }

@@ -44,7 +44,7 @@ use Rattle.law_run_alone.proofs.Unhindered.{all_consistent, up_valid}
 use Rattle.law_run_alone.proofs.Votes.{HasValidVotes, copy_valid, cache_valid}
 use Rattle.law_run_recovers.specs.Near.{asks_for, is_open_way, is_open_at}
 use Rattle.law_run_recovers.specs.Standing.{up_in, is_up}
-use Rattle.law_run_recovers.specs.Unmet.{world_after, GoesUnmet}
+use Rattle.law_run_recovers.specs.Unmet.{world_after, GoesUnmet, hinders_itself}
 use Rattle.law_run_recovers.specs.Among.{GoesAmongLocks}
 use Rattle.law_run_recovers.specs.Local.{EndsThen}
 use Rattle.law_run_recovers.proofs.Apart.{Apart, event_apart}
@@ -56,7 +56,8 @@ use Rattle.law_run_recovers.proofs.Open.{open_first, unmet_is_among_locks, near_
 use Rattle.law_run_recovers.proofs.Polled.{Answers}
 use Rattle.law_run_recovers.proofs.Took.{OwnTook, own_took}
 use Rattle.law_run_recovers.proofs.AmongAsks.{gather_asks, widen_asks}
-use Rattle.law_run_recovers.proofs.AmongCourse.{Course, PhaseIn, runs_it, next_is, unhindered, running_now, apart_on}
+use Rattle.law_run_recovers.proofs.AmongCourse.{Course, PhaseIn, runs_it, next_is, running_now, course_runs, apart_on}
+use Rattle.law_run_recovers.proofs.Steady.{GoesSteadily, steady, never_hindered}
 use Rattle.law_run_recovers.proofs.AmongEnds.{Over, over_on, over_now, ends_where}
 use Rattle.law_run_recovers.proofs.AmongOver.{course_not_over}
 use Rattle.law_run_recovers.proofs.AmongStep.{idle_before, first_course, first_told, request_is, right_here, own_on}
@@ -110,8 +111,15 @@ finish_kind st t v up =
 module _ (given : Opening) (events later : List Event) (agent t : ℕ) (caller : Identity) (site : ℕ) (ops : List Op) (actor : Actor) (unmet : GoesUnmet given events later agent t caller site ops actor)
     (near : (server : ℕ) → unmet.near server ≡ true)
     (ups : (so_far rest : List Event) → later ≡ so_far ++ rest → (server : ℕ) (st : State) → server_at (world_after given events agent caller site ops so_far) server ≡ Some st → st.up ≡ true) where
-  abbrev goes : GoesAmongLocks given events later agent t caller site ops actor
-  goes = unmet_is_among_locks given events later agent t caller site ops actor unmet
+  abbrev among : GoesAmongLocks given events later agent t caller site ops actor
+  among = unmet_is_among_locks given events later agent t caller site ops actor unmet
+
+  abbrev goes : GoesSteadily given events later agent t caller site ops actor
+  goes = steady given events later agent t caller site ops actor among
+
+  -- its steps are served
+  calm : (so_far rest : List Event) (event : Event) → later ≡ so_far ++ event ∷ rest → Course given events later agent t caller site ops actor goes so_far → hinders_itself given agent (world_after given events agent caller site ops so_far) event ≡ false
+  calm so_far rest event split c = never_hindered given events later agent t caller site ops actor among so_far rest event split (course_runs given events later agent t caller site ops actor goes so_far c)
 
   abbrev its_task : Task
   its_task = its given events later agent t caller site ops actor goes
@@ -229,7 +237,7 @@ module _ (given : Opening) (events later : List Event) (agent t : ℕ) (caller :
   told_on so_far rest event split (inr over) = inr (over_on given events later agent t caller site ops actor goes so_far event over)
   told_on so_far rest event split (inl on) =
       ⊎_elim aside own
-      (event_apart given agent (world_after given events agent caller site ops so_far) on.0.here on.0.there on.0.busy event (unhindered given events later agent t caller site ops actor goes so_far rest event split on.0))
+      (event_apart given agent (world_after given events agent caller site ops so_far) on.0.here on.0.there on.0.busy event (calm so_far rest event split on.0))
     where
       split_on : later ≡ (so_far ++ event ∷ []) ++ rest
       split_on = split ∙ sym (append_assoc so_far (event ∷ []) rest)
@@ -293,12 +301,14 @@ module _ (given : Opening) (events later : List Event) (agent t : ℕ) (caller :
 
   -- it does not end undecided
   pub not_undecided : (job : EndedJob) → EndsThen given events later agent t caller site ops job → (cause : Cause) → job.ending ≡ Undecided cause → ⊥
-  not_undecided job ends cause is =
-      let e = ends_where given events later agent t caller site ops actor goes job ends.there ends.of_it in
+  not_undecided job ends cause is = ⊎_elim
+      (λ e.
       let said' = reply_of e.took.st e.took.asked.1 in
       never_undecided (fixed_of given) unmet.can.c0 e.course.here.agent e.took.asked said' cause e.took.next (its_free e.so_far e.rest e.split e.course e.took)
       (since_at e.so_far (Step agent ∷ e.rest) e.split e.course)
       (subst (λ (a : Agent). HasValidVotes a.cache) e.took.took
       (cache_at (e.so_far ++ Step agent ∷ []) e.rest (e.split ∙ sym (append_assoc e.so_far (Step agent ∷ []) e.rest)) e.took.new
       (ap (λ w. actor_at w agent) (next_is given events later agent t caller site ops actor goes e.so_far (Step agent)) ∙ e.took.now)))
-      (ending_in agent e.course.here (take (fixed_of given) e.course.here.agent (Replied said')).ending job (sym e.took.ended ∙ e.is) ∙ ap (λ ending. Some ending) is)
+      (ending_in agent e.course.here (take (fixed_of given) e.course.here.agent (Replied said')).ending job (sym e.took.ended ∙ e.is) ∙ ap (λ ending. Some ending) is))
+      (λ l. false≢true (sym (calm l.so_far l.rest l.event l.split l.course) ∙ l.hinders))
+      (ends_where given events later agent t caller site ops actor goes job ends.there ends.of_it)

@@ -40,6 +40,7 @@ use Rattle.law_run_recovers.proofs.Keeps.{step_asks}
 use Rattle.law_run_recovers.proofs.Owned.{AllOwned, MayLock, owned_stays}
 use Rattle.law_run_recovers.proofs.Sides.{compared, names_one, takes_named, up_same}
 use Rattle.law_run_recovers.proofs.AmongCourse.{parted, course_runs}
+use Rattle.law_run_recovers.proofs.Steady.{steady}
 use Rattle.law_run_recovers.proofs.AmongLeft.{left_at}
 use Rattle.law_run_recovers.proofs.BesideUnmet.{IsUnmet, world_then, unmet_more, among_of, ran_then, everywhere}
 use Rattle.law_run_recovers.proofs.BesideAll.{own_served, others_none, not_both, no_job_of, clash_of, accepted, run_next, up_at, onward, Owned, Sides, last_is, can_of, same_agent, busy_one, one_named, may_lock}
@@ -192,7 +193,8 @@ module _ (given : Opening) (events later : List Event) (go : GoSideBySide given 
     left_none server st at lock has of_it =
         ⊎_elim
         (λ on. false≢true (sym runs_not ∙ ap (λ w. is_running w one.agent one.t) (sym last)
-        ∙ course_runs given (events ++ one.before) (one.after ++ event ∷ []) one.agent one.t one.caller one.site one.ops unmet_on.actor goes (one.after ++ event ∷ []) on.0))
+        ∙ course_runs given (events ++ one.before) (one.after ++ event ∷ []) one.agent one.t one.caller one.site one.ops unmet_on.actor
+        (steady given (events ++ one.before) (one.after ++ event ∷ []) one.agent one.t one.caller one.site one.ops unmet_on.actor goes) (one.after ++ event ∷ []) on.0))
         (λ over. over.1 server lock.suite (record { lock = lock; has = subst (λ locks. Has locks lock) (sym (ap (λ w. locks_at w server) last ∙ ap locks_in at)) has; of_it = of_it; on_it = refl }))
         (left_at given (events ++ one.before) (one.after ++ event ∷ []) one.agent one.t one.caller one.site one.ops unmet_on.actor goes (one.after ++ event ∷ []) [] (sym (append-nil (one.after ++ event ∷ []))))
 

@@ -25,6 +25,7 @@ use Rattle.law_run_recovers.proofs.Keeps.{after_append}
 use Rattle.law_run_recovers.proofs.Open.{unmet_is_among_locks}
 use Rattle.law_run_recovers.proofs.Sides.{ended_still, ended_runs_not}
 use Rattle.law_run_recovers.proofs.AmongCourse.{Course, parted, course_runs}
+use Rattle.law_run_recovers.proofs.Steady.{GoesSteadily, steady}
 use Rattle.law_run_recovers.proofs.AmongLeft.{left_at}
 
 pub nil_front : {X : Type 0} (xs ys : List X) → [] ≡ xs ++ ys → xs ≡ []
@@ -109,9 +110,12 @@ module _ (given : Opening) (events before : List Event) (agent t : ℕ) (caller 
     abbrev pub among_of : GoesAmongLocks given (events ++ before) after agent t caller site ops u.actor
     among_of = unmet_is_among_locks given (events ++ before) after agent t caller site ops u.actor goes_of
 
+    abbrev pub steady_of : GoesSteadily given (events ++ before) after agent t caller site ops u.actor
+    steady_of = steady given (events ++ before) after agent t caller site ops u.actor among_of
+
     -- who runs later has run all along
     pub ran : (mid rest : List Event) → after ≡ mid ++ rest → (more : List Event) → is_running (run given ((events ++ (before ++ Begin agent (Transaction caller site ops) ∷ mid)) ++ more)) agent t ≡ true
-        → Course given (events ++ before) after agent t caller site ops u.actor among_of mid
+        → Course given (events ++ before) after agent t caller site ops u.actor steady_of mid
     ran mid rest split more running =
         ⊎_elim
         (λ c. c.0)
@@ -124,4 +128,4 @@ module _ (given : Opening) (events before : List Event) (agent t : ℕ) (caller 
     pub ran_then : (mid rest : List Event) → after ≡ mid ++ rest → (more : List Event) → is_running (run given ((events ++ (before ++ Begin agent (Transaction caller site ops) ∷ mid)) ++ more)) agent t ≡ true
         → is_running (run given (events ++ (before ++ Begin agent (Transaction caller site ops) ∷ mid))) agent t ≡ true
     ran_then mid rest split more running =
-        ap (λ w. is_running w agent t) (sym (then_is mid)) ∙ course_runs given (events ++ before) after agent t caller site ops u.actor among_of mid (ran mid rest split more running)
+        ap (λ w. is_running w agent t) (sym (then_is mid)) ∙ course_runs given (events ++ before) after agent t caller site ops u.actor steady_of mid (ran mid rest split more running)

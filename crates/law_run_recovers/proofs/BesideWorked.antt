@@ -49,15 +49,15 @@ valid_action action.GetAcl is = tt
 valid_action (action.SetAcl acl) is = tt
 valid_action action.GetVotes is = tt
 
-all_by : {X : Type 0} (P : X → Type 0) (p : X → Bool) → ((x : X) → p x ≡ true → P x) → (xs : List X) → list_all p xs ≡ true → AllByRecursion P xs
+pub all_by : {X : Type 0} (P : X → Type 0) (p : X → Bool) → ((x : X) → p x ≡ true → P x) → (xs : List X) → list_all p xs ≡ true → AllByRecursion P xs
 all_by P p each [] is = tt
 all_by P p each (x ∷ xs) is = let parts = and_parts (p x) (list_all p xs) is in (each x parts.0, all_by P p each xs parts.1)
 
-abbrev event_sets_none : Event → Bool
+abbrev pub event_sets_none : Event → Bool
 event_sets_none (Begin number (Transaction caller site ops)) = list_all (λ (op : Op). sets_none op.action) ops
 event_sets_none _ = true
 
-valid_event : (event : Event) → event_sets_none event ≡ true → EventGivesValidVotes event
+pub valid_event : (event : Event) → event_sets_none event ≡ true → EventGivesValidVotes event
 valid_event (Begin number (Transaction caller site ops)) is = all_by (λ (op : Op). GivesValidVotes op.action) (λ op. sets_none op.action) (λ op. valid_action op.action) ops is
 valid_event (Begin number (Sweep server)) is = tt
 valid_event (Step number) is = tt
@@ -71,7 +71,7 @@ they_can = record { accepted = some_run_revokes.can_be.accepted; c0 = some_run_r
 
 -- ---- nothing spoils it
 
-abbrev none_spoils : World → List Event → Bool
+abbrev pub none_spoils : World → List Event → Bool
 none_spoils world [] = true
 none_spoils world (event ∷ later) = not (spoils with_caches world event) && none_spoils (step (fixed_of with_caches) world event).world later
 
@@ -79,7 +79,7 @@ not_true : (x : Bool) → not x ≡ true → x ≡ false
 not_true true is = sym is
 not_true false is = refl
 
-none_spoils_it : (later before : List Event) (event : Event) (rest : List Event) (world : World) → none_spoils world later ≡ true → later ≡ before ++ event ∷ rest → spoils with_caches (after (fixed_of with_caches) world before) event ≡ false
+pub none_spoils_it : (later before : List Event) (event : Event) (rest : List Event) (world : World) → none_spoils world later ≡ true → later ≡ before ++ event ∷ rest → spoils with_caches (after (fixed_of with_caches) world before) event ≡ false
 none_spoils_it [] [] event rest world calm is = cc
 none_spoils_it [] (x ∷ before) event rest world calm is = cc
 none_spoils_it (one ∷ later) [] event rest world calm is =
@@ -103,11 +103,11 @@ Spot = List Event × Event × ℕ
 spot : List Event → Event → ℕ → Spot
 spot before begin t = (before, begin, t)
 
-abbrev is_step : Event → Bool
+abbrev pub is_step : Event → Bool
 is_step (Step agent) = true
 is_step other = false
 
-none_begins : (before : List Event) (agent : ℕ) (job : Job) (rest : List Event) → list_all is_step (before ++ Begin agent job ∷ rest) ≡ true → ⊥
+pub none_begins : (before : List Event) (agent : ℕ) (job : Job) (rest : List Event) → list_all is_step (before ++ Begin agent job ∷ rest) ≡ true → ⊥
 none_begins [] agent job rest is = false≢true is
 none_begins (x ∷ before) agent job rest is = none_begins before agent job rest (and_parts (is_step x) (list_all is_step (before ++ Begin agent job ∷ rest)) is).1
 

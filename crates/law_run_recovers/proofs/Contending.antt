@@ -1,6 +1,6 @@
 -- Runs by computation.
 use Rattle.std.proofs.Common.{refl}
-use Rattle.law_run_recovers.specs.Contending.{NoneOfTwoCrossed, NoneOfTwoThatRaise, NoneOfTwoThatWriteAll, NoneOfThree, NoneOfTwoThatSetVotes, SomeRunsStarve}
+use Rattle.law_run_recovers.specs.Contending.{NoneOfTwoCrossed, NoneOfTwoThatRaise, NoneOfTwoOfWhichOneRaises, NoneOfTwoThatWriteAll, NoneOfThree, NoneOfTwoThatSetVotes, SomeRunsStarve}
 
 crossed : NoneOfTwoCrossed
 crossed = record {
@@ -11,6 +11,13 @@ crossed = record {
 
 raised : NoneOfTwoThatRaise
 raised = record {
+  up = refl;
+  free = refl;
+  ends = refl;
+}
+
+one_raises : NoneOfTwoOfWhichOneRaises
+one_raises = record {
   up = refl;
   free = refl;
   ends = refl;
@@ -41,6 +48,7 @@ pub some_runs_starve : SomeRunsStarve
 some_runs_starve = record {
   crossed = crossed;
   raised = raised;
+  one_raises = one_raises;
   write_all = write_all;
   three = three;
   votes_set = votes_set;

@@ -48,7 +48,7 @@ down_shows : (asked : Request) → ShowsValidVotes (reply_down asked)
 down_shows request.Return = tt
 down_shows _ = tt
 
-reply_shows : (st : State) (asked : Request) → ((suite : ℕ) → IsValid (copy_of st.store suite).prefix.votes) → ShowsValidVotes (reply_of st asked)
+pub reply_shows : (st : State) (asked : Request) → ((suite : ℕ) → IsValid (copy_of st.store suite).prefix.votes) → ShowsValidVotes (reply_of st asked)
 reply_shows st asked valid = of st.up
   where
     of : (b : Bool) → ShowsValidVotes (cond b (reply_up st asked) (reply_down asked))
@@ -57,16 +57,16 @@ reply_shows st asked valid = of st.up
 
 -- ---- what an agent is told
 
-abbrev Shows : agents.Event → Type 0
+abbrev pub Shows : agents.Event → Type 0
 Shows (Take (Replied said)) = ShowsValidVotes said
 Shows (Take (Lacked why)) = Unit {0}
 Shows (agents.Forget site) = Unit {0}
 
-abbrev AllShow : List agents.Event → Type 0
+abbrev pub AllShow : List agents.Event → Type 0
 AllShow [] = Unit {0}
 AllShow (one ∷ told) = Shows one × AllShow told
 
-show_both : (told more : List agents.Event) → AllShow told → AllShow more → AllShow (told ++ more)
+pub show_both : (told more : List agents.Event) → AllShow told → AllShow more → AllShow (told ++ more)
 show_both [] more first second = second
 show_both (one ∷ told) more first second = (first.0, show_both told more first.1 second)
 
@@ -134,7 +134,7 @@ all_told_show given past (event ∷ events) can world is n =
 
 -- ---- its exchanges
 
-exchanges_show : (fixed : Fixed) (agent : Agent) (told : List agents.Event) → AllShow told → (one : Exchange) (said : Reply) → Has (exchanges fixed agent told) one → one.response ≡ Replied said → ShowsValidVotes said
+pub exchanges_show : (fixed : Fixed) (agent : Agent) (told : List agents.Event) → AllShow told → (one : Exchange) (said : Reply) → Has (exchanges fixed agent told) one → one.response ≡ Replied said → ShowsValidVotes said
 exchanges_show fixed agent [] show one said has is = absurd has
 exchanges_show fixed agent (agents.Forget site ∷ told) show one said has is = exchanges_show fixed (forget agent site) told show.1 one said has is
 exchanges_show fixed agent (Take heard ∷ told) show one said has is =

@@ -1,6 +1,6 @@
 -- While a transaction goes among locks that stay, and until its end is fixed, what near servers have stored of its suites stays where they are open to it.
 use Rattle.std.proofs.Common.{◌≡◌, ℕ, ◌+◌, ◌≤◌, Bool, true, false, cond, List, [], ◌∷◌, ◌++◌, append_assoc, append-nil, Option, Some, None, refl, sym, ap, subst, ◌∙◌, arith}
-use Rattle.std.specs.Prelude.{◌*◌, ◌==◌, ◌&&◌, ◌||◌, not, nat_lt, option_map, Contains}
+use Rattle.std.specs.Prelude.{◌*◌, ◌==◌, ◌&&◌, ◌||◌, not, nat_lt, Contains}
 use Rattle.std.specs.List.{list_any}
 use Rattle.std.proofs.lemmas.Bool.{false≢true, eqb-true, eq-eqb}
 use Rattle.std.proofs.lemmas.Bool.Decides.{nat_tests}
@@ -16,7 +16,6 @@ use Rattle.rep_core.specs.declared.reply.Verdict.{Verdict}
 use Rattle.rep_core.specs.declared.request.Request.{Request}
 use Rattle.rep_core.specs.declared.request.Request.TheVariants as request
 use Rattle.rep_core.specs.declared.stamped.Lack.{Lack as Why}
-use Rattle.rep_core.specs.Locks.{in_the_way}
 use Rattle.rep_core.specs.Store.{copy_of}
 use Rattle.rep_core.specs.State.{State}
 use Rattle.rep_core.specs.Serving.{is_full, answer_of}
@@ -44,11 +43,11 @@ use Rattle.law_run_alone.proofs.Unhindered.{all_consistent}
 use Rattle.law_run_recovers.specs.Near.{asks_for, is_open_way, way_in, is_open_at}
 use Rattle.law_run_recovers.specs.Unmet.{runs, running_in, is_running, is_told, tells, telling_in, is_telling, world_after, takes, up_and, of_up, robs, hinders_itself}
 use Rattle.law_run_recovers.specs.Among.{GoesAmongLocks}
-use Rattle.law_run_recovers.proofs.AmongLocks.{shows_same, SameWay, told_as_first, AsAtItsBegin}
+use Rattle.law_run_recovers.specs.Told.{shows_same, SameWay, told_as_first, AsAtItsBegin}
 use Rattle.law_run_recovers.proofs.Serves.{Serves}
 use Rattle.law_run_recovers.proofs.Still.{IsOpen, IsOpenPhase, open_before, open_next}
 use Rattle.law_run_recovers.proofs.Open.{begun_there, begun_servers, its_begin}
-use Rattle.law_run_recovers.proofs.Stand.{Spares, event_stands}
+use Rattle.law_run_recovers.proofs.Stand.{Spares, event_stands, free_where}
 
 -- ---- an agent that runs a transaction ran it before, where it began none since
 
@@ -241,6 +240,12 @@ event_spares given agent t w (Step other) at calm st up serves there named v is 
         (sym (ap (λ found. hinders_itself given agent w (Step other) || (not (other == agent) && not (is_telling w agent) && found))
         (ap (of_up (takes t) w) serves.done ∙ ap (up_and (takes t) serves.asked.value) there)) ∙ calm)
 
+-- what a transaction asks: its locks in its own name, of what it asks for
+abbrev pub OfAsks : ℕ → List (ℕ × LockMode) → Request → Type 0
+OfAsks t asked (request.Poll named suite mode) = (named ≡ t) × Contains asked (suite, mode)
+OfAsks t asked (request.Upgrade named suite) = (named ≡ t) × Contains asked (suite, Exclusive)
+OfAsks t asked other = Unit {0}
+
 -- ---- all along
 
 pub after_append : (fixed : Fixed) (xs ys : List Event) (w : World) → after fixed w (xs ++ ys) ≡ after fixed (after fixed w xs) ys
@@ -311,13 +316,6 @@ module _ (given : Opening) (events later : List Event) (agent t : ℕ) (caller :
   abbrev world_then : List Event → World
   world_then so_far = world_after given events agent caller site ops so_far
 
-  up_where : (w : World) (server : ℕ) (one : ℕ × LockMode) (st : State) → server_at w server ≡ Some st → is_open_at w t one.0 one.1 server ≡ true → st.up ≡ true
-  up_where w server one st at open' = of st.up (option_map (λ (lock : Lock). lock.t) (in_the_way t one.0 one.1 st.locks)) (ap (λ found. is_open_way (way_in t one.0 one.1 found)) (sym at) ∙ open')
-    where
-      of : (b : Bool) (other : Option ℕ) → is_open_way (cond b (Some other) None) ≡ true → b ≡ true
-      of true other is = refl
-      of false other is = is
-
   -- who is open is there
   there_where : (w : World) (server : ℕ) (one : ℕ × LockMode) → is_open_at w t one.0 one.1 server ≡ true → (st : State) × (server_at w server ≡ Some st)
   there_where w server one = of (server_at w server) refl
@@ -347,8 +345,9 @@ module _ (given : Opening) (events later : List Event) (agent t : ℕ) (caller :
         let is_open = open_at so_far (event ∷ rest) is at in
         let here = there_where w server one is_open in
         event_stands (fixed_of given) w event server t one.0 one.1 here.0 new here.1 now
-        (all_consistent given (events ++ Begin agent job_of ∷ so_far) server here.0 (ap (λ w. server_at w server) (sym (run_at given events later agent t caller site ops actor goes.can goes.there goes.begins so_far)) ∙ here.1)) is_open
-        (λ serves target. event_spares given agent t w event at (goes.free_hand so_far rest event is at.running) here.0 (up_where w server one here.0 here.1 is_open) serves (ap (server_at w) target ∙ here.1))
+        (all_consistent given (events ++ Begin agent job_of ∷ so_far) server here.0 (ap (λ w. server_at w server) (sym (run_at given events later agent t caller site ops actor goes.can goes.there goes.begins so_far)) ∙ here.1))
+        (free_where t one.0 one.1 here.0 (ap (λ found. is_open_way (way_in t one.0 one.1 found)) (sym here.1) ∙ is_open))
+        (λ serves target up. event_spares given agent t w event at (goes.free_hand so_far rest event is at.running) here.0 up serves (ap (server_at w) target ∙ here.1))
         ∙ same here.0 old here.1 was
 
     same_along : (todo so_far rest : List Event) → later ≡ (so_far ++ todo) ++ rest → IsAtWork (world_then (so_far ++ todo)) agent t → Same (world_then so_far) → Same (world_then (so_far ++ todo))
@@ -385,13 +384,7 @@ module _ (given : Opening) (events later : List Event) (agent t : ℕ) (caller :
 
   -- ---- law 3's clause of what it asks
 
-  -- what it asks is of a near server; its locks are in its own name, of what it asks for
-  abbrev pub OfAsked : Request → Type 0
-  OfAsked (request.Poll named suite mode) = (named ≡ t) × Contains asked (suite, mode)
-  OfAsked (request.Upgrade named suite) = (named ≡ t) × Contains asked (suite, Exclusive)
-  OfAsked other = Unit {0}
-
-  told_so : (w : World) (server : ℕ) (question : Request) → OfAsked question → ((one : ℕ × LockMode) → Contains asked one → SameWay first w server t one.0 one.1) → told_as_first first w server question
+  told_so : (w : World) (server : ℕ) (question : Request) → OfAsks t asked question → ((one : ℕ × LockMode) → Contains asked one → SameWay first w server t one.0 one.1) → told_as_first first w server question
   told_so w server (request.Poll named suite mode) of_it same = subst (λ t. SameWay first w server t suite mode) (sym of_it.0) (same (suite, mode) of_it.1)
   told_so w server (request.Upgrade named suite) of_it same = subst (λ t. SameWay first w server t suite Exclusive) (sym of_it.0) (same (suite, Exclusive) of_it.1)
   told_so w server (request.Fetch named suite) of_it same = tt
@@ -404,8 +397,8 @@ module _ (given : Opening) (events later : List Event) (agent t : ℕ) (caller :
   told_so w server request.Crash of_it same = tt
   told_so w server request.Return of_it same = tt
 
-  pub as_at_its_begin : (so_far rest : List Event) → later ≡ so_far ++ rest → IsAtWork (world_then so_far) agent t → (server : ℕ) (question : Request) → goes.near server ≡ true → OfAsked question
-      → AsAtItsBegin given events later agent t caller site ops (world_then so_far) server question
+  pub as_at_its_begin : (so_far rest : List Event) → later ≡ so_far ++ rest → IsAtWork (world_then so_far) agent t → (server : ℕ) (question : Request) → goes.near server ≡ true → OfAsks t asked question
+      → AsAtItsBegin first (world_then so_far) server question
   as_at_its_begin so_far rest is at server question near of_it = record {
     up = (goes.stays so_far rest is at.running).up server near;
     told = told_so (world_then so_far) server question of_it (λ one has. same_way so_far rest is at server one near has);

@@ -1,4 +1,4 @@
--- What a transaction stands on that goes among locks that stay: near servers that are open to it answer what is in effect, and prefixes that are found name
+-- What a transaction stands on that goes steadily: near servers that are open to it answer what is in effect, and prefixes that are found name
 -- near servers.
 use Rattle.std.proofs.Common.{◌≡◌, ℕ, Bool, true, false, List, [], ◌∷◌, Option, Some, None, refl, sym, ap, subst}
 use Rattle.std.specs.Prelude.{◌*◌, ◌+◌, ◌==◌, ◌&&◌, Contains}
@@ -36,7 +36,7 @@ use Rattle.law_run_alone.proofs.Unhindered.{all_consistent}
 use Rattle.law_run_recovers.specs.Standing.{is_up}
 use Rattle.law_run_recovers.specs.Demands.{locks_asked, MayStart}
 use Rattle.law_run_recovers.specs.Near.{asks_for, way_at, is_open_at}
-use Rattle.law_run_recovers.specs.Among.{GoesAmongLocks}
+use Rattle.law_run_recovers.proofs.Steady.{GoesSteadily}
 use Rattle.law_run_recovers.specs.OpenDemands.{first_mode}
 use Rattle.law_run_recovers.proofs.Found.{Answering}
 use Rattle.law_run_recovers.proofs.Led.{Rules, rules_of}
@@ -47,7 +47,7 @@ use Rattle.law_run_recovers.proofs.Polled.{Sight, finds_at}
 use Rattle.law_run_recovers.proofs.Rows.{start_was}
 use Rattle.law_run_recovers.proofs.Stands.{Ground, asks_of, locks_on}
 
-module _ (given : Opening) (events later : List Event) (agent t : ℕ) (caller : Identity) (site : ℕ) (ops : List Op) (actor : Actor) (goes : GoesAmongLocks given events later agent t caller site ops actor) where
+module _ (given : Opening) (events later : List Event) (agent t : ℕ) (caller : Identity) (site : ℕ) (ops : List Op) (actor : Actor) (goes : GoesSteadily given events later agent t caller site ops actor) where
   abbrev pub its : Task
   its = record { t = 64 * actor.agent.count + actor.agent.index; caller = caller; site = site; ops = ops }
 

@@ -25,6 +25,7 @@ use Rattle.law_run_recovers.proofs.HadVotes.{decided_had_votes_up}
 use Rattle.law_run_recovers.proofs.Histories.{finished_before_at_server, changes_are_met_at_server}
 use Rattle.law_run_recovers.proofs.Homes.{homes_go_round}
 use Rattle.law_run_recovers.proofs.InTime.{runs_end_by_the_bounds}
+use Rattle.law_run_recovers.proofs.MeetLaw.{one_that_meets_is_decided}
 use Rattle.law_run_recovers.proofs.Rounds.{only_doubts_are_left}
 use Rattle.law_run_recovers.proofs.Rows.{met_demands_are_rows}
 use Rattle.law_run_recovers.proofs.Stored.{all_is_stored}
@@ -34,6 +35,7 @@ use Rattle.law_run_recovers.proofs.AmongDecided.{among_locks_had_votes_open, amo
 use Rattle.law_run_recovers.proofs.UnmetLaws.{unmet_end_by_votes, unmet_are_decided_where_votes_are}
 use Rattle.law_run_recovers.proofs.AmongLeft.{among_locks_leave_no_lock}
 use Rattle.law_run_recovers.proofs.AmongTime.{among_locks_end_in_time, unmet_end_in_time}
+use Rattle.law_run_recovers.proofs.ToldLaws.{told_end_by_votes, told_end_in_time, told_had_votes_open, told_are_decided_where_votes_are, told_are_answered_as_begun, told_gather_their_asks}
 use Rattle.law_run_recovers.proofs.Unmoved.{decided_where_votes_are}
 
 pub available : RunsKeepToSites → (given : Opening) (events : List Event) → CanBe given events → IsAvailable given events
@@ -54,9 +56,16 @@ available sites given events can = record {
   among_answers = among_locks_are_answered_as_begun given events;
   among_gathers = among_locks_gather_their_asks given events;
   among_leaves = among_locks_leave_no_lock given events;
+  told_ends = told_end_by_votes given events;
+  told_in_time = told_end_in_time given events;
+  told_had_votes = told_had_votes_open given events;
+  told_where_votes = told_are_decided_where_votes_are given events;
+  told_answers = told_are_answered_as_begun given events;
+  told_gathers = told_gather_their_asks given events;
   beside_decided = side_by_side_are_decided given events;
   beside_in_time = side_by_side_end_in_time given events;
   beside_told = side_by_side_are_told_freely given events;
+  one_that_meets = one_that_meets_is_decided given events;
   finished = finished_before_at_server given events can;
   changes_met = changes_are_met_at_server given events can;
   homes = homes_go_round given;

@@ -30,7 +30,7 @@ use Rattle.run_core.specs.declared.event.Event.{Event}
 use Rattle.run_core.specs.Worlds.{World, server_at, step}
 use Rattle.law_runs.proofs.Places.{same_or}
 use Rattle.law_runs.proofs.Worlds.{puts_in}
-use Rattle.law_run_recovers.specs.Near.{is_open_way, way_in, is_open_at}
+use Rattle.law_run_recovers.specs.Near.{is_open_way, way_in}
 use Rattle.law_run_recovers.proofs.Serves.{Serves, event_serves}
 
 -- a Finish of the transaction finds no lock of it
@@ -120,8 +120,9 @@ module _ (st : State) (consistent : IsConsistent st) (t z : ℕ) (mode : LockMod
   down_keeps request.Return = refl
 
   -- where nothing is in the way of the transaction, and nothing is taken from it, the copy stays
-  pub copy_stands : (asked : Request) → Spares t st asked → copy_of (after st asked).store z ≡ copy_of st.store z
-  copy_stands asked calm = elim (st.up) as (λ b. copy_of (cond b (after_up st asked) (after_down st asked)).store z ≡ copy_of st.store z) [ true ↦ up_keeps asked calm | false ↦ down_keeps asked ]
+  pub copy_stands : (asked : Request) → (st.up ≡ true → Spares t st asked) → copy_of (after st asked).store z ≡ copy_of st.store z
+  copy_stands asked calm =
+      elim (st.up) as (λ b. st.up ≡ b → copy_of (cond b (after_up st asked) (after_down st asked)).store z ≡ copy_of st.store z) [ true ↦ λ up. up_keeps asked (calm up) | false ↦ λ down. down_keeps asked ] refl
 
 -- ---- in a world
 
@@ -135,17 +136,14 @@ free_where t z mode st = of st.up (in_the_way t z mode st.locks)
     of false other is = absurd (false≢true is)
 
 module _ (fixed : Fixed) (w : World) (event : Event) (server t z : ℕ) (mode : LockMode) (st new : State) (at : server_at w server ≡ Some st) (now : server_at (step fixed w event).world server ≡ Some new)
-    (consistent : IsConsistent st) (is_open : is_open_at w t z mode server ≡ true) where
-  -- The copy of a suite at a server that is open for it stays through an event, unless that takes something there from the transaction.
-  pub event_stands : ((serves : Serves w (step fixed w event)) → serves.target ≡ server → Spares t st serves.asked.value) → copy_of new.store z ≡ copy_of st.store z
+    (consistent : IsConsistent st) (free : in_the_way t z mode st.locks ≡ None) where
+  -- The copy of a suite at a server where nothing is in the way stays through an event, unless that takes something there from the transaction.
+  pub event_stands : ((serves : Serves w (step fixed w event)) → serves.target ≡ server → st.up ≡ true → Spares t st serves.asked.value) → copy_of new.store z ≡ copy_of st.store z
   event_stands spares = ⊎_elim
       (λ same. ap (λ (st : State). copy_of st.store z) (same_Some new st (sym now ∙ ap (λ servers. slice_get servers server) same ∙ at)))
       of
       (event_serves fixed w event)
     where
-      free : in_the_way t z mode st.locks ≡ None
-      free = free_where t z mode st (ap (λ found. is_open_way (way_in t z mode found)) (sym at) ∙ is_open)
-
       of : Serves w (step fixed w event) → copy_of new.store z ≡ copy_of st.store z
       of serves =
           let puts = puts_in w.servers serves.target serves.st (served serves.st serves.asked) serves.at in

@@ -34,7 +34,7 @@ use Rattle.law_runs.proofs.Conclusions.{holds_of}
 use Rattle.law_runs.proofs.Places.{same_or}
 use Rattle.law_runs.proofs.Worlds.{agent_of, puts_in}
 use Rattle.law_run_recovers.specs.Unmet.{takes, robs, hinders_itself}
-use Rattle.law_run_recovers.proofs.AmongLocks.{bereaves}
+use Rattle.law_run_recovers.specs.Told.{bereaves}
 use Rattle.law_run_recovers.proofs.AtWork.{takes_nothing}
 use Rattle.law_run_recovers.proofs.Keeps.{IsAtWork, Works, works, last_of, step_asks, operates_it, becomes_none, lacks_none}
 use Rattle.law_run_recovers.proofs.Serves.{Serves, event_serves}

@@ -26,7 +26,8 @@ use Rattle.law_run_recovers.specs.Demands.{Demand, demand, is_met, all_met, dema
 use Rattle.law_run_recovers.specs.Laws.{EndsByVotes, ending_by, answer_on}
 use Rattle.law_run_recovers.specs.Near.{asks_for, is_open_way, is_way_met, way_at, is_open_at, in_its_way}
 use Rattle.law_run_recovers.specs.Unmet.{GoesUnmet}
-use Rattle.law_run_recovers.specs.Among.{GoesAmongLocks, EndsOpenly, first_wanting, has_votes_open, UnmetAreAmongLocks}
+use Rattle.law_run_recovers.specs.Among.{EndsOpenly, first_wanting, has_votes_open, UnmetAreAmongLocks}
+use Rattle.law_run_recovers.proofs.Steady.{GoesSteadily, steady}
 use Rattle.law_run_recovers.specs.OpenDemands.{Want, open_demand, open_demands, first_mode, wants, wants_of_rows}
 use Rattle.law_run_recovers.specs.Local.{EndsThen, VotesNeverMovedOf, UnmetEndByVotes, UnmetAreDecidedWhereVotesAre}
 use Rattle.law_run_recovers.proofs.AmongLaws.{map_members, among_by_votes, found_by, led_first, row_first}
@@ -107,8 +108,8 @@ module _ (given : Opening) (events later : List Event) (agent t : ℕ) (caller :
   abbrev asked : List (ℕ × LockMode)
   asked = asks_for given events t caller ops
 
-  abbrev among : GoesAmongLocks given events later agent t caller site ops actor
-  among = unmet_is_among_locks given events later agent t caller site ops actor goes
+  abbrev among : GoesSteadily given events later agent t caller site ops actor
+  among = steady given events later agent t caller site ops actor (unmet_is_among_locks given events later agent t caller site ops actor goes)
 
   clear : (one : ℕ × LockMode) (server : ℕ) → Contains (asks_for given events t caller ops) one → goes.near server ≡ true → in_its_way (run given events) t one.0 one.1 server ≡ false
   clear one server has near = open_first given events later agent t caller site ops actor goes server one near has

@@ -32,7 +32,7 @@ use Rattle.law_run_alone.proofs.Requests.{Finds, HasSome, finds, stands_where}
 use Rattle.law_run_alone.proofs.Standing.{Stands}
 use Rattle.law_run_alone.proofs.Whole.{Carried, carried_by}
 use Rattle.law_run_recovers.specs.Unmet.{world_after, robs, hinders_itself}
-use Rattle.law_run_recovers.proofs.AmongLocks.{bereaves}
+use Rattle.law_run_recovers.specs.Told.{bereaves}
 use Rattle.law_run_recovers.proofs.AtWork.{locks_stand}
 use Rattle.law_run_recovers.proofs.Keeps.{IsAtWork, after_append, run_at, at_work_before}
 use Rattle.law_run_recovers.proofs.Knew.{unanswered, knows_table}

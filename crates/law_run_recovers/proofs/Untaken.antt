@@ -43,7 +43,7 @@ use Rattle.law_run_machine.specs.Machines.{home_in, servers_of, answered_events,
 use Rattle.law_run_machine.proofs.Joining.{run-append}
 use Rattle.law_run_alone.proofs.Standing.{StandsAs, Stands, Spares, AllSpare, stands_all, spare_begun, spare_own, spare_decision, spare_moves}
 use Rattle.law_run_recovers.specs.Unmet.{takes}
-use Rattle.law_run_recovers.proofs.AmongLocks.{drops}
+use Rattle.law_run_recovers.specs.Told.{drops}
 
 -- ---- locks at a server
 

@@ -73,6 +73,20 @@ pub record NoneOfTwoThatRaise : Type 0 where
   pub free : all_free (run one_server a_made) ≡ true
   pub ends : endings_in one_server both_raise ≡ (0, Answered (answer.Made 1 ∷ [])) ∷ (64, Undecided (Busy 0 1)) ∷ (1, Undecided (Busy 0 64)) ∷ []
 
+-- ---- one of two raises what both read first
+
+-- Both come to one file first and to the other one then. But they are not in each other's way at the first until the one is to write it.
+abbrev pub one_raises : List Event
+one_raises =
+    both_made
+    ++ Begin 0 (Transaction owner 0 (op a action.Read ∷ puts b 0 ∷ puts a 0 ∷ [])) ∷ Begin 1 (Transaction owner 0 (op a action.Read ∷ puts b 1 ∷ [])) ∷ []
+    ++ so_many 5 0 ++ so_many 5 1 ++ so_many 14 0 ++ so_many 14 1
+
+pub record NoneOfTwoOfWhichOneRaises : Type 0 where
+  pub up : all_up (run one_server both_made) ≡ true
+  pub free : all_free (run one_server both_made) ≡ true
+  pub ends : endings_in one_server one_raises ≡ (0, Answered (answer.Made 1 ∷ answer.Made 2 ∷ [])) ∷ (64, Undecided (Busy 0 1)) ∷ (1, Undecided (Busy 0 64)) ∷ []
+
 -- ---- more votes needed than leave a majority to one of two
 
 abbrev pub write_all : Opening
@@ -129,6 +143,7 @@ pub record NoneOfTwoThatSetVotes : Type 0 where
 pub record SomeRunsStarve : Type 0 where
   pub crossed : NoneOfTwoCrossed
   pub raised : NoneOfTwoThatRaise
+  pub one_raises : NoneOfTwoOfWhichOneRaises
   pub write_all : NoneOfTwoThatWriteAll
   pub three : NoneOfThree
   pub votes_set : NoneOfTwoThatSetVotes

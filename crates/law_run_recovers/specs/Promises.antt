@@ -13,7 +13,9 @@ use Rattle.law_run_alone.specs.Undisturbed.{NothingIsInTheWayAt, UndisturbedAreD
 use Rattle.law_run_recovers.specs.Laws.{EndsAreByVotesAt, EndsInTimeAt, MetDemandsAreRowsAt, DecidedWhereVotesAreAt, HomesGoRoundOf, OneOfThemIsDecidedAt, DecidedHadVotesUpAt}
 use Rattle.law_run_recovers.specs.InTime.{RunsEndByTheBoundsAt}
 use Rattle.law_run_recovers.specs.Local.{UnmetEndByVotesAt, UnmetEndInTimeAt, UnmetHadVotesUpAt, UnmetAreDecidedWhereVotesAreAt}
+use Rattle.law_run_recovers.specs.Meets.{OneThatMeetsIsDecidedAt}
 use Rattle.law_run_recovers.specs.Among.{AmongLocksEndByVotesAt, AmongLocksEndInTimeAt, AmongLocksHadVotesOpenAt, AmongLocksAreDecidedWhereVotesAreAt, AmongLocksAreAnsweredAsBegunAt, AmongLocksGatherTheirAsksAt, AmongLocksLeaveNoLockAt}
+use Rattle.law_run_recovers.specs.Told.{ToldEndByVotesAt, ToldEndInTimeAt, ToldHadVotesOpenAt, ToldAreDecidedWhereVotesAreAt, ToldAreAnsweredAsBegunAt, ToldGatherTheirAsksAt}
 use Rattle.law_run_recovers.specs.Beside.{SideBySideAreDecidedAt, SideBySideEndInTimeAt, SideBySideAreToldFreelyAt}
 use Rattle.law_run_recovers.specs.Histories.{FinishedBeforeAtServerAt, ChangesAreMetAtServerAt}
 use Rattle.law_run_recovers.specs.Blocking.{BlockedByDoubtsAt, SomeServerBlocksAt, OneCrashBlocksAt}
@@ -46,11 +48,20 @@ pub record IsAvailable (given : Opening) (events : List Event) : Type 0 where
   -- what is decided of it has gathered just what it asks for on that table; and it leaves no lock
   pub among_gathers : AmongLocksGatherTheirAsksAt given events
   pub among_leaves : AmongLocksLeaveNoLockAt given events
+  -- and so one that is told, whenever it asks, what it would have been told as it began, and whose locks stay
+  pub told_ends : ToldEndByVotesAt given events
+  pub told_in_time : ToldEndInTimeAt given events
+  pub told_had_votes : ToldHadVotesOpenAt given events
+  pub told_where_votes : ToldAreDecidedWhereVotesAreAt given events
+  pub told_answers : ToldAreAnsweredAsBegunAt given events
+  pub told_gathers : ToldGatherTheirAsksAt given events
   -- transactions that begin from now on, each where it clashes with none that runs, are decided when they end, as the table at their begin answers them;
   -- they end in time, and are never told Busy, Down or Lost; as long as all servers are up, nobody sweeps and each request is served
   pub beside_decided : SideBySideAreDecidedAt given events
   pub beside_in_time : SideBySideEndInTimeAt given events
   pub beside_told : SideBySideAreToldFreelyAt given events
+  -- of two that begin from now on and alone meet, at one suite first and by votes that leave enough to one of them, one is decided once both have ended
+  pub one_that_meets : OneThatMeetsIsDecidedAt given events
   -- where a server served the Finish of one transaction before a request of another that is none, the first was decided before the second; so a change whose
   -- Finish says that it was answered is met
   pub finished : FinishedBeforeAtServerAt given events

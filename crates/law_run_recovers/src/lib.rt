@@ -17,8 +17,14 @@
 //!   `among_locks_are_decided_where_votes_are`, `among_locks_are_answered_as_begun`,
 //!   `among_locks_gather_their_asks`), and it leaves no lock (`among_locks_leave_no_lock`); what nobody meets is one
 //!   (`unmet_are_among_locks`).
+//! - So does one that is told, whenever it asks, what it would have been told as it began, and whose locks stay
+//!   (`told_end_by_votes`, `told_end_in_time`, `told_had_votes_open`, `told_are_decided_where_votes_are`,
+//!   `told_are_answered_as_begun`, `told_gather_their_asks`); one among locks that stay is one
+//!   (`among_locks_are_told_as_begun`).
 //! - So transactions side by side, of which each begins only where it clashes with none that runs, are all decided
 //!   (`side_by_side_are_decided`, `side_by_side_end_in_time`, `side_by_side_are_told_freely`).
+//! - Of two that alone meet, at one suite first and by votes that leave enough to one of them, one is decided
+//!   (`one_that_meets_is_decided`; a run is in `some_runs_meet`).
 //! - Homes go round. So where the votes are up, of as many tries as there are servers one is decided
 //!   (`homes_go_round`, `one_of_them_is_decided`).
 //! - Sweeps leave only locks in doubt, change no copy in effect, and with all servers up leave none
@@ -31,18 +37,21 @@
 //! - A transaction whose lock was taken away is never decided (`taken_away_are_never_decided`).
 //! - `promise` lends all this of a world, and `what_can_be_is_available` of any events that there can be. In
 //!   `some_runs_recover` and `some_runs_go_side_by_side` it says something.
-//! - Not promised: that of transactions that meet one is decided (`some_runs_starve`).
+//! - Not promised: that of other transactions that meet one is decided (`some_runs_starve`).
 //!
 //! **The caller owes** to `promise` a world that some events made of accepted settings (`IsOfRun`).
 //!
-//! **Files**: `lib`, `promises`. **Definitions** (`specs/`): `Standing`, `Alone`, `Demands`, `InTime`, `Laws`,
-//! `Sweeping`, `Promises`, `Worked`, `Near`, `Unmet`, `OpenDemands`, `Local`, `Among`, `Beside`, `BesideWorked`,
-//! `Histories`, `Blocking`, `Contending`. The proofs follow a transaction over its agent's steps (`proofs/Ends.antt`,
-//! `Stands.antt`, `Asking.antt`; where others go on `AmongCourse.antt`, `AmongStep.antt`, `AmongEnds.antt`) and a
-//! sweep by its list (`Sweeps.antt`, `Swept.antt`, `Rounds.antt`).
+//! **Files**: `lib`, `meeting`, `promises`, `told`. **Definitions** (`specs/`): `Standing`, `Alone`, `Demands`,
+//! `InTime`, `Laws`, `Sweeping`, `Promises`, `Worked`, `Near`, `Unmet`, `OpenDemands`, `Local`, `Among`, `Told`,
+//! `Beside`, `BesideWorked`, `Meets`, `MeetsWorked`, `Histories`, `Blocking`, `Contending`. The proofs follow a
+//! transaction over its agent's steps (`proofs/Ends.antt`, `Stands.antt`, `Asking.antt`; where others go on
+//! `AmongCourse.antt`, `AmongStep.antt`, `AmongEnds.antt`; where two meet `MeetCourse.antt`, `MeetReach.antt`,
+//! `MeetLaw.antt`) and a sweep by its list (`Sweeps.antt`, `Swept.antt`, `Rounds.antt`).
 #![tactic(auto)]
 
+mod meeting;
 mod promises;
+mod told;
 
 ghost use Rattle.law_run_recovers.specs.Laws.{EndsAreByVotes, EndsInTime, MetDemandsAreRows, DecidedWhereVotesAre, HomesGoRound, OneOfThemIsDecided, DecidedHadVotesUp};
 ghost use Rattle.law_run_recovers.specs.Local.{AloneAreUnmet, NearVotesAreRows, OpenVotesAreRows, UnmetAreDecidedWhereVotesAre, UnmetEndByVotes, UnmetEndInTime, UnmetHadVotesUp};
@@ -56,7 +65,12 @@ ghost use Rattle.law_run_recovers.specs.Worked.{SomeRunsRecover};
 ghost use Rattle.law_run_recovers.specs.Blocking.{BlockedByDoubts, SomeServerBlocks, OneCrashBlocks};
 ghost use Rattle.law_run_recovers.specs.Contending.{SomeRunsStarve};
 
+pub use meeting::{one_that_meets_is_decided, some_runs_meet};
 pub use promises::{promise, what_can_be_is_available};
+pub use told::{
+    among_locks_are_told_as_begun, told_are_answered_as_begun, told_are_decided_where_votes_are,
+    told_end_by_votes, told_end_in_time, told_gather_their_asks, told_had_votes_open,
+};
 
 /// A law: a transaction that begins where no server that is up has a lock, and that nobody hinders, ends as the votes say
 /// that are up: where a suite has too few of them, with the first such and its numbers; else, where its home is down, with

@@ -38,4 +38,5 @@ mod KeptLocks
 mod LockEdits
 mod TabledLocks
 pub mod Walks
+pub mod PackedNames
 mod Pairwise

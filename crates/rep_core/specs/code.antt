@@ -5,6 +5,8 @@ pub mod StoreFields
 pub mod ServerFields
 pub mod Equality
 pub mod ByAgent
+pub mod PackedNames
+pub mod KeptVerdicts
 pub mod Stepping
 pub mod Filling
 pub mod Holders

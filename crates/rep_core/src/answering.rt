@@ -143,7 +143,7 @@ impl ServerState {
         ensures full { result ≢ Err Full }
     {
         let told = match self.verdicts.get(t) {
-            Some(standing) => standing.clone()?,
+            Some(standing) => standing.told(self.alloc)?,
             None => verdict,
         };
         *reply = Reply::Verdict(told);

@@ -1,6 +1,6 @@
 //! What a server would answer and do, found and made room for before anything is changed.
 
-ghost use Rattle.std.specs.Prelude.{◌≡◌, ◌≢◌, ◌↔◌, ◌&&◌, ◌==◌, ◌<◌, false, true, is_some, IfOk, OnOk, IsTrue, Err, None};
+ghost use Rattle.std.specs.Prelude.{◌≡◌, ◌≢◌, ◌↔◌, ◌&&◌, ◌==◌, ◌<◌, false, true, is_some, IfOk, OnOk, OnErr, IsTrue, Err, None};
 ghost use Rattle.std.specs.List.{list_all, list_any};
 ghost use Rattle.suite_prefix.specs.declared.lock_mode.LockMode.TheVariants.{Exclusive};
 ghost use Rattle.rep_core.specs.declared.stamped.Lack.TheVariants.{Full, Memory};
@@ -43,7 +43,7 @@ impl ServerState {
         ensures room { IfOk result (λ change. stepping.HasRoom change request.now.value (stepping.roomed_of self.new)) }
         ensures change { IfOk result (λ change. applied change request.now.value (state_of self.old) ≡ service.after (state_of self.old) request.now.value) }
         ensures full { (result ≡ Err Full) ↔ IsTrue (serving.is_full (state_of self.old) request.now) }
-        ensures place { result ≡ Err Full → reply.new ≡ reply.old }
+        ensures place { OnErr result (reply.new ≡ reply.old) }
         ensures bare { IsTrue (serving.is_bare (service.reply_of (state_of self.old) request.now.value)) → result ≢ Err Memory }
         ensures fits { IsTrue (fits request.now.value (service.reply_of (state_of self.old) request.now.value)) }
     {
@@ -64,7 +64,7 @@ impl ServerState {
         ensures room { IfOk result (λ change. stepping.HasRoom change request.now (stepping.roomed_of self.new)) }
         ensures change { IfOk result (λ change. applied change request.now (state_of self.old) ≡ service.after (state_of self.old) request.now) }
         ensures full { (result ≡ Err Full) ↔ IsTrue ((state_of self.old).up && serving.asks_too_much (state_of self.old) request.now) }
-        ensures place { result ≡ Err Full → reply.new ≡ reply.old }
+        ensures place { OnErr result (reply.new ≡ reply.old) }
         ensures bare { IsTrue (serving.is_bare (service.reply_of (state_of self.old) request.now)) → result ≢ Err Memory }
     {
         if self.up {
@@ -82,7 +82,7 @@ impl ServerState {
         ensures room { IfOk result (λ change. stepping.HasRoom change request.now (stepping.roomed_of self.new)) }
         ensures change { IfOk result (λ change. applied change request.now (state_of self.old) ≡ service.after_up (state_of self.old) request.now) }
         ensures full { (result ≡ Err Full) ↔ IsTrue (serving.asks_too_much (state_of self.old) request.now) }
-        ensures place { result ≡ Err Full → reply.new ≡ reply.old }
+        ensures place { OnErr result (reply.new ≡ reply.old) }
         ensures bare { IsTrue (serving.is_bare (service.reply_up (state_of self.old) request.now)) → result ≢ Err Memory }
     {
         match request {
@@ -118,6 +118,7 @@ impl ServerState {
         ensures room { IfOk result (λ change. change ≡ Asked → 0 < self.new.locks.room) }
         ensures free { IfOk result (λ change. change ≡ Asked → locking.in_the_way t suite mode (state_of self.new).locks ≡ None) }
         ensures full { result ≢ Err Full }
+        ensures place { OnErr result (reply.new ≡ reply.old) }
         ensures bare { IsTrue (serving.is_bare (service.poll_reply (state_of self.old) t suite mode)) → result ≢ Err Memory }
     {
         match self.locks.in_the_way(t, suite, mode) {
@@ -144,6 +145,7 @@ impl ServerState {
         ensures change { IfOk result (λ change. applied change (Request.Upgrade t suite) (state_of self.old) ≡ after_upgrade (state_of self.old) t suite) }
         ensures room { IfOk result (λ change. stepping.HasRoom change (Request.Upgrade t suite) (stepping.roomed_of self.new)) }
         ensures full { result ≢ Err Full }
+        ensures place { OnErr result (reply.new ≡ reply.old) }
         ensures bare { IsTrue (serving.is_bare (service.upgrade_reply (state_of self.old) t suite)) → result ≢ Err Memory }
     {
         if self.locks.has_lock(t, suite) {
@@ -160,6 +162,7 @@ impl ServerState {
         ensures same { state_of self.new ≡ state_of self.old }
         ensures change { IfOk result (λ change. change ≡ Change.Nothing) }
         ensures full { result ≢ Err Full }
+        ensures place { OnErr result (reply.new ≡ reply.old) }
         ensures bare { IsTrue (serving.is_bare (service.fetch_reply (state_of self.old) t suite)) → result ≢ Err Memory }
     {
         if self.locks.has_lock(t, suite) {
@@ -178,7 +181,7 @@ impl ServerState {
         ensures change { IfOk result (λ made. applied made (Request.Prepare t parts.now) (state_of self.old) ≡ after_prepare (state_of self.old) t parts.now) }
         ensures room { IfOk result (λ change. stepping.HasRoom change (Request.Prepare t parts.now) (stepping.roomed_of self.new)) }
         ensures full { let old = state_of self.old in (result ≡ Err Full) ↔ IsTrue (prepares old t parts.now && store.overfills t old.store parts.now) }
-        ensures place { result ≡ Err Full → reply.new ≡ reply.old }
+        ensures place { OnErr result (reply.new ≡ reply.old) }
         ensures bare { IsTrue (serving.is_bare (service.prepare_reply (state_of self.old) t parts.now)) → result ≢ Err Memory }
     {
         if self.stands_prepared(t, parts) {
@@ -210,6 +213,7 @@ impl ServerState {
         ensures room { IfOk result (λ change. record_of (state_of self.old) t ≡ None → 0 < room_for t self.new.verdicts.rooms) }
         ensures audit { OnOk result (is_some (service.audit_of t decision.now) ≡ true → vec_len self.new.audit < vec_capacity self.new.audit) }
         ensures full { result ≢ Err Full }
+        ensures place { OnErr result (reply.new ≡ reply.old) }
     {
         if audit_of(t, decision).is_some() {
             self.audit.reserve(1)?;
@@ -225,14 +229,16 @@ impl ServerState {
         ensures room { OnOk result (record_of (state_of self.old) t ≡ None → 0 < room_for t self.new.verdicts.rooms) }
         ensures audit { self.new.audit ≡ self.old.audit }
         ensures full { result ≢ Err Full }
+        ensures place { OnErr result (reply.new ≡ reply.old) }
     {
         if let Some(standing) = self.verdicts.get(t) {
-            *reply = Reply::Verdict(standing.clone()?);
+            *reply = Reply::Verdict(standing.told(self.alloc)?);
             return Ok(Change::Nothing);
         }
+        let kept = self.verdicts.kept(self.alloc, &verdict)?;
         self.verdicts.make_room(t)?;
-        *reply = Reply::Verdict(verdict.clone()?);
-        Ok(Change::Record(verdict))
+        *reply = Reply::Verdict(verdict);
+        Ok(Change::Record(kept))
     }
 
     /// To tell the locks.
@@ -240,6 +246,7 @@ impl ServerState {
         ensures reply { OnOk result (reply.new ≡ Reply.Locked (state_of self.now).locks) }
         ensures change { IfOk result (λ change. change ≡ Change.Nothing) }
         ensures full { result ≢ Err Full }
+        ensures place { OnErr result (reply.new ≡ reply.old) }
     {
         let locks = self.locks.listed(self.alloc)?;
         *reply = Reply::Locked(LockList::from_vec(locks)?);

@@ -36,11 +36,11 @@
 //!
 //! In code copies and intentions are bytes (`StoredCopy`), so a Finish moves them. What is asked of the locks, and done
 //! with them, goes through `LockTable`: a few stand in a vector, and many in blocks, with who holds them and which are
-//! not prepared beside them.
+//! not prepared beside them. A verdict keeps a list of 16 names or more as one text, and the same list once.
 //!
 //! **Files**: `lock`, `request`, `reply`, `stamped`, `takes`, `fitting`, `intention`, `store`, `maps`, `copying`,
-//! `holders`, `few_locks`, `many_locks`, `locks`, `verdicts`, `sameness`, `step`, `server_state`, `evaluate`,
-//! `answering`, `server`, `effect`, `types_fit`, `laws`.
+//! `holders`, `few_locks`, `many_locks`, `locks`, `packed_names`, `kept_verdict`, `verdicts`, `sameness`, `step`,
+//! `server_state`, `evaluate`, `answering`, `server`, `effect`, `types_fit`, `laws`.
 //!
 //! **Definitions** (`specs/`): `Locks`, `Intentions`, `Store`, `State`, `Service`, `Serving`, `Fits`, `Roomed`,
 //! `Evaluated`, `Wanting`, `Bare`; of the laws `Consistency`, `Steps`, `ValidCopies`, `Laws`.
@@ -54,11 +54,13 @@ mod few_locks;
 mod fitting;
 mod holders;
 mod intention;
+mod kept_verdict;
 mod laws;
 mod lock;
 mod locks;
 mod many_locks;
 mod maps;
+mod packed_names;
 mod reply;
 mod request;
 mod sameness;

@@ -5,8 +5,8 @@ ghost use Rattle.std.specs.Option.{option_copied};
 ghost use Rattle.file_ops.specs.code.RefusalEquality.{same_item};
 
 use crate::intention::Planned;
+use crate::kept_verdict::KeptVerdict;
 use crate::lock::Lock;
-use crate::reply::Verdict;
 use file_ops::AuditItem;
 use sorted_map::BlockMap;
 use suite_prefix::{Prefix, StoredCopy};
@@ -108,7 +108,10 @@ fn is_item(own: &AuditItem, theirs: &AuditItem) -> bool
 }
 
 /// Whether two maps have the same verdicts.
-pub(crate) fn same_verdicts(own: &BlockMap<u64, Verdict>, theirs: &BlockMap<u64, Verdict>) -> bool
+pub(crate) fn same_verdicts(
+    own: &BlockMap<u64, KeptVerdict>,
+    theirs: &BlockMap<u64, KeptVerdict>,
+) -> bool
     ensures { IsTrue result → own.now.pairs ≡ theirs.now.pairs }
 {
     let mut from = 0;
@@ -126,11 +129,11 @@ pub(crate) fn same_verdicts(own: &BlockMap<u64, Verdict>, theirs: &BlockMap<u64,
 }
 
 /// Whether there is the same verdict twice, or none.
-fn same_verdict(own: Option<&(u64, Verdict)>, theirs: Option<&(u64, Verdict)>) -> bool
+fn same_verdict(own: Option<&(u64, KeptVerdict)>, theirs: Option<&(u64, KeptVerdict)>) -> bool
     ensures { IsTrue result → option_copied own.entry ≡ option_copied theirs.entry }
 {
     match (own, theirs) {
-        (Some(own), Some(theirs)) => own.0 == theirs.0 && own.1 == theirs.1,
+        (Some(own), Some(theirs)) => own.0 == theirs.0 && own.1.same(&theirs.1),
         (None, None) => true,
         _ => false,
     }

@@ -57,6 +57,7 @@ impl Server {
     ) -> Result<Step, Lack>
         ensures reply { OnOk result (reply.new ≡ serving.answer_of self.old.state request.now) }
         ensures same { self.new.state ≡ self.old.state }
+        ensures place { OnErr result (reply.new ≡ reply.old) }
         ensures step { IfOk result (λ step. IsStep step request.now self.new) }
         ensures full { (result ≡ Err Full) ↔ IsTrue (serving.is_full self.old.state request.now) }
         ensures memory { IsTrue (serving.takes_no_memory request.now.value) → result ≢ Err Memory }

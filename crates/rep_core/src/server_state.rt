@@ -10,8 +10,8 @@ ghost use Rattle.rep_core.specs.State.{opening};
 
 use crate::evaluate::{audit_of, is_answered};
 use crate::intention::Planned;
+use crate::kept_verdict::KeptVerdict;
 use crate::locks::LockTable;
-use crate::reply::Verdict;
 use crate::request::Request;
 use crate::sameness::same_audit;
 use crate::stamped::Stamped;
@@ -137,7 +137,7 @@ impl ServerState {
     }
 
     /// Records a verdict, and a denial in the audit, for which there is room.
-    fn record(&mut self, request: &Request, verdict: Verdict)
+    fn record(&mut self, request: &Request, verdict: KeptVerdict)
         requires { stepping.HasNoteRoom request.now (stepping.roomed_of self.old) }
         ensures { state_of self.new ≡ stepping.noted verdict request.now (state_of self.old) }
     {

@@ -1,7 +1,7 @@
 //! What a server would answer and do.
 
 use crate::intention::Planned;
-use crate::reply::Verdict;
+use crate::kept_verdict::KeptVerdict;
 
 /// What a server would answer to a request, and do, but for the reply: what doing it takes.
 #[derive(Drop)]
@@ -20,5 +20,5 @@ pub(crate) enum Change {
     /// These intentions are kept, and the locks of its parts are prepared.
     Intentions(Vec<(u64, Planned)>),
     /// This verdict is recorded.
-    Record(Verdict),
+    Record(KeptVerdict),
 }

@@ -148,7 +148,8 @@ impl Store {
 
     /// Writes that a suite is held: the prefix of its copy, and the version of the content.
     pub(crate) fn hold(&self, suite: u64, reply: &mut Reply) -> Result<(), AllocError>
-        ensures { OnOk result (reply.new ≡ held (store.copy_of self.now.store suite)) }
+        ensures reply { OnOk result (reply.new ≡ held (store.copy_of self.now.store suite)) }
+        ensures place { OnErr result (reply.new ≡ reply.old) }
     {
         match self.stored(suite) {
             Some(copy) => {
@@ -162,7 +163,8 @@ impl Store {
 
     /// Writes the content of a suite's copy, and its version.
     pub(crate) fn give(&self, suite: u64, reply: &mut Reply) -> Result<(), AllocError>
-        ensures { OnOk result (reply.new ≡ given (store.copy_of self.now.store suite)) }
+        ensures reply { OnOk result (reply.new ≡ given (store.copy_of self.now.store suite)) }
+        ensures place { OnErr result (reply.new ≡ reply.old) }
     {
         let (dver, content) = match self.stored(suite) {
             Some(copy) => copy.given(self.alloc)?,
@@ -464,7 +466,8 @@ fn root_copy(alloc: Global, settings: &Settings) -> Result<Replica, AllocError>
 }
 
 fn tell_held(prefix: &SharedPrefix, dver: u64, reply: &mut Reply) -> Result<(), AllocError>
-    ensures { OnOk result (reply.new ≡ Reply.Held prefix.now dver) }
+    ensures reply { OnOk result (reply.new ≡ Reply.Held prefix.now dver) }
+    ensures place { OnErr result (reply.new ≡ reply.old) }
 {
     let prefix = prefix.clone()?;
     *reply = Reply::Held { prefix, dver };

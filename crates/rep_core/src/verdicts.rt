@@ -7,16 +7,20 @@ ghost use Rattle.std.specs.Ordering.{nat_cmp};
 ghost use Rattle.sorted_map.specs.SortedMap.{get, insert};
 ghost use Rattle.rep_core.specs.code.ByAgent as by_agent;
 
+use crate::kept_verdict::KeptVerdict;
+use crate::packed_names::PackedLists;
 use crate::reply::Verdict;
 use crate::sameness::same_verdicts;
 use sorted_map::BlockMap;
 use std::alloc::{AllocError, Global};
 use std::marker::Model;
 
-/// The verdicts of transactions, seen in the order of their transactions, with the room of each agent.
+/// The verdicts of transactions, seen in the order of their transactions, with the room of each agent. Beside them the
+/// lists that were packed, which a copy does not know.
 #[derive(Drop)]
 pub(crate) struct Verdicts {
-    maps: Vec<BlockMap<u64, Verdict>>,
+    maps: Vec<BlockMap<u64, KeptVerdict>>,
+    lists: PackedLists,
 }
 
 impl Model for Verdicts {
@@ -37,6 +41,7 @@ impl Verdicts {
     {
         Verdicts {
             maps: Vec::new(alloc),
+            lists: PackedLists::new(alloc),
         }
     }
 
@@ -45,7 +50,8 @@ impl Verdicts {
         ensures { IfOk result (λ copy. copy.pairs ≡ self.now.pairs) }
     {
         let maps = copied_each(alloc, &self.maps)?;
-        Ok(Verdicts { maps })
+        let lists = PackedLists::new(alloc);
+        Ok(Verdicts { maps, lists })
     }
 
     /// Whether they are the same.
@@ -56,10 +62,22 @@ impl Verdicts {
     }
 
     /// That of a transaction.
-    pub(crate) fn get(&self, t: u64) -> Option<&Verdict>
+    pub(crate) fn get(&self, t: u64) -> Option<&KeptVerdict>
         ensures { option_copied result ≡ get nat_cmp self.now.pairs t }
     {
         find(&self.maps, t)
+    }
+
+    /// A verdict as it is kept.
+    pub(crate) fn kept(
+        &mut self,
+        alloc: Global,
+        verdict: &Verdict,
+    ) -> Result<KeptVerdict, AllocError>
+        ensures kept { IfOk result (λ kept. kept ≡ verdict.now) }
+        ensures same { self.new ≡ self.old }
+    {
+        KeptVerdict::new(alloc, verdict, &mut self.lists)
     }
 
     /// Makes room for that of a transaction.
@@ -73,7 +91,7 @@ impl Verdicts {
     }
 
     /// Keeps that of a transaction, for which there is room.
-    pub(crate) fn insert_in_room(&mut self, t: u64, verdict: Verdict)
+    pub(crate) fn insert_in_room(&mut self, t: u64, verdict: KeptVerdict)
         requires { 0 < by_agent.room_for t self.old.rooms }
         ensures pairs { self.new.pairs ≡ insert nat_cmp self.old.pairs t verdict }
     {
@@ -90,7 +108,7 @@ fn agent_of(t: u64) -> usize
 }
 
 /// What the map of its agent has at a transaction.
-fn find(maps: &[BlockMap<u64, Verdict>], t: u64) -> Option<&Verdict>
+fn find(maps: &[BlockMap<u64, KeptVerdict>], t: u64) -> Option<&KeptVerdict>
     ensures { option_copied result ≡ get nat_cmp (by_agent.pairs_at maps.now (by_agent.agent_of t)) t }
 {
     let agent = agent_of(t);
@@ -102,7 +120,7 @@ fn find(maps: &[BlockMap<u64, Verdict>], t: u64) -> Option<&Verdict>
 }
 
 /// Whether each agent has the same in both.
-fn same_maps(own: &[BlockMap<u64, Verdict>], theirs: &[BlockMap<u64, Verdict>]) -> bool
+fn same_maps(own: &[BlockMap<u64, KeptVerdict>], theirs: &[BlockMap<u64, KeptVerdict>]) -> bool
     ensures { IsTrue result → (k : ℕ) → by_agent.pairs_at own.now k ≡ by_agent.pairs_at theirs.now k }
 {
     let most = own.len().max(theirs.len());
@@ -115,7 +133,11 @@ fn same_maps(own: &[BlockMap<u64, Verdict>], theirs: &[BlockMap<u64, Verdict>]) 
 }
 
 /// Whether an agent has the same in both.
-fn same_at(own: &[BlockMap<u64, Verdict>], theirs: &[BlockMap<u64, Verdict>], agent: usize) -> bool
+fn same_at(
+    own: &[BlockMap<u64, KeptVerdict>],
+    theirs: &[BlockMap<u64, KeptVerdict>],
+    agent: usize,
+) -> bool
     ensures { IsTrue result → by_agent.pairs_at own.now agent ≡ by_agent.pairs_at theirs.now agent }
 {
     if agent < own.len() && agent < theirs.len() {
@@ -125,14 +147,14 @@ fn same_at(own: &[BlockMap<u64, Verdict>], theirs: &[BlockMap<u64, Verdict>], ag
 }
 
 /// Whether an agent has no verdict.
-fn has_none(maps: &[BlockMap<u64, Verdict>], agent: usize) -> bool
+fn has_none(maps: &[BlockMap<u64, KeptVerdict>], agent: usize) -> bool
     ensures { IsTrue result → by_agent.pairs_at maps.now agent ≡ [] }
 {
     agent >= maps.len() || maps[agent].is_empty()
 }
 
 /// Adds empty maps until there are so many.
-fn grow(maps: &mut Vec<BlockMap<u64, Verdict>>, wanted: usize) -> Result<(), AllocError>
+fn grow(maps: &mut Vec<BlockMap<u64, KeptVerdict>>, wanted: usize) -> Result<(), AllocError>
     ensures ok { OnOk result (wanted ≤ length maps.new.items) }
     ensures pairs { (k : ℕ) → by_agent.pairs_at maps.new.items k ≡ by_agent.pairs_at maps.old.items k }
 {
@@ -144,7 +166,7 @@ fn grow(maps: &mut Vec<BlockMap<u64, Verdict>>, wanted: usize) -> Result<(), All
 }
 
 /// Makes room for a new transaction of an agent.
-fn reserve_at(maps: &mut Vec<BlockMap<u64, Verdict>>, agent: usize) -> Result<(), AllocError>
+fn reserve_at(maps: &mut Vec<BlockMap<u64, KeptVerdict>>, agent: usize) -> Result<(), AllocError>
     requires { agent < length maps.old.items }
     ensures ok { OnOk result (0 < (get_or maps.new.items agent by_agent.empty).room) }
     ensures pairs { (k : ℕ) → by_agent.pairs_at maps.new.items k ≡ by_agent.pairs_at maps.old.items k }
@@ -153,7 +175,7 @@ fn reserve_at(maps: &mut Vec<BlockMap<u64, Verdict>>, agent: usize) -> Result<()
 }
 
 /// Keeps a verdict in the map of its agent, in which there is room.
-fn insert_at(maps: &mut Vec<BlockMap<u64, Verdict>>, t: u64, verdict: Verdict)
+fn insert_at(maps: &mut Vec<BlockMap<u64, KeptVerdict>>, t: u64, verdict: KeptVerdict)
     requires { 0 < by_agent.room_for t (by_agent.rooms_of maps.old.items) }
     ensures here { let own = by_agent.agent_of t in by_agent.pairs_at maps.new.items own ≡ insert nat_cmp (by_agent.pairs_at maps.old.items own) t verdict }
     ensures apart { (k : ℕ) → k ≢ by_agent.agent_of t → by_agent.pairs_at maps.new.items k ≡ by_agent.pairs_at maps.old.items k }
@@ -165,8 +187,8 @@ fn insert_at(maps: &mut Vec<BlockMap<u64, Verdict>>, t: u64, verdict: Verdict)
 /// A map of equal pairs for each agent.
 fn copied_each(
     alloc: Global,
-    maps: &[BlockMap<u64, Verdict>],
-) -> Result<Vec<BlockMap<u64, Verdict>>, AllocError>
+    maps: &[BlockMap<u64, KeptVerdict>],
+) -> Result<Vec<BlockMap<u64, KeptVerdict>>, AllocError>
     ensures { IfOk result (λ copies. (k : ℕ) → by_agent.pairs_at copies.items k ≡ by_agent.pairs_at maps.now k) }
 {
     let mut copies = Vec::with_capacity(alloc, maps.len())?;

@@ -13,7 +13,7 @@ use Rattle.suite_args.specs.declared.request.Request.TheVariants.{Acl, Help, Pla
 use Rattle.suite_args.specs.declared.request.ArgsError.{ArgsError}
 use Rattle.suite_args.specs.declared.request.ArgsError.TheVariants.{CommandLine, Memory}
 use Rattle.suite_args.specs.declared.script.Script.{Script}
-use Rattle.suite_cli.proofs.Ran.{ran_out}
+use Rattle.suite_cli.proofs.Ran.{ran_out, unread_readable}
 use Rattle.suite_cli.proofs.Served.{lacked}
 use Rattle.suite_cli.specs.Names.{names_from}
 use Rattle.suite_cli.specs.Outputs.{acl_output, command_line_fault, script_output_of}
@@ -74,7 +74,7 @@ serve_done topic streams status given answers ran = absurd answers
 serve_done nothing streams status given answers ran = absurd answers
 
 serve_ran_out : (agents : Option ℕ) (streams : Streams) (status : ℕ) → IsUnread streams → LacksMemory streams status → ServesBy agents streams status
-serve_ran_out (Some number) streams status unread lacks = lacked number streams status streams.input lacks
+serve_ran_out (Some number) streams status unread lacks = lacked number streams status streams.input (unread_readable streams unread) lacks
 serve_ran_out None streams status unread lacks = (unread, inl lacks)
 
 serve_refused : (agents : Option ℕ) (streams : Streams) (status : ℕ) → AnswersServe agents (Err CommandLine) → Refuses command_line_fault streams status → ServesBy agents streams status
@@ -119,11 +119,11 @@ help_done topic streams status text line answers unread finishes = inl (helped s
 help_done nothing streams status text line answers unread finishes = absurd answers
 
 acl_ran_out : (names : Result Tables ℕ) (streams : Streams) (status : ℕ) → IsUnread streams → LacksMemory streams status → RunsAcl names streams status
-acl_ran_out (Ok names) streams status unread lacks = ran_out (acl_output names) streams status streams.input lacks
+acl_ran_out (Ok names) streams status unread lacks = ran_out (acl_output names) streams status streams.input (unread_readable streams unread) lacks
 acl_ran_out (Err place) streams status unread lacks = (unread, inl lacks)
 
 lack_done : (asked : Asked) (streams : Streams) (status : ℕ) → IsUnread streams → LacksMemory streams status → Does asked streams status
-lack_done (plays script) streams status unread lacks = ran_out (script_output_of script) streams status streams.input lacks
+lack_done (plays script) streams status unread lacks = ran_out (script_output_of script) streams status streams.input (unread_readable streams unread) lacks
 lack_done (acl names) streams status unread lacks = acl_ran_out (names_from 1 no_names names) streams status unread lacks
 lack_done (serves text) streams status unread lacks = serve_ran_out (agents_of text) streams status unread lacks
 lack_done help streams status unread lacks = (unread, inr (inl lacks))

@@ -2,7 +2,7 @@
 use Rattle.std.proofs.Common.{◌≡◌, ◌∙◌, ap, sym, refl, subst, inl, inr, ℕ, ◌≤◌, List, [], ◌++◌, length, append_assoc, append-nil, Option, Some, None, Result, Ok, Err}
 use Rattle.byte_streams.specs.Endings.{Finishes, SaysMemory, faulty, max_input, memory_line, no_memory}
 use Rattle.byte_streams.specs.Streams.{Adds, one_more}
-use Rattle.byte_streams.specs.Whole.{Explains, IsWhole}
+use Rattle.byte_streams.specs.Whole.{Explains, IsWhole, RanOut}
 use Rattle.byte_streams.specs.declared.reading.ReadError.{ReadError}
 use Rattle.byte_streams.specs.declared.reading.ReadError.TheVariants as read
 use Rattle.file_ops.specs.Steps.{ok_map}
@@ -15,6 +15,7 @@ use Rattle.suite_script.specs.declared.fault.ScriptError.{ScriptError}
 use Rattle.suite_script.specs.declared.fault.ScriptError.TheVariants as script
 use Rattle.suite_script.specs.declared.play_error.PlayError.{PlayError}
 use Rattle.suite_script.specs.declared.play_error.PlayError.TheVariants as play
+use Rattle.suite_cli.proofs.Ran.{IsReadable, lack_readable, whole_readable}
 use Rattle.suite_cli.specs.Outputs.{certified_line}
 use Rattle.suite_cli.specs.Runs.{Concludes, LacksMemory, Reports, ServesOn, ServesScript, Streams, Tells}
 use Rattle.suite_cli.specs.code.Errors.{Told, of_play, of_read, of_script}
@@ -87,17 +88,17 @@ told_fault fault status before after failures failures_after finishes = elim fin
 
 -- ---- where nothing is told of the input
 
-pub lacked : (agents : ℕ) (streams : Streams) (status : ℕ) (input : Option (List ℕ)) → LacksMemory streams status → ServesOn agents streams status input
-lacked agents streams status None lacks = tt
-lacked agents streams status (Some input) lacks = inr (inl lacks)
+pub lacked : (agents : ℕ) (streams : Streams) (status : ℕ) (input : Option (List ℕ)) → IsReadable streams input → LacksMemory streams status → ServesOn agents streams status input
+lacked agents streams status None readable lacks = tt
+lacked agents streams status (Some input) readable lacks = inr (inl (lacks, readable))
 
 pub unread : (error : ReadError) (agents : ℕ) (streams : Streams) (status : ℕ) (input : Option (List ℕ)) → Explains error input max_input streams.failed_reads streams.failed_reads_after
-    → Told (of_read error) status streams.written streams.written_after streams.failed_writes streams.failed_writes_after → ServesOn agents streams status input
-unread read.Memory agents streams status input explains told = lacked agents streams status input told
-unread read.Failed agents streams status None explains told = tt
-unread read.Failed agents streams status (Some input) explains told = inr (inr (told.0, inl (told.1, inl explains)))
-unread read.TooLong agents streams status None explains told = tt
-unread read.TooLong agents streams status (Some input) explains told = inr (inr (told.0, inl (told.1, inr explains)))
+    → RanOut error input max_input streams.input_after streams.failed_reads streams.failed_reads_after → Told (of_read error) status streams.written streams.written_after streams.failed_writes streams.failed_writes_after → ServesOn agents streams status input
+unread read.Memory agents streams status input explains ran told = lacked agents streams status input (lack_readable streams input ran) told
+unread read.Failed agents streams status None explains ran told = tt
+unread read.Failed agents streams status (Some input) explains ran told = inr (inr (told.0, inl (told.1, inl explains)))
+unread read.TooLong agents streams status None explains ran told = tt
+unread read.TooLong agents streams status (Some input) explains ran told = inr (inr (told.0, inl (told.1, inr explains)))
 
 -- ---- after it was read
 
@@ -129,12 +130,12 @@ faulty_plan (Err other) fault status before after failures failures_after is fin
     told_fault other status before after failures failures_after (subst (λ (one : ScriptFault). Finishes (fault_line one) faulty status before after failures failures_after) (sym (same_err other fault (Err other) refl is)) finishes)
 
 -- the script was not read
-pub not_scripted : (error : ScriptError) (agents : ℕ) (streams : Streams) (status : ℕ) (text : List ℕ) (input : Option (List ℕ)) → IsWhole input max_input text
+pub not_scripted : (error : ScriptError) (agents : ℕ) (streams : Streams) (status : ℕ) (text : List ℕ) (input : Option (List ℕ)) → IsWhole input max_input text → streams.failed_reads_after ≡ streams.failed_reads
     → GivesScript (Err error) (ok_map kept_plan (plan_in agents text))
     → Told (of_script error) status streams.written streams.written_after streams.failed_writes streams.failed_writes_after → ServesOn agents streams status input
-not_scripted (script.Faulty fault) agents streams status text input whole gives told =
+not_scripted (script.Faulty fault) agents streams status text input whole kept gives told =
     elim told [
       | inl finishes ↦ served_input agents streams status text input whole (faulty_plan (plan_in agents text) fault status streams.written streams.written_after streams.failed_writes streams.failed_writes_after gives finishes)
-      | inr lacks ↦ lacked agents streams status input lacks
+      | inr lacks ↦ lacked agents streams status input (whole_readable streams text input whole kept) lacks
     ]
-not_scripted script.Memory agents streams status text input whole gives told = lacked agents streams status input told
+not_scripted script.Memory agents streams status text input whole kept gives told = lacked agents streams status input (whole_readable streams text input whole kept) told

@@ -2,6 +2,7 @@
 use Rattle.std.specs.Prelude.{◌≡◌, Bool, true, false, alloc_error, Vec, ℕ, ◌<◌, ◌≤◌, ◌⊎◌, List, ◌++◌, length, Option, Some, None, Result, Ok, Err}
 use Rattle.byte_streams.specs.Endings.{Finishes, SaysMemory, bad_words, done, faulty, max_input, memory_line, no_memory, no_stream}
 use Rattle.byte_streams.specs.Streams.{Adds, one_more}
+use Rattle.byte_streams.specs.Whole.{IsWithin}
 use Rattle.run_certify.specs.declared.fault.CertifyFault.{CertifyFault}
 use Rattle.run_certify.specs.declared.fault.CertifyFault.TheVariants as certify
 use Rattle.suite_args.specs.CommandLine.{Asked, agents_of}
@@ -64,13 +65,18 @@ BreaksOff output streams status =
     × (((front : List ℕ) × (IsBegun output front × Adds streams.written (front ++ memory_line) streams.written_after))
     ⊎ WriteFailed streams)
 
+-- no read failed, and the input is within the limit, or no more of it than the limit was read
+abbrev pub IsReadWithin : List ℕ → Streams → Type 0
+IsReadWithin input streams =
+    ((length input ≤ max_input) ⊎ IsWithin (Some input) max_input streams.input_after) × (streams.failed_reads_after ≡ streams.failed_reads)
+
 -- for the input that a stream tells, which is within the limit, all of the command's output is written with its status; or memory
--- ran out, or a stream failed
+-- ran out, and it is not the input that failed; or a stream failed
 abbrev pub RunsOn : (List ℕ → Output) → Streams → ℕ → Option (List ℕ) → Type 0
 RunsOn output streams status None = Unit {0}
 RunsOn output streams status (Some input) =
     ((length input ≤ max_input) × Writes (output input) status streams.written streams.written_after)
-    ⊎ (BreaksOff (output input) streams status ⊎ ((status ≡ no_stream) × StreamFailed input streams))
+    ⊎ ((BreaksOff (output input) streams status × IsReadWithin input streams) ⊎ ((status ≡ no_stream) × StreamFailed input streams))
 
 abbrev pub Runs : (List ℕ → Output) → Streams → ℕ → Type 0
 Runs output streams status = RunsOn output streams status streams.input
@@ -128,12 +134,13 @@ abbrev pub ServesScript : Result Plan ScriptFault → ℕ → Option (List ℕ) 
 ServesScript (Ok plan) status before after failures failures_after = Concludes (kept_plan plan) status before after failures failures_after
 ServesScript (Err fault) status before after failures failures_after = Tells (Faulty (fault_line fault)) status before after failures failures_after
 
--- for the input that a stream tells, which is within the limit, the script that it has was served; or memory ran out before, or a stream failed
+-- for the input that a stream tells, which is within the limit, the script that it has was served; or memory ran out before, and it is not the input that
+-- failed; or a stream failed
 abbrev pub ServesOn : ℕ → Streams → ℕ → Option (List ℕ) → Type 0
 ServesOn agents streams status None = Unit {0}
 ServesOn agents streams status (Some input) =
     ((length input ≤ max_input) × ServesScript (plan_in agents input) status streams.written streams.written_after streams.failed_writes streams.failed_writes_after)
-    ⊎ (LacksMemory streams status ⊎ ((status ≡ no_stream) × StreamFailed input streams))
+    ⊎ ((LacksMemory streams status × IsReadWithin input streams) ⊎ ((status ≡ no_stream) × StreamFailed input streams))
 
 -- the script that the input has was carried out by so many agents
 abbrev pub Serves : ℕ → Streams → ℕ → Type 0

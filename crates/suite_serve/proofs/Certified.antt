@@ -6,10 +6,10 @@ use Rattle.run_certify.specs.Certified.{IsCertified}
 use Rattle.agent_pool.specs.declared.outcome.JobOutcome.{JobOutcome}
 use Rattle.agent_pool.specs.declared.pool_context.NamedJob.{NamedJob}
 use Rattle.suite_serve.specs.Scripts.{Plan}
-use Rattle.suite_serve.specs.Served.{AreApart, AreFirst, AreInOrder, AreJobEnds, Came, IsServed, end_in, items_in}
-use Rattle.suite_serve.specs.code.Working.{AreDone, HaveEnded, named_from, transcripts_of}
+use Rattle.suite_serve.specs.Served.{AreApart, AreBefore, AreFirst, AreInOrder, AreJobEnds, Came, IsServed, end_in, items_in}
+use Rattle.suite_serve.specs.code.Working.{AreDone, HaveEnded, StandBefore, named_from, transcripts_of}
 use Rattle.suite_serve.specs.declared.serving.Worked.{Worked}
-use Rattle.suite_serve.proofs.Ended.{all_ends, apart_ends, first_ends, order_ends}
+use Rattle.suite_serve.proofs.Ended.{all_ends, apart_ends, before_ends, first_ends, order_ends}
 
 -- what came of jobs, by the outcomes that a pool gave
 abbrev pub came_of : List (List Entry) → List JobOutcome → ℕ → Came
@@ -35,6 +35,9 @@ is_served plan came histories transcripts jobs worked certified named told done 
           (subst (λ (ts : List (List Entry)). AreJobEnds ts 0 plan.jobs (map (end_in ts) outcomes)) (sym told) each);
       apart = subst (λ (all : Came). AreApart all.ends) (sym is) (subst (λ (ts : List (List Entry)). AreApart (map (end_in ts) outcomes)) (sym told) apart);
       alone = subst (λ (all : Came). AreFirst plan.alone all.ends) (sym is) (subst (λ (ts : List (List Entry)). AreFirst plan.alone (map (end_in ts) outcomes)) (sym told) first);
+      before =
+          subst (λ (all : Came). AreBefore plan.alone all.ends transcripts) (sym is)
+          (before_ends plan.alone outcomes transcripts done.first (subst (λ (ts : List (List Entry)). StandBefore plan.alone outcomes ts) (sym told) done.before));
       order = subst (λ (all : Came). AreInOrder all.ends) (sym is) (subst (λ (ts : List (List Entry)). AreInOrder (map (end_in ts) outcomes)) (sym told) order);
       steps = ap (λ (all : Came). all.steps) is;
     }

@@ -1,5 +1,6 @@
 -- From outcomes to how jobs ended in the agents' transcripts.
-use Rattle.std.proofs.Common.{◌≡◌, ◌∙◌, ap, sym, refl, arith, ℕ, zero, suc, ◌+◌, ◌<◌, List, [], ◌∷◌, ◌++◌, length, map}
+use Rattle.std.proofs.Common.{◌≡◌, ◌∙◌, ap, sym, refl, subst, arith, ℕ, zero, suc, ◌+◌, ◌<◌, List, [], ◌∷◌, ◌++◌, length, map}
+use Rattle.std.proofs.lemmas.List.{length-map}
 use Rattle.std.proofs.lemmas.Option.{none-some, same_Some, slice_get-map}
 use Rattle.std.specs.Prelude.{Contains, slice_get, Option, Some}
 use Rattle.std.specs.Prelude.{option_map}
@@ -12,10 +13,10 @@ use Rattle.agent_pool.specs.declared.pool_context.NamedJob.{NamedJob}
 use Rattle.agent_pool.specs.Endings.{end_of}
 use Rattle.agent_pool.specs.Transcripts.{Played, number_of}
 use Rattle.agent_pool.specs.Pools.{AreApart as ApartOutcomes, AreInOrder as OutcomesInOrder}
-use Rattle.suite_serve.specs.Served.{AreApart, AreFirst, AreInOrder, AreJobEnds, IsJobEnd, JobEnd, done_as, end_in, end_there, named_end}
-use Rattle.suite_serve.specs.code.Working.{AreNumbered, AreOfFirst, HasEnded, HaveEnded, named_from, transcripts_of}
+use Rattle.suite_serve.specs.Served.{AreApart, AreBefore, AreFirst, AreInOrder, AreJobEnds, EndsIn, IsJobEnd, JobEnd, done_as, end_in, end_there, named_end}
+use Rattle.suite_serve.specs.code.Working.{AreNumbered, AreOfFirst, HasEnded, HaveEnded, StandBefore, named_from, transcripts_of}
 use Rattle.suite_serve.proofs.Numbers.{number_at}
-use Rattle.suite_serve.proofs.Places.{contained_get, get_past}
+use Rattle.suite_serve.proofs.Places.{contained_get, get_contained, get_front, get_past, mapped_get}
 
 -- its transcript stands at its number
 transcript_at : (players : List Played) → AreNumbered 0 players → (player : Played) → Contains players player → slice_get (transcripts_of players) (number_of player) ≡ Some player.entries
@@ -112,3 +113,26 @@ order_ends players are jobs outcomes all order i j a b agent first second at_i a
     let from : x.outcome.count ≡ first = ap (λ (p : ℕ × ℕ). p.1) one in
     let to : y.outcome.count ≡ second = ap (λ (p : ℕ × ℕ). p.1) other in
     omega (arith, less, from, to)
+
+-- the first had ended before any other was begun
+pub before_ends : (alone : ℕ) (outcomes : List JobOutcome) (transcripts : List (List Entry)) → AreOfFirst alone outcomes → StandBefore alone outcomes transcripts → AreBefore alone (map (end_in transcripts) outcomes) transcripts
+before_ends alone outcomes transcripts are stand = record {
+  first = stand.first;
+  rest = stand.rest;
+  others = stand.others;
+  split = stand.split;
+  just = let long = length-map outcomes (end_in transcripts) in stand.just ∙ omega arith;
+  ended = λ place end low there.
+      let from = mapped_get (end_in transcripts) outcomes place end there in
+      let outcome = from.0 in
+      let stands = stand.ended place outcome low from.1.0 in
+      let agent = (are place outcome low from.1.0).0 in
+      let told : end.told ≡ Some stands.0 =
+      ap (λ (e : JobEnd). e.told) (sym from.1.1)
+      ∙ ap (λ n. end_there (slice_get transcripts n) outcome.at) agent
+      ∙ ap (λ (ts : List (List Entry)). end_there (slice_get ts 0) outcome.at) stand.split
+      ∙ ap end_of (get_front stand.first stand.rest outcome.at (Ended stands.0) stands.1)
+      in
+      subst (λ (told : Option EndedJob). EndsIn stand.first told) (sym told) (get_contained stand.first (Ended stands.0) outcome.at stands.1);
+  before = stand.before;
+}

@@ -2,6 +2,8 @@ mod Gathered
 mod Planned
 mod Places
 mod Numbers
+mod Learned
+mod Followed
 mod Pooled
 mod Ended
 mod Counted

@@ -1,5 +1,5 @@
 -- Places in lists.
-use Rattle.std.proofs.Common.{◌≡◌, ◌∙◌, ◌⊎◌, ap, subst, inl, inr, arith, ℕ, zero, suc, ◌+◌, List, [], ◌∷◌, ◌++◌, length}
+use Rattle.std.proofs.Common.{◌≡◌, ◌∙◌, ◌⊎◌, ap, refl, subst, inl, inr, arith, ℕ, zero, suc, ◌+◌, List, [], ◌∷◌, ◌++◌, length, map}
 use Rattle.std.specs.Prelude.{Contains, slice_get, Some}
 use Rattle.std.specs.List.{AllZip}
 use Rattle.std.proofs.lemmas.Option.{get_or_from_slice_get, none-some, same_Some, slice_get-get_or, slice_get_within}
@@ -43,3 +43,15 @@ zip_at R [] (b ∷ ys) all place y there = absurd all
 zip_at R (a ∷ xs) [] all place y there = absurd all
 zip_at R (a ∷ xs) (b ∷ ys) all zero y there = (a, subst (R a) (same_Some b y there) all.0)
 zip_at R (a ∷ xs) (b ∷ ys) all (suc place) y there = zip_at R xs ys all.1 place y there
+
+-- what stands at a place of a list stands there in a longer one
+pub get_front : {A : Type 0} (xs ys : List A) (place : ℕ) (x : A) → slice_get xs place ≡ Some x → slice_get (xs ++ ys) place ≡ Some x
+get_front [] ys place x there = absurd (none-some x there)
+get_front (y ∷ xs) ys zero x there = there
+get_front (y ∷ xs) ys (suc place) x there = get_front xs ys place x there
+
+-- what a place of a mapped list is of
+pub mapped_get : {A B : Type 0} (f : A → B) (xs : List A) (place : ℕ) (y : B) → slice_get (map f xs) place ≡ Some y → (x : A) × ((slice_get xs place ≡ Some x) × (f x ≡ y))
+mapped_get f [] place y there = absurd (none-some y there)
+mapped_get f (x ∷ xs) zero y there = (x, (refl, same_Some (f x) y there))
+mapped_get f (x ∷ xs) (suc place) y there = mapped_get f xs place y there

@@ -1,6 +1,7 @@
 -- From what agent 0 did alone, and what all agents did after it, to what was done with all jobs.
 use Rattle.std.proofs.Common.{◌≡◌, ◌∙◌, ap, sym, refl, subst, inl, inr, arith, ℕ, zero, suc, ◌+◌, ◌-◌, ◌<◌, ◌≤◌, min, List, [], ◌∷◌, ◌++◌, length}
 use Rattle.std.proofs.lemmas.Slice.Zip.{AllZip-long}
+use Rattle.std.proofs.lemmas.List.{length-append}
 use Rattle.std.proofs.lemmas.List.Elements.{Contains-append_left}
 use Rattle.std.proofs.lemmas.Option.{none-some, same_Some, slice_get-get_or, slice_get_within}
 use Rattle.std.specs.Prelude.{Contains, slice_get, slice_index_or, Some}
@@ -18,8 +19,9 @@ use Rattle.agent_pool.specs.Seats.{AreReady, WentOn}
 use Rattle.agent_pool.specs.Transcripts.{IsLonger, IsTold, Played, begins, first_player, number_of, players_from}
 use Rattle.agent_pool.proofs.Readiness.{ready_first}
 use Rattle.agent_pool.proofs.Works.{told_longer}
-use Rattle.suite_serve.specs.code.Working.{AreDone, AreNumbered, AreOfFirst, HasEnded, HaveEnded}
+use Rattle.suite_serve.specs.code.Working.{AreDone, AreNumbered, AreOfFirst, FollowsAll, HasEnded, HaveEnded, StandBefore, transcripts_of}
 use Rattle.suite_serve.specs.declared.serving.Worked.{Worked}
+use Rattle.suite_serve.proofs.Followed.{AreNew, end_stands, new_others, numbered_followers, stand_before}
 use Rattle.suite_serve.proofs.Numbers.{number_at}
 use Rattle.suite_serve.proofs.Places.{contained_get, get_contained, get_either, zip_append, zip_at, zip_map}
 
@@ -202,22 +204,67 @@ order_both before after one two cross i j a b at_i at_j agent less =
       ]
     ]
 
+-- who did the first jobs, alone
+lead_of : (old new : List Held) (was : Played) (now : List Played) → AllZip (WentOn old new) (was ∷ []) now → (lead : Played) × (now ≡ lead ∷ [])
+lead_of old new was [] all = absurd all
+lead_of old new was (n ∷ []) all = (n, refl)
+lead_of old new was (n ∷ m ∷ now) all = absurd all.1
+
+one_of : (lead player : Played) → Contains (lead ∷ []) player → player ≡ lead
+one_of lead player (zero, low, is) = sym is
+one_of lead player (suc place, low, is) = absurd (omega arith)
+
+-- what agent 0 did alone stands before all that was done then
+alone_before : (given : Opening) (jobs above : List NamedJob) (alone : ℕ) (passes : List Held) (others later : List Played) (first second : Pool) {below : List NamedJob}
+    → IsPoolOf above (first_player given 0 ∷ []) passes first → AllZip (FollowsAll first.agents.items) others later → IsPoolOf below (first.agents.items ++ later) first.passes.items second → AreNew others
+    → HaveEnded first.agents.items above first.outcomes.items → length above ≡ min alone (length jobs) → length (first.outcomes.items ++ second.outcomes.items) ≡ length jobs
+    → StandBefore alone (first.outcomes.items ++ second.outcomes.items) (transcripts_of second.agents.items)
+alone_before given jobs above alone passes others later first second one follow two fresh ended cut many =
+    let found = lead_of passes first.passes.items (first_player given 0) first.agents.items one.agents in
+    let lead = found.0 in
+    let is = found.1 in
+    let once = one.once in
+    let none : begun_by (first_player given 0 ∷ []) ≡ 0 = refl in
+    let began : begun_by first.agents.items ≡ begins lead.entries = ap begun_by is ∙ omega arith in
+    let long = AllZip-long (HasEnded first.agents.items) above first.outcomes.items ended in
+    let both = length-append first.outcomes.items second.outcomes.items in
+    stand_before given alone passes first.passes.items second.passes.items lead others later second.agents.items (first.outcomes.items ++ second.outcomes.items)
+    (subst (λ (ps : List Played). AllZip (WentOn passes first.passes.items) (first_player given 0 ∷ []) ps) is one.agents)
+    (subst (λ (ps : List Played). AllZip (FollowsAll ps) others later) is follow)
+    (subst (λ (ps : List Played). AllZip (WentOn first.passes.items second.passes.items) (ps ++ later) second.agents.items) is two.agents)
+    fresh (omega arith)
+    (λ place outcome low there.
+    let within = slice_get_within (first.outcomes.items ++ second.outcomes.items) place outcome there in
+    let early : place < length first.outcomes.items = omega arith in
+    let at : slice_get first.outcomes.items place ≡ Some outcome = elim (get_either first.outcomes.items second.outcomes.items place outcome there) [
+      | inl here ↦ here
+      | inr past ↦ let gone = past.1.0 in absurd (omega arith)
+    ] in
+    let found_at = zip_at (HasEnded first.agents.items) above first.outcomes.items ended place outcome at in
+    let job = found_at.0.job in
+    let has = found_at.1 in
+    let same : has.player ≡ lead = one_of lead has.player (subst (λ (ps : List Played). Contains ps has.player) is has.there) in
+    end_stands lead job outcome.count outcome.at (subst (λ (p : Played). IsTold p job outcome.count outcome.at) same has.told))
+
 -- agent 0 did the jobs above, and then all agents those below
-pub both_done : (given : Opening) (jobs above below : List NamedJob) (alone : ℕ) (passes : List Held) (others : List Played) (first : Pool) (second : Pool) (worked : Worked)
+pub both_done : (given : Opening) (jobs above below : List NamedJob) (alone : ℕ) (passes : List Held) (others later : List Played) (first : Pool) (second : Pool) (worked : Worked)
     → jobs ≡ above ++ below → length above ≡ min alone (length jobs) → first_player given 0 ∷ others ≡ players_from given 0 given.agents
     → IsPoolOf above (first_player given 0 ∷ []) passes first
-    → IsPoolOf below (first.agents.items ++ others) first.passes.items second
+    → AllZip (FollowsAll first.agents.items) others later
+    → IsPoolOf below (first.agents.items ++ later) first.passes.items second
     → worked.agents.items ≡ second.agents.items → worked.outcomes.items ≡ first.outcomes.items ++ second.outcomes.items
     → AreDone jobs alone worked
-both_done given jobs above below alone passes others first second worked split cut are one two agents outcomes =
-    let was = first.agents.items ++ others in
+both_done given jobs above below alone passes others later first second worked split cut are one follow two agents outcomes =
+    let was = first.agents.items ++ later in
     let ended = have_ended above (first_player given 0 ∷ []) passes first one in
-    let among = zip_map (HasEnded first.agents.items) (HasEnded was) (ended_among first.agents.items others) above first.outcomes.items ended in
+    let among = zip_map (HasEnded first.agents.items) (HasEnded was) (ended_among first.agents.items later) above first.outcomes.items ended in
     let still = zip_map (HasEnded was) (HasEnded second.agents.items) (ended_still first.passes.items second.passes.items was second.agents.items two.agents) above first.outcomes.items among in
-    let later = have_ended below was first.passes.items second two in
-    let both = zip_append (HasEnded second.agents.items) above below first.outcomes.items second.outcomes.items still later in
+    let rest = have_ended below was first.passes.items second two in
+    let both = zip_append (HasEnded second.agents.items) above below first.outcomes.items second.outcomes.items still rest in
     let each = subst (λ (js : List NamedJob). HaveEnded second.agents.items js (first.outcomes.items ++ second.outcomes.items)) (sym split) both in
-    let numbered = numbered_one passes first.passes.items (first_player given 0) first.agents.items others one.agents refl (subst (AreNumbered 0) (sym are) (players_numbered given 0 given.agents)).1 in
+    let numbered = numbered_one passes first.passes.items (first_player given 0) first.agents.items later one.agents refl
+    (numbered_followers first.agents.items 1 others later follow (subst (AreNumbered 0) (sym are) (players_numbered given 0 given.agents)).1)
+    in
     let all = all_of_first passes first.passes.items (first_player given 0) first.agents.items above first.outcomes.items one.agents refl ended in
     let long = AllZip-long (HasEnded first.agents.items) above first.outcomes.items ended in
     let longer = AllZip-long (HasEnded second.agents.items) jobs (first.outcomes.items ++ second.outcomes.items) each in
@@ -227,7 +274,7 @@ both_done given jobs above below alone passes others first second worked split c
     let here = all i a at_i in
     let named = zip_at (IsOutcome was second.agents.items) below second.outcomes.items two.each j b at_j in
     let is = named.1 in
-    let begun = since_alone passes first.passes.items (first_player given 0) first.agents.items others one.agents numbered is.before is.by.had (is.by.old ∙ sym agent ∙ here.0) in
+    let begun = since_alone passes first.passes.items (first_player given 0) first.agents.items later one.agents numbered is.before is.by.had (is.by.old ∙ sym agent ∙ here.0) in
     let since = is.since in
     let less = here.1 in
     omega arith
@@ -243,6 +290,9 @@ both_done given jobs above below alone passes others first second worked split c
           let within = slice_get_within (first.outcomes.items ++ second.outcomes.items) place outcome there in
           let before : place < length first.outcomes.items = omega arith in
           first_of_both (begun_by first.agents.items) first.outcomes.items second.outcomes.items (omega arith) one.order all place outcome before there);
+      before = subst (λ (ps : List Played). StandBefore alone worked.outcomes.items (transcripts_of ps)) (sym agents)
+          (subst (λ (os : List JobOutcome). StandBefore alone os (transcripts_of second.agents.items)) (sym outcomes)
+          (alone_before given jobs above alone passes others later first second one follow two (new_others given others are) ended (omega arith) (omega arith)));
     }
 
 -- ---- agents who can work

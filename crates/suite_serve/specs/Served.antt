@@ -1,12 +1,12 @@
 -- What the jobs of a script came to, and how it is printed.
-use Rattle.std.specs.Prelude.{◌≡◌, ℕ, ◌+◌, ◌<◌, List, [], ◌∷◌, ◌++◌, codes, decimal, length, slice_get, Option, Some, None}
+use Rattle.std.specs.Prelude.{◌≡◌, ℕ, ◌+◌, ◌<◌, min, Contains, List, [], ◌∷◌, ◌++◌, codes, decimal, length, slice_get, Option, Some, None}
 use Rattle.std.specs.List.{flat_map}
 use Rattle.std.specs.Option.{option_map}
 use Rattle.txn_core.specs.declared.job.Job.{Job}
 use Rattle.run_core.specs.declared.done.EndedJob.{EndedJob}
 use Rattle.server_lock.specs.declared.item.Item.{Item}
 use Rattle.run_certify.specs.declared.entry.Entry.{Entry}
-use Rattle.run_certify.specs.declared.entry.Entry.TheVariants.{Begun, Ended}
+use Rattle.run_certify.specs.declared.entry.Entry.TheVariants.{Begun, Asked, Ended}
 use Rattle.run_certify.specs.Certified.{IsCertified}
 use Rattle.agent_pool.specs.declared.outcome.JobOutcome.{JobOutcome}
 use Rattle.agent_pool.specs.Endings.{end_at}
@@ -98,9 +98,26 @@ AreInOrder ends =
     (i j : ℕ) (a b : JobEnd) (agent first second : ℕ) → slice_get ends i ≡ Some a → slice_get ends j ≡ Some b → i < j
     → done_as a ≡ Some (agent, first) → done_as b ≡ Some (agent, second) → first < second
 
+-- its end stands in these entries
+abbrev pub EndsIn : List Entry → Option EndedJob → Type 0
+EndsIn entries (Some told) = Contains entries (Ended told)
+EndsIn entries None = ⊥
+
+-- So many of the first had ended before any other was begun: agent 0 began with a part in which it began just these, and in which each of them ended. What
+-- a server served for that part it served before all that it served for the rest, or for others: its stamps rise, and each stamp that it gave in it is below.
+pub record AreBefore (alone : ℕ) (ends : List JobEnd) (transcripts : List (List Entry)) : Type 0 where
+  pub first : List Entry
+  pub rest : List Entry
+  pub others : List (List Entry)
+  pub split : transcripts ≡ (first ++ rest) ∷ others
+  pub just : begins first ≡ min alone (length ends)
+  pub ended : (place : ℕ) (end : JobEnd) → place < alone → slice_get ends place ≡ Some end → EndsIn first end.told
+  pub before : (server stamp later : ℕ) (entries : List Entry) → Contains first (Asked server stamp) → Contains (rest ∷ others) entries
+      → Contains entries (Asked server later) → stamp < later
+
 -- What came of a script's jobs is what came of them in one run of servers and agents, which opens with the script's settings: each job ended so in what
--- the agents did, those above `together` as the first jobs of agent 0, in their order; each agent did its jobs in their order; and so many requests were
--- served.
+-- the agents did, those above `together` as the first jobs of agent 0, in their order, and before any other was begun; each agent did its jobs in their
+-- order; and so many requests were served.
 pub record IsServed (plan : Plan) (came : Came) : Type 0 where
   pub histories : List (List Item)
   pub transcripts : List (List Entry)
@@ -108,5 +125,6 @@ pub record IsServed (plan : Plan) (came : Came) : Type 0 where
   pub each : AreJobEnds transcripts 0 plan.jobs came.ends
   pub apart : AreApart came.ends
   pub alone : AreFirst plan.alone came.ends
+  pub before : AreBefore plan.alone came.ends transcripts
   pub order : AreInOrder came.ends
   pub steps : came.steps ≡ items_in histories

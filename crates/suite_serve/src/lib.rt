@@ -5,11 +5,12 @@
 //! and asks `certify`. What it gives (`IsServed`) names one run. For each job, in the script's order, its agent's
 //! transcript has it as its begin of some count, then so many requests, and then the end that its line tells. The
 //! jobs above `together` are the first that agent 0 began, in their order, and each agent began its jobs in theirs.
-//! No two lines are of one agent and count. So a line cannot be another job's, and nothing is printed that was not
-//! certified.
+//! Those above had ended before any other was begun, as each server saw it: what it served for them stands before what
+//! it served for the others (`AreBefore`). No two lines are of one agent and count. So a line cannot be another job's,
+//! and nothing is printed that was not certified.
 //!
 //! A fault of the pool but Memory, of closing, or of certifying prints `mismatch` and no outcome. No clause says
-//! that threads do anything at once, that a call returns, or which of two jobs comes first.
+//! that threads do anything at once, that a call returns, or which of two jobs below `together` comes first.
 //!
 //! **The caller owes** a text below 2^60 bytes, and 1 to 64 agents.
 //!

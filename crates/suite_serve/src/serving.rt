@@ -5,7 +5,8 @@ ghost use Rattle.agent_pool.specs.Transcripts.{first_player, players_from};
 ghost use Rattle.server_lock.specs.Passes.{passes_of};
 ghost use Rattle.run_certify.specs.Certified.{IsCertified};
 ghost use Rattle.suite_serve.specs.Served.{IsServed};
-ghost use Rattle.suite_serve.specs.code.Working.{AreDone, named_from, transcripts_of};
+ghost use Rattle.std.specs.List.{AllZip};
+ghost use Rattle.suite_serve.specs.code.Working.{AreDone, FollowsAll, named_from, transcripts_of};
 
 use crate::script::JobScript;
 use crate::served::{Served, items_in};
@@ -100,7 +101,8 @@ pub(crate) struct Worked {
     outcomes: Vec<JobOutcome>,
 }
 
-/// Has the first jobs carried out by agent 0, and then the others by all agents. The jobs are let go before more is made.
+/// Has the first jobs carried out by agent 0, and then the others by all agents: what agent 0 was told is known to all
+/// before they begin. The jobs are let go before more is made.
 fn work<R: Threads + Wait + Sync>(
     rt: &R,
     alloc: Global,
@@ -119,6 +121,7 @@ fn work<R: Threads + Wait + Sync>(
         passes,
         outcomes: before,
     } = judged(run_pool(rt, alloc, &OpenGate, servers, above, first, passes))?;
+    let others = followers(alloc, &agents, others)?;
     let agents = joined(agents, others)?;
     let Pool {
         agents,
@@ -157,6 +160,32 @@ fn first_and_others(
     let mut first = first_players(alloc, settings)?;
     let others = first.split_off(1)?;
     Ok((first, others))
+}
+
+/// These agents, which go on after all that the leaders did.
+fn followers(
+    alloc: Global,
+    leaders: &[Player],
+    agents: Vec<Player>,
+) -> Result<Vec<Player>, AllocError>
+    ensures { IfOk result (λ followers. AllZip (FollowsAll leaders.now) agents.items followers.items) }
+{
+    let mut followers = Vec::with_capacity(alloc, agents.len())?;
+    for player in agents {
+        followers.push(follower(leaders, player))?;
+    }
+    Ok(followers)
+}
+
+/// This agent, which goes on after all that the leaders did.
+fn follower(leaders: &[Player], player: Player) -> Player
+    ensures { FollowsAll leaders.now player result }
+{
+    let mut player = player;
+    for leader in leaders {
+        player.follow(leader);
+    }
+    player
 }
 
 /// The items of both, those of the first before those of the second.

@@ -1,5 +1,5 @@
 -- What comes of asking, and of a job.
-use Rattle.std.specs.Prelude.{◌≡◌, ◌≢◌, ◌⊎◌, ◌<◌, ◌≤◌, ℕ, true, false, ◌+◌, ◌-◌, List, [], ◌∷◌, ◌++◌, length, Option, Some, None, Result, Ok, Err}
+use Rattle.std.specs.Prelude.{◌≡◌, ◌≢◌, ◌⊎◌, ◌<◌, ◌≤◌, ℕ, true, false, ◌+◌, ◌-◌, List, [], ◌∷◌, ◌++◌, length, slice_set, Option, Some, None, Result, Ok, Err}
 use Rattle.rep_core.specs.declared.reply.Reply.{Reply}
 use Rattle.rep_core.specs.declared.request.Request.{Request}
 use Rattle.rep_core.specs.declared.stamped.Stamped.{Stamped}
@@ -24,6 +24,16 @@ abbrev pub delivery_from : ℕ → Result (Stamped Reply) Miss → Option Delive
 delivery_from server (Ok reply) = Some (record { entry = Asked server reply.stamp; response = Replied reply.value })
 delivery_from server (Err (Lack lack)) = Some (record { entry = AskedInVain server lack; response = NotServed lack })
 delivery_from server (Err (Stale long)) = None
+
+-- the stamp of a reply
+abbrev pub stamp_in : Result (Stamped Reply) Miss → Option ℕ
+stamp_in (Ok reply) = Some reply.stamp
+stamp_in (Err miss) = None
+
+-- what is known of servers after one told this stamp
+abbrev pub known_after : List ℕ → ℕ → Option ℕ → List ℕ
+known_after known server (Some stamp) = slice_set known server stamp
+known_after known server None = known
 
 -- how a job of an agent ended, as it is written down
 abbrev pub end_entry : ℕ → ℕ → ℕ → Ending → Entry

@@ -1,12 +1,14 @@
 -- Jobs as they are handed to agents, and what agents did with them.
-use Rattle.std.specs.Prelude.{◌≡◌, ℕ, ◌+◌, ◌<◌, Contains, List, [], ◌∷◌, map, slice_get, Some}
+use Rattle.std.specs.Prelude.{◌≡◌, ℕ, ◌+◌, ◌<◌, ◌≤◌, min, Contains, List, [], ◌∷◌, ◌++◌, length, map, slice_get, Some}
 use Rattle.std.specs.List.{AllZip}
 use Rattle.txn_core.specs.declared.job.Job.{Job}
 use Rattle.run_certify.specs.declared.entry.Entry.{Entry}
+use Rattle.run_certify.specs.declared.entry.Entry.TheVariants.{Asked, Ended}
+use Rattle.run_core.specs.declared.done.EndedJob.{EndedJob}
 use Rattle.agent_pool.specs.declared.outcome.JobOutcome.{JobOutcome}
 use Rattle.agent_pool.specs.declared.pool_context.NamedJob.{NamedJob}
 use Rattle.agent_pool.specs.Pools.{AreApart, AreInOrder}
-use Rattle.agent_pool.specs.Transcripts.{Played, IsTold, number_of}
+use Rattle.agent_pool.specs.Transcripts.{Played, IsTold, begins, known_at, most_numbers, number_of}
 use Rattle.suite_serve.specs.declared.serving.Worked.{Worked}
 
 -- jobs, numbered from a number on
@@ -38,10 +40,29 @@ HaveEnded players jobs outcomes = AllZip (HasEnded players) jobs outcomes
 abbrev pub AreOfFirst : ℕ → List JobOutcome → Type 0
 AreOfFirst alone outcomes = (place : ℕ) (outcome : JobOutcome) → place < alone → slice_get outcomes place ≡ Some outcome → (outcome.agent ≡ 0) × (outcome.count ≡ place)
 
--- all jobs were done, so many of the first by agent 0
+-- an agent goes on after all that these did: of each server it knows a stamp that is not below theirs
+pub record FollowsAll (leaders : List Played) (was now : Played) : Type 0 where
+  pub agent : now.agent ≡ was.agent
+  pub entries : now.entries ≡ was.entries
+  pub known : (place : ℕ) (leader : Played) (server : ℕ) → slice_get leaders place ≡ Some leader → server < most_numbers → known_at leader server ≤ known_at now server
+
+-- So many of the first outcomes stand in a part with which agent 0 began. Each stamp that a server gave in it is below all others of that server.
+pub record StandBefore (alone : ℕ) (outcomes : List JobOutcome) (transcripts : List (List Entry)) : Type 0 where
+  pub first : List Entry
+  pub rest : List Entry
+  pub others : List (List Entry)
+  pub split : transcripts ≡ (first ++ rest) ∷ others
+  pub just : begins first ≡ min alone (length outcomes)
+  pub ended : (place : ℕ) (outcome : JobOutcome) → place < alone → slice_get outcomes place ≡ Some outcome
+      → (told : EndedJob) × (slice_get first outcome.at ≡ Some (Ended told))
+  pub before : (server stamp later : ℕ) (entries : List Entry) → Contains first (Asked server stamp) → Contains (rest ∷ others) entries
+      → Contains entries (Asked server later) → stamp < later
+
+-- all jobs were done, so many of the first by agent 0, before the others
 pub record AreDone (jobs : List NamedJob) (alone : ℕ) (worked : Worked) : Type 0 where
   pub numbered : AreNumbered 0 worked.agents.items
   pub each : HaveEnded worked.agents.items jobs worked.outcomes.items
   pub apart : AreApart worked.outcomes.items
   pub first : AreOfFirst alone worked.outcomes.items
   pub order : AreInOrder worked.outcomes.items
+  pub before : StandBefore alone worked.outcomes.items (transcripts_of worked.agents.items)

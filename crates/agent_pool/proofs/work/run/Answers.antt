@@ -9,4 +9,4 @@ pub returns-in-Err-clause-did : goal.returns-in-Err-clause-did
 returns-in-Err-clause-did g c = lacked_job _ _ _ _ _ (search rules)
 
 pub returns-clause-did : goal.returns-clause-did
-returns-clause-did g c = did_job _ _ _ c.begin.new.self _ _ _ _ c.in-Ok-true.ensures.fixed c.in-Ok-true.ensures.number (search rules) (search rules) c.in-Ok-true.ensures.agent c.go_on.ensures.did
+returns-clause-did g c = did_job _ _ _ c.begin.new.self _ _ _ _ c.in-Ok-true.ensures.fixed c.in-Ok-true.ensures.number c.in-Ok-true.ensures.known (search rules) (search rules) c.in-Ok-true.ensures.agent c.go_on.ensures.did

@@ -8,7 +8,7 @@ pub returns-in_err-text : goal.returns-in_err-text
 returns-in_err-text g c =
     let error = c.in_err-text.field-0.0 in
     rw (failed c.from_residual.result (of_read error) c.from_residual.ensures)
-    (λ status after failures told. not_read error (script_output_of c.args.command) (streams_of _ _ (g.I.ByteIn.failed_reads c.args.reader.now) _ _ _) status _ c.in_err-text.ensures.err told)
+    (λ status after failures told. not_read error (script_output_of c.args.command) (streams_of _ _ _ (g.I.ByteIn.failed_reads c.args.reader.now) _ _ _) status _ c.in_err-text.ensures.err c.in_err-text.ensures.memory told)
 
 pub returns-in_err-play_script : goal.returns-in_err-play_script
 returns-in_err-play_script g c =
@@ -18,4 +18,4 @@ returns-in_err-play_script g c =
     let failures = g.O.ByteOut.failed_writes c.play_script.new.writer in
     let plays = rw c.deref.ensures.value at c.in_err-play_script.ensures in
     rw (failed c.from_residual-in_err-play_script.result (of_play error) c.from_residual-in_err-play_script.ensures)
-    (λ status after failures_after told. not_played error output (streams_of _ _ (g.I.ByteIn.failed_reads c.args.reader.now) _ _ _) status c.in_ok-text.text.items _ now failures c.in_ok-text.ensures.ok plays told)
+    (λ status after failures_after told. not_played error output (streams_of _ _ _ (g.I.ByteIn.failed_reads c.args.reader.now) _ _ _) status c.in_ok-text.text.items _ now failures c.in_ok-text.ensures.ok c.in_ok-text.ensures.kept plays told)

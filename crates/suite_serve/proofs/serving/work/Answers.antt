@@ -9,6 +9,9 @@ use Rattle.agent_pool.specs.Seats.{AreReady}
 use Rattle.agent_pool.specs.Transcripts.{Played, first_player, players_from}
 use Rattle.suite_prefix.specs.SettingsRules.{Opening}
 use Rattle.agent_pool.proofs.Readiness.{ready_after, ready_front}
+use Rattle.std.specs.List.{AllZip}
+use Rattle.suite_serve.specs.code.Working.{FollowsAll}
+use Rattle.suite_serve.proofs.Followed.{ready_followers}
 use Rattle.suite_serve.proofs.Pooled.{all_ready, both_done}
 use Rattle.suite_serve.proofs.serving.work.Goals as goal
 
@@ -29,10 +32,11 @@ returns g c =
     let split : jobs ≡ above ++ below = sym c.as_slice.ensures.value ∙ sym (take-append-drop c.min.result c.as_slice.result.now) ∙ ap₂ (λ (xs ys : List NamedJob). xs ++ ys) (sym c.split_at.ensures.front) (sym c.split_at.ensures.back) in
     let count : c.len.result ≡ length jobs = omega (arith, c.len.ensures, c.args.jobs.ok.0) in
     let cut : length above ≡ min c.args.alone (length jobs) = c.split_at.ensures.front_len ∙ c.min.ensures ∙ ap (min c.args.alone) count in
-    both_done given jobs above below c.args.alone c.args.opened.passes.items c.in_ok-first.others.items first second
+    both_done given jobs above below c.args.alone c.args.opened.passes.items c.in_ok-first.others.items c.in_ok-others.others.items first second
     (record { agents = second.agents; passes = second.passes; outcomes = c.in_ok-outcomes.outcomes })
     split cut all
     (subst (λ (ps : List Played). IsPoolOf above ps c.args.opened.passes.items first) alone one)
+    (subst (λ (ps : List Played). AllZip (FollowsAll ps) c.in_ok-first.others.items c.in_ok-others.others.items) c.deref.ensures.value c.in_ok-others.ensures)
     (subst (λ (ps : List Played). IsPoolOf below ps first.passes.items second) c.in_ok-agents-2.ensures two)
     refl c.in_ok-outcomes.ensures
 
@@ -54,4 +58,6 @@ run_pool-requires-2-clause-ready g c κs within =
     let all : first ++ others ≡ players_from given 0 given.agents = c.in_ok-first.ensures.all ∙ ap (λ (s : Opening). players_from s 0 s.agents) c.settings.ensures in
     let one : IsPoolOf above first c.args.opened.passes.items pool = subst (λ (r : Result Pool PoolFault). IfOk r (λ (made : Pool). IsPoolOf above first c.args.opened.passes.items made)) c.in_ok-agents.ensures c.run_pool.ensures.pool in
     subst (λ (ps : List Played). AreReady pool.passes.items ps) (sym c.in_ok-agents-2.ensures)
-    (ready_after above c.args.opened.passes.items first others pool (all_ready given c.args.opened.passes.items (first ++ others) c.requires all) one)
+    (ready_followers pool.passes.items pool.agents.items pool.agents.items others c.in_ok-others.others.items
+    (subst (λ (ps : List Played). AllZip (FollowsAll ps) others c.in_ok-others.others.items) c.deref.ensures.value c.in_ok-others.ensures)
+    (ready_after above c.args.opened.passes.items first others pool (all_ready given c.args.opened.passes.items (first ++ others) c.requires all) one))

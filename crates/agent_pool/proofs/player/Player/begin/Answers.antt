@@ -22,4 +22,5 @@ invariant_of-self-2 c =
           let same = ap begins c.in_ok-reserve.ensures.items in
           let two = begins-append c.reserve.new.self.items (Begun c.in_ok-kept.kept ∷ []) in
           omega arith;
+      known = c.self.invariant.known;
     }

@@ -15,4 +15,5 @@ invariant_of-self-2 c = record {
       let same = ap begins c.in_ok-reserve.ensures.items in
       let two = begins-append c.reserve.new.self.items (Forgot c.args.site ∷ []) in
       omega arith;
+  known = c.self.invariant.known;
 }

@@ -1,0 +1,256 @@
+//! Why words and texts are no lists.
+
+use crate::above::Above;
+use crate::fields::{Kind, Said, Side, entry_in, trimmed, uncommented};
+use crate::item::{form_told, nobody_told, whom_of};
+use crate::number::{NumberReason, is_digits};
+use crate::reason::{Numbers, Reason, Told};
+use acl_core::{AclFault, MAX_ENTRIES};
+use acl_text::{TextFault, item_place};
+use script_text::{Parts, push_number};
+use std::alloc::AllocError;
+
+/// Why a text is no list.
+#[derive(Clone, Copy, PartialEq, Eq, Debug)]
+pub(crate) enum ListReason {
+    /// It has a carriage return.
+    CarriageReturn,
+    /// It has no colon.
+    NoList,
+    /// It has digits alone, and is no mode.
+    NoMode,
+    /// No entry is of this kind that names nobody.
+    Lacks(Kind),
+    /// Entries are of one kind, in one of the two lists, and of the one who is named.
+    Doubled(Kind, Side),
+    /// The item of this number names somebody, and there is no mask.
+    Unmasked(u64),
+    /// There are so many items, and not the one that was asked for.
+    Few(u64),
+}
+
+impl ListReason {
+    pub(crate) fn name(self) -> &'static [u8] {
+        match self {
+            ListReason::CarriageReturn => b"carriage-return",
+            ListReason::NoList => b"no-list",
+            ListReason::NoMode => b"no-mode",
+            ListReason::Lacks(_) => b"lacks",
+            ListReason::Doubled(_, _) => b"doubled",
+            ListReason::Unmasked(_) => b"unmasked",
+            ListReason::Few(_) => b"few",
+        }
+    }
+
+    pub(crate) fn numbers(self) -> Numbers {
+        match self {
+            ListReason::Unmasked(number) | ListReason::Few(number) => [Some(number), None],
+            _ => [None, None],
+        }
+    }
+
+    pub(crate) fn kind(self) -> Option<Kind> {
+        match self {
+            ListReason::Lacks(kind) | ListReason::Doubled(kind, _) => Some(kind),
+            _ => None,
+        }
+    }
+}
+
+/// What is told of a word that is no list, and no mode where it could be one.
+pub(crate) fn word_told<'a>(
+    above: Above<'_>,
+    may_be_mode: bool,
+    word: &'a [u8],
+    fault: Option<TextFault>,
+) -> Told<'a> {
+    if word.contains(&b':') {
+        return match fault {
+            Some(fault) => text_told(above, word, fault),
+            None => Told::of(Reason::List(ListReason::CarriageReturn), word),
+        };
+    }
+    let reason = if !may_be_mode {
+        Reason::List(ListReason::NoList)
+    } else if is_digits(word) {
+        Reason::List(ListReason::NoMode)
+    } else {
+        Reason::Due
+    };
+    Told::of(reason, word)
+}
+
+/// What is told of a text with a fault.
+pub(crate) fn text_told<'a>(above: Above<'_>, text: &'a [u8], fault: TextFault) -> Told<'a> {
+    match fault {
+        TextFault::Syntax(number) => form_told(item_in(text, number)),
+        TextFault::UnknownName(number) => nobody_told(above, item_in(text, number)),
+        TextFault::NumberTooBig(number) => {
+            let item = item_in(text, number);
+            Told {
+                reason: Reason::Number(NumberReason::Above(u64::from(u32::MAX))),
+                word: item,
+                part: whom_of(item),
+            }
+        }
+        TextFault::Invalid(fault) => entries_told(above, text, Side::Access, fault),
+        TextFault::DefaultInvalid(fault) => entries_told(above, text, Side::Default, fault),
+        TextFault::Memory => Told::of(Reason::Due, text),
+    }
+}
+
+/// The item of a number, without white space at its ends.
+pub(crate) fn item_in(text: &[u8], number: usize) -> &[u8] {
+    let place = item_place(text, number).unwrap_or(0);
+    let rest = text.get(place..).unwrap_or(b"");
+    let length = rest
+        .iter()
+        .take_while(|byte| !matches!(**byte, b',' | b'#' | b'\n'))
+        .count();
+    trimmed(rest.get(..length).unwrap_or(b""))
+}
+
+/// What is told of the entries of one of the two lists.
+fn entries_told<'a>(above: Above<'_>, text: &'a [u8], side: Side, fault: AclFault) -> Told<'a> {
+    let reason = match fault {
+        AclFault::NoUserObj => ListReason::Lacks(Kind::User),
+        AclFault::NoGroupObj => ListReason::Lacks(Kind::Group),
+        AclFault::NoOther => ListReason::Lacks(Kind::Other),
+        AclFault::TwiceSingle => return doubled_told(above, text, side, None),
+        AclFault::UserTwice => return doubled_told(above, text, side, Some(Kind::User)),
+        AclFault::GroupTwice => return doubled_told(above, text, side, Some(Kind::Group)),
+        AclFault::MaskMissing => ListReason::Unmasked(first_named(text, side)),
+        AclFault::TooMany => {
+            let many = NumberReason::Many(count_of(text, side), MAX_ENTRIES as u64);
+            return Told::of(Reason::Number(many), text);
+        }
+    };
+    Told::of(Reason::List(reason), text)
+}
+
+/// How many items are entries of one of the two lists.
+fn count_of(text: &[u8], side: Side) -> u64 {
+    let mut count = 0u64;
+    for line in Parts::new(text, b'\n') {
+        for item in Parts::new(uncommented(line), b',') {
+            if is_of(item, side) {
+                count = count.saturating_add(1);
+            }
+        }
+    }
+    count
+}
+
+fn is_of(item: &[u8], side: Side) -> bool {
+    match entry_in(item) {
+        Some(said) => said.side == side,
+        None => false,
+    }
+}
+
+/// The number of the first item that names somebody.
+fn first_named(text: &[u8], side: Side) -> u64 {
+    let mut number = 0u64;
+    for line in Parts::new(text, b'\n') {
+        for item in Parts::new(uncommented(line), b',') {
+            number = number.saturating_add(1);
+            if let Some(said) = entry_in(item) {
+                if said.side == side && !said.whom.is_empty() {
+                    return number;
+                }
+            }
+        }
+    }
+    number
+}
+
+/// What is told of entries of which two are of one: of one kind that names somebody, or of those that name nobody.
+fn doubled_told<'a>(above: Above<'_>, text: &'a [u8], side: Side, kind: Option<Kind>) -> Told<'a> {
+    for line in Parts::new(text, b'\n') {
+        for item in Parts::new(uncommented(line), b',') {
+            if let Some(said) = entry_in(item) {
+                if said.side == side
+                    && may_double(said, kind)
+                    && count_same(above, text, said) > 1
+                {
+                    return Told {
+                        reason: Reason::List(ListReason::Doubled(said.kind, side)),
+                        word: text,
+                        part: said.whom,
+                    };
+                }
+            }
+        }
+    }
+    Told::of(Reason::Due, text)
+}
+
+fn may_double(said: Said<'_>, kind: Option<Kind>) -> bool {
+    match kind {
+        Some(kind) => said.kind == kind && !said.whom.is_empty(),
+        None => said.whom.is_empty(),
+    }
+}
+
+/// Whether an item is an entry of the same one.
+fn is_same(above: Above<'_>, item: &[u8], sought: Said<'_>) -> bool {
+    let Some(said) = entry_in(item) else {
+        return false;
+    };
+    if said.side != sought.side || said.kind != sought.kind {
+        return false;
+    }
+    if said.whom == sought.whom {
+        return true;
+    }
+    match (
+        above.number_of(said.kind, said.whom),
+        above.number_of(sought.kind, sought.whom),
+    ) {
+        (Some(one), Some(other)) => one == other,
+        _ => false,
+    }
+}
+
+fn count_same(above: Above<'_>, text: &[u8], sought: Said<'_>) -> u64 {
+    let mut count = 0u64;
+    for line in Parts::new(text, b'\n') {
+        for item in Parts::new(uncommented(line), b',') {
+            if is_same(above, item, sought) {
+                count = count.saturating_add(1);
+            }
+        }
+    }
+    count
+}
+
+/// Adds the numbers of all items that are entries of the same one, each with a space before it.
+pub(crate) fn push_same(
+    text: &mut Vec<u8>,
+    above: Above<'_>,
+    list: &[u8],
+    sought: Said<'_>,
+) -> Result<(), AllocError> {
+    let mut number = 0u64;
+    for line in Parts::new(list, b'\n') {
+        for item in Parts::new(uncommented(line), b',') {
+            number = number.saturating_add(1);
+            if is_same(above, item, sought) {
+                text.push(b' ')?;
+                push_number(text, number)?;
+            }
+        }
+    }
+    Ok(())
+}
+
+/// How many items a text has, empty ones too.
+pub(crate) fn count_of_items(text: &[u8]) -> u64 {
+    let mut count = 0u64;
+    for line in Parts::new(text, b'\n') {
+        for _ in Parts::new(uncommented(line), b',') {
+            count = count.saturating_add(1);
+        }
+    }
+    count
+}

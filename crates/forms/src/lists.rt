@@ -1,0 +1,110 @@
+//! What is printed of a list, and of an item of one.
+
+ghost use Rattle.std.specs.Prelude.{◌≡◌, IfOk};
+ghost use Rattle.acl_text.specs.Places.{item_place};
+ghost use Rattle.forms.specs.Finding.{BeginsWith, place_text};
+
+use crate::above::Above;
+use crate::fields::{entry_in, uncommented};
+use crate::finding::{item_of_text, push_place};
+use crate::list::{ListReason, count_of_items, item_in, text_told};
+use crate::reason::{Reason, Told, push_told};
+use acl_text::{NameError, Names, TextFault, item_place, push_text_code, read_acl};
+use script_text::Parts;
+use std::alloc::{AllocError, Global};
+
+/// What is printed of a list, or of its item of this number. Each name is taken for one that has a number; or none is.
+pub(crate) fn found_in_list(
+    alloc: Global,
+    are_named: bool,
+    list: &[u8],
+    number: u64,
+) -> Result<Vec<u8>, AllocError> {
+    let mut names = Names::new(alloc);
+    if are_named {
+        name_all(&mut names, list)?;
+    }
+    if number == 0 {
+        let fault = fault_of(alloc, list, &names)?;
+        let place = fault.and_then(|fault| item_of_text(list, fault));
+        return printed(alloc, place, fault, told_of(list, fault));
+    }
+    let Some(place) = item_place(list, number as usize) else {
+        let few = Reason::List(ListReason::Few(count_of_items(list)));
+        return printed(alloc, None, None, Told::of(few, b""));
+    };
+    let item = item_in(list, number as usize);
+    let fault = fault_of(alloc, item, &names)?;
+    let told = told_of(item, fault);
+    let numbered = fault.and_then(|fault| with_number(fault, number as usize));
+    printed(alloc, Some(place), numbered, told)
+}
+
+fn told_of(text: &[u8], fault: Option<TextFault>) -> Told<'_> {
+    match fault {
+        Some(fault) => text_told(Above::nothing(), text, fault),
+        None => Told::of(Reason::Due, b""),
+    }
+}
+
+/// The fault of a text.
+fn fault_of(alloc: Global, text: &[u8], names: &Names) -> Result<Option<TextFault>, AllocError> {
+    match read_acl(alloc, text, names) {
+        Ok(_) => Ok(None),
+        Err(TextFault::Memory) => Err(AllocError),
+        Err(fault) => Ok(Some(fault)),
+    }
+}
+
+/// The fault of an item, as one of the item of this number.
+fn with_number(fault: TextFault, number: usize) -> Option<TextFault> {
+    match fault {
+        TextFault::Syntax(_) => Some(TextFault::Syntax(number)),
+        TextFault::UnknownName(_) => Some(TextFault::UnknownName(number)),
+        TextFault::NumberTooBig(_) => Some(TextFault::NumberTooBig(number)),
+        TextFault::Invalid(_) | TextFault::DefaultInvalid(_) | TextFault::Memory => None,
+    }
+}
+
+/// Gives each name of a list a number of its own, as a user's and as a group's.
+fn name_all(names: &mut Names, list: &[u8]) -> Result<(), AllocError> {
+    let mut number = u32::MAX;
+    for line in Parts::new(list, b'\n') {
+        for item in Parts::new(uncommented(line), b',') {
+            if let Some(said) = entry_in(item) {
+                is_noted(names.add_user(said.whom, number))?;
+                is_noted(names.add_group(said.whom, number))?;
+                number = number.saturating_sub(1);
+            }
+        }
+    }
+    Ok(())
+}
+
+/// Whether there was memory for a name; one that is none, or that was noted before, is passed over.
+pub(crate) fn is_noted(named: Result<(), NameError>) -> Result<(), AllocError> {
+    match named {
+        Err(NameError::Memory) => Err(AllocError),
+        _ => Ok(()),
+    }
+}
+
+/// `ITEM CODE REASON DATA PART`.
+fn printed(
+    alloc: Global,
+    place: Option<usize>,
+    fault: Option<TextFault>,
+    told: Told<'_>,
+) -> Result<Vec<u8>, AllocError> {
+    let mut text = Vec::new(alloc);
+    push_place(&mut text, place)?;
+    text.push(b'\t')?;
+    match fault {
+        Some(fault) => push_text_code(&mut text, fault)?,
+        None => text.push(b'-')?,
+    }
+    text.push(b'\t')?;
+    push_told(&mut text, Above::nothing(), told)?;
+    text.push(b'\n')?;
+    Ok(text)
+}

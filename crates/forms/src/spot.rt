@@ -1,0 +1,210 @@
+//! Where a word stands that does not fit, and why it does not.
+
+use crate::above::Above;
+use crate::fields::Kind;
+use crate::list::word_told;
+use crate::number::{NumberReason, groups_told, number_told, servers_told};
+use crate::places::limits;
+use crate::reason::{Reason, Told};
+use crate::votes::{begins_as_votes, form_told, valid_told};
+use crate::word::{WordReason, bytes_told, name_told};
+use acl_text::TextFault;
+use script_text::Words;
+use suite_script::{Ending, Expected, Form, LineFault, Misfit, Place, Scope, VERBS};
+use vote_core::MAX_SERVERS;
+
+/// Where a word stands that does not fit: the form that has its place, the word, where there is one, and the word
+/// before it.
+#[derive(Clone, Copy)]
+pub(crate) struct Spot<'a> {
+    pub(crate) form: Form,
+    pub(crate) word: Option<&'a [u8]>,
+    pub(crate) before: &'a [u8],
+    /// Whether the place is one of an operation.
+    is_of_operation: bool,
+}
+
+/// Where a word stands that does not fit, in a line of a form whose words after the first are these.
+pub(crate) fn spot_of<'a>(form: Form, line: &'a [u8], misfit: Misfit) -> Spot<'a> {
+    let mut number = 1u64;
+    let mut verb = (form.places.len() as u64).saturating_add(2);
+    let mut found = form;
+    let mut before: &'a [u8] = form.word;
+    for word in Words::new(line) {
+        number = number.saturating_add(1);
+        if number == misfit.number {
+            return at(form, found, misfit.expected, Some(word), before);
+        }
+        if number == verb {
+            found = operation_form(word).unwrap_or(form);
+        } else if word == b";".as_slice() {
+            verb = number.saturating_add(1);
+        }
+        before = word;
+    }
+    at(form, found, misfit.expected, None, before)
+}
+
+/// The form that has a place is that of an operation, but where an operation is due, and in lines that have none.
+fn at<'a>(
+    line: Form,
+    operation: Form,
+    expected: Expected,
+    word: Option<&'a [u8]>,
+    before: &'a [u8],
+) -> Spot<'a> {
+    let is_of_operation = line.ending == Ending::Operations && expected != Expected::Operation;
+    Spot {
+        form: if is_of_operation { operation } else { line },
+        word,
+        before,
+        is_of_operation,
+    }
+}
+
+/// The form of the operation that a word begins.
+fn operation_form(word: &[u8]) -> Option<Form> {
+    VERBS
+        .iter()
+        .map(|verb| verb.form())
+        .find(|form| word == form.word)
+}
+
+/// Why a word does not fit, and whether it may well belong to another place.
+pub(crate) fn told_at<'a>(
+    scope: &Scope,
+    above: Above<'_>,
+    spot: Spot<'a>,
+    misfit: Misfit,
+) -> (Told<'a>, bool) {
+    let is_form = misfit.fault == LineFault::Form;
+    let word = spot.word.unwrap_or(b"");
+    if is_form && (matches!(word, [b'#', ..]) || spot.before == b"#".as_slice()) {
+        return (Told::of(Reason::Comment, word), false);
+    }
+    let told = match spot.word {
+        Some(word) => told_of(scope, above, spot, word, misfit),
+        None => Told::of(Reason::LineEnds, b""),
+    };
+    let is_shifted = may_be_shifted(misfit, told);
+    match glued(spot) {
+        Some(part) if is_form && is_shifted => (Told::of(Reason::Semicolon, part), false),
+        _ => (told, is_shifted),
+    }
+}
+
+/// The word, or the one before it, at which a semicolon stands without a space.
+fn glued(spot: Spot<'_>) -> Option<&[u8]> {
+    let word = spot.word.unwrap_or(b"");
+    if is_glued(word) {
+        Some(word)
+    } else if is_glued(spot.before) {
+        Some(spot.before)
+    } else {
+        None
+    }
+}
+
+fn is_glued(word: &[u8]) -> bool {
+    word.len() > 1 && word.contains(&b';')
+}
+
+fn told_of<'a>(
+    scope: &Scope,
+    above: Above<'_>,
+    spot: Spot<'a>,
+    word: &'a [u8],
+    misfit: Misfit,
+) -> Told<'a> {
+    let is_semicolon = word == b";".as_slice();
+    match misfit.expected {
+        Expected::Operation if is_semicolon => Told::of(Reason::OperationEnds, word),
+        Expected::Place(_) if is_semicolon && spot.is_of_operation => {
+            Told::of(Reason::OperationEnds, word)
+        }
+        Expected::Place(place) => told_in(scope, above, place, word, misfit.fault),
+        Expected::Operation | Expected::End => Told::of(Reason::Due, word),
+    }
+}
+
+/// Why a word does not fit its place.
+fn told_in<'a>(
+    scope: &Scope,
+    above: Above<'_>,
+    place: Place,
+    word: &'a [u8],
+    fault: LineFault,
+) -> Told<'a> {
+    match place {
+        Place::Votes => votes_told(word, MAX_SERVERS as u64, fault),
+        Place::OpeningVotes => votes_told(
+            word,
+            u64::from(scope.last_server).saturating_add(1),
+            fault,
+        ),
+        Place::Gids => groups_told(word),
+        Place::Old => servers_told(word, u64::from(scope.last_server)),
+        Place::Contents => bytes_told(word),
+        Place::UserName => name_told(above, Kind::User, word, fault),
+        Place::GroupName => name_told(above, Kind::Group, word, fault),
+        Place::Init => word_told(above, true, word, text_fault(fault)),
+        Place::Lists => word_told(above, false, word, text_fault(fault)),
+        Place::Path => Told::of(Reason::Due, word),
+        Place::Uid => id_told(above, Kind::User, word),
+        Place::Gid => id_told(above, Kind::Group, word),
+        _ => match limits(scope, place) {
+            Some((least, most)) => number_told(word, least, most),
+            None => Told::of(Reason::Due, word),
+        },
+    }
+}
+
+fn votes_told(word: &[u8], servers: u64, fault: LineFault) -> Told<'_> {
+    match fault {
+        LineFault::Votes(fault) => valid_told(word, servers, fault),
+        _ => form_told(word),
+    }
+}
+
+fn text_fault(fault: LineFault) -> Option<TextFault> {
+    match fault {
+        LineFault::List(fault) => Some(fault),
+        _ => None,
+    }
+}
+
+/// What is told of the number of a user or a group: it may be a name that has one.
+fn id_told<'a>(above: Above<'_>, kind: Kind, word: &'a [u8]) -> Told<'a> {
+    let told = number_told(word, 0, u64::from(u32::MAX));
+    if told.reason != Reason::Number(NumberReason::NoNumber) {
+        return told;
+    }
+    match above.named(kind, word) {
+        Some(named) => Told::of(Reason::Number(NumberReason::Named(named.number)), word),
+        None => told,
+    }
+}
+
+/// Whether a word may well belong to another place.
+fn may_be_shifted(misfit: Misfit, told: Told<'_>) -> bool {
+    match misfit.fault {
+        LineFault::List(fault) => matches!(fault, TextFault::Syntax(_)),
+        LineFault::BadName => !matches!(told.reason, Reason::Word(WordReason::Length(_, _))),
+        LineFault::Settings(_) => true,
+        LineFault::Form => is_shifted_form(misfit.expected, told),
+        LineFault::Order | LineFault::NameTwice | LineFault::Votes(_) => false,
+    }
+}
+
+fn is_shifted_form(expected: Expected, told: Told<'_>) -> bool {
+    match told.reason {
+        Reason::LineEnds
+        | Reason::OperationEnds
+        | Reason::Number(NumberReason::Gap | NumberReason::Many(_, _)) => false,
+        _ => match expected {
+            Expected::Place(Place::Votes | Place::OpeningVotes) => !begins_as_votes(told.word),
+            Expected::Place(Place::Init | Place::Lists) => false,
+            _ => true,
+        },
+    }
+}

@@ -1,0 +1,117 @@
+-- Where a transaction has a lock on a suite no other's exclusive one stands beside it, and the copy stays as it is while it has the lock.
+use Rattle.std.proofs.Common.{◌≡◌, ℕ, Bool, true, false, cond, Option, Some, None, refl, sym, ap, subst, ◌∙◌, arith}
+use Rattle.std.specs.Prelude.{◌==◌, ◌&&◌, ◌||◌, not, slice_get, slice_set}
+use Rattle.std.specs.List.{list_any}
+use Rattle.std.proofs.lemmas.Bool.{false≢true, eqb-true, eq-eqb}
+use Rattle.std.proofs.lemmas.Bool.Decides.{nat_tests}
+use Rattle.std.proofs.lemmas.Option.{same_Some}
+use Rattle.suite_prefix.specs.declared.copies.Prefix.{Prefix}
+use Rattle.suite_prefix.specs.declared.copies.Replica.{Replica}
+use Rattle.suite_prefix.specs.declared.lock_mode.LockMode.{LockMode}
+use Rattle.suite_prefix.specs.declared.lock_mode.LockMode.TheVariants.{Shared}
+use Rattle.suite_prefix.specs.LockModes.{is_exclusive}
+use Rattle.rep_core.specs.declared.lock.Lock.{Lock}
+use Rattle.rep_core.specs.declared.reply.Verdict.{Verdict}
+use Rattle.rep_core.specs.declared.reply.Reply.{Reply}
+use Rattle.rep_core.specs.declared.reply.Reply.TheVariants as reply
+use Rattle.rep_core.specs.declared.request.Request.TheVariants as request
+use Rattle.rep_core.specs.Consistency.{IsConsistent}
+use Rattle.rep_core.specs.Locks.{conflicts, in_the_way, released}
+use Rattle.rep_core.specs.Store.{copy_of}
+use Rattle.rep_core.specs.State.{State}
+use Rattle.rep_core.specs.Service.{after_locking, after_up, after_down, after, held, locking_reply, reply_of}
+use Rattle.rep_core.specs.Serving.{served}
+use Rattle.rep_core.proofs.Finding.{find_some}
+use Rattle.rep_core.proofs.Members.{Has, contains_from, has_filter}
+use Rattle.txn_core.specs.Doing.{Fixed}
+use Rattle.run_core.specs.declared.event.Event.{Event}
+use Rattle.run_core.specs.Worlds.{World, server_at, step}
+use Rattle.law_runs.proofs.Worlds.{puts_in}
+use Rattle.law_run_recovers.proofs.Serves.{On, Serves}
+use Rattle.law_run_recovers.proofs.Stand.{Spares, event_stands}
+
+-- ---- one server
+
+on_it : (a b c d : Bool) → (a && not b && (c || d)) ≡ true → a ≡ true
+on_it a b c d is = grind (arith, nat_tests)
+
+of_other : (a b c d : Bool) → (a && not b && (c || d)) ≡ true → b ≡ false
+of_other a b c d is = grind (arith, nat_tests)
+
+is_strong : (a b d : Bool) → (a && not b && (false || d)) ≡ true → d ≡ true
+is_strong a b d is = grind (arith, nat_tests)
+
+pub free_beside : (st : State) → IsConsistent st → (t z : ℕ) → On st.locks t z → in_the_way t z Shared st.locks ≡ None
+free_beside st consistent t z on = of (in_the_way t z Shared st.locks) refl
+  where
+    of : (found : Option Lock) → in_the_way t z Shared st.locks ≡ found → found ≡ None
+    of None is = refl
+    of (Some lock) is =
+        let some = find_some (conflicts t z Shared) st.locks lock is in
+        let suite = eqb-true lock.suite z (on_it (lock.suite == z) (lock.t == t) false (is_exclusive lock.mode) some.1) in
+        let other = of_other (lock.suite == z) (lock.t == t) false (is_exclusive lock.mode) some.1 in
+        let strong = is_strong (lock.suite == z) (lock.t == t) (is_exclusive lock.mode) some.1 in
+        let same : lock.t ≡ on.lock.t = consistent.alone lock on.lock (contains_from st.locks lock some.0) (contains_from st.locks on.lock on.has) (suite ∙ sym on.on_it) strong in
+        absurd (false≢true (sym other ∙ eq-eqb lock.t t (same ∙ on.of_it)))
+
+-- a Finish leaves no lock of its transaction
+pub freed : (st : State) (u : ℕ) (v : Verdict) (lock : Lock) → st.up ≡ true → Has (cond st.up (after_up st (request.Finish u v)) (after_down st (request.Finish u v))).locks lock → lock.t ≡ u → ⊥
+freed st u v lock up has same =
+    let there : Has (released u st.locks) lock = subst (λ b. Has (cond b (after_up st (request.Finish u v)) (after_down st (request.Finish u v))).locks lock) up has in
+    let kept = has_filter (λ (lock : Lock). not (lock.t == u)) st.locks lock there in
+    false≢true (sym (ap not (eq-eqb lock.t u same)) ∙ kept.1)
+
+-- a Poll that is held shows what is stored, and changes nothing of it
+pub poll_shows : (st : State) (t suite : ℕ) (mode : LockMode) (copy : Replica) → reply_of st (request.Poll t suite mode) ≡ held copy → ((copy_of st.store suite).prefix ≡ copy.prefix) × ((copy_of st.store suite).dver ≡ copy.dver)
+poll_shows st t suite mode copy = of st.up (in_the_way t suite mode st.locks)
+  where
+    prefix_in : Prefix → Reply → Prefix
+    prefix_in other (reply.Held prefix dver) = prefix
+    prefix_in other _ = other
+
+    dver_of : Reply → ℕ
+    dver_of (reply.Held prefix dver) = dver
+    dver_of _ = 0
+
+    down_not : reply.Down ≡ held copy → ⊥
+    down_not is = cc
+
+    busy_not : (holder : ℕ) (prepared : Bool) → reply.Busy holder prepared ≡ held copy → ⊥
+    busy_not holder prepared is = cc
+
+    of : (b : Bool) (other : Option Lock) → cond b (locking_reply other (copy_of st.store suite)) reply.Down ≡ held copy → ((copy_of st.store suite).prefix ≡ copy.prefix) × ((copy_of st.store suite).dver ≡ copy.dver)
+    of true None is = (ap (prefix_in copy.prefix) is, ap dver_of is)
+    of true (Some lock) is = absurd (busy_not _ _ is)
+    of false other is = absurd (down_not is)
+
+pub poll_leaves : (st : State) (t suite : ℕ) (mode : LockMode) → (after st (request.Poll t suite mode)).store ≡ st.store
+poll_leaves st t suite mode = of st.up (in_the_way t suite mode st.locks)
+  where
+    of : (b : Bool) (other : Option Lock) → (cond b (after_locking other t suite mode st) (after_down st (request.Poll t suite mode))).store ≡ st.store
+    of true None = refl
+    of true (Some lock) = refl
+    of false other = refl
+
+-- ---- in a world
+
+module _ (fixed : Fixed) (w : World) (event : Event) (server t z : ℕ) (st new : State) (at : server_at w server ≡ Some st) (now : server_at (step fixed w event).world server ≡ Some new)
+    (consistent : IsConsistent st) (on : On st.locks t z) (still : On new.locks t z) where
+  new_is : (serves : Serves w (step fixed w event)) → serves.target ≡ server → new ≡ served st serves.asked
+  new_is serves target =
+      let puts = puts_in w.servers serves.target serves.st (served serves.st serves.asked) serves.at in
+      let there : slice_get (slice_set w.servers serves.target (served serves.st serves.asked)) server ≡ Some new = ap (λ servers. slice_get servers server) (sym serves.servers) ∙ now in
+      let same : serves.st ≡ st = same_Some serves.st st (sym serves.at ∙ ap (server_at w) target ∙ at) in
+      same_Some new (served serves.st serves.asked) (sym there ∙ ap (slice_get (slice_set w.servers serves.target (served serves.st serves.asked))) (sym target) ∙ puts.here) ∙ ap (λ st. served st serves.asked) same
+
+  spares : (serves : Serves w (step fixed w event)) → serves.target ≡ server → st.up ≡ true → Spares t st serves.asked.value
+  spares serves target up named v is = of (named == t) refl
+    where
+      of : (b : Bool) → (named == t) ≡ b → (b && list_any (λ (lock : Lock). lock.t == t) st.locks) ≡ false
+      of false other = refl
+      of true same =
+          absurd (freed st named v still.lock up
+          (subst (λ asked. Has (after st asked).locks still.lock) is (subst (λ (st : State). Has st.locks still.lock) (new_is serves target) still.has))
+          (still.of_it ∙ sym (eqb-true named t same)))
+
+  pub copy_stays : copy_of new.store z ≡ copy_of st.store z
+  copy_stays = event_stands fixed w event server t z Shared st new at now consistent (free_beside st consistent t z on) spares

@@ -1,0 +1,153 @@
+-- What a transaction sets votes of it asks for exclusively.
+use Rattle.std.proofs.Common.{◌≡◌, ◌⊎◌, inl, inr, ⊎_elim, ℕ, Bool, true, false, cond, List, [], ◌∷◌, Option, Some, None, Result, Ok, Err, Less, Equal, Greater, refl, ap, subst, ◌∙◌, arith}
+use Rattle.std.specs.Prelude.{◌==◌, ◌&&◌, ◌||◌, filter}
+use Rattle.std.specs.List.{list_any}
+use Rattle.std.specs.Ordering.{nat_cmp, match_ordering}
+use Rattle.std.specs.declared.cmp.Ordering.{Ordering}
+use Rattle.std.proofs.lemmas.Bool.{false≢true, eqb-true, eq-eqb}
+use Rattle.std.proofs.lemmas.Bool.Decides.{nat_tests}
+use Rattle.sorted_map.specs.SortedMap.{insert}
+use Rattle.acl_core.specs.Identity.{Identity}
+use Rattle.vote_core.specs.Quorums.{Configuration}
+use Rattle.suite_prefix.specs.declared.lock_mode.LockMode.{LockMode}
+use Rattle.suite_prefix.specs.declared.lock_mode.LockMode.TheVariants.{Shared, Exclusive}
+use Rattle.suite_prefix.specs.LockModes.{serves}
+use Rattle.file_ops.specs.declared.answer.Answer.{Answer}
+use Rattle.file_ops.specs.declared.operation.Op.{Op}
+use Rattle.file_ops.specs.declared.refusal.Refusal.{Refusal}
+use Rattle.file_ops.specs.Rows.{PlainTable, Row, row_of}
+use Rattle.file_exec.specs.declared.changes.Change.{Change}
+use Rattle.file_exec.specs.declared.edit_log.Edit.{Edit}
+use Rattle.file_exec.specs.declared.need.Need.{Need}
+use Rattle.file_exec.specs.declared.need.Need.TheVariants.{Hold, Know}
+use Rattle.file_exec.specs.Changes.{with_change, changes_at}
+use Rattle.file_exec.specs.Courses.{Course, Give, Refuse, Look, Read, Set}
+use Rattle.file_exec.specs.Following.{Edits, Ended, is_set, unless_set, looked, content_read, needs, ending}
+use Rattle.file_exec.specs.Operations.{transaction}
+use Rattle.rep_core.proofs.Members.{Has, has_filter, has_map}
+use Rattle.law_run_recovers.specs.Demands.{has_asked, not_asked, locks_asked, change_in, changes_on, votes_set}
+use Rattle.law_run_recovers.proofs.Asked.{asked_exclusive}
+
+or_parts : (a b : Bool) → (a || b) ≡ true → (a ≡ true) ⊎ (b ≡ true)
+or_parts true b is = inl refl
+or_parts false b is = inr is
+
+or_later : (a b : Bool) → b ≡ true → (a || b) ≡ true
+or_later true b is = refl
+or_later false b is = is
+
+-- ---- edits
+
+abbrev at : ℕ → ℕ × Edit → Bool
+at z e = e.0 == z
+
+abbrev edits_of : {A E : Type 0} → Edits → Result (Ended A) E → Edits
+edits_of other (Ok ended) = ended.edits
+edits_of other (Err why) = other
+
+-- what a course edits it needs exclusively
+sets_needed : {A E : Type 0} (rows : ℕ → Option Row) (z : ℕ) (edits : Edits) (course : Course A E) (ended : Ended A) → ending rows edits course ≡ Ok ended → list_any (at z) ended.edits ≡ true
+    → (list_any (at z) edits ≡ true) ⊎ Has (needs rows edits course) (Hold z Exclusive)
+sets_needed rows z edits (Give given) ended is any = inl (ap (list_any (at z)) (ap (edits_of edits) is) ∙ any)
+sets_needed rows z edits (Refuse why) ended is any = absurd cc
+sets_needed rows z edits (Look suite mode later) ended is any =
+    ⊎_elim (λ old. inl old) (λ has. inr (inr has)) (sets_needed rows z edits (later (looked rows edits suite)) ended is any)
+sets_needed rows z edits (Read suite later) ended is any =
+    ⊎_elim (λ old. inl old) (λ has. inr (of (is_set edits suite) has)) (sets_needed rows z edits (later (content_read rows edits suite)) ended is any)
+  where
+    of : (b : Bool) → Has (needs rows edits (later (content_read rows edits suite))) (Hold z Exclusive) → Has (unless_set b suite (needs rows edits (later (content_read rows edits suite)))) (Hold z Exclusive)
+    of true has = has
+    of false has = inr has
+sets_needed rows z edits (Set suite edit later) ended is any =
+    ⊎_elim
+    (λ old. ⊎_elim (λ here. inr (inl (ap (λ n. Hold n Exclusive) (eqb-true suite z here)))) (λ before. inl before) (or_parts (suite == z) (list_any (at z) edits) old))
+    (λ has. inr (inr has))
+    (sets_needed rows z ((suite, edit) ∷ edits) later ended is any)
+
+-- ---- changes
+
+cmp_same : (x y : ℕ) → nat_cmp x y ≡ Equal → x ≡ y
+cmp_same x y is = grind (arith, nat_tests)
+
+has_insert : (all : List (ℕ × Change)) (key : ℕ) (value : Change) (one : ℕ × Change) → Has (insert nat_cmp all key value) one → (key ≡ one.0) ⊎ Has all one
+has_insert [] key value one has = ⊎_elim (λ same. inl (ap (λ (one : ℕ × Change). one.0) same)) (λ none. absurd none) has
+has_insert (e ∷ es) key value one has = of (nat_cmp key e.0) refl (has_insert es key value one) has
+  where
+    of : (o : Ordering) → nat_cmp key e.0 ≡ o → (Has (insert nat_cmp es key value) one → (key ≡ one.0) ⊎ Has es one) → Has (match_ordering o ((key, value) ∷ e ∷ es) ((e.0, value) ∷ es) (e ∷ insert nat_cmp es key value)) one → (key ≡ one.0) ⊎ Has (e ∷ es) one
+    of Less is go has = ⊎_elim (λ same. inl (ap (λ (one : ℕ × Change). one.0) same)) (λ old. inr old) has
+    of Equal is go has = ⊎_elim (λ same. inl (cmp_same key e.0 is ∙ ap (λ (one : ℕ × Change). one.0) same)) (λ old. inr (inr old)) has
+    of Greater is go has = ⊎_elim (λ same. inr (inl same)) (λ old. ⊎_elim (λ at'. inl at') (λ old. inr (inr old)) (go old)) has
+
+-- what changes was edited
+changed_at : (f : ℕ → Option Change) (edits : Edits) (one : ℕ × Change) → Has (changes_at f edits) one → list_any (at one.0) edits ≡ true
+changed_at f [] one has = absurd has
+changed_at f (e ∷ edits) one has = of (f e.0) (changed_at f edits one) has
+  where
+    of : (found : Option Change) → (Has (changes_at f edits) one → list_any (at one.0) edits ≡ true) → Has (with_change e.0 found (changes_at f edits)) one → list_any (at one.0) (e ∷ edits) ≡ true
+    of None go has = or_later (e.0 == one.0) (list_any (at one.0) edits) (go has)
+    of (Some change) go has =
+        ⊎_elim
+        (λ same. ap (λ b. b || list_any (at one.0) edits) (eq-eqb e.0 one.0 same))
+        (λ old. or_later (e.0 == one.0) (list_any (at one.0) edits) (go old))
+        (has_insert (changes_at f edits) e.0 change one has)
+
+-- ---- what is needed is asked for
+
+serves_own : (m : LockMode) → serves m m ≡ true
+serves_own Shared = refl
+serves_own Exclusive = refl
+
+abbrev need_suite : Need → ℕ
+need_suite (Hold suite mode) = suite
+need_suite (Know suite) = suite
+
+abbrev need_mode : Need → LockMode
+need_mode (Hold suite mode) = mode
+need_mode (Know suite) = Shared
+
+abbrev is_hold : Need → Bool
+is_hold (Hold suite mode) = true
+is_hold (Know suite) = false
+
+needed_asked : (needed : List Need) (asked : List (ℕ × LockMode)) (z : ℕ) (mode : LockMode) → Has needed (Hold z mode) → (has_asked asked z mode ≡ true) ⊎ (has_asked (not_asked asked needed) z mode ≡ true)
+needed_asked [] asked z mode has = absurd has
+needed_asked (Know s ∷ needed) asked z mode has = ⊎_elim (λ same. absurd (false≢true (ap is_hold same))) (λ later. needed_asked needed asked z mode later) has
+needed_asked (Hold s k ∷ needed) asked z mode has = of (has_asked asked s k) refl (λ asked. needed_asked needed asked z mode) has
+  where
+    of : (b : Bool) → has_asked asked s k ≡ b → ((asked : List (ℕ × LockMode)) → Has needed (Hold z mode) → (has_asked asked z mode ≡ true) ⊎ (has_asked (not_asked asked needed) z mode ≡ true)) → (Hold s k ≡ Hold z mode) ⊎ Has needed (Hold z mode)
+        → (has_asked asked z mode ≡ true) ⊎ (has_asked (cond b (not_asked asked needed) ((s, k) ∷ not_asked ((s, k) ∷ asked) needed)) z mode ≡ true)
+    of true is go (inl same) = inl (subst (λ z. has_asked asked z mode ≡ true) (ap need_suite same) (subst (λ mode. has_asked asked s mode ≡ true) (ap need_mode same) is))
+    of true is go (inr later) = go asked later
+    of false is go (inl same) =
+        inr (ap (λ b. (b && serves k mode) || has_asked (not_asked ((s, k) ∷ asked) needed) z mode) (eq-eqb s z (ap need_suite same))
+        ∙ ap (λ b. b || has_asked (not_asked ((s, k) ∷ asked) needed) z mode) (subst (λ mode. serves k mode ≡ true) (ap need_mode same) (serves_own k)))
+    of false is go (inr later) =
+        ⊎_elim
+        (λ had. ⊎_elim
+        (λ here. inr (ap (λ b. b || has_asked (not_asked ((s, k) ∷ asked) needed) z mode) here))
+        (λ before. inl before)
+        (or_parts ((s == z) && serves k mode) (has_asked asked z mode) had))
+        (λ rest. inr (or_later ((s == z) && serves k mode) (has_asked (not_asked ((s, k) ∷ asked) needed) z mode) rest))
+        (go ((s, k) ∷ asked) later)
+
+-- ---- so what it sets votes of it asks for exclusively
+
+pub sets_asked : (table : PlainTable) (t : ℕ) (caller : Identity) (ops : List Op) (set : ℕ × Configuration) → Has (votes_set table t caller ops) set → Has (locks_asked table t caller ops) (set.0, Exclusive)
+sets_asked table t caller ops set has =
+    asked_exclusive (locks_asked table t caller ops) set.0
+    (⊎_elim (λ none. absurd (false≢true none)) (λ is. is) (needed_asked (needs (row_of table.rows) [] (transaction table.service t caller ops)) [] set.0 Exclusive (of (ending (row_of table.rows) [] (transaction table.service t caller ops)) refl (changed.1, changed.2))))
+  where
+    changed : (one : ℕ × Change) × Has (changes_on table.rows (ending (row_of table.rows) [] (transaction table.service t caller ops))) one × (one.0 ≡ set.0)
+    changed =
+        let was = has_map (λ (one : ℕ × Change). (one.0, one.1.row.votes)) (filter (λ (one : ℕ × Change). one.1.votes) (changes_on table.rows (ending (row_of table.rows) [] (transaction table.service t caller ops)))) set has in
+        (was.0, (has_filter (λ (one : ℕ × Change). one.1.votes) _ was.0 was.1).0, ap (λ (one : ℕ × Configuration). one.0) was.2)
+
+    of : (result : Result (Ended (List Answer)) Refusal) → ending (row_of table.rows) [] (transaction table.service t caller ops) ≡ result → Has (changes_on table.rows result) changed.0 × (changed.0.0 ≡ set.0)
+        → Has (needs (row_of table.rows) [] (transaction table.service t caller ops)) (Hold set.0 Exclusive)
+    of (Err refusal) is one = absurd one.0
+    of (Ok ended) is one =
+        ⊎_elim
+        (λ none. absurd (false≢true none))
+        (λ has. has)
+        (sets_needed (row_of table.rows) set.0 [] (transaction table.service t caller ops) ended is
+        (subst (λ z. list_any (at z) ended.edits ≡ true) one.1 (changed_at (change_in table.rows ended.edits) ended.edits changed.0 one.0)))

@@ -1,0 +1,188 @@
+-- One that meets another and is refused a lock: it asked for it, and a lock of the other was in the way there.
+use Rattle.std.proofs.Common.{◌≡◌, ◌⊎◌, ℕ, Bool, true, false, cond, List, ◌∷◌, ◌++◌, append_assoc, Option, Some, None, is_some, refl, sym, ap, subst, ◌∙◌}
+use Rattle.std.specs.Prelude.{◌==◌, ◌&&◌, ◌||◌, not}
+use Rattle.std.proofs.lemmas.Bool.{false≢true, and_parts, and_from, eqb-true, eq-eqb}
+use Rattle.suite_prefix.specs.SettingsRules.{Opening}
+use Rattle.suite_prefix.specs.declared.lock_mode.LockMode.{LockMode}
+use Rattle.suite_prefix.specs.declared.lock_mode.LockMode.TheVariants.{Exclusive}
+use Rattle.suite_prefix.specs.LockModes.{is_exclusive, serves}
+use Rattle.rep_core.specs.declared.lock.Lock.{Lock}
+use Rattle.rep_core.specs.declared.request.Request.{Request}
+use Rattle.rep_core.specs.declared.request.Request.TheVariants as request
+use Rattle.rep_core.specs.declared.reply.Reply.TheVariants as reply
+use Rattle.rep_core.specs.declared.stamped.Stamped.{Stamped}
+use Rattle.rep_core.specs.Locks.{in_the_way, conflicts, has_lock}
+use Rattle.rep_core.specs.Store.{copy_of}
+use Rattle.rep_core.specs.State.{State}
+use Rattle.rep_core.specs.Service.{reply_of, reply_up, reply_down, locking_reply}
+use Rattle.rep_core.specs.Serving.{answer_of}
+use Rattle.rep_core.proofs.Finding.{find_some}
+use Rattle.rep_core.proofs.Members.{Has}
+use Rattle.suite_collect.specs.Collecting.{mode_of}
+use Rattle.std.proofs.lemmas.Option.{same_Some}
+use Rattle.txn_core.specs.declared.job.Job.TheVariants.{Transaction}
+use Rattle.txn_core.specs.Agents.{fixed_of, next_of}
+use Rattle.run_core.specs.declared.done.Served.{Served}
+use Rattle.run_core.specs.declared.event.Event.{Event}
+use Rattle.run_core.specs.declared.event.Event.TheVariants.{Begin, Step}
+use Rattle.run_core.specs.Worlds.{Actor, World, server_at, actor_at, step}
+use Rattle.run_core.specs.Runs.{run}
+use Rattle.law_run_recovers.specs.Beside.{clashes, Begun}
+use Rattle.law_run_recovers.specs.Local.{VotesNeverMovedOf}
+use Rattle.law_run_recovers.specs.Near.{asks_for}
+use Rattle.law_run_recovers.specs.Unmet.{begun_world}
+use Rattle.law_run_recovers.proofs.Keeps.{step_asks}
+use Rattle.law_run_recovers.proofs.Took.{OwnTook, own_took}
+use Rattle.law_run_recovers.proofs.MeetBoth.{its_event, in_part, IsAsked, asked_now}
+use Rattle.law_run_recovers.proofs.MeetCalm.{Calm, up_at}
+use Rattle.law_run_recovers.proofs.MeetRun.{run_is}
+use Rattle.law_run_recovers.proofs.MeetTold.{for_lock, says_busy, refuses, some_step, Found, found_in, four}
+
+-- ---- a server
+
+-- a lock that is in the way of one on a suite in a mode
+pub record Way (t z : ℕ) (mode : LockMode) (locks : List Lock) : Type 0 where
+  pub lock : Lock
+  pub has : Has locks lock
+  pub suite : lock.suite ≡ z
+  pub not_own : lock.t ≡ t → ⊥
+  pub clashing : clashes (z, mode) (z, lock.mode) ≡ true
+
+not_same : (a t : ℕ) → not (a == t) ≡ true → a ≡ t → ⊥
+not_same a t is same = false≢true (ap not (sym (eq-eqb a t same)) ∙ is)
+
+way_of : (t z : ℕ) (mode : LockMode) (locks : List Lock) (lock : Lock) → Has locks lock → conflicts t z mode lock ≡ true → Way t z mode locks
+way_of t z mode locks lock has is =
+    let parts = and_parts ((lock.suite == z) && not (lock.t == t)) (is_exclusive mode || is_exclusive lock.mode) is in
+    let two = and_parts (lock.suite == z) (not (lock.t == t)) parts.0 in
+    record {
+      lock = lock;
+      has = has;
+      suite = eqb-true lock.suite z two.0;
+      not_own = not_same lock.t t two.1;
+      clashing = and_from (z == z) (is_exclusive mode || is_exclusive lock.mode) (eq-eqb z z refl) parts.1;
+    }
+
+refused_poll : (st : State) (t z : ℕ) (mode : LockMode) → says_busy (locking_reply (in_the_way t z mode st.locks) (copy_of st.store z)) ≡ true → Way t z mode st.locks
+refused_poll st t z mode said = of (in_the_way t z mode st.locks) refl said
+  where
+    of : (found : Option Lock) → in_the_way t z mode st.locks ≡ found → says_busy (locking_reply found (copy_of st.store z)) ≡ true → Way t z mode st.locks
+    of None is said = absurd (false≢true said)
+    of (Some lock) is said = let some = find_some (conflicts t z mode) st.locks lock is in way_of t z mode st.locks lock some.0 some.1
+
+refused_way : (t z : ℕ) (st : State) (asked : Request) → st.up ≡ true → for_lock t z asked ≡ true → says_busy (reply_of st asked) ≡ true → Way t z (mode_of asked) st.locks
+refused_way t z st (request.Poll u s mode) up lock said =
+    let parts = and_parts (u == t) (s == z) lock in
+    subst (λ t. Way t z mode st.locks) (eqb-true u t parts.0)
+    (subst (λ z. Way u z mode st.locks) (eqb-true s z parts.1)
+    (refused_poll st u s mode (ap (λ b. says_busy (cond b (reply_up st (request.Poll u s mode)) (reply_down (request.Poll u s mode)))) (sym up) ∙ said)))
+refused_way t z st (request.Upgrade u s) up lock said = of (has_lock u s st.locks) refl
+  where
+    parts : ((u == t) ≡ true) × ((s == z) ≡ true)
+    parts = and_parts (u == t) (s == z) lock
+
+    said_up : says_busy (reply_up st (request.Upgrade u s)) ≡ true
+    said_up = ap (λ b. says_busy (cond b (reply_up st (request.Upgrade u s)) (reply_down (request.Upgrade u s)))) (sym up) ∙ said
+
+    of : (b : Bool) → has_lock u s st.locks ≡ b → Way t z Exclusive st.locks
+    of true is =
+        subst (λ t. Way t z Exclusive st.locks) (eqb-true u t parts.0)
+        (subst (λ z. Way u z Exclusive st.locks) (eqb-true s z parts.1)
+        (refused_poll st u s Exclusive (ap (λ b. says_busy (cond b (locking_reply (in_the_way u s Exclusive st.locks) (copy_of st.store s)) reply.Lost)) (sym is) ∙ said_up)))
+    of false is = absurd (false≢true (sym (ap (λ b. says_busy (cond b (locking_reply (in_the_way u s Exclusive st.locks) (copy_of st.store s)) reply.Lost)) is) ∙ said_up))
+refused_way t z st (request.Fetch u s) up lock said = absurd (false≢true lock)
+refused_way t z st (request.Prepare u parts) up lock said = absurd (false≢true lock)
+refused_way t z st (request.Decide u decision) up lock said = absurd (false≢true lock)
+refused_way t z st (request.Resolve u) up lock said = absurd (false≢true lock)
+refused_way t z st (request.Finish u v) up lock said = absurd (false≢true lock)
+refused_way t z st (request.Break u s) up lock said = absurd (false≢true lock)
+refused_way t z st request.Locks up lock said = absurd (false≢true lock)
+refused_way t z st request.Crash up lock said = absurd (false≢true lock)
+refused_way t z st request.Return up lock said = absurd (false≢true lock)
+
+-- ---- in a part of the run
+
+module _ (given : Opening) (events later : List Event) (one other : Begun given events later) (alone : (third : Begun given events later) → (third.before ≡ one.before) ⊎ (third.before ≡ other.before))
+    (part rest : List Event) (whole : later ≡ part ++ rest) (calm : Calm given events part)
+    (unmoved : VotesNeverMovedOf given events (asks_for given events one.t one.caller one.ops)) (other_unmoved : VotesNeverMovedOf given events (asks_for given events other.t other.caller other.ops))
+    (who : Begun given events later) (after' : List Event) (parts : part ≡ who.before ++ Begin who.agent (Transaction who.caller who.site who.ops) ∷ after')
+    (O : ℕ → ℕ → ℕ → LockMode → Type 0)
+    (owned : (so_far back : List Event) → part ≡ so_far ++ back → (s : ℕ) (st : State) → server_at (run given (events ++ so_far)) s ≡ Some st → (lock : Lock) → Has st.locks lock → O s lock.t lock.suite lock.mode) where
+  abbrev pub AskedBy : Begun given events later → ℕ → ℕ → ℕ → LockMode → Type 0
+  AskedBy who s t y mode = IsAsked given events later one other alone part rest whole calm unmoved other_unmoved who s t y mode
+
+  pub record Barred (y : ℕ) (wanted : LockMode) (server : ℕ) : Type 0 where
+    pub mode : LockMode
+    pub strong : serves wanted mode ≡ true
+    pub holder : ℕ
+    pub way : LockMode
+    pub not_own : holder ≡ who.t → ⊥
+    pub clashing : clashes (y, mode) (y, way) ≡ true
+    pub stands : O server holder y way
+    pub asked : AskedBy one server who.t y mode ⊎ AskedBy other server who.t y mode
+
+  module _ (y : ℕ) (wanted : LockMode) (server : ℕ) (is : some_step (refuses who.t y wanted server) who.agent (fixed_of given) (begun_world given (events ++ who.before) who.agent who.caller who.site who.ops) after' ≡ true) where
+    f : Found (refuses who.t y wanted server) who.agent (fixed_of given) (begun_world given (events ++ who.before) who.agent who.caller who.site who.ops) after'
+    f = found_in (refuses who.t y wanted server) who.agent (fixed_of given) (begun_world given (events ++ who.before) who.agent who.caller who.site who.ops) after' is
+
+    abbrev so_far : List Event
+    so_far = who.before ++ Begin who.agent (Transaction who.caller who.site who.ops) ∷ f.front
+
+    abbrev w : World
+    w = run given (events ++ so_far)
+
+    split : part ≡ so_far ++ Step who.agent ∷ f.back
+    split =
+        parts ∙ ap (λ after. who.before ++ its_event given events later who ∷ after) f.parts
+        ∙ sym (append_assoc who.before (its_event given events later who ∷ f.front) (Step who.agent ∷ f.back))
+
+    served' : (step (fixed_of given) (run given (events ++ so_far)) (Step who.agent)).done.served ≡ Some f.what
+    served' =
+        ap (λ w. (step (fixed_of given) w (Step who.agent)).done.served) (sym (run_is given events part calm (in_part given events later one other alone part rest whole calm who after' parts) f.front)) ∙ f.served
+
+    facts : ((f.what.server == server) ≡ true) × (for_lock who.t y f.what.request.value ≡ true) × (says_busy f.what.reply.value ≡ true) × (serves wanted (mode_of f.what.request.value) ≡ true)
+    facts = four (f.what.server == server) (for_lock who.t y f.what.request.value) (says_busy f.what.reply.value) (serves wanted (mode_of f.what.request.value)) f.is
+
+    asks : (here : Actor) × (actor_at (run given (events ++ so_far)) who.agent ≡ Some here) × (next_of (fixed_of given) here.agent ≡ Some (f.what.server, f.what.request.value))
+    asks = step_asks (fixed_of given) w who.agent (actor_at w who.agent) f.what served'
+
+    took : OwnTook (fixed_of given) (run given (events ++ so_far)) who.agent asks.0 asks.1 (step (fixed_of given) (run given (events ++ so_far)) (Step who.agent))
+    took = own_took (fixed_of given) w who.agent asks.0 asks.1 (ap is_some served')
+
+    abbrev stamped : Stamped Request
+    stamped = record { stamp = asks.0.stamp; value = took.asked.1 }
+
+    abbrev said : Served
+    said = record { server = took.asked.0; request = stamped; reply = answer_of took.st stamped }
+
+    same : said ≡ f.what
+    same = same_Some said f.what (sym took.done ∙ served')
+
+    asked_is : took.asked.1 ≡ f.what.request.value
+    asked_is = ap (λ (what : Served). what.request.value) same
+
+    there : server_at (run given (events ++ so_far)) server ≡ Some took.st
+    there = ap (server_at w) (sym (ap (λ (what : Served). what.server) same ∙ eqb-true f.what.server server facts.0)) ∙ took.at
+
+    way : Way who.t y (mode_of f.what.request.value) took.st.locks
+    way =
+        subst (λ asked. Way who.t y (mode_of asked) took.st.locks) asked_is
+        (refused_way who.t y took.st took.asked.1 (up_at given events part calm.fair so_far (Step who.agent ∷ f.back) split took.asked.0 took.st took.at)
+        (ap (for_lock who.t y) asked_is ∙ facts.1) (ap (λ (what : Served). says_busy what.reply.value) same ∙ facts.2))
+
+    its_ask : AskedBy one server who.t y (mode_of f.what.request.value) ⊎ AskedBy other server who.t y (mode_of f.what.request.value)
+    its_ask =
+        subst (λ s. AskedBy one s who.t y (mode_of f.what.request.value) ⊎ AskedBy other s who.t y (mode_of f.what.request.value)) (eqb-true f.what.server server facts.0)
+        (asked_now given events later one other alone part rest whole calm unmoved other_unmoved so_far f.back who.agent split f.what served' who.t y facts.1)
+
+    pub barred_by : Barred y wanted server
+    barred_by = record {
+      mode = mode_of f.what.request.value;
+      strong = facts.3;
+      holder = way.lock.t;
+      way = way.lock.mode;
+      not_own = way.not_own;
+      clashing = way.clashing;
+      stands = subst (λ y. O server way.lock.t y way.lock.mode) way.suite (owned so_far (Step who.agent ∷ f.back) split server took.st there way.lock way.has);
+      asked = its_ask;
+    }

@@ -1,0 +1,241 @@
+-- Two transactions that alone begin in a calm run: where each asks for a lock, what it had before, and that each lock was granted to one of them.
+use Rattle.std.proofs.Common.{◌≡◌, ◌⊎◌, inl, inr, ⊎_elim, ℕ, suc, Bool, true, List, [], ◌∷◌, ◌++◌, append_assoc, append-nil, Some, refl, sym, ap, subst, ◌∙◌, arith}
+use Rattle.std.specs.Prelude.{◌==◌, length}
+use Rattle.std.proofs.lemmas.Bool.{eqb-true, eq-eqb}
+use Rattle.std.proofs.lemmas.Option.{same_Some}
+use Rattle.suite_prefix.specs.SettingsRules.{Opening}
+use Rattle.suite_prefix.specs.declared.lock_mode.LockMode.{LockMode}
+use Rattle.suite_prefix.specs.LockModes.{serves}
+use Rattle.rep_core.specs.declared.lock.Lock.{Lock}
+use Rattle.rep_core.specs.State.{State}
+use Rattle.rep_core.proofs.Members.{Has, all_at}
+use Rattle.suite_collect.specs.Collecting.{mode_of}
+use Rattle.txn_core.specs.declared.job.Job.{Job}
+use Rattle.txn_core.specs.declared.job.Job.TheVariants.{Transaction}
+use Rattle.txn_core.specs.Agents.{fixed_of, next_of}
+use Rattle.run_core.specs.declared.done.Served.{Served}
+use Rattle.run_core.specs.declared.event.Event.{Event}
+use Rattle.run_core.specs.declared.event.Event.TheVariants.{Begin, Step, Crash, Return, Forget, Lack}
+use Rattle.run_core.specs.Worlds.{Actor, World, opening, server_at, actor_at, step}
+use Rattle.run_core.specs.Runs.{after, run}
+use Rattle.law_run_alone.specs.Alone.{begins_job}
+use Rattle.law_run_alone.proofs.Clear.{at_has}
+use Rattle.law_run_recovers.specs.Beside.{Begun}
+use Rattle.law_run_recovers.specs.Local.{VotesNeverMovedOf}
+use Rattle.law_run_recovers.specs.Near.{asks_for}
+use Rattle.law_run_recovers.specs.Unmet.{begun_world}
+use Rattle.law_run_recovers.proofs.AmongCourse.{head_or, tail_or}
+use Rattle.law_run_recovers.proofs.Keeps.{after_append, step_asks}
+use Rattle.law_run_recovers.proofs.Sides.{names_one}
+use Rattle.law_run_recovers.proofs.MeetCalm.{Fair, Calm, busy_one, one_named}
+use Rattle.law_run_recovers.proofs.MeetCount.{serves_own}
+use Rattle.law_run_recovers.proofs.MeetLocks.{owned_at}
+use Rattle.law_run_recovers.proofs.MeetReach.{Reached, reached_wider, reaches_now}
+use Rattle.law_run_recovers.proofs.MeetRun.{its_actor, goes_of, never_decides, run_is}
+use Rattle.law_run_recovers.proofs.MeetTold.{for_lock, for_lock_named, says_held, grants, some_step, found_in, there_in, four_from}
+
+-- ---- lists
+
+pub cancel : {X : Type 0} (xs ys zs : List X) → xs ++ ys ≡ xs ++ zs → ys ≡ zs
+cancel [] ys zs is = is
+cancel (x ∷ xs) ys zs is = cancel xs ys zs (ap tail_or is)
+
+-- ---- events that begin
+
+abbrev pub agent_in : Event → ℕ
+agent_in (Begin i job) = i
+agent_in (Step i) = i
+agent_in (Crash server) = server
+agent_in (Return server) = server
+agent_in (Forget i site) = i
+agent_in (Lack i why) = i
+
+abbrev job_in : Job → Event → Job
+job_in other (Begin i job) = job
+job_in other (Step i) = other
+job_in other (Crash server) = other
+job_in other (Return server) = other
+job_in other (Forget i site) = other
+job_in other (Lack i why) = other
+
+-- where a transaction begins, and its moments from there on
+abbrev pub its_event : (given : Opening) (events later : List Event) → Begun given events later → Event
+its_event given events later who = Begin who.agent (Transaction who.caller who.site who.ops)
+
+abbrev pub moment : (given : Opening) (events later : List Event) → Begun given events later → List Event → List Event
+moment given events later who mid = who.before ++ Begin who.agent (Transaction who.caller who.site who.ops) ∷ mid
+
+-- two that begin at one place are one
+pub record IsSame (given : Opening) (events later : List Event) (b who : Begun given events later) : Type 0 where
+  pub event : Begin b.agent (Transaction b.caller b.site b.ops) ≡ Begin who.agent (Transaction who.caller who.site who.ops)
+  pub t : b.t ≡ who.t
+  pub after : b.after ≡ who.after
+
+pub same_place : (given : Opening) (events later : List Event) (b who : Begun given events later) → b.before ≡ who.before → IsSame given events later b who
+same_place given events later b who same = record { event = event'; t = number; after = ap tail_or rest }
+  where
+    rest : Begin b.agent (Transaction b.caller b.site b.ops) ∷ b.after ≡ Begin who.agent (Transaction who.caller who.site who.ops) ∷ who.after
+    rest = cancel who.before _ _ (ap (λ before. before ++ its_event given events later b ∷ b.after) (sym same) ∙ sym b.parts ∙ who.parts)
+
+    event' : Begin b.agent (Transaction b.caller b.site b.ops) ≡ Begin who.agent (Transaction who.caller who.site who.ops)
+    event' = ap (head_or (its_event given events later b)) rest
+
+    number : b.t ≡ who.t
+    number =
+        ap (λ (pair : ℕ × Job). pair.0)
+        (same_Some (b.t, Transaction b.caller b.site b.ops) (who.t, Transaction who.caller who.site who.ops)
+        (sym b.begins ∙ ap (λ xs. begins_job given (run given (events ++ xs)) (its_event given events later b)) same
+        ∙ ap (begins_job given (run given (events ++ who.before))) event' ∙ who.begins))
+
+-- who granted a transaction a lock in a part of a run
+abbrev pub held_in : Opening → List Event → List Event → ℕ → ℕ → ℕ → LockMode → ℕ → Bool
+held_in given events part agent t z mode server = some_step (grants t z mode server) agent (fixed_of given) (run given events) part
+
+pub world_in : (given : Opening) (events part : List Event) → after (fixed_of given) (run given events) part ≡ run given (events ++ part)
+world_in given events part = sym (after_append (fixed_of given) events part (opening given))
+
+-- no server has a lock as it begins
+pub none_first : (given : Opening) (events later : List Event) → Fair given events later → (s : ℕ) (st : State) → server_at (run given (events ++ [])) s ≡ Some st → (lock : Lock) → Has st.locks lock → ⊥
+none_first given events later fair s st at lock has =
+    of st.locks (all_at (λ (st : State). length st.locks == 0) (run given events).servers st fair.free (at_has (run given events).servers s st (ap (λ all. server_at (run given all) s) (sym (append-nil events)) ∙ at))) lock has
+  where
+    of : (locks : List Lock) → (length locks == 0) ≡ true → (lock : Lock) → Has locks lock → ⊥
+    of [] is lock has = has
+    of (one ∷ locks) is lock has = let some : suc (length locks) ≡ 0 = eqb-true (suc (length locks)) 0 is in omega (arith, some)
+
+-- ---- both
+
+module _ (given : Opening) (events later : List Event) (one other : Begun given events later) (alone : (third : Begun given events later) → (third.before ≡ one.before) ⊎ (third.before ≡ other.before)) where
+  -- a step of an agent is of a transaction, at a moment of it
+  pub record Place (who : Begun given events later) (so_far : List Event) (i t : ℕ) : Type 0 where
+    pub mid : List Event
+    pub parts : so_far ≡ who.before ++ Begin who.agent (Transaction who.caller who.site who.ops) ∷ mid
+    pub who_is : i ≡ who.agent
+    pub number : t ≡ who.t
+
+  -- who asks for a lock in a name is one of both
+  pub place : (part rest : List Event) → later ≡ part ++ rest → Fair given events part → (so_far back : List Event) (i : ℕ) → part ≡ so_far ++ Step i ∷ back → (what : Served)
+      → (step (fixed_of given) (run given (events ++ so_far)) (Step i)).done.served ≡ Some what → (t z : ℕ) → for_lock t z what.request.value ≡ true → Place one so_far i t ⊎ Place other so_far i t
+  place part rest whole fair so_far back i split what served t z lock = ⊎_elim (λ is. inl (of one is)) (λ is. inr (of other is)) (alone third)
+    where
+      w : World
+      w = run given (events ++ so_far)
+
+      asks : (here : Actor) × (actor_at (run given (events ++ so_far)) i ≡ Some here) × (next_of (fixed_of given) here.agent ≡ Some (what.server, what.request.value))
+      asks = step_asks (fixed_of given) w i (actor_at w i) what served
+
+      b : Begun given events so_far
+      b = (busy_one given events part fair so_far (Step i ∷ back) split i asks.0 asks.1 (what.server, what.request.value) asks.2).one
+
+      who_asks : b.agent ≡ i
+      who_asks = (busy_one given events part fair so_far (Step i ∷ back) split i asks.0 asks.1 (what.server, what.request.value) asks.2).who
+
+      numbered : b.t ≡ t
+      numbered = names_one b.t t what.request.value (one_named given events part fair so_far (Step i ∷ back) split i asks.0 asks.1 (what.server, what.request.value) asks.2) (for_lock_named t z what.request.value lock).0
+
+      third : Begun given events later
+      third = record {
+        before = b.before;
+        after = b.after ++ Step i ∷ (back ++ rest);
+        agent = b.agent;
+        t = b.t;
+        caller = b.caller;
+        site = b.site;
+        ops = b.ops;
+        parts = whole ∙ ap (λ part. part ++ rest) split ∙ append_assoc so_far (Step i ∷ back) rest ∙ ap (λ xs. xs ++ Step i ∷ (back ++ rest)) b.parts
+            ∙ append_assoc b.before (Begin b.agent (Transaction b.caller b.site b.ops) ∷ b.after) (Step i ∷ (back ++ rest));
+        begins = b.begins;
+      }
+
+      of : (who : Begun given events later) → b.before ≡ who.before → Place who so_far i t
+      of who is =
+          let same = same_place given events later third who is in
+          record {
+            mid = b.after;
+            parts = b.parts ∙ ap (λ before. before ++ Begin b.agent (Transaction b.caller b.site b.ops) ∷ b.after) is ∙ ap (λ event. who.before ++ event ∷ b.after) same.event;
+            who_is = sym who_asks ∙ ap agent_in same.event;
+            number = sym numbered ∙ same.t;
+          }
+
+  -- ---- a part of the run
+
+  module _ (part rest : List Event) (whole : later ≡ part ++ rest) (calm : Calm given events part) where
+    -- who granted it locks there
+    abbrev pub Held : Begun given events later → ℕ → LockMode → ℕ → Bool
+    Held who = held_in given events part who.agent who.t
+
+    abbrev pub Asks : Begun given events later → List (ℕ × LockMode)
+    Asks who = asks_for given events who.t who.caller who.ops
+
+    -- one of both, as it goes there
+    abbrev pub in_part : (who : Begun given events later) (after : List Event) → part ≡ who.before ++ Begin who.agent (Transaction who.caller who.site who.ops) ∷ after → Begun given events part
+    in_part who after parts = record { before = who.before; after = after; agent = who.agent; t = who.t; caller = who.caller; site = who.site; ops = who.ops; parts = parts; begins = who.begins }
+
+    -- what it was granted since its begin it was granted there
+    module _ (who : Begun given events later) (after' : List Event) (parts : part ≡ who.before ++ Begin who.agent (Transaction who.caller who.site who.ops) ∷ after') where
+      pub since_begin : (p : Served → Bool) → some_step p who.agent (fixed_of given) (begun_world given (events ++ who.before) who.agent who.caller who.site who.ops) after' ≡ true → some_step p who.agent (fixed_of given) (run given events) part ≡ true
+      since_begin p is =
+          let f = found_in p who.agent (fixed_of given) (begun_world given (events ++ who.before) who.agent who.caller who.site who.ops) after' is in
+          let front = moment given events later who f.front in
+          let all : part ≡ front ++ Step who.agent ∷ f.back =
+          parts ∙ ap (λ after. who.before ++ its_event given events later who ∷ after) f.parts ∙ sym (append_assoc who.before (its_event given events later who ∷ f.front) (Step who.agent ∷ f.back)) in
+          subst (λ part. some_step p who.agent (fixed_of given) (run given events) part ≡ true) (sym all)
+          (there_in p who.agent (fixed_of given) front f.back (run given events) f.what
+          (ap (λ w. (step (fixed_of given) w (Step who.agent)).done.served) (world_in given events front ∙ sym (run_is given events part calm (in_part who after' parts) f.front)) ∙ f.served) f.is)
+
+    module _ (unmoved : VotesNeverMovedOf given events (asks_for given events one.t one.caller one.ops)) (other_unmoved : VotesNeverMovedOf given events (asks_for given events other.t other.caller other.ops)) where
+      -- a lock that one of both asked for
+      pub record IsAsked (who : Begun given events later) (s t z : ℕ) (mode : LockMode) : Type 0 where
+        pub number : t ≡ who.t
+        pub reached : Reached given.c0 (asks_for given events who.t who.caller who.ops) (held_in given events part who.agent who.t) (z, mode)
+
+      pub record IsGranted (who : Begun given events later) (s t z : ℕ) (mode : LockMode) : Type 0 where
+        pub number : t ≡ who.t
+        pub reached : Reached given.c0 (asks_for given events who.t who.caller who.ops) (held_in given events part who.agent who.t) (z, mode)
+        pub held : held_in given events part who.agent who.t z mode s ≡ true
+
+      module _ (so_far back : List Event) (i : ℕ) (split : part ≡ so_far ++ Step i ∷ back) (what : Served) (served : (step (fixed_of given) (run given (events ++ so_far)) (Step i)).done.served ≡ Some what) (t z : ℕ) (lock : for_lock t z what.request.value ≡ true) where
+        asked_by : (who : Begun given events later) → VotesNeverMovedOf given events (asks_for given events who.t who.caller who.ops) → Place who so_far i t
+            → Reached given.c0 (asks_for given events who.t who.caller who.ops) (held_in given events part who.agent who.t) (z, mode_of what.request.value)
+        asked_by who never_moved at =
+            let all : part ≡ who.before ++ its_event given events later who ∷ (at.mid ++ Step who.agent ∷ back) =
+            split ∙ ap (λ i. so_far ++ Step i ∷ back) at.who_is ∙ ap (λ xs. xs ++ Step who.agent ∷ back) at.parts ∙ append_assoc who.before (its_event given events later who ∷ at.mid) (Step who.agent ∷ back) in
+            let its = in_part who (at.mid ++ Step who.agent ∷ back) all in
+            let goes = goes_of given events part calm its in
+            let reached =
+            reaches_now given events (events ++ who.before) (at.mid ++ Step who.agent ∷ back) who.agent who.t who.caller who.site who.ops (its_actor given events part calm its).0 goes (never_decides given events part calm its) never_moved
+            at.mid back refl what (ap (λ w. (step (fixed_of given) w (Step who.agent)).done.served) (run_is given events part calm its at.mid ∙ ap (λ xs. run given (events ++ xs)) (sym at.parts))
+            ∙ ap (λ i. (step (fixed_of given) (run given (events ++ so_far)) (Step i)).done.served) (sym at.who_is) ∙ served) z (subst (λ t. for_lock t z what.request.value ≡ true) at.number lock) in
+            reached_wider given.c0 (asks_for given events who.t who.caller who.ops) _ (held_in given events part who.agent who.t)
+            (λ y mode server is. since_begin who (at.mid ++ Step who.agent ∷ back) all (grants who.t y mode server) is) (z, mode_of what.request.value) reached
+
+        granted_by : (who : Begun given events later) → VotesNeverMovedOf given events (asks_for given events who.t who.caller who.ops) → says_held what.reply.value ≡ true → Place who so_far i t → IsGranted who what.server t z (mode_of what.request.value)
+        granted_by who never_moved held' at = record {
+          number = at.number;
+          reached = asked_by who never_moved at;
+          held = subst (λ part. some_step (grants who.t z (mode_of what.request.value) what.server) who.agent (fixed_of given) (run given events) part ≡ true) (sym (split ∙ ap (λ i. so_far ++ Step i ∷ back) at.who_is))
+              (there_in (grants who.t z (mode_of what.request.value) what.server) who.agent (fixed_of given) so_far back (run given events) what
+              (ap (λ w. (step (fixed_of given) w (Step who.agent)).done.served) (world_in given events so_far) ∙ ap (λ i. (step (fixed_of given) (run given (events ++ so_far)) (Step i)).done.served) (sym at.who_is) ∙ served)
+              (four_from (what.server == what.server) (for_lock who.t z what.request.value) (says_held what.reply.value) (serves (mode_of what.request.value) (mode_of what.request.value)) (eq-eqb what.server what.server refl)
+              (subst (λ t. for_lock t z what.request.value ≡ true) at.number lock) held' (serves_own (mode_of what.request.value))));
+        }
+
+        places : Place one so_far i t ⊎ Place other so_far i t
+        places = place part rest whole calm.fair so_far back i split what served t z lock
+
+        pub asked_now : IsAsked one what.server t z (mode_of what.request.value) ⊎ IsAsked other what.server t z (mode_of what.request.value)
+        asked_now = ⊎_elim
+            (λ at. inl (record { number = at.number; reached = asked_by one unmoved at }))
+            (λ at. inr (record { number = at.number; reached = asked_by other other_unmoved at }))
+            places
+
+        pub granted_now : says_held what.reply.value ≡ true → IsGranted one what.server t z (mode_of what.request.value) ⊎ IsGranted other what.server t z (mode_of what.request.value)
+        granted_now held' = ⊎_elim (λ at. inl (granted_by one unmoved held' at)) (λ at. inr (granted_by other other_unmoved held' at)) places
+
+      -- each lock that there is was granted to one of them
+      pub all_granted : (so_far back : List Event) → part ≡ so_far ++ back → (s : ℕ) (st : State) → server_at (run given (events ++ so_far)) s ≡ Some st → (lock : Lock) → Has st.locks lock
+          → IsGranted one s lock.t lock.suite lock.mode ⊎ IsGranted other s lock.t lock.suite lock.mode
+      all_granted so_far back split s st at lock has =
+          owned_at given events part calm (λ s t z mode. IsGranted one s t z mode ⊎ IsGranted other s t z mode)
+          (λ so_far back i split what served t z lock held'. granted_now so_far back i split what served t z lock held')
+          (λ s st at lock has. absurd (none_first given events part calm.fair s st at lock has)) so_far back split s st at lock has

@@ -1,0 +1,339 @@
+-- A run in which nothing is decided for a while, all servers are up, and nothing spoils it: who is busy runs a transaction that began there, tables, logs and stored copies stand still.
+use Rattle.std.proofs.Common.{◌≡◌, ⊎_elim, ℕ, true, false, List, [], ◌∷◌, ◌++◌, append-nil, append_assoc, Option, Some, None, is_some, refl, sym, ap, subst, ◌∙◌}
+use Rattle.std.specs.Prelude.{Contains}
+use Rattle.std.specs.List.{cons_option}
+use Rattle.std.proofs.lemmas.Bool.{false≢true, eqb-true}
+use Rattle.std.proofs.lemmas.Option.{none-some, same_Some}
+use Rattle.acl_core.specs.Identity.{Identity}
+use Rattle.suite_prefix.specs.SettingsRules.{Opening, IsAccepted}
+use Rattle.file_ops.specs.declared.operation.Op.{Op}
+use Rattle.rep_core.specs.declared.request.Request.{Request}
+use Rattle.rep_core.specs.declared.request.Request.TheVariants as request
+use Rattle.rep_core.specs.declared.reply.Verdict.{Verdict}
+use Rattle.rep_core.specs.declared.reply.Verdict.TheVariants as verdict
+use Rattle.rep_core.specs.declared.stamped.Stamped.{Stamped}
+use Rattle.rep_core.specs.Service.{is_answered}
+use Rattle.rep_core.specs.Serving as serving
+use Rattle.rep_core.specs.Store.{copy_of, finished}
+use Rattle.rep_core.specs.State.{State}
+use Rattle.rep_core.proofs.Ways.{Ways, by_step}
+use Rattle.txn_core.specs.declared.job.Job.{Job}
+use Rattle.txn_core.specs.declared.job.Job.TheVariants.{Transaction, Sweep}
+use Rattle.txn_core.specs.declared.response.Response.{Response}
+use Rattle.txn_core.specs.Doing.{Doing}
+use Rattle.txn_core.specs.Agents.{fixed_of, is_idle, next_of, take_in}
+use Rattle.run_core.specs.declared.event.Event.{Event}
+use Rattle.run_core.specs.declared.event.Event.TheVariants.{Begin, Step, Crash, Return, Forget, Lack}
+use Rattle.run_core.specs.Worlds.{Actor, World, opening, server_at, actor_at, step}
+use Rattle.run_core.specs.Runs.{run}
+use Rattle.run_core.specs.Decisions.{decided, decisions}
+use Rattle.run_core.specs.TableOfRun.{table_of, table_after_all}
+use Rattle.run_core.proofs.Appending.{decisions_from-append}
+use Rattle.file_ops.specs.Rows as rows
+use Rattle.law_runs.specs.Claims.{IsNotDecided}
+use Rattle.law_runs.specs.Finishes.{EndedSo}
+use Rattle.law_runs.specs.Naming.{names}
+use Rattle.law_runs.specs.Numbers.{begins_now}
+use Rattle.law_runs.proofs.Conclusions.{holds_of}
+use Rattle.law_runs.proofs.Finishes.{finish_is_after}
+use Rattle.law_runs.proofs.Places.{same_or}
+use Rattle.law_runs.proofs.Worlds.{agent_of}
+use Rattle.law_run_machine.specs.Machines.{machine_of}
+use Rattle.law_suite_machine.specs.Machine as machine
+use Rattle.law_one_table.proofs.Effects as effects
+use Rattle.law_one_table.proofs.Logs.{LogIs, decision_at, event_log}
+use Rattle.law_one_table.proofs.Running.{machine_one}
+use Rattle.law_server_moves.specs.Laws.{beginning}
+use Rattle.law_run_machine.specs.Machines.{moved}
+use Rattle.law_headline.specs.Premises.{CanBe}
+use Rattle.law_headline.proofs.Keeping.{all_keep}
+use Rattle.law_run_alone.specs.Alone.{all_idle, begins_job}
+use Rattle.law_run_alone.specs.Undisturbed.{all_up, no_locks}
+use Rattle.law_run_alone.proofs.Clear.{clear_servers}
+use Rattle.law_run_alone.proofs.Owns.{names_mine}
+use Rattle.law_run_alone.proofs.Reached.{can_front, run_more}
+use Rattle.law_run_alone.proofs.Turns.{doing_of, doing_at, with_job, all_none}
+use Rattle.law_run_alone.proofs.Walks.{AllAt, MayAsk, asks_servers, BeginsNone, none_begins, event_doing}
+use Rattle.law_run_recovers.specs.Beside.{Begun, spoils}
+use Rattle.law_run_recovers.specs.Unmet.{runs, running_in, is_running}
+use Rattle.law_run_recovers.proofs.AtWork.{mine_where}
+use Rattle.law_run_recovers.proofs.BesideAll.{asks_busy}
+use Rattle.law_run_recovers.proofs.BesideNext.{mine_taken, mine_runs}
+use Rattle.law_run_recovers.proofs.BesideUnmet.{begins_there}
+use Rattle.law_run_recovers.proofs.Open.{begun_runs}
+use Rattle.law_run_recovers.proofs.Sides.{AllUp, up_next}
+
+-- ---- lists
+
+-- what holds at first and stays holds of each front of a list
+pub along : {X : Type 0} (later : List X) (P : List X → Type 0) → ((so_far rest : List X) (x : X) → later ≡ so_far ++ x ∷ rest → P so_far → P (so_far ++ x ∷ [])) → P [] → (so_far rest : List X) → later ≡ so_far ++ rest → P so_far
+along {X = X} later P stays first so_far rest split = go so_far [] rest split first
+  where
+    go : (todo so_far rest : List X) → later ≡ (so_far ++ todo) ++ rest → P so_far → P (so_far ++ todo)
+    go [] so_far rest split holds = subst P (sym (append-nil so_far)) holds
+    go (x ∷ todo) so_far rest split holds =
+        let more : (so_far ++ x ∷ []) ++ todo ≡ so_far ++ x ∷ todo = append_assoc so_far (x ∷ []) todo in
+        subst P more (go todo (so_far ++ x ∷ []) rest (split ∙ ap (λ so_far. so_far ++ rest) (sym more)) (stays so_far (todo ++ rest) x (split ∙ append_assoc so_far (x ∷ todo) rest) holds))
+
+-- the job that is begun is the event's
+job_same : (given : Opening) (w : World) (k : ℕ) (job : Job) (pair : ℕ × Job) → begins_job given w (Begin k job) ≡ Some pair → job ≡ pair.1
+job_same given w k job pair = of (begins_now (fixed_of given) k job (actor_at w k))
+  where
+    of : (found : Option ℕ) → with_job job found ≡ Some pair → job ≡ pair.1
+    of None is = absurd (none-some pair is)
+    of (Some u) is = ap (λ (pair : ℕ × Job). pair.1) (same_Some (u, job) pair is)
+
+-- ---- a server
+
+-- a request that tells no answer leaves what is stored
+abbrev Spares : Request → Type 0
+Spares asked = (t : ℕ) (v : Verdict) → asked ≡ request.Finish t v → is_answered v ≡ false
+
+stored_ways : (st : State) (z : ℕ) → Ways st (λ asked new. Spares asked → copy_of new.store z ≡ copy_of st.store z)
+stored_ways st z = record {
+  same = λ asked spares. refl;
+  poll = λ named suite mode free spares. refl;
+  upgrade = λ named suite has free spares. refl;
+  prepare = λ named parts may room spares. refl;
+  decide = λ named decision free spares. refl;
+  resolve = λ named free spares. refl;
+  finish = λ named v up spares. ap (λ b. copy_of (finished named b st.store) z) (spares named v refl);
+  break = λ named suite spares. refl;
+  crash = λ spares. refl;
+  return = λ spares. refl;
+}
+
+stored_stays : (st : State) (asked : Stamped Request) (z : ℕ) → Spares asked.value → copy_of (serving.step st asked).store z ≡ copy_of st.store z
+stored_stays st asked z spares = by_step st _ (stored_ways st z) (λ asked new stamp stays. stays) asked spares
+
+-- ---- the run
+
+-- nothing spoils it
+pub record Fair (given : Opening) (events later : List Event) : Type 0 where
+  pub can : CanBe given (events ++ later)
+  pub idle : all_idle (run given events) ≡ true
+  pub up : all_up (run given events) ≡ true
+  pub free : no_locks (run given events) ≡ true
+  pub unspoiled : (before after : List Event) (event : Event) → later ≡ before ++ event ∷ after → spoils given (run given (events ++ before)) event ≡ false
+
+-- and nothing is decided
+pub record Calm (given : Opening) (events later : List Event) : Type 0 where
+  pub fair : Fair given events later
+  pub none : (before after : List Event) (event : Event) → later ≡ before ++ event ∷ after → decided (fixed_of given) (run given (events ++ before)) event ≡ None
+  pub undecided : (one : Begun given events later) → IsNotDecided (decisions given events) one.t
+
+-- one that began in a front began in all
+abbrev pub onward : (given : Opening) (events so_far more : List Event) → Begun given events so_far → Begun given events (so_far ++ more)
+onward given events so_far more one = record {
+  before = one.before;
+  after = one.after ++ more;
+  agent = one.agent;
+  t = one.t;
+  caller = one.caller;
+  site = one.site;
+  ops = one.ops;
+  parts = ap (λ xs. xs ++ more) one.parts ∙ append_assoc one.before (Begin one.agent (Transaction one.caller one.site one.ops) ∷ one.after) more;
+  begins = one.begins;
+}
+
+-- a front of it is so too
+fair_front : (given : Opening) (events so_far rest : List Event) → Fair given events (so_far ++ rest) → Fair given events so_far
+fair_front given events so_far rest fair = record {
+  can = can_front given (events ++ so_far) rest (subst (CanBe given) (sym (append_assoc events so_far rest)) fair.can);
+  idle = fair.idle;
+  up = fair.up;
+  free = fair.free;
+  unspoiled = λ before after event split. fair.unspoiled before (after ++ rest) event (ap (λ xs. xs ++ rest) split ∙ append_assoc before (event ∷ after) rest);
+}
+
+pub calm_front : (given : Opening) (events so_far rest : List Event) → Calm given events (so_far ++ rest) → Calm given events so_far
+calm_front given events so_far rest calm = record {
+  fair = fair_front given events so_far rest calm.fair;
+  none = λ before after event split. calm.none before (after ++ rest) event (ap (λ xs. xs ++ rest) split ∙ append_assoc before (event ∷ after) rest);
+  undecided = λ one. calm.undecided (onward given events so_far rest one);
+}
+
+module _ (given : Opening) (events later : List Event) (fair : Fair given events later) where
+  pub accepted : IsAccepted given
+  accepted = fair.can.accepted
+
+  pub can_at : (so_far rest : List Event) → later ≡ so_far ++ rest → CanBe given (events ++ so_far)
+  can_at so_far rest split = can_front given (events ++ so_far) rest (subst (CanBe given) (ap (λ later. events ++ later) split ∙ sym (append_assoc events so_far rest)) fair.can)
+
+  pub run_next : (so_far : List Event) (event : Event) → run given (events ++ (so_far ++ event ∷ [])) ≡ (step (fixed_of given) (run given (events ++ so_far)) event).world
+  run_next so_far event = ap (run given) (sym (append_assoc events so_far (event ∷ []))) ∙ run_more given (events ++ so_far) event
+
+  -- ---- servers stay up
+
+  pub up_at : (so_far rest : List Event) → later ≡ so_far ++ rest → AllUp given accepted (run given (events ++ so_far))
+  up_at = along later (λ so_far. AllUp given accepted (run given (events ++ so_far)))
+      (λ so_far rest event split up. subst (AllUp given accepted) (sym (run_next so_far event)) (up_next given accepted (events ++ so_far) event (fair.unspoiled so_far rest event split) up))
+      (subst (λ all. AllUp given accepted (run given all)) (sym (append-nil events)) (λ s st at. (clear_servers 0 (run given events) fair.up fair.free s st at).0))
+
+  -- ---- who is busy
+
+  -- one that was begun before is run now, by an agent that has this to do
+  pub record Busy (so_far : List Event) (i : ℕ) (doing : Option Doing) : Type 0 where
+    pub one : Begun given events so_far
+    pub who : one.agent ≡ i
+    pub runs_it : runs one.t doing ≡ true
+
+  abbrev BusyAt : List Event → Type 0
+  BusyAt so_far = (i : ℕ) (here : Actor) → actor_at (run given (events ++ so_far)) i ≡ Some here → is_idle here.agent.doing ≡ false → Busy so_far i here.agent.doing
+
+  module _ (so_far rest : List Event) (event : Event) (split : later ≡ so_far ++ event ∷ rest) (busy_so : BusyAt so_far) where
+    abbrev w : World
+    w = run given (events ++ so_far)
+
+    abbrev BusyNow : ℕ → Option Doing → Type 0
+    BusyNow i doing = is_idle doing ≡ false → Busy (so_far ++ event ∷ []) i doing
+
+    -- who begins nothing
+    goes_on : (i : ℕ) → BeginsNone given i (run given (events ++ so_far)) event → BusyNow i (doing_at (step (fixed_of given) (run given (events ++ so_far)) event).world i)
+    goes_on i none = event_doing given (BusyNow i) i w takes (now (actor_at w i) refl) event none
+      where
+        takes : (actor : Actor) (asked : ℕ × Request) (response : Response) → actor_at (run given (events ++ so_far)) i ≡ Some actor → next_of (fixed_of given) actor.agent ≡ Some asked
+            → BusyNow i (take_in (fixed_of given) actor.agent response actor.agent.doing (Some asked)).agent.doing
+        takes actor asked response at next busy =
+            let was = busy_so i actor at (asks_busy given actor.agent asked next) in
+            record {
+              one = onward given events so_far (event ∷ []) was.one;
+              who = was.who;
+              runs_it = mine_runs was.one.t (take_in (fixed_of given) actor.agent response actor.agent.doing (Some asked)).agent.doing
+                  (mine_taken given (decisions given (events ++ so_far)) i was.one.t actor.agent response asked actor.agent.doing next
+                  ((holds_of given accepted (events ++ so_far)).agents.at i actor.agent (ap agent_of at)) was.runs_it) busy;
+            }
+
+        now : (found : Option Actor) → actor_at (run given (events ++ so_far)) i ≡ found → BusyNow i (doing_of found)
+        now None at busy = absurd (false≢true (sym busy))
+        now (Some actor) at busy =
+            let was = busy_so i actor at busy in
+            record { one = onward given events so_far (event ∷ []) was.one; who = was.who; runs_it = was.runs_it }
+
+    -- who begins a transaction runs it
+    begins_it : (k : ℕ) (caller : Identity) (site : ℕ) (ops : List Op) → event ≡ Begin k (Transaction caller site ops) → (t : ℕ) → begins_job given (run given (events ++ so_far)) (Begin k (Transaction caller site ops)) ≡ Some (t, Transaction caller site ops)
+        → (i : ℕ) (here : Actor) → actor_at (step (fixed_of given) (run given (events ++ so_far)) event).world i ≡ Some here → i ≡ k → Busy (so_far ++ event ∷ []) i here.agent.doing
+    begins_it k caller site ops is t begins i here there same =
+        let actor = begins_there given w k t (Transaction caller site ops) begins in
+        let can = subst (λ all. CanBe given all) (sym (append_assoc events so_far (event ∷ [])) ∙ ap (λ event. (events ++ so_far) ++ event ∷ []) is) (can_at (so_far ++ event ∷ []) rest (split ∙ sym (append_assoc so_far (event ∷ []) rest))) in
+        let runs_now = begun_runs given (events ++ so_far) [] k t caller site ops actor.0 can actor.1 begins in
+        record {
+          one = record { before = so_far; after = []; agent = k; t = t; caller = caller; site = site; ops = ops; parts = ap (λ event. so_far ++ event ∷ []) is; begins = begins };
+          who = sym same;
+          runs_it = ap (running_in t) (sym there ∙ ap (λ i. actor_at (step (fixed_of given) w event).world i) same ∙ ap (λ event. actor_at (step (fixed_of given) w event).world k) is) ∙ runs_now;
+        }
+
+    busy_now : (i : ℕ) (here : Actor) → actor_at (step (fixed_of given) (run given (events ++ so_far)) event).world i ≡ Some here → is_idle here.agent.doing ≡ false → Busy (so_far ++ event ∷ []) i here.agent.doing
+    busy_now i here there busy = of event refl (fair.unspoiled so_far rest event split)
+      where
+        none_so : BeginsNone given i (run given (events ++ so_far)) event → Busy (so_far ++ event ∷ []) i here.agent.doing
+        none_so none = subst (BusyNow i) (ap doing_of there) (goes_on i none) busy
+
+        -- one begins
+        by : (k : ℕ) (job : Job) → event ≡ Begin k job → (found : Option (ℕ × Job)) → begins_job given (run given (events ++ so_far)) (Begin k job) ≡ found → spoils given (run given (events ++ so_far)) (Begin k job) ≡ false
+            → Busy (so_far ++ event ∷ []) i here.agent.doing
+        by k job is None begins calm = none_so (subst (BeginsNone given i w) (sym is) (none_begins given i w (Begin k job) begins))
+        by k (Sweep server) is (Some pair) begins calm = absurd (false≢true (sym calm ∙ ap is_some begins))
+        by k (Transaction caller site ops) is (Some pair) begins calm =
+            ⊎_elim
+            (λ same. begins_it k caller site ops is pair.0 (begins ∙ ap (λ job. Some (pair.0, job)) (sym (job_same given w k (Transaction caller site ops) pair begins))) i here there same)
+            (λ apart. none_so (subst (BeginsNone given i w) (sym is) (λ same. absurd (apart (sym same)))))
+            (same_or i k)
+
+        of : (same : Event) → event ≡ same → spoils given (run given (events ++ so_far)) same ≡ false → Busy (so_far ++ event ∷ []) i here.agent.doing
+        of (Begin k job) is calm = by k job is (begins_job given w (Begin k job)) refl calm
+        of (Step k) is calm = none_so (subst (BeginsNone given i w) (sym is) tt)
+        of (Crash server) is calm = none_so (subst (BeginsNone given i w) (sym is) tt)
+        of (Return server) is calm = none_so (subst (BeginsNone given i w) (sym is) tt)
+        of (Forget k site) is calm = none_so (subst (BeginsNone given i w) (sym is) tt)
+        of (Lack k why) is calm = none_so (subst (BeginsNone given i w) (sym is) tt)
+
+    busy_next : BusyAt (so_far ++ event ∷ [])
+    busy_next i here there busy = busy_now i here (ap (λ w. actor_at w i) (sym (run_next so_far event)) ∙ there) busy
+
+  pub busy_at : (so_far rest : List Event) → later ≡ so_far ++ rest → (i : ℕ) (here : Actor) → actor_at (run given (events ++ so_far)) i ≡ Some here → is_idle here.agent.doing ≡ false → Busy so_far i here.agent.doing
+  busy_at = along later BusyAt busy_next
+      (λ i here there busy. absurd (false≢true (sym busy ∙ ap is_idle (sym (ap doing_of (ap (λ all. actor_at (run given all) i) (sym (append-nil events)) ∙ there)) ∙ all_none (run given events).agents fair.idle i))))
+
+  -- ---- who asks
+
+  module _ (so_far rest : List Event) (split : later ≡ so_far ++ rest) (i : ℕ) (here : Actor) (there : actor_at (run given (events ++ so_far)) i ≡ Some here) (asked : ℕ × Request) (next : next_of (fixed_of given) here.agent ≡ Some asked) where
+    pub busy_one : Busy so_far i here.agent.doing
+    busy_one = busy_at so_far rest split i here there (asks_busy given here.agent asked next)
+
+    pub one_runs : is_running (run given (events ++ so_far)) busy_one.one.agent busy_one.one.t ≡ true
+    one_runs = ap (running_in busy_one.one.t) (ap (actor_at (run given (events ++ so_far))) busy_one.who ∙ there) ∙ busy_one.runs_it
+
+    pub one_named : names busy_one.one.t asked.1 ≡ true
+    one_named = names_mine (fixed_of given) busy_one.one.t here.agent.doing asked (mine_where busy_one.one.t here.agent.doing busy_one.runs_it) next
+
+module _ (given : Opening) (events later : List Event) (calm : Calm given events later) where
+  -- ---- what is decided stays, and so the table
+
+  pub decisions_same : (so_far rest : List Event) → later ≡ so_far ++ rest → decisions given (events ++ so_far) ≡ decisions given events
+  decisions_same = along later (λ so_far. decisions given (events ++ so_far) ≡ decisions given events)
+      (λ so_far rest event split same.
+      ap (decisions given) (sym (append_assoc events so_far (event ∷ [])))
+      ∙ decisions_from-append (fixed_of given) (opening given) (events ++ so_far) (event ∷ [])
+      ∙ ap (λ found. decisions given (events ++ so_far) ++ cons_option found []) (calm.none so_far rest event split)
+      ∙ append-nil (decisions given (events ++ so_far)) ∙ same)
+      (ap (decisions given) (append-nil events))
+
+  pub table_same : (so_far rest : List Event) → later ≡ so_far ++ rest → table_of given (events ++ so_far) ≡ table_of given events
+  table_same so_far rest split = ap (table_after_all (rows.opening given)) (decisions_same so_far rest split)
+
+  -- and the log of each suite's machine
+  pub log_same : (z : ℕ) (so_far rest : List Event) → later ≡ so_far ++ rest → (machine_of given z (events ++ so_far)).log ≡ (machine_of given z events).log
+  log_same z = along later (λ so_far. (machine_of given z (events ++ so_far)).log ≡ (machine_of given z events).log)
+      (λ so_far rest event split same.
+      let all = events ++ so_far in
+      let w = machine_of given z all in
+      let is = event_log given z w (run given all) (effects.follows given all (all_keep given all (can_at given events later calm.fair so_far (event ∷ rest) split)) z).shows event in
+      ap (λ all. (machine_of given z all).log) (sym (append_assoc events so_far (event ∷ [])))
+      ∙ ap (λ (w : machine.World). w.log) (machine_one given z all event)
+      ∙ subst (λ found. LogIs (beginning z given) (decision_at z w (run given all) event) w found (moved given z w (run given all) event).log) (calm.none so_far rest event split) is ∙ same)
+      (ap (λ all. (machine_of given z all).log) (append-nil events))
+
+  -- ---- what is finished was not answered
+
+  module _ (so_far rest : List Event) (split : later ≡ so_far ++ rest) (i : ℕ) (here : Actor) (there : actor_at (run given (events ++ so_far)) i ≡ Some here) (asked : ℕ × Request) (next : next_of (fixed_of given) here.agent ≡ Some asked) where
+    abbrev busy : Busy given events later calm.fair so_far i here.agent.doing
+    busy = busy_one given events later calm.fair so_far rest split i here there asked next
+
+    spares : Spares asked.1
+    spares t v is = of v (finish_is_after.asked given calm.fair.can.accepted (events ++ so_far) i here asked.0 t v there (next ∙ ap (λ value. Some (asked.0, value)) is))
+      where
+        same : t ≡ busy.one.t
+        same = eqb-true t busy.one.t (ap (names busy.one.t) (sym is) ∙ one_named given events later calm.fair so_far rest split i here there asked next)
+
+        of : (v : Verdict) → EndedSo given (events ++ so_far) t v → is_answered v ≡ false
+        of (verdict.Answered answers) ended =
+            let front = calm_front given events so_far rest (subst (Calm given events) split calm) in
+            absurd (front.undecided busy.one ended.decision (subst (λ all. Contains all ended.decision) (decisions_same so_far rest split) ended.there) (ended.of_it ∙ same))
+        of (verdict.Refused refusal) ended = refl
+        of verdict.Aborted ended = refl
+
+  -- ---- what is stored stays
+
+  abbrev Stored : ℕ → State → Type 0
+  Stored s st = (old : State) → server_at (run given events) s ≡ Some old → (z : ℕ) → copy_of st.store z ≡ copy_of old.store z
+
+  pub stored_at : (so_far rest : List Event) → later ≡ so_far ++ rest → AllAt (λ s st. (old : State) → server_at (run given events) s ≡ Some old → (z : ℕ) → copy_of st.store z ≡ copy_of old.store z) (run given (events ++ so_far))
+  stored_at = along later (λ so_far. AllAt Stored (run given (events ++ so_far)))
+      (λ so_far rest event split all. subst (AllAt Stored) (sym (run_next given events later calm.fair so_far event))
+      (asks_servers (fixed_of given) Stored (λ s asked. Spares asked) (λ s st asked spares same old at z. stored_stays st asked z spares ∙ same old at z) (run given (events ++ so_far)) all event (may so_far rest event split)))
+      (λ s st at old was z. ap (λ (st : State). copy_of st.store z) (same_Some st old (sym at ∙ ap (λ all. server_at (run given all) s) (append-nil events) ∙ was)))
+    where
+      crash_not : Spares request.Crash
+      crash_not t v is = cc
+
+      return_not : Spares request.Return
+      return_not t v is = cc
+
+      may : (so_far rest : List Event) (event : Event) → later ≡ so_far ++ event ∷ rest → MayAsk (fixed_of given) (λ s asked. Spares asked) (run given (events ++ so_far)) event
+      may so_far rest (Step i) split = λ actor asked is next. spares so_far (Step i ∷ rest) split i actor is asked next
+      may so_far rest (Crash server) split = crash_not
+      may so_far rest (Return server) split = return_not
+      may so_far rest (Begin i job) split = tt
+      may so_far rest (Forget i site) split = tt
+      may so_far rest (Lack i why) split = tt

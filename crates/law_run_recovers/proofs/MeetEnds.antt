@@ -1,0 +1,189 @@
+-- Two that meet, of which neither was decided: then nothing was. And the moment at which the end of one is fixed.
+use Rattle.std.proofs.Common.{◌≡◌, ◌⊎◌, inl, inr, ⊎_elim, ℕ, Bool, true, false, List, [], ◌∷◌, ◌++◌, append-nil, append_assoc, Option, Some, None, refl, sym, ap, subst, ◌∙◌}
+use Rattle.std.specs.List.{cons_option}
+use Rattle.std.proofs.lemmas.Bool.{false≢true, eqb-true}
+use Rattle.suite_prefix.specs.SettingsRules.{Opening}
+use Rattle.rep_core.proofs.Members.{Has, has_from, contains_from}
+use Rattle.txn_core.specs.declared.ending.Ending.{Ending}
+use Rattle.txn_core.specs.declared.ending.Ending.TheVariants.{Answered, Refused, Swept, Undecided}
+use Rattle.txn_core.specs.declared.job.Job.TheVariants.{Transaction}
+use Rattle.txn_core.specs.Agents.{fixed_of, is_idle}
+use Rattle.run_core.specs.declared.done.EndedJob.{EndedJob}
+use Rattle.run_core.specs.declared.event.Event.{Event}
+use Rattle.run_core.specs.declared.event.Event.TheVariants.{Begin}
+use Rattle.run_core.specs.Worlds.{World, opening, step}
+use Rattle.run_core.specs.Runs.{dones, done_in, outcomes, run}
+use Rattle.run_core.specs.Decisions.{Decided, decided, decisions, decisions_from}
+use Rattle.run_core.proofs.Appending.{dones-append, outcomes-append, decisions_from-append}
+use Rattle.law_runs.specs.Claims.{ended, IsNotDecided}
+use Rattle.law_runs.specs.Numbers.{number_of}
+use Rattle.law_runs.proofs.Agents.{EndStands}
+use Rattle.law_runs.proofs.Answering.{answers_follow_knowledge}
+use Rattle.law_runs.proofs.Conclusions.{holds_of}
+use Rattle.law_runs.proofs.Standing.{NotIn, append_has_left, append_has_right}
+use Rattle.law_run_alone.specs.Undisturbed.{is_decided}
+use Rattle.law_run_recovers.specs.Beside.{Begun}
+use Rattle.law_run_recovers.specs.Local.{EndsThen}
+use Rattle.law_run_recovers.specs.Unmet.{runs, is_running, is_telling, begun_world, world_after}
+use Rattle.law_run_recovers.proofs.AmongCourse.{head_or, tail_or, parted}
+use Rattle.law_run_recovers.proofs.Counts.{has_after}
+use Rattle.law_run_recovers.proofs.Keeps.{IsAtWork}
+use Rattle.law_run_recovers.proofs.Sides.{ended_runs_not}
+use Rattle.law_run_recovers.proofs.MeetBoth.{same_place}
+use Rattle.law_run_recovers.proofs.MeetCalm.{Fair, Calm, busy_at}
+use Rattle.law_run_recovers.proofs.MeetRun.{run_is}
+
+-- ---- lists
+
+-- two fronts of a list: one is a front of the other
+pub fronts : {X : Type 0} (xs ys us vs : List X) → xs ++ us ≡ ys ++ vs → ((more : List X) × (ys ≡ xs ++ more)) ⊎ ((more : List X) × (xs ≡ ys ++ more))
+fronts [] ys us vs is = inl (ys, refl)
+fronts (x ∷ xs) [] us vs is = inr (x ∷ xs, refl)
+fronts (x ∷ xs) (y ∷ ys) us vs is =
+    let same : x ≡ y = ap (head_or x) is in
+    ⊎_elim
+    (λ one. inl (one.0, ap (λ ys. y ∷ ys) one.1 ∙ ap (λ y. y ∷ (xs ++ one.0)) (sym same)))
+    (λ one. inr (one.0, ap (λ xs. x ∷ xs) one.1 ∙ ap (λ x. x ∷ (ys ++ one.0)) same))
+    (fronts xs ys us vs (ap tail_or is))
+
+-- the first front of a list of which something is not so
+pub record Cut (W : List Event → Type 0) (all : List Event) : Type 0 where
+  pub front : List Event
+  pub back : List Event
+  pub parts : all ≡ front ++ back
+  pub rests : W front → ⊥
+  pub works : (xs ys : List Event) (e : Event) → front ≡ xs ++ e ∷ ys → W xs
+
+cut : (W : List Event → Type 0) → ((xs : List Event) → W xs ⊎ (W xs → ⊥)) → (todo done : List Event) → ((xs ys : List Event) (e : Event) → done ≡ xs ++ e ∷ ys → W xs) → (W (done ++ todo) → ⊥) → Cut W (done ++ todo)
+cut W test [] done works rests = record { front = done; back = []; parts = refl; rests = λ work. rests (subst W (sym (append-nil done)) work); works = works }
+cut W test (e ∷ todo) done works rests =
+    ⊎_elim
+    (λ work.
+    let all : (done ++ e ∷ []) ++ todo ≡ done ++ e ∷ todo = append_assoc done (e ∷ []) todo in
+    subst (Cut W) all
+    (cut W test todo (done ++ e ∷ [])
+    (λ xs ys other is. ⊎_elim (λ here. subst W (sym here.0) work) (λ before. works xs before.0 other before.1) (parted done e xs other ys is))
+    (λ there. rests (subst W all there))))
+    (λ none. record { front = done; back = e ∷ todo; parts = refl; rests = none; works = works })
+    (test done)
+
+nothing_before : {W : Type 0} (xs ys : List Event) (e : Event) → [] ≡ xs ++ e ∷ ys → W
+nothing_before [] ys e is = absurd (no_cons is)
+  where
+    no_cons : ◌≡◌ {A = List Event} [] (e ∷ ys) → ⊥
+    no_cons is = cc
+nothing_before (x ∷ xs) ys e is = absurd (no_cons is)
+  where
+    no_cons : ◌≡◌ {A = List Event} [] (x ∷ (xs ++ e ∷ ys)) → ⊥
+    no_cons is = cc
+
+pub cut_at : (W : List Event → Type 0) → ((xs : List Event) → W xs ⊎ (W xs → ⊥)) → (all : List Event) → (W all → ⊥) → Cut W all
+cut_at W test all rests = cut W test all [] (λ xs ys e is. nothing_before xs ys e is) rests
+
+-- whether it is at work
+tested : (w : World) (agent t : ℕ) → IsAtWork w agent t ⊎ (IsAtWork w agent t → ⊥)
+tested w agent t = of (is_running w agent t) (is_telling w agent) refl refl
+  where
+    of : (a b : Bool) → is_running w agent t ≡ a → is_telling w agent ≡ b → IsAtWork w agent t ⊎ (IsAtWork w agent t → ⊥)
+    of true false one two = inl (record { running = one; untold = two })
+    of false b one two = inr (λ work. false≢true (sym one ∙ work.running))
+    of true true one two = inr (λ work. false≢true (sym work.untold ∙ two))
+
+-- ---- it has ended
+
+module _ (given : Opening) (events later : List Event) (fair : Fair given events later) (who : Begun given events later) (job : EndedJob)
+    (ends : EndsThen given (events ++ who.before) who.after who.agent who.t who.caller who.site who.ops job) where
+  abbrev its_event : Event
+  its_event = Begin who.agent (Transaction who.caller who.site who.ops)
+
+  whole_is : (events ++ who.before) ++ Begin who.agent (Transaction who.caller who.site who.ops) ∷ who.after ≡ events ++ later
+  whole_is = append_assoc events who.before (its_event ∷ who.after) ∙ ap (λ later. events ++ later) (sym who.parts)
+
+  ended_has : Has (ended given (events ++ later)) job
+  ended_has =
+      let base = events ++ who.before in
+      subst (λ all. Has (ended given all) job) whole_is
+      (subst (λ list. Has list job)
+      (sym (ap outcomes (dones-append (fixed_of given) (opening given) base (its_event ∷ who.after)) ∙ outcomes-append (done_in given base) (dones (fixed_of given) (run given base) (its_event ∷ who.after))))
+      (append_has_right (ended given base) (outcomes (dones (fixed_of given) (run given base) (its_event ∷ who.after))) job
+      (has_after (step (fixed_of given) (run given base) its_event).done.outcome (outcomes (dones (fixed_of given) (begun_world given base who.agent who.caller who.site who.ops) who.after)) job
+      (has_from (outcomes (dones (fixed_of given) (begun_world given base who.agent who.caller who.site who.ops) who.after)) job ends.there))))
+
+  not_in : (ds : List Decided) (t : ℕ) (ending : Ending) → is_decided ending ≡ false → EndStands ds t ending → NotIn ds t
+  not_in ds t (Answered answers) none stands = absurd (false≢true (sym none))
+  not_in ds t (Refused refusal) none stands = absurd (false≢true (sym none))
+  not_in ds t (Swept broken finished left) none stands = stands
+  not_in ds t (Undecided cause) none stands = stands
+
+  -- undecided: then it is nowhere among the decisions
+  pub undecided_not : is_decided job.ending ≡ false → IsNotDecided (decisions given (events ++ later)) who.t
+  undecided_not none one there same =
+      not_in (decisions given (events ++ later)) (number_of job) job.ending none ((holds_of given fair.can.accepted (events ++ later)).over job ended_has).stands
+      one (has_from (decisions given (events ++ later)) one there) (same ∙ sym ends.of_it)
+
+-- where the end of one is fixed
+abbrev pub Fixed : (given : Opening) (events later : List Event) → Begun given events later → Type 0
+Fixed given events later who = Cut (λ so_far. IsAtWork (world_after given (events ++ who.before) who.agent who.caller who.site who.ops so_far) who.agent who.t) who.after
+
+module _ (given : Opening) (events later : List Event) (calm : Calm given events later) (who : Begun given events later) (job : EndedJob)
+    (ends : EndsThen given (events ++ who.before) who.after who.agent who.t who.caller who.site who.ops job) where
+  pub fixed_at : Fixed given events later who
+  fixed_at =
+      cut_at (λ so_far. IsAtWork (world_after given (events ++ who.before) who.agent who.caller who.site who.ops so_far) who.agent who.t)
+      (λ so_far. tested (world_after given (events ++ who.before) who.agent who.caller who.site who.ops so_far) who.agent who.t) who.after
+      (λ work. ended_runs_not given calm.fair.can.accepted (events ++ later) who.agent who.t job (ended_has given events later calm.fair who job ends) ends.of_it
+      (ap (λ w. is_running w who.agent who.t) (ap (λ later. run given (events ++ later)) who.parts ∙ sym (run_is given events later calm who who.after)) ∙ work.running))
+
+-- ---- nothing is decided
+
+module _ (given : Opening) (events later : List Event) (one other : Begun given events later) (alone : (third : Begun given events later) → (third.before ≡ one.before) ⊎ (third.before ≡ other.before))
+    (fair : Fair given events later) (undecided : IsNotDecided (decisions given (events ++ later)) one.t) (other_undecided : IsNotDecided (decisions given (events ++ later)) other.t) where
+  -- whoever began is one of both
+  none_of : (third : Begun given events later) → IsNotDecided (decisions given (events ++ later)) third.t
+  none_of third decision there same =
+      ⊎_elim
+      (λ at. undecided decision there (same ∙ (same_place given events later third one at).t))
+      (λ at. other_undecided decision there (same ∙ (same_place given events later third other at).t))
+      (alone third)
+
+  abbrev raised : (so_far rest : List Event) → later ≡ so_far ++ rest → Begun given events so_far → Begun given events later
+  raised so_far rest split b = record {
+    before = b.before;
+    after = b.after ++ rest;
+    agent = b.agent;
+    t = b.t;
+    caller = b.caller;
+    site = b.site;
+    ops = b.ops;
+    parts = split ∙ ap (λ xs. xs ++ rest) b.parts ∙ append_assoc b.before (Begin b.agent (Transaction b.caller b.site b.ops) ∷ b.after) rest;
+    begins = b.begins;
+  }
+
+  none : (so_far rest : List Event) (event : Event) → later ≡ so_far ++ event ∷ rest → decided (fixed_of given) (run given (events ++ so_far)) event ≡ None
+  none so_far rest event split = of (decided (fixed_of given) (run given (events ++ so_far)) event) refl
+    where
+      stands : (d : Decided) → decided (fixed_of given) (run given (events ++ so_far)) event ≡ Some d → Has (decisions given (events ++ later)) d
+      stands d is =
+          let all = events ++ so_far in
+          subst (λ all. Has (decisions given all) d) (append_assoc events so_far (event ∷ rest) ∙ ap (λ later. events ++ later) (sym split))
+          (subst (λ list. Has list d) (sym (decisions_from-append (fixed_of given) (opening given) all (event ∷ rest)))
+          (append_has_right (decisions given all) (decisions_from (fixed_of given) (run given all) (event ∷ rest)) d
+          (subst (λ found. Has (cons_option found (decisions_from (fixed_of given) (step (fixed_of given) (run given all) event).world rest)) d) (sym is) (inl refl))))
+
+      of : (found : Option Decided) → decided (fixed_of given) (run given (events ++ so_far)) event ≡ found → found ≡ None
+      of None is = refl
+      of (Some d) is =
+          let known = answers_follow_knowledge given (events ++ so_far) event d is in
+          let busy = busy_at given events later fair so_far (event ∷ rest) split known.number known.actor known.there (ap is_idle known.running) in
+          let same : d.t ≡ busy.one.t = known.t ∙ eqb-true known.txn_run.task.t busy.one.t (ap (runs busy.one.t) (sym known.running) ∙ busy.runs_it) in
+          absurd (none_of (raised so_far (event ∷ rest) split busy.one) d (contains_from (decisions given (events ++ later)) d (stands d is)) same)
+
+  pub calmed : Calm given events later
+  calmed = record {
+    fair = fair;
+    none = none;
+    undecided = λ b decision there same.
+        none_of b decision (contains_from (decisions given (events ++ later)) decision
+        (subst (λ list. Has list decision) (sym (decisions_from-append (fixed_of given) (opening given) events later))
+        (append_has_left (decisions given events) (decisions_from (fixed_of given) (run given events) later) decision (has_from (decisions given events) decision there)))) same;
+  }

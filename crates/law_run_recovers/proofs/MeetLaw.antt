@@ -1,0 +1,354 @@
+-- Of two that meet at one suite, by votes that are tight, one is decided: else each had been refused by the other, and had votes that the other wanted.
+use Rattle.std.proofs.Common.{◌≡◌, ◌⊎◌, inl, inr, ⊎_elim, ℕ, ◌<◌, Bool, true, false, List, [], ◌∷◌, ◌++◌, append-nil, append_assoc, Some, refl, sym, ap, subst, ◌∙◌, arith}
+use Rattle.std.specs.Prelude.{◌==◌, ◌||◌, Contains}
+use Rattle.std.specs.List.{list_any}
+use Rattle.std.proofs.lemmas.Bool.{false≢true, eqb-true, eq-eqb}
+use Rattle.suite_prefix.specs.SettingsRules.{Opening}
+use Rattle.suite_prefix.specs.declared.lock_mode.LockMode.{LockMode}
+use Rattle.suite_collect.specs.Collecting.{mode_of}
+use Rattle.vote_core.specs.Quorums.{Configuration, votes_at}
+use Rattle.rep_core.specs.declared.lock.Lock.{Lock}
+use Rattle.rep_core.specs.State.{State}
+use Rattle.rep_core.proofs.Finding.{find_some}
+use Rattle.rep_core.proofs.Members.{Has, has_any, has_from, contains_from}
+use Rattle.txn_core.specs.declared.job.Job.TheVariants.{Transaction}
+use Rattle.txn_core.specs.Agents.{fixed_of}
+use Rattle.run_core.specs.declared.done.EndedJob.{EndedJob}
+use Rattle.run_core.specs.declared.done.Served.{Served}
+use Rattle.run_core.specs.declared.event.Event.{Event}
+use Rattle.run_core.specs.declared.event.Event.TheVariants.{Begin, Step}
+use Rattle.run_core.specs.Worlds.{server_at, step}
+use Rattle.run_core.specs.Runs.{run}
+use Rattle.run_core.specs.TableOfRun.{table_of}
+use Rattle.law_run_alone.specs.Undisturbed.{is_decided}
+use Rattle.law_run_recovers.specs.Beside.{clashes, Begun, its_asks}
+use Rattle.law_run_recovers.specs.Demands.{locks_asked, votes_set}
+use Rattle.law_run_recovers.specs.Local.{EndsThen, VotesNeverMovedOf}
+use Rattle.law_run_recovers.specs.Meets.{first_clash, AreTight, its_votes, TheyMeet, OneThatMeetsIsDecided}
+use Rattle.law_run_recovers.specs.Near.{asks_for}
+use Rattle.law_run_recovers.specs.Unmet.{world_after}
+use Rattle.law_run_recovers.proofs.AmongCourse.{head_or, tail_or}
+use Rattle.law_run_recovers.proofs.Keeps.{IsAtWork, at_work_before}
+use Rattle.law_run_recovers.proofs.MeetApart.{clashes_back, Room, stand_apart}
+use Rattle.law_run_recovers.proofs.MeetBarred.{barred_by}
+use Rattle.law_run_recovers.proofs.MeetBoth.{Place, place, its_event, in_part, cancel, held_in, none_first, IsAsked, IsGranted, granted_now, all_granted}
+use Rattle.law_run_recovers.proofs.MeetCalm.{Fair, Calm, table_same}
+use Rattle.law_run_recovers.proofs.MeetCount.{Met, OtherMet, Same, IsRefused, IsRefusedToo, not_both_short}
+use Rattle.law_run_recovers.proofs.MeetEnds.{fronts, Fixed, undecided_not, fixed_at, calmed}
+use Rattle.law_run_recovers.proofs.MeetLocks.{owned_at}
+use Rattle.law_run_recovers.proofs.MeetQuiet.{GoesQuietly}
+use Rattle.law_run_recovers.proofs.MeetReach.{Reached, reaches_asks, reached_first}
+use Rattle.law_run_recovers.proofs.MeetRun.{its_actor, goes_of, run_is}
+use Rattle.law_run_recovers.proofs.MeetTold.{for_lock, says_held, asks_at_work}
+use Rattle.law_run_recovers.proofs.MeetWants.{upto, whole, calm_upto, Wants, wants}
+
+-- what one asks for that clashes with some lock of the other's clashes with one of them
+clashes_some : (others : List (ℕ × LockMode)) (one way : ℕ × LockMode) → Contains others way → clashes one way ≡ true → list_any (clashes one) others ≡ true
+clashes_some others one way has is = has_any (clashes one) others way (has_from others way has) is
+
+module _ (given : Opening) (events later : List Event) (one other : Begun given events later) (alone : (third : Begun given events later) → (third.before ≡ one.before) ⊎ (third.before ≡ other.before))
+    (calm : Calm given events later) (two : (one.t == other.t) ≡ false)
+    (unmoved : VotesNeverMovedOf given events (asks_for given events one.t one.caller one.ops)) (other_unmoved : VotesNeverMovedOf given events (asks_for given events other.t other.caller other.ops))
+    (moves_none : (set : ℕ × Configuration) → Contains (votes_set (table_of given events) one.t one.caller one.ops) set → set.1 ≡ given.c0)
+    (other_moves_none : (set : ℕ × Configuration) → Contains (votes_set (table_of given events) other.t other.caller other.ops) set → set.1 ≡ given.c0)
+    (z : ℕ) (m k : LockMode)
+    (first : first_clash (asks_for given events one.t one.caller one.ops) (asks_for given events other.t other.caller other.ops) ≡ Some (z, m))
+    (other_first : first_clash (asks_for given events other.t other.caller other.ops) (asks_for given events one.t one.caller one.ops) ≡ Some (z, k))
+    (clash : clashes (z, m) (z, k) ≡ true)
+    (tight : AreTight given.c0 z (asks_for given events one.t one.caller one.ops) (asks_for given events other.t other.caller other.ops))
+    (f : Fixed given events later one) (other_f : Fixed given events later other)
+    (more : List Event) (order : other.before ++ Begin other.agent (Transaction other.caller other.site other.ops) ∷ other_f.front ≡ (one.before ++ Begin one.agent (Transaction one.caller one.site one.ops) ∷ f.front) ++ more) where
+  abbrev mine : List (ℕ × LockMode)
+  mine = asks_for given events one.t one.caller one.ops
+
+  abbrev theirs : List (ℕ × LockMode)
+  theirs = asks_for given events other.t other.caller other.ops
+
+  -- the ends of both are fixed, the one's first
+  abbrev part : List Event
+  part = upto given events later calm one f
+
+  abbrev rest : List Event
+  rest = f.back
+
+  abbrev part_whole : later ≡ upto given events later calm one f ++ f.back
+  part_whole = whole given events later calm one f
+
+  abbrev part_calm : Calm given events (upto given events later calm one f)
+  part_calm = calm_upto given events later calm one f
+
+  abbrev all : List Event
+  all = upto given events later calm other other_f
+
+  abbrev all_whole : later ≡ upto given events later calm other other_f ++ other_f.back
+  all_whole = whole given events later calm other other_f
+
+  abbrev all_calm : Calm given events (upto given events later calm other other_f)
+  all_calm = calm_upto given events later calm other other_f
+
+  abbrev held : ℕ → LockMode → ℕ → Bool
+  held = held_in given events (upto given events later calm one f) one.agent one.t
+
+  abbrev other_held : ℕ → LockMode → ℕ → Bool
+  other_held = held_in given events (upto given events later calm one f) other.agent other.t
+
+  abbrev Granted' : Begun given events later → ℕ → ℕ → ℕ → LockMode → Type 0
+  Granted' who s t y mode = IsGranted given events later one other alone part rest part_whole part_calm unmoved other_unmoved who s t y mode
+
+  not_two : {X : Type 0} → one.t ≡ other.t → X
+  not_two same = absurd (false≢true (sym two ∙ eq-eqb one.t other.t same))
+
+  -- ---- locks of both stand apart
+
+  room : Room given events later one other alone part rest part_whole part_calm one
+  room = record {
+    fixed = f;
+    more = [];
+    room = sym (append-nil part);
+    mine = λ so_far i t is places. ⊎_elim (λ p. p) (λ (p : Place given events later one other alone other so_far i t). not_two (sym is ∙ p.number)) places;
+  }
+
+  other_room : Room given events later one other alone part rest part_whole part_calm other
+  other_room = record {
+    fixed = other_f;
+    more = more;
+    room = order;
+    mine = λ so_far i t is places. ⊎_elim (λ (p : Place given events later one other alone one so_far i t). not_two (sym p.number ∙ is)) (λ p. p) places;
+  }
+
+  apart : (y server : ℕ) (a b : LockMode) → held y a server ≡ true → other_held y b server ≡ true → clashes (y, a) (y, b) ≡ true → ⊥
+  apart = stand_apart given events later one other alone part rest part_whole part_calm room other_room two
+
+  -- ---- each was refused by the other
+
+  its_wants : Wants given events later calm one f
+  its_wants = wants given events later calm one f unmoved moves_none
+
+  other_wants : Wants given events later calm other other_f
+  other_wants = wants given events later calm other other_f other_unmoved other_moves_none
+
+  has_first : Contains mine (z, m)
+  has_first = contains_from mine (z, m) (find_some (λ x. list_any (clashes x) theirs) mine (z, m) first).0
+
+  has_other_first : Contains theirs (z, k)
+  has_other_first = contains_from theirs (z, k) (find_some (λ x. list_any (clashes x) mine) theirs (z, k) other_first).0
+
+  -- what one asked for that clashes with what the other asks for: it had its first clash before, or this is it
+  before_it : (y : ℕ) (mode way : LockMode) → Reached given.c0 mine held (y, mode) → Contains theirs (y, way) → clashes (y, mode) (y, way) ≡ true
+      → Met mine theirs given.c0 z m k tight has_first has_other_first clash held other_held ⊎ Same (y, mode) (z, m)
+  before_it y mode way reached has is = reached_first given.c0 mine held (λ x. list_any (clashes x) theirs) (y, mode) (z, m) reached (clashes_some theirs (y, mode) (y, way) has is) first
+
+  other_before_it : (y : ℕ) (mode way : LockMode) → Reached given.c0 theirs other_held (y, mode) → Contains mine (y, way) → clashes (y, mode) (y, way) ≡ true
+      → OtherMet mine theirs given.c0 z m k tight has_first has_other_first clash held other_held ⊎ Same (y, mode) (z, k)
+  other_before_it y mode way reached has is = reached_first given.c0 theirs other_held (λ x. list_any (clashes x) mine) (y, mode) (z, k) reached (clashes_some mine (y, mode) (y, way) has is) other_first
+
+  abbrev Stands : ℕ → ℕ → ℕ → LockMode → Type 0
+  Stands s t y mode = Granted' one s t y mode ⊎ Granted' other s t y mode
+
+  stands : (so_far back : List Event) → part ≡ so_far ++ back → (s : ℕ) (st : State) → server_at (run given (events ++ so_far)) s ≡ Some st → (lock : Lock) → Has st.locks lock → Stands s lock.t lock.suite lock.mode
+  stands = all_granted given events later one other alone part rest part_whole part_calm unmoved other_unmoved
+
+  refused : (server : ℕ) → 0 < votes_at given.c0.reps server → its_wants.open' server ≡ false
+      → IsRefused mine theirs given.c0 z m k tight has_first has_other_first clash held other_held its_wants.suite its_wants.mode server
+  refused server has_vote shut =
+      let y = its_wants.suite in
+      let b = barred_by given events later one other alone part rest part_whole part_calm unmoved other_unmoved one f.front refl Stands stands y its_wants.mode server (its_wants.shut server has_vote shut) in
+      let its = by_one y server b.mode b.asked in
+      let theirs' = by_other y server b.holder b.way b.not_own b.stands in
+      let its_has = reaches_asks given.c0 mine held (y, b.mode) its in
+      let has = reaches_asks given.c0 theirs other_held (y, b.way) theirs'.reached in
+      record {
+        mode = b.mode;
+        strong = b.strong;
+        way = b.way;
+        asks = has;
+        clashing = b.clashing;
+        by = theirs'.held;
+        before = before_it y b.mode b.way its has b.clashing;
+        other_before = other_before_it y b.way b.mode theirs'.reached its_has (clashes_back y b.mode b.way b.clashing);
+      }
+    where
+      by_one : (y server : ℕ) (mode : LockMode)
+          → IsAsked given events later one other alone part rest part_whole part_calm unmoved other_unmoved one server one.t y mode ⊎ IsAsked given events later one other alone part rest part_whole part_calm unmoved other_unmoved other server one.t y mode
+          → Reached given.c0 mine held (y, mode)
+      by_one y server mode (inl asked) = asked.reached
+      by_one y server mode (inr asked) = not_two asked.number
+
+      by_other : (y server t : ℕ) (way : LockMode) → (t ≡ one.t → ⊥) → Stands server t y way → Granted' other server t y way
+      by_other y server t way not_own (inl granted) = absurd (not_own granted.number)
+      by_other y server t way not_own (inr granted) = granted
+
+  -- ---- and the other by the one
+
+  abbrev StandsToo : ℕ → ℕ → ℕ → LockMode → Type 0
+  StandsToo s t y mode = Granted' one s t y mode ⊎ (t ≡ other.t)
+
+  -- the one asks for no lock once its end is fixed
+  module _ (so_far back : List Event) (i : ℕ) (split : all ≡ so_far ++ Step i ∷ back) (what : Served) (served : (step (fixed_of given) (run given (events ++ so_far)) (Step i)).done.served ≡ Some what)
+      (t y : ℕ) (lock : for_lock t y what.request.value ≡ true) (p : Place given events later one other alone one so_far i t) where
+    abbrev begins : Event
+    begins = its_event given events later one
+
+    all_is : all ≡ one.before ++ Begin one.agent (Transaction one.caller one.site one.ops) ∷ (p.mid ++ Step one.agent ∷ back)
+    all_is = split ∙ ap (λ i. so_far ++ Step i ∷ back) p.who_is ∙ ap (λ xs. xs ++ Step one.agent ∷ back) p.parts ∙ append_assoc one.before (begins ∷ p.mid) (Step one.agent ∷ back)
+
+    abbrev its : Begun given events all
+    its = in_part given events later one other alone all other_f.back all_whole all_calm one (p.mid ++ Step one.agent ∷ back) all_is
+
+    goes : GoesQuietly given events (events ++ one.before) (p.mid ++ Step one.agent ∷ back) one.agent one.t one.caller one.site one.ops (its_actor given events all all_calm its).0
+    goes = goes_of given events all all_calm its
+
+    works : IsAtWork (world_after given (events ++ one.before) one.agent one.caller one.site one.ops p.mid) one.agent one.t
+    works =
+        asks_at_work given events (events ++ one.before) (p.mid ++ Step one.agent ∷ back) one.agent one.t one.caller one.site one.ops (its_actor given events all all_calm its).0 goes p.mid back refl what
+        (ap (λ w. (step (fixed_of given) w (Step one.agent)).done.served) (run_is given events all all_calm its p.mid ∙ ap (λ xs. run given (events ++ xs)) (sym p.parts))
+        ∙ ap (λ i. (step (fixed_of given) (run given (events ++ so_far)) (Step i)).done.served) (sym p.who_is) ∙ served) y (subst (λ t. for_lock t y what.request.value ≡ true) p.number lock)
+
+    not_after : (u : List Event) → so_far ≡ part ++ u → ⊥
+    not_after u is =
+        let mid : p.mid ≡ f.front ++ u =
+        ap tail_or (cancel one.before (begins ∷ p.mid) (begins ∷ (f.front ++ u)) (sym p.parts ∙ is ∙ append_assoc one.before (begins ∷ f.front) u)) in
+        f.rests (at_work_before given (events ++ one.before) (p.mid ++ Step one.agent ∷ back) one.agent one.t one.caller one.site one.ops (its_actor given events all all_calm its).0 goes.can goes.there goes.begins f.front u
+        (subst (λ mid. IsAtWork (world_after given (events ++ one.before) one.agent one.caller one.site one.ops mid) one.agent one.t) mid works))
+
+    -- so it did before
+    in_front : (u : List Event) → part ≡ so_far ++ u → (back' : List Event) × (part ≡ so_far ++ Step i ∷ back')
+    in_front [] is = absurd (not_after [] (sym (is ∙ append-nil so_far) ∙ sym (append-nil part)))
+    in_front (e ∷ u) is =
+        let rests : Step i ∷ back ≡ e ∷ (u ++ more) = cancel so_far (Step i ∷ back) (e ∷ (u ++ more)) (sym split ∙ order ∙ ap (λ part. part ++ more) is ∙ append_assoc so_far (e ∷ u) more) in
+        (u, is ∙ ap (λ e. so_far ++ e ∷ u) (sym (ap (head_or e) rests)))
+
+    stands_before : says_held what.reply.value ≡ true → StandsToo what.server t y (mode_of what.request.value)
+    stands_before said =
+        let at = ⊎_elim (λ after. absurd (not_after after.0 after.1)) (λ front. in_front front.0 front.1) (fronts part so_far more (Step i ∷ back) (sym order ∙ split)) in
+        ⊎_elim (λ granted. inl granted) (λ (granted : Granted' other what.server t y (mode_of what.request.value)). inr granted.number)
+        (granted_now given events later one other alone part rest part_whole part_calm unmoved other_unmoved so_far at.0 i at.1 what served t y lock said)
+
+  stands_too : (so_far back : List Event) → all ≡ so_far ++ back → (s : ℕ) (st : State) → server_at (run given (events ++ so_far)) s ≡ Some st → (lock : Lock) → Has st.locks lock → StandsToo s lock.t lock.suite lock.mode
+  stands_too so_far back split s st at lock has =
+      owned_at given events all all_calm StandsToo
+      (λ so_far back i split what served t y lock said. ⊎_elim
+      (λ p. stands_before so_far back i split what served t y lock p said)
+      (λ (p : Place given events later one other alone other so_far i t). inr p.number)
+      (place given events later one other alone all other_f.back all_whole all_calm.fair so_far back i split what served t y lock))
+      (λ s st at lock has. absurd (none_first given events all all_calm.fair s st at lock has)) so_far back split s st at lock has
+
+  refused_too : (server : ℕ) → 0 < votes_at given.c0.reps server → other_wants.open' server ≡ false
+      → IsRefusedToo mine theirs given.c0 z m k tight has_first has_other_first clash held other_held other_wants.suite other_wants.mode server
+  refused_too server has_vote shut =
+      let y = other_wants.suite in
+      let b =
+      barred_by given events later one other alone all other_f.back all_whole all_calm unmoved other_unmoved other other_f.front refl StandsToo stands_too y other_wants.mode server (other_wants.shut server has_vote shut) in
+      let has = asked_by y server b.mode b.asked in
+      let its = by_one y server b.holder b.way b.not_own b.stands in
+      let back = clashes_back y b.mode b.way b.clashing in
+      record {
+        mode = b.mode;
+        strong = b.strong;
+        way = b.way;
+        clashing = back;
+        by = its.held;
+        before = before_it y b.way b.mode its.reached has back;
+      }
+    where
+      asked_by : (y server : ℕ) (mode : LockMode)
+          → IsAsked given events later one other alone all other_f.back all_whole all_calm unmoved other_unmoved one server other.t y mode
+          ⊎ IsAsked given events later one other alone all other_f.back all_whole all_calm unmoved other_unmoved other server other.t y mode → Contains theirs (y, mode)
+      asked_by y server mode (inl asked) = not_two (sym asked.number)
+      asked_by y server mode (inr asked) = reaches_asks given.c0 theirs (held_in given events all other.agent other.t) (y, mode) asked.reached
+
+      by_one : (y server t : ℕ) (way : LockMode) → (t ≡ other.t → ⊥) → StandsToo server t y way → Granted' one server t y way
+      by_one y server t way not_own (inl granted) = granted
+      by_one y server t way not_own (inr own) = absurd (not_own own)
+
+  pub never_both : ⊥
+  never_both =
+      not_both_short mine theirs given.c0 z m k tight has_first has_other_first clash held other_held apart its_wants.suite its_wants.mode its_wants.asks its_wants.open' its_wants.few its_wants.most refused
+      other_wants.suite other_wants.mode other_wants.asks other_wants.open' other_wants.few other_wants.most refused_too
+
+-- ---- the law
+
+tight_back : (votes : Configuration) (suite : ℕ) (asked others : List (ℕ × LockMode)) → AreTight votes suite asked others → AreTight votes suite others asked
+tight_back votes suite asked others tight mine theirs has there clash =
+    let is = tight theirs mine there has (clashes_back suite mine theirs clash) in omega (arith, is)
+
+module _ (given : Opening) (events later : List Event) (one other : Begun given events later) (meets : TheyMeet given events later one other) (job outcome : EndedJob)
+    (ends : EndsThen given (events ++ one.before) one.after one.agent one.t one.caller one.site one.ops job)
+    (other_ends : EndsThen given (events ++ other.before) other.after other.agent other.t other.caller other.site other.ops outcome) where
+  fair : Fair given events later
+  fair = record { can = meets.can; idle = meets.idle; up = meets.up; free = meets.free; unspoiled = meets.unspoiled }
+
+  module _ (undecided : is_decided job.ending ≡ false) (other_undecided : is_decided outcome.ending ≡ false) where
+    calm : Calm given events later
+    calm =
+        calmed given events later one other meets.alone fair (undecided_not given events later fair one job ends undecided) (undecided_not given events later fair other outcome other_ends other_undecided)
+
+    -- both begin on the table of the first world
+    table_is : (who : Begun given events later) → table_of given (events ++ who.before) ≡ table_of given events
+    table_is who = table_same given events later calm who.before (its_event given events later who ∷ who.after) who.parts
+
+    abbrev Asks : Begun given events later → List (ℕ × LockMode)
+    Asks who = asks_for given events who.t who.caller who.ops
+
+    asks_is : (who : Begun given events later) → its_asks given events later who ≡ asks_for given events who.t who.caller who.ops
+    asks_is who = ap (λ table. locks_asked table who.t who.caller who.ops) (table_is who)
+
+    votes_is : (who : Begun given events later) → its_votes given events later who ≡ votes_set (table_of given events) who.t who.caller who.ops
+    votes_is who = ap (λ table. votes_set table who.t who.caller who.ops) (table_is who)
+
+    first : first_clash (asks_for given events one.t one.caller one.ops) (asks_for given events other.t other.caller other.ops) ≡ Some (meets.suite, meets.mine)
+    first = ap (λ asked. first_clash asked (Asks other)) (sym (asks_is one)) ∙ ap (λ others. first_clash (its_asks given events later one) others) (sym (asks_is other)) ∙ meets.first
+
+    other_first : first_clash (asks_for given events other.t other.caller other.ops) (asks_for given events one.t one.caller one.ops) ≡ Some (meets.suite, meets.theirs)
+    other_first = ap (λ asked. first_clash asked (Asks one)) (sym (asks_is other)) ∙ ap (λ others. first_clash (its_asks given events later other) others) (sym (asks_is one)) ∙ meets.other_first
+
+    tight : AreTight given.c0 meets.suite (asks_for given events one.t one.caller one.ops) (asks_for given events other.t other.caller other.ops)
+    tight = subst (λ asked. AreTight given.c0 meets.suite asked (Asks other)) (asks_is one) (subst (λ others. AreTight given.c0 meets.suite (its_asks given events later one) others) (asks_is other) meets.tight)
+
+    unmoved : VotesNeverMovedOf given events (asks_for given events one.t one.caller one.ops)
+    unmoved = subst (VotesNeverMovedOf given events) (asks_is one) meets.unmoved
+
+    other_unmoved : VotesNeverMovedOf given events (asks_for given events other.t other.caller other.ops)
+    other_unmoved = subst (VotesNeverMovedOf given events) (asks_is other) meets.other_unmoved
+
+    moves_none : (set : ℕ × Configuration) → Contains (votes_set (table_of given events) one.t one.caller one.ops) set → set.1 ≡ given.c0
+    moves_none set has = meets.moves_none set (subst (λ sets. Contains sets set) (sym (votes_is one)) has)
+
+    other_moves_none : (set : ℕ × Configuration) → Contains (votes_set (table_of given events) other.t other.caller other.ops) set → set.1 ≡ given.c0
+    other_moves_none set has = meets.other_moves_none set (subst (λ sets. Contains sets set) (sym (votes_is other)) has)
+
+    f : Fixed given events later one
+    f = fixed_at given events later calm one job ends
+
+    other_f : Fixed given events later other
+    other_f = fixed_at given events later calm other outcome other_ends
+
+    two_back : (other.t == one.t) ≡ false
+    two_back = of (other.t == one.t) refl
+      where
+        of : (b : Bool) → (other.t == one.t) ≡ b → b ≡ false
+        of false is = refl
+        of true is = absurd (false≢true (sym meets.two ∙ eq-eqb one.t other.t (sym (eqb-true other.t one.t is))))
+
+    pub neither : ⊥
+    neither = ⊎_elim
+        (λ first_one.
+        never_both given events later one other meets.alone calm meets.two unmoved other_unmoved moves_none other_moves_none meets.suite meets.mine meets.theirs first other_first meets.not_both_raise tight
+        f other_f first_one.0 first_one.1)
+        (λ first_other.
+        never_both given events later other one (λ third. ⊎_elim (λ is. inr is) (λ is. inl is) (meets.alone third)) calm two_back other_unmoved unmoved other_moves_none moves_none
+        meets.suite meets.theirs meets.mine other_first first (clashes_back meets.suite meets.mine meets.theirs meets.not_both_raise)
+        (tight_back given.c0 meets.suite (Asks one) (Asks other) tight) other_f f first_other.0 first_other.1)
+        (fronts (upto given events later calm one f) (upto given events later calm other other_f) f.back other_f.back
+        (sym (whole given events later calm one f) ∙ whole given events later calm other other_f))
+
+  pub decided_one : (is_decided job.ending || is_decided outcome.ending) ≡ true
+  decided_one = of (is_decided job.ending) (is_decided outcome.ending) refl refl
+    where
+      of : (a b : Bool) → is_decided job.ending ≡ a → is_decided outcome.ending ≡ b → (a || b) ≡ true
+      of true b one_is other_is = refl
+      of false true one_is other_is = refl
+      of false false one_is other_is = absurd (neither one_is other_is)
+
+pub one_that_meets_is_decided : OneThatMeetsIsDecided
+one_that_meets_is_decided given events later one other meets job outcome ends other_ends = decided_one given events later one other meets job outcome ends other_ends

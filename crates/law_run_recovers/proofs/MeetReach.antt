@@ -1,0 +1,305 @@
+-- A transaction in whose run nothing is decided, where votes were never moved, nor moves it any: whatever lock it asks for, it has had all those before; and where its end
+-- is fixed, it was refused too many votes of one.
+use Rattle.std.proofs.Common.{◌≡◌, ◌⊎◌, inl, inr, ⊎_elim, ℕ, ◌≤◌, ◌<◌, Bool, true, false, cond, List, [], ◌∷◌, ◌++◌, Option, Some, None, Result, Ok, Err, refl, sym, ap, subst, ◌∙◌, arith}
+use Rattle.std.specs.Prelude.{◌==◌, not, nat_le, map, find, Contains}
+use Rattle.std.proofs.lemmas.Bool.{false≢true, and_parts, eqb-true}
+use Rattle.std.proofs.lemmas.Bool.Decides.{nat_tests}
+use Rattle.std.proofs.lemmas.Option.{none-some, same_Some}
+use Rattle.acl_core.specs.Identity.{Identity}
+use Rattle.vote_core.specs.Quorums.{Configuration, votes_in}
+use Rattle.vote_core.proofs.QuorumLemmas.{votes_in-wider}
+use Rattle.suite_prefix.specs.SettingsRules.{Opening}
+use Rattle.suite_prefix.specs.declared.copies.Prefix.{Prefix}
+use Rattle.suite_prefix.specs.declared.lock_mode.LockMode.{LockMode}
+use Rattle.suite_prefix.specs.declared.lock_mode.LockMode.TheVariants.{Shared, Exclusive}
+use Rattle.file_ops.specs.declared.answer.Answer.{Answer}
+use Rattle.file_ops.specs.declared.operation.Op.{Op}
+use Rattle.file_ops.specs.declared.refusal.Refusal.{Refusal}
+use Rattle.rep_core.specs.declared.request.Request.{Request}
+use Rattle.rep_core.specs.declared.request.Request.TheVariants as request
+use Rattle.rep_core.proofs.Finding.{find_some}
+use Rattle.rep_core.proofs.Members.{Has, has_map, contains_from}
+use Rattle.suite_collect.specs.Collecting.{Collector, Asked, Poll, Upgrade, needed_of, wanted, mode_or, mode_of, mode_asked, request_for}
+use Rattle.weak_cache.specs.Entries.{Cache}
+use Rattle.txn_core.specs.declared.ending.Ending.TheVariants.{Undecided}
+use Rattle.txn_core.specs.Suites.{Suites, suite_of}
+use Rattle.txn_core.specs.Writing.{parts_at}
+use Rattle.txn_core.specs.Doing as doing
+use Rattle.txn_core.specs.Doing.{Phase, Gathering, Fetching, Preparing, Deciding, Finishing, home_of}
+use Rattle.txn_core.specs.Transactions.{request_in, asked_for, changes_of, decision_of}
+use Rattle.txn_core.specs.Agents.{fixed_of, next_in, next_of}
+use Rattle.txn_core.specs.Laws.{is_decide}
+use Rattle.txn_core.proofs.Asks.{asks_same}
+use Rattle.run_core.specs.declared.done.Served.{Served}
+use Rattle.run_core.specs.declared.event.Event.{Event}
+use Rattle.run_core.specs.declared.event.Event.TheVariants.{Step}
+use Rattle.run_core.specs.Worlds.{Actor, actor_at, step}
+use Rattle.run_core.specs.Runs.{run}
+use Rattle.run_core.specs.TableOfRun.{table_of}
+use Rattle.law_run_machine.specs.Machines.{machine_of}
+use Rattle.law_one_table.proofs.Effects as effects
+use Rattle.law_headline.proofs.Keeping.{all_keep}
+use Rattle.law_run_recovers.specs.Standing.{is_up}
+use Rattle.law_run_recovers.specs.Demands.{locks_asked, votes_set, is_met, demand_by, led_to_by, MayStart}
+use Rattle.law_run_recovers.specs.Laws.{ending_by, ending_of, answer_on}
+use Rattle.law_run_recovers.specs.Local.{VotesNeverMovedOf}
+use Rattle.law_run_recovers.specs.Near.{asks_for}
+use Rattle.law_run_recovers.specs.OpenDemands.{Want}
+use Rattle.law_run_recovers.specs.Unmet.{world_after}
+use Rattle.law_run_recovers.proofs.Asked.{onto_left, onto_so_far, asked_exclusive, next_mode}
+use Rattle.law_run_recovers.proofs.Asking.{onto}
+use Rattle.law_run_recovers.proofs.Ends.{fetch_is}
+use Rattle.law_run_recovers.proofs.Heard.{asks_for as asked_by}
+use Rattle.law_run_recovers.proofs.Keeps.{IsAtWork}
+use Rattle.law_run_recovers.proofs.Leading.{led}
+use Rattle.law_run_recovers.proofs.Polled.{Sight, finds_at}
+use Rattle.law_run_recovers.proofs.Stands.{IsRight, IsHad, locks_on, sets_on, of_lock, of_votes, unmet, EndsAs}
+use Rattle.law_run_recovers.proofs.Unmoved.{first_votes_at}
+use Rattle.law_run_recovers.proofs.Widened.{same_mode}
+use Rattle.law_run_recovers.proofs.MeetAsks.{sets_asked}
+use Rattle.law_run_recovers.proofs.MeetCourse.{Course, Short, PhaseIn, its, number, sight, answering, Fits, course_at}
+use Rattle.law_run_recovers.proofs.MeetQuiet.{GoesQuietly}
+use Rattle.law_run_recovers.proofs.MeetTold.{for_lock, asks, asks_at_work, held, opens_held, held_weaker, held_up, held_fits}
+
+-- ---- lists
+
+-- one of a list parts it
+split_has : {X : Type 0} (xs : List X) (x : X) → Has xs x → (front : List X) × (back : List X) × (xs ≡ front ++ x ∷ back)
+split_has [] x has = absurd has
+split_has (y ∷ ys) x (inl same) = ([], ys, ap (λ y. y ∷ ys) same)
+split_has (y ∷ ys) x (inr has) = let rest = split_has ys x has in (y ∷ rest.0, rest.1, ap (λ ys. y ∷ ys) rest.2)
+
+onto_append : {X : Type 0} (front : List X) (x : X) (back left : List X) → onto (front ++ x ∷ back) left ≡ onto back (x ∷ onto front left)
+onto_append [] x back left = refl
+onto_append (y ∷ front) x back left = onto_append front x back (y ∷ left)
+
+append_later : {X : Type 0} (front : List X) (x : X) (back : List X) (one : X) → Has back one → Has (front ++ x ∷ back) one
+append_later [] x back one has = inr has
+append_later (y ∷ front) x back one has = inr (append_later front x back one has)
+
+has_append : {X : Type 0} (xs ys : List X) (x : X) → Has (xs ++ ys) x → Has xs x ⊎ Has ys x
+has_append [] ys x has = inr has
+has_append (y ∷ xs) ys x (inl same) = inl (inl same)
+has_append (y ∷ xs) ys x (inr has) = ⊎_elim (λ left. inl (inr left)) (λ right. inr right) (has_append xs ys x has)
+
+-- the first that passes a test is one that came before, or the first of what is left
+pub find_onto : {X : Type 0} (p : X → Bool) (before left : List X) (x : X) → find p (onto before left) ≡ Some x → Has before x ⊎ (find p left ≡ Some x)
+find_onto p [] left x is = inr is
+find_onto p (b ∷ before) left x is = ⊎_elim (λ has. inl (inr has)) (λ rest. of (p b) rest) (find_onto p before (b ∷ left) x is)
+  where
+    of : (passes : Bool) → cond passes (Some b) (find p left) ≡ Some x → Has (b ∷ before) x ⊎ (find p left ≡ Some x)
+    of true is = inl (inl (same_Some b x is))
+    of false is = inr is
+
+-- A lock that one asks for, all before which it has had: by who granted them it has enough of these votes.
+pub record Reached (votes : Configuration) (asked : List (ℕ × LockMode)) (held : ℕ → LockMode → ℕ → Bool) (one : ℕ × LockMode) : Type 0 where
+  pub before : List (ℕ × LockMode)
+  pub after : List (ℕ × LockMode)
+  pub parts : asked ≡ onto before (one ∷ after)
+  pub had : (other : ℕ × LockMode) → Has before other → needed_of other.1 votes ≤ votes_in votes.reps (held other.0 other.1)
+
+module _ (votes : Configuration) (asked : List (ℕ × LockMode)) (held : ℕ → LockMode → ℕ → Bool) where
+  pub reaches_asks : (one : ℕ × LockMode) → Reached votes asked held one → Contains asked one
+  reaches_asks one r = contains_from asked one (subst (λ all. Has all one) (sym r.parts) (onto_left r.before (one ∷ r.after) one (inl refl)))
+
+  -- the first that passes a test, if it passes it, was had, or is it
+  pub reached_first : (p : ℕ × LockMode → Bool) (one first : ℕ × LockMode) → Reached votes asked held one → p one ≡ true → find p asked ≡ Some first → (needed_of first.1 votes ≤ votes_in votes.reps (held first.0 first.1)) ⊎ (one ≡ first)
+  reached_first p one first r passes is =
+      ⊎_elim (λ has. inl (r.had first has))
+      (λ rest. inr (same_Some one first (sym (ap (λ b. cond b (Some one) (find p r.after)) passes) ∙ rest)))
+      (find_onto p r.before (one ∷ r.after) first (ap (find p) (sym r.parts) ∙ is))
+
+  -- and so by whoever granted more
+  pub reached_wider : (wider : ℕ → LockMode → ℕ → Bool) → ((z : ℕ) (mode : LockMode) (server : ℕ) → held z mode server ≡ true → wider z mode server ≡ true) → (one : ℕ × LockMode) → Reached votes asked held one → Reached votes asked wider one
+  reached_wider wider more one r = record {
+    before = r.before;
+    after = r.after;
+    parts = r.parts;
+    had = λ other has. le_trans (needed_of other.1 votes) (votes_in votes.reps (held other.0 other.1)) (votes_in votes.reps (wider other.0 other.1)) (r.had other has)
+        (votes_in-wider votes.reps (held other.0 other.1) (wider other.0 other.1) (λ server is. more other.0 other.1 server is));
+  }
+    where
+      le_trans : (a b c : ℕ) → a ≤ b → b ≤ c → a ≤ c
+      le_trans a b c one two = omega (arith, one, two)
+
+enough : (a b c : ℕ) → nat_le a b ≡ true → b ≤ c → a ≤ c
+enough a b c le more = grind (arith, nat_tests)
+
+too_few : (a b : ℕ) → not (nat_le a b) ≡ true → b < a
+too_few a b is = grind (arith, nat_tests)
+
+module _ (given : Opening) (base events later : List Event) (agent t : ℕ) (caller : Identity) (site : ℕ) (ops : List Op) (actor : Actor) (goes : GoesQuietly given base events later agent t caller site ops actor)
+    (never : (so_far rest : List Event) → later ≡ so_far ++ Step agent ∷ rest → IsAtWork (world_after given events agent caller site ops so_far) agent t → (here : Actor) → actor_at (world_after given events agent caller site ops so_far) agent ≡ Some here
+    → (asked : ℕ × Request) → next_of (fixed_of given) here.agent ≡ Some asked → is_decide asked.1 ≡ false)
+    (unmoved : VotesNeverMovedOf given base (asks_for given base t caller ops)) where
+  abbrev asked : List (ℕ × LockMode)
+  asked = asks_for given base t caller ops
+
+  abbrev pub Reaches : ℕ × LockMode → Type 0
+  Reaches one = Reached given.c0 (asks_for given base t caller ops) (held given base events later agent t caller site ops actor goes) one
+
+  module _ (opens : ℕ → LockMode → ℕ → Bool) (weaker : (z server : ℕ) → opens z Exclusive server ≡ true → opens z Shared server ≡ true)
+      (opens_up : (z : ℕ) (mode : LockMode) (server : ℕ) → opens z mode server ≡ true → is_up (run given base) server ≡ true) (fits : Fits given base events later agent t caller site ops actor goes opens) where
+    abbrev S : Sight
+    S = sight given base events later agent t caller site ops actor goes opens weaker opens_up fits
+
+    -- votes that are found are the first ones
+    found_first : (one : ℕ × LockMode) → Contains (asks_for given base t caller ops) one → (start : Prefix) → MayStart (fixed_of given) actor.agent.cache site one.0 start
+        → (led_to_by (fixed_of given) (run given base) (finds_at S one.0) one.0 start).votes ≡ given.c0
+    found_first one has start may =
+        let z = one.0 in
+        let end = led given z (machine_of given z base) (run given base) (effects.inv given base (all_keep given base goes.can_base) z) (finds_at S z)
+        (answering given base events later agent t caller site ops actor goes opens weaker opens_up fits z) start (goes.starts z start may) in
+        first_votes_at given base goes.can_base z (λ before later parts. unmoved before later one parts has) (led_to_by (fixed_of given) (run given base) (finds_at S z) z start) end.was
+
+    locks_are : locks_on (table_of given base) (its given base events later agent t caller site ops actor goes) ≡ asks_for given base t caller ops
+    locks_are = ap (λ n. locks_asked (table_of given base) n caller ops) (number given base events later agent t caller site ops actor goes)
+
+    sets_are : sets_on (table_of given base) (its given base events later agent t caller site ops actor goes) ≡ votes_set (table_of given base) t caller ops
+    sets_are = ap (λ n. votes_set (table_of given base) n caller ops) (number given base events later agent t caller site ops actor goes)
+
+    -- ---- where its end is fixed
+
+    pub record IsWanting : Type 0 where
+      pub suite : ℕ
+      pub mode : LockMode
+      pub asks : Contains (asks_for given base t caller ops) (suite, mode)
+      pub few : votes_in given.c0.reps (opens suite mode) < needed_of mode given.c0
+
+    pub wanting : ((set : ℕ × Configuration) → Contains (votes_set (table_of given base) t caller ops) set → set.1 ≡ given.c0) → is_up (run given base) (home_of (fixed_of given).service t) ≡ true
+        → Short given base events later agent t caller site ops actor goes opens weaker opens_up fits → IsWanting
+    wanting moves_none home short = of (find (unmet S) wants) refl short.right.ends
+      where
+        wants : List Want
+        wants =
+            map (of_lock (fixed_of given) (run given base) S short.right.start) (locks_on (table_of given base) (its given base events later agent t caller site ops actor goes))
+            ++ map of_votes (sets_on (table_of given base) (its given base events later agent t caller site ops actor goes))
+
+        undecided_not : (answer : Result (List Answer) Refusal) → Undecided short.cause ≡ ending_of answer → ⊥
+        undecided_not (Ok answers) is = cc
+        undecided_not (Err refusal) is = cc
+
+        short_of : (one : ℕ × LockMode) (votes : Configuration) → Contains (asks_for given base t caller ops) one → votes ≡ given.c0 → unmet S (record { suite = one.0; mode = one.1; votes = votes }) ≡ true → IsWanting
+        short_of one votes has first few = record {
+          suite = one.0;
+          mode = one.1;
+          asks = has;
+          few = subst (λ (votes : Configuration). votes_in votes.reps (opens one.0 one.1) < needed_of one.1 votes) first (too_few (needed_of one.1 votes) (votes_in votes.reps (opens one.0 one.1)) few);
+        }
+
+        of : (found : Option Want) → find (unmet S) wants ≡ found
+            → EndsAs (fixed_of given) (run given base) S (table_of given base) (its given base events later agent t caller site ops actor goes) actor.agent.cache (Undecided short.cause) found → IsWanting
+        of None is ends =
+            absurd (undecided_not (answer_on (table_of given base) (its given base events later agent t caller site ops actor goes).t caller ops)
+            (ends ∙ ap (λ up. ending_by None up (answer_on (table_of given base) (its given base events later agent t caller site ops actor goes).t caller ops))
+            (ap (λ n. is_up (run given base) (home_of (fixed_of given).service n)) (number given base events later agent t caller site ops actor goes) ∙ home)))
+        of (Some want) is ends =
+            let some = find_some (unmet S) wants want is in
+            ⊎_elim
+            (λ lock.
+            let one = has_map (of_lock (fixed_of given) (run given base) S short.right.start) (locks_on (table_of given base) (its given base events later agent t caller site ops actor goes)) want lock in
+            let has = contains_from asked one.0 (subst (λ all. Has all one.0) locks_are one.1) in
+            short_of one.0 (led_to_by (fixed_of given) (run given base) (finds_at S one.0.0) one.0.0 (short.right.start one.0.0)).votes has
+            (found_first one.0 has (short.right.start one.0.0) (short.right.from one.0.0)) (ap (unmet S) one.2 ∙ some.1))
+            (λ set.
+            let one = has_map of_votes (sets_on (table_of given base) (its given base events later agent t caller site ops actor goes)) want set in
+            let there = subst (λ all. Has all one.0) sets_are one.1 in
+            short_of (one.0.0, Exclusive) one.0.1 (contains_from asked (one.0.0, Exclusive) (sets_asked (table_of given base) t caller ops one.0 there)) (moves_none one.0 (contains_from (votes_set (table_of given base) t caller ops) one.0 there))
+            (ap (unmet S) one.2 ∙ some.1))
+            (has_append (map (of_lock (fixed_of given) (run given base) S short.right.start) (locks_on (table_of given base) (its given base events later agent t caller site ops actor goes))) _ want some.0)
+
+  -- ---- what it asks for
+
+  abbrev HeldPhase : Suites → Cache → Phase → Type 0
+  HeldPhase suites now phase =
+      PhaseIn given base events later agent t caller site ops actor goes (opens_held given base events later agent t caller site ops actor goes) (held_weaker given base events later agent t caller site ops actor goes)
+      (held_up given base events later agent t caller site ops actor goes) (held_fits given base events later agent t caller site ops actor goes) suites now phase
+
+  abbrev H : Sight
+  H =
+      sight given base events later agent t caller site ops actor goes (opens_held given base events later agent t caller site ops actor goes) (held_weaker given base events later agent t caller site ops actor goes)
+      (held_up given base events later agent t caller site ops actor goes) (held_fits given base events later agent t caller site ops actor goes)
+
+  -- what it had so far it holds
+  had_held : (suites : Suites) (one : ℕ × LockMode) → Contains (asks_for given base t caller ops) one
+      → ((suite : _) → suite_of suites one.0 ≡ Some suite → IsRight (fixed_of given) (run given base) H (table_of given base) (its given base events later agent t caller site ops actor goes) actor.agent.cache one.0 suite)
+      → IsHad (fixed_of given) (run given base) H (table_of given base) (its given base events later agent t caller site ops actor goes) actor.agent.cache suites one
+      → needed_of one.1 given.c0 ≤ votes_in given.c0.reps (held given base events later agent t caller site ops actor goes one.0 one.1)
+  had_held suites one has right had =
+      let first = found_first (opens_held given base events later agent t caller site ops actor goes) (held_weaker given base events later agent t caller site ops actor goes) (held_up given base events later agent t caller site ops actor goes)
+      (held_fits given base events later agent t caller site ops actor goes) one has had.suite.collector.start (right had.suite had.there).may in
+      enough (needed_of one.1 given.c0) (votes_in given.c0.reps (opens_held given base events later agent t caller site ops actor goes one.0 one.1)) (votes_in given.c0.reps (held given base events later agent t caller site ops actor goes one.0 one.1))
+      (subst (λ (votes : Configuration). is_met (demand_by (opens_held given base events later agent t caller site ops actor goes one.0 one.1) one.0 one.1 votes) ≡ true) first had.met)
+      (votes_in-wider given.c0.reps (opens_held given base events later agent t caller site ops actor goes one.0 one.1) (held given base events later agent t caller site ops actor goes one.0 one.1)
+      (λ server is. (and_parts (is_up (run given base) server) (held given base events later agent t caller site ops actor goes one.0 one.1 server) is).1))
+
+  module _ (so_far rest : List Event) (split : later ≡ so_far ++ Step agent ∷ rest) (what : Served) (served : (step (fixed_of given) (world_after given events agent caller site ops so_far) (Step agent)).done.served ≡ Some what)
+      (z : ℕ) (lock : for_lock t z what.request.value ≡ true) where
+    c : Course given base events later agent t caller site ops actor goes (opens_held given base events later agent t caller site ops actor goes) (held_weaker given base events later agent t caller site ops actor goes)
+        (held_up given base events later agent t caller site ops actor goes) (held_fits given base events later agent t caller site ops actor goes) so_far
+    c =
+        course_at given base events later agent t caller site ops actor goes (opens_held given base events later agent t caller site ops actor goes) (held_weaker given base events later agent t caller site ops actor goes)
+        (held_up given base events later agent t caller site ops actor goes) (held_fits given base events later agent t caller site ops actor goes) never so_far (Step agent ∷ rest) split
+        (asks_at_work given base events later agent t caller site ops actor goes so_far rest split what served z lock)
+
+    request_is : request_in (fixed_of given) (its given base events later agent t caller site ops actor goes) c.txn_run.suites c.txn_run.phase ≡ Some (what.server, what.request.value)
+    request_is =
+        let one = asks given base events later agent t caller site ops actor goes so_far rest split what served z lock in
+        subst (λ task. request_in (fixed_of given) task c.txn_run.suites c.txn_run.phase ≡ Some (what.server, what.request.value)) c.task_is
+        (sym (ap (next_in (fixed_of given)) c.running) ∙ ap (λ (a : Actor). next_of (fixed_of given) a.agent) (same_Some c.here one.0 (sym c.there ∙ one.1)) ∙ one.2)
+
+    lock_of : (u y : ℕ) (question : Asked) → for_lock t z (request_for u y question) ≡ true → y ≡ z
+    lock_of u y (Poll mode) is = eqb-true y z (and_parts (u == t) (y == z) is).1
+    lock_of u y Upgrade is = eqb-true y z (and_parts (u == t) (y == z) is).1
+
+    not_lock : (asked' : Request) → what.request.value ≡ asked' → for_lock t z asked' ≡ false → Reaches (z, mode_of what.request.value)
+    not_lock asked' is none = absurd (false≢true (sym none ∙ ap (for_lock t z) (sym is) ∙ lock))
+
+    -- what was asked for is what came before, with this
+    reaches_by : (y : ℕ) (mode : LockMode) (before after : List (ℕ × LockMode)) → y ≡ z → mode_of what.request.value ≡ mode → locks_on (table_of given base) (its given base events later agent t caller site ops actor goes) ≡ onto before ((y, mode) ∷ after)
+        → ((other : ℕ × LockMode) → Has before other → Contains (asks_for given base t caller ops) other → needed_of other.1 given.c0 ≤ votes_in given.c0.reps (held given base events later agent t caller site ops actor goes other.0 other.1))
+        → Reaches (z, mode_of what.request.value)
+    reaches_by y mode before after at is order had =
+        let all : asks_for given base t caller ops ≡ onto before ((y, mode) ∷ after) =
+        sym (locks_are (opens_held given base events later agent t caller site ops actor goes) (held_weaker given base events later agent t caller site ops actor goes) (held_up given base events later agent t caller site ops actor goes)
+        (held_fits given base events later agent t caller site ops actor goes)) ∙ order in
+        record {
+          before = before;
+          after = after;
+          parts = all ∙ ap (λ y. onto before ((y, mode) ∷ after)) at ∙ ap (λ mode. onto before ((z, mode) ∷ after)) (sym is);
+          had = λ other has. had other has (contains_from asked other (subst (λ list. Has list other) (sym all) (onto_so_far before ((y, mode) ∷ after) other has)));
+        }
+
+    of_phase : (now : Cache) (suites : Suites) (phase : Phase) → HeldPhase suites now phase → request_in (fixed_of given) (its given base events later agent t caller site ops actor goes) suites phase ≡ Some (what.server, what.request.value) → Reaches (z, mode_of what.request.value)
+    of_phase now suites (Gathering y) at is =
+        let task = its given base events later agent t caller site ops actor goes in
+        let g = at.0 in
+        let asks' = asked_by task y g.suite.collector what.server what.request.value (sym (ap (asked_for task y) g.there) ∙ is) in
+        let mode : mode_asked asks'.question ≡ g.mode = next_mode g.suite.collector what.server asks'.question asks'.is ∙ ap wanted g.found.reached.is ∙ ap (λ (c : Collector). c.mode) (sym g.found.reached.is) ∙ g.mode_is in
+        reaches_by y g.mode g.asked _ (lock_of task.t y asks'.question (ap (for_lock t z) (sym asks'.asked_is) ∙ lock)) (ap mode_of asks'.asked_is ∙ same_mode task.t y asks'.question ∙ mode)
+        (g.asks.order ∙ ap (onto g.asked) g.next_is)
+        (λ other has there. had_held suites other there (λ suite found. g.asks.right other.0 suite found) (g.asks.had other has))
+    of_phase now suites (Fetching y) at is =
+        not_lock _ (fetch_is (its given base events later agent t caller site ops actor goes) y (suite_of suites y) what.server what.request.value is) refl
+    of_phase now suites (doing.Widening [] granted) at is = absurd at
+    of_phase now suites (doing.Widening (y ∷ left) granted) at is =
+        let task = its given base events later agent t caller site ops actor goes in
+        let asks' = asked_by task y at.suite.collector what.server what.request.value (sym (ap (asked_for task y) at.there) ∙ is) in
+        let mode : mode_asked asks'.question ≡ Exclusive = next_mode at.suite.collector what.server asks'.question asks'.is ∙ ap (λ o. mode_or o at.suite.collector.mode) at.widening_is in
+        let some = split_has at.sets.so_far (y, Exclusive) (asked_exclusive at.sets.so_far y (at.sets.exclusive (y, at.votes) (inl refl))) in
+        reaches_by y Exclusive some.1 (onto some.0 []) (lock_of task.t y asks'.question (ap (for_lock t z) (sym asks'.asked_is) ∙ lock)) (ap mode_of asks'.asked_is ∙ same_mode task.t y asks'.question ∙ mode)
+        (at.sets.all ∙ ap (λ xs. onto xs []) some.2 ∙ onto_append some.0 (y, Exclusive) some.1 [])
+        (λ other has there. had_held suites other there (λ suite found. at.sets.right other.0 suite found)
+        (at.sets.had other (subst (λ xs. Has xs other) (sym some.2) (append_later some.0 (y, Exclusive) some.1 other has))))
+    of_phase now suites (Preparing [] outcome) at is = absurd (none-some _ is)
+    of_phase now suites (Preparing (server ∷ left) outcome) at is =
+        not_lock _ (sym (asks_same server what.server (request.Prepare (its given base events later agent t caller site ops actor goes).t (parts_at suites (changes_of outcome) server)) what.request.value is)) refl
+    of_phase now suites (Deciding outcome) at is =
+        not_lock _ (sym (asks_same (home_of (fixed_of given).service (its given base events later agent t caller site ops actor goes).t) what.server
+        (request.Decide (its given base events later agent t caller site ops actor goes).t (decision_of (its given base events later agent t caller site ops actor goes) outcome)) what.request.value is)) refl
+    of_phase now suites (Finishing [] v ended) at is = absurd (none-some _ is)
+    of_phase now suites (Finishing (server ∷ left) v ended) at is =
+        not_lock _ (sym (asks_same server what.server (request.Finish (its given base events later agent t caller site ops actor goes).t v) what.request.value is)) refl
+
+    pub reaches_now : Reaches (z, mode_of what.request.value)
+    reaches_now = of_phase c.here.agent.cache c.txn_run.suites c.txn_run.phase c.stands request_is

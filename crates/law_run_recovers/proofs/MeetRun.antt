@@ -1,0 +1,272 @@
+-- A transaction that begins in a calm run goes quietly: nobody hinders or robs it, servers stay up and show what they showed, and it never asks to be decided.
+use Rattle.std.proofs.Common.{◌≡◌, ℕ, Bool, true, false, cond, List, [], ◌∷◌, ◌++◌, append-nil, append_assoc, Option, Some, None, is_some, Ok, Err, refl, sym, ap, subst, ◌∙◌, arith}
+use Rattle.std.specs.Prelude.{◌%◌, ◌==◌, ◌&&◌, ◌||◌, not, length}
+use Rattle.std.specs.List.{list_all}
+use Rattle.std.proofs.lemmas.Bool.{false≢true, and_parts, and_from, eqb-true, eq-eqb}
+use Rattle.std.proofs.lemmas.Bool.Decides.{nat_tests}
+use Rattle.std.proofs.lemmas.Option.{same_Some}
+use Rattle.suite_prefix.specs.SettingsRules.{Opening}
+use Rattle.suite_prefix.specs.declared.copies.Replica.{Replica}
+use Rattle.rep_core.specs.declared.request.Request.{Request}
+use Rattle.rep_core.specs.declared.request.Request.TheVariants as request
+use Rattle.rep_core.specs.declared.reply.Reply.TheVariants as reply
+use Rattle.rep_core.specs.Service.{reply_of, reply_up, reply_down, recorded, verdict_of}
+use Rattle.rep_core.specs.Store.{copy_of}
+use Rattle.rep_core.specs.State.{State, record_of}
+use Rattle.txn_core.specs.declared.job.Job.TheVariants.{Transaction}
+use Rattle.txn_core.specs.Doing as doing
+use Rattle.txn_core.specs.Doing.{Task, TransactionRun, Doing, Running, RunningSweep}
+use Rattle.txn_core.specs.Transactions.{decision_of}
+use Rattle.txn_core.specs.Agents.{fixed_of, next_in, next_of}
+use Rattle.txn_core.specs.Laws.{is_decide}
+use Rattle.run_core.specs.declared.done.Served.{Served}
+use Rattle.run_core.specs.declared.event.Event.{Event}
+use Rattle.run_core.specs.declared.event.Event.TheVariants.{Begin, Step, Crash, Return, Forget, Lack}
+use Rattle.run_core.specs.Worlds.{Actor, World, server_at, actor_at, has_no_job, step}
+use Rattle.run_core.specs.Runs.{run}
+use Rattle.run_core.specs.Decisions.{decided, decided_by, decided_at, decided_as, to_decide, answer_in, task_of, task_at}
+use Rattle.run_core.specs.TableOfRun.{table_of}
+use Rattle.law_runs.specs.Naming.{names}
+use Rattle.law_runs.proofs.Asking.{decides}
+use Rattle.law_suite_machine.specs.Registers.{WasPrefix}
+use Rattle.law_server_moves.specs.Laws.{beginning}
+use Rattle.law_headline.specs.Premises.{CanBe}
+use Rattle.law_run_recovers.specs.Beside.{Begun, spoils}
+use Rattle.law_run_recovers.specs.Standing.{up_in, is_up, shown_in, shown_at}
+use Rattle.law_run_recovers.specs.Unmet.{runs, running_in, is_running, is_telling, takes, up_and, of_up, robs, hinders_itself, world_after}
+use Rattle.law_run_recovers.specs.Told.{bereaves}
+use Rattle.law_run_recovers.proofs.BesideAll.{own_served, others_none, not_both, no_job_of}
+use Rattle.law_run_recovers.proofs.BesideUnmet.{then_is, begins_there}
+use Rattle.law_run_recovers.proofs.Keeps.{IsAtWork, step_asks}
+use Rattle.law_run_recovers.proofs.Polled.{dver_in, dver_at}
+use Rattle.law_run_recovers.proofs.Rows.{start_was}
+use Rattle.law_run_recovers.proofs.Sides.{names_one, takes_named, its_agent, up_same}
+use Rattle.law_run_recovers.proofs.Took.{OwnTook, own_took}
+use Rattle.law_run_recovers.proofs.Unrobbed.{unrecorded_at}
+use Rattle.law_run_recovers.proofs.MeetCalm.{Calm, accepted, can_at, up_at, table_same, log_same, busy_one, one_named, stored_at}
+use Rattle.law_run_recovers.proofs.MeetQuiet.{GoesQuietly}
+
+-- no server has a lock, so none that is up
+free_up : (servers : List State) → list_all (λ (st : State). length st.locks == 0) servers ≡ true → list_all (λ (st : State). not st.up || (length st.locks == 0)) servers ≡ true
+free_up [] all = refl
+free_up (st ∷ servers) all =
+    let parts = and_parts (length st.locks == 0) (list_all (λ (st : State). length st.locks == 0) servers) all in
+    and_from (not st.up || (length st.locks == 0)) (list_all (λ (st : State). not st.up || (length st.locks == 0)) servers) (or_so (not st.up) (length st.locks == 0) parts.0) (free_up servers parts.1)
+  where
+    or_so : (a b : Bool) → b ≡ true → (a || b) ≡ true
+    or_so a b is = grind (arith, nat_tests)
+
+both_none : (a b c : Bool) → (a || b) ≡ false → c ≡ false → (a || (b || c)) ≡ false
+both_none a b c one two = grind (arith, nat_tests)
+
+module _ (given : Opening) (events later : List Event) (calm : Calm given events later) (one : Begun given events later) where
+  abbrev pub begins_event : Event
+  begins_event = Begin one.agent (Transaction one.caller one.site one.ops)
+
+  abbrev pub then_at : List Event → World
+  then_at so_far = world_after given (events ++ one.before) one.agent one.caller one.site one.ops so_far
+
+  pub its_actor : (actor : Actor) × (actor_at (run given (events ++ one.before)) one.agent ≡ Some actor)
+  its_actor = begins_there given (run given (events ++ one.before)) one.agent one.t (Transaction one.caller one.site one.ops) one.begins
+
+  -- its moments are moments of the run
+  pub run_is : (so_far : List Event) → world_after given (events ++ one.before) one.agent one.caller one.site one.ops so_far ≡ run given (events ++ (one.before ++ Begin one.agent (Transaction one.caller one.site one.ops) ∷ so_far))
+  run_is so_far = then_is given events one.before one.agent one.t one.caller one.site one.ops so_far
+
+  pub part : (so_far rest : List Event) → one.after ≡ so_far ++ rest → later ≡ (one.before ++ Begin one.agent (Transaction one.caller one.site one.ops) ∷ so_far) ++ rest
+  part so_far rest split = one.parts ∙ ap (λ after. one.before ++ begins_event ∷ after) split ∙ sym (append_assoc one.before (begins_event ∷ so_far) rest)
+
+  can_all : CanBe given ((events ++ one.before) ++ Begin one.agent (Transaction one.caller one.site one.ops) ∷ one.after)
+  can_all = subst (CanBe given) (ap (λ later. events ++ later) one.parts ∙ sym (append_assoc events one.before (begins_event ∷ one.after))) calm.fair.can
+
+  -- ---- nobody hinders or robs it
+
+  module _ (so_far rest : List Event) (event : Event) (split : one.after ≡ so_far ++ event ∷ rest) where
+    abbrev front : List Event
+    front = one.before ++ Begin one.agent (Transaction one.caller one.site one.ops) ∷ so_far
+
+    abbrev w : World
+    w = run given (events ++ front)
+
+    quiet : spoils given (run given (events ++ front)) event ≡ false
+    quiet = calm.fair.unspoiled front rest event (part so_far (event ∷ rest) split)
+
+    named_not : (i : ℕ) → (i == one.agent) ≡ false → (what : Served) → (step (fixed_of given) (run given (events ++ front)) (Step i)).done.served ≡ Some what → names one.t what.request.value ≡ true → ⊥
+    named_not i apart what served named =
+        let asks = step_asks (fixed_of given) w i (actor_at w i) what served in
+        let busy = busy_one given events later calm.fair front (event ∷ rest) (part so_far (event ∷ rest) split) i asks.0 asks.1 (what.server, what.request.value) asks.2 in
+        let same = names_one one.t busy.one.t what.request.value named (one_named given events later calm.fair front (event ∷ rest) (part so_far (event ∷ rest) split) i asks.0 asks.1 (what.server, what.request.value) asks.2) in
+        let agents : one.agent ≡ busy.one.agent =
+        sym (its_agent given calm.fair.can.accepted (events ++ one.before) one.agent one.t (Transaction one.caller one.site one.ops) one.begins) ∙ ap (λ t. t % 64) same
+        ∙ its_agent given calm.fair.can.accepted (events ++ busy.one.before) busy.one.agent busy.one.t (Transaction busy.one.caller busy.one.site busy.one.ops) busy.one.begins in
+        false≢true (sym apart ∙ eq-eqb i one.agent (sym busy.who ∙ sym agents))
+
+    not_robbed : (i : ℕ) → (i == one.agent) ≡ false → of_up (takes one.t) (run given (events ++ front)) (step (fixed_of given) (run given (events ++ front)) (Step i)).done.served ≡ false
+    not_robbed i apart = of (step (fixed_of given) w (Step i)).done.served refl
+      where
+        at_server : (what : Served) → (step (fixed_of given) (run given (events ++ front)) (Step i)).done.served ≡ Some what → (found : Option State) → up_and (takes one.t) what.request.value found ≡ false
+        at_server what served None = refl
+        at_server what served (Some st) = by (takes one.t st what.request.value) refl
+          where
+            none : (a : Bool) → (a && false) ≡ false
+            none true = refl
+            none false = refl
+
+            by : (b : Bool) → takes one.t st what.request.value ≡ b → (st.up && b) ≡ false
+            by true is = absurd (named_not i apart what served (takes_named one.t st what.request.value is))
+            by false is = none st.up
+
+        of : (found : Option Served) → (step (fixed_of given) (run given (events ++ front)) (Step i)).done.served ≡ found → of_up (takes one.t) (run given (events ++ front)) found ≡ false
+        of None served = refl
+        of (Some what) served = at_server what served (server_at w what.server)
+
+    module _ (running : is_running (run given (events ++ front)) one.agent one.t ≡ true) where
+      has_job : has_no_job (actor_at (run given (events ++ front)) one.agent) ≡ false
+      has_job = no_job_of one.t (actor_at w one.agent) running
+
+      free_hand : (event : Event) → spoils given (run given (events ++ front)) event ≡ false → (hinders_itself given one.agent (run given (events ++ front)) event || robs given one.agent one.t (run given (events ++ front)) event) ≡ false
+      free_hand (Begin i job) calm_here = refl
+      free_hand (Crash server) calm_here = refl
+      free_hand (Return server) calm_here = refl
+      free_hand (Forget i site) calm_here = refl
+      free_hand (Lack i why) calm_here = by (i == one.agent) refl
+        where
+          by : (b : Bool) → (i == one.agent) ≡ b → (b || false) ≡ false
+          by true same = absurd (false≢true (sym calm_here ∙ ap not (ap (λ i. has_no_job (actor_at w i)) (eqb-true i one.agent same) ∙ has_job)))
+          by false apart = refl
+      free_hand (Step i) calm_here = by (i == one.agent) refl
+        where
+          by : (b : Bool) → (i == one.agent) ≡ b
+              → (((i == one.agent) && not (is_some (step (fixed_of given) (run given (events ++ front)) (Step i)).done.served))
+              || (not (i == one.agent) && not (is_telling (run given (events ++ front)) one.agent) && of_up (takes one.t) (run given (events ++ front)) (step (fixed_of given) (run given (events ++ front)) (Step i)).done.served)) ≡ false
+          by true same =
+              own_served (i == one.agent) (is_some (step (fixed_of given) w (Step i)).done.served) (not (is_telling w one.agent)) (of_up (takes one.t) w (step (fixed_of given) w (Step i)).done.served) same
+              (not_both (has_no_job (actor_at w i)) (is_some (step (fixed_of given) w (Step i)).done.served) calm_here (ap (λ i. has_no_job (actor_at w i)) (eqb-true i one.agent same) ∙ has_job))
+          by false apart =
+              others_none (i == one.agent) (is_some (step (fixed_of given) w (Step i)).done.served) (not (is_telling w one.agent)) (of_up (takes one.t) w (step (fixed_of given) w (Step i)).done.served) apart (not_robbed i apart)
+
+      none_crashes : (event : Event) → spoils given (run given (events ++ front)) event ≡ false → bereaves given one.agent one.t (run given (events ++ front)) event ≡ false
+      none_crashes (Begin i job) calm_here = refl
+      none_crashes (Step i) calm_here = refl
+      none_crashes (Crash server) calm_here = absurd (false≢true (sym calm_here))
+      none_crashes (Return server) calm_here = refl
+      none_crashes (Forget i site) calm_here = refl
+      none_crashes (Lack i why) calm_here = refl
+
+      spared_now : (hinders_itself given one.agent (run given (events ++ front)) event || (robs given one.agent one.t (run given (events ++ front)) event || bereaves given one.agent one.t (run given (events ++ front)) event)) ≡ false
+      spared_now =
+          both_none (hinders_itself given one.agent w event) (robs given one.agent one.t w event) (bereaves given one.agent one.t w event) (free_hand event quiet) (none_crashes event quiet)
+
+  spared : (so_far rest : List Event) (event : Event) → one.after ≡ so_far ++ event ∷ rest → IsAtWork (then_at so_far) one.agent one.t
+      → (hinders_itself given one.agent (then_at so_far) event || (robs given one.agent one.t (then_at so_far) event || bereaves given one.agent one.t (then_at so_far) event)) ≡ false
+  spared so_far rest event split work =
+      subst (λ w. (hinders_itself given one.agent w event || (robs given one.agent one.t w event || bereaves given one.agent one.t w event)) ≡ false) (sym (run_is so_far))
+      (spared_now so_far rest event split (ap (λ w. is_running w one.agent one.t) (sym (run_is so_far)) ∙ work.running))
+
+  -- ---- servers
+
+  module _ (so_far rest : List Event) (split : one.after ≡ so_far ++ rest) (server : ℕ) (st : State) (at : server_at (world_after given (events ++ one.before) one.agent one.caller one.site one.ops so_far) server ≡ Some st) where
+    at_run : server_at (run given (events ++ (one.before ++ Begin one.agent (Transaction one.caller one.site one.ops) ∷ so_far))) server ≡ Some st
+    at_run = ap (λ w. server_at w server) (sym (run_is so_far)) ∙ at
+
+    up_now : st.up ≡ true
+    up_now = up_at given events later calm.fair (one.before ++ begins_event ∷ so_far) rest (part so_far rest split) server st at_run
+
+    up_first : is_up (run given events) server ≡ true
+    up_first =
+        sym (up_same given (accepted given events later calm.fair) (events ++ (one.before ++ begins_event ∷ so_far)) events (up_at given events later calm.fair (one.before ++ begins_event ∷ so_far) rest (part so_far rest split))
+        (subst (λ all. (s : ℕ) (st : State) → server_at (run given all) s ≡ Some st → st.up ≡ true) (append-nil events) (up_at given events later calm.fair [] later refl)) server)
+        ∙ ap up_in at_run ∙ up_now
+
+    shows_same : (z : ℕ) → ((copy_of st.store z).prefix ≡ shown_at (fixed_of given) (run given events) z server) × ((copy_of st.store z).dver ≡ dver_at (run given events) z server)
+    shows_same z = of (server_at (run given events) server) refl up_first
+      where
+        of : (found : Option State) → server_at (run given events) server ≡ found → up_in found ≡ true → ((copy_of st.store z).prefix ≡ shown_in (fixed_of given) found z) × ((copy_of st.store z).dver ≡ dver_in found z)
+        of None was up = absurd (false≢true up)
+        of (Some old) was up =
+            let same = stored_at given events later calm (one.before ++ begins_event ∷ so_far) rest (part so_far rest split) server st at_run old was z in
+            (ap (λ (copy : Replica). copy.prefix) same, ap (λ (copy : Replica). copy.dver) same)
+
+  -- ---- so it goes quietly
+
+  pub goes_of : GoesQuietly given events (events ++ one.before) one.after one.agent one.t one.caller one.site one.ops its_actor.0
+  goes_of = record {
+    can = can_all;
+    can_base = subst (CanBe given) (append-nil events) (can_at given events later calm.fair [] later refl);
+    free = free_up (run given events).servers calm.fair.free;
+    there = its_actor.1;
+    begins = one.begins;
+    spared = spared;
+    up = λ so_far rest split server st at. (up_now so_far rest split server st at, up_first so_far rest split server st at);
+    stored = shows_same;
+    tables = λ so_far rest split.
+        ap (table_of given) (append_assoc events one.before (begins_event ∷ so_far)) ∙ table_same given events later calm (one.before ++ begins_event ∷ so_far) rest (part so_far rest split);
+    asks_same = table_same given events later calm one.before (begins_event ∷ one.after) one.parts;
+    starts = λ z start may.
+        subst (λ log. WasPrefix (beginning z given) log start) (log_same given events later calm z one.before (begins_event ∷ one.after) one.parts)
+        (start_was given (events ++ one.before) (can_at given events later calm.fair one.before (begins_event ∷ one.after) one.parts) z one.agent one.site its_actor.0 start its_actor.1 may);
+  }
+
+  -- ---- it never asks to be decided: it would be
+
+  first_decides : (st : State) (task : Task) (outcome : doing.Proposal) → st.up ≡ true → record_of st task.t ≡ None
+      → is_some (decided_at (Some st) (to_decide (request.Decide task.t (decision_of task outcome))) (decided_as (Some task) (answer_in (reply_of st (request.Decide task.t (decision_of task outcome)))))) ≡ true
+  first_decides st task outcome up none =
+      ap (λ b. is_some (decided_at (Some st) (Some task.t) (decided_as (Some task) (answer_in (cond b (reply_up st asked) (reply_down asked)))))) up
+      ∙ ap (λ old. is_some (cond (is_some old) None (decided_as (Some task) (answer_in (reply.Verdict (recorded old (verdict_of (decision_of task outcome)))))))) none
+      ∙ answers outcome
+    where
+      asked : Request
+      asked = request.Decide task.t (decision_of task outcome)
+
+      answers : (outcome : doing.Proposal) → is_some (decided_as (Some task) (answer_in (reply.Verdict (verdict_of (decision_of task outcome))))) ≡ true
+      answers (Ok granted) = refl
+      answers (Err refusal) = refl
+
+  pub never_decides : (so_far rest : List Event) → one.after ≡ so_far ++ Step one.agent ∷ rest → IsAtWork (world_after given (events ++ one.before) one.agent one.caller one.site one.ops so_far) one.agent one.t → (here : Actor)
+      → actor_at (world_after given (events ++ one.before) one.agent one.caller one.site one.ops so_far) one.agent ≡ Some here → (asked : ℕ × Request) → next_of (fixed_of given) here.agent ≡ Some asked → is_decide asked.1 ≡ false
+  never_decides so_far rest split work here there asked next = of (is_decide asked.1) refl
+    where
+      w : World
+      w = then_at so_far
+
+      front : List Event
+      front = one.before ++ begins_event ∷ so_far
+
+      none_now : decided (fixed_of given) (then_at so_far) (Step one.agent) ≡ None
+      none_now = ap (λ w. decided (fixed_of given) w (Step one.agent)) (run_is so_far) ∙ calm.none front rest (Step one.agent) (part so_far (Step one.agent ∷ rest) split)
+
+      served_so : is_some (step (fixed_of given) (then_at so_far) (Step one.agent)).done.served ≡ true
+      served_so = hindered (is_some (step (fixed_of given) w (Step one.agent)).done.served) (robs given one.agent one.t w (Step one.agent)) (bereaves given one.agent one.t w (Step one.agent))
+          (subst (λ b. ((b && not (is_some (step (fixed_of given) w (Step one.agent)).done.served)) || (robs given one.agent one.t w (Step one.agent) || bereaves given one.agent one.t w (Step one.agent))) ≡ false) (eq-eqb one.agent one.agent refl)
+          (spared so_far rest (Step one.agent) split work))
+        where
+          hindered : (s r b : Bool) → ((true && not s) || (r || b)) ≡ false → s ≡ true
+          hindered s r b is = grind (arith, nat_tests)
+
+      took : OwnTook (fixed_of given) (then_at so_far) one.agent here there (step (fixed_of given) (then_at so_far) (Step one.agent))
+      took = own_took (fixed_of given) w one.agent here there served_so
+
+      same : took.asked ≡ asked
+      same = same_Some took.asked asked (sym took.next ∙ next)
+
+      by : (doing : Option Doing) → here.agent.doing ≡ doing → next_in (fixed_of given) doing ≡ Some asked → runs one.t doing ≡ true → is_decide asked.1 ≡ true → ⊥
+      by None at next running decide = false≢true running
+      by (Some (RunningSweep sweep_run)) at next running decide = false≢true running
+      by (Some (Running txn_run)) at next running decide =
+          let d = decides (fixed_of given) txn_run.task txn_run.suites txn_run.phase asked.0 asked.1 next decide in
+          let value : took.asked.1 ≡ request.Decide txn_run.task.t (decision_of txn_run.task d.outcome) = ap (λ (asked : ℕ × Request). asked.1) same ∙ d.decide in
+          let number = eqb-true txn_run.task.t one.t running in
+          let none = ap (record_of took.st) number
+          ∙ unrecorded_at given (events ++ one.before) one.after one.agent one.t one.caller one.site one.ops its_actor.0 can_all its_actor.1 one.begins spared so_far (Step one.agent ∷ rest) split work took.asked.0 took.st took.at in
+          false≢true (ap is_some (sym none_now)
+          ∙ ap (λ served. is_some (decided_by w (task_at (actor_at w one.agent)) served)) took.done
+          ∙ ap (λ found. is_some (decided_at (server_at w took.asked.0) (to_decide took.asked.1) (decided_as (task_at found) (answer_in (reply_of took.st took.asked.1))))) there
+          ∙ ap (λ doing. is_some (decided_at (server_at w took.asked.0) (to_decide took.asked.1) (decided_as (task_of doing) (answer_in (reply_of took.st took.asked.1))))) at
+          ∙ ap (λ found. is_some (decided_at found (to_decide took.asked.1) (decided_as (Some txn_run.task) (answer_in (reply_of took.st took.asked.1))))) took.at
+          ∙ ap (λ value. is_some (decided_at (Some took.st) (to_decide value) (decided_as (Some txn_run.task) (answer_in (reply_of took.st value))))) value
+          ∙ first_decides took.st txn_run.task d.outcome (up_now so_far (Step one.agent ∷ rest) split took.asked.0 took.st took.at) none)
+
+      of : (b : Bool) → is_decide asked.1 ≡ b → b ≡ false
+      of false is = refl
+      of true is = absurd (by here.agent.doing refl next (ap (running_in one.t) (sym there) ∙ work.running) is)

@@ -1,0 +1,205 @@
+-- What the course of a transaction stands on, be it among locks that stay, or told what it would have been told as it began.
+use Rattle.std.proofs.Common.{◌≡◌, ℕ, Bool, true, false, cond, List, [], ◌∷◌, ◌++◌, append_assoc, Option, Some, None, refl, sym, ap, subst, ◌∙◌, arith}
+use Rattle.std.specs.Prelude.{◌==◌, ◌&&◌, ◌||◌, not, slice_get}
+use Rattle.std.proofs.lemmas.Bool.{false≢true, and_parts, eqb-true}
+use Rattle.std.proofs.lemmas.Bool.Decides.{nat_tests}
+use Rattle.std.proofs.lemmas.Option.{none-some, same_Some}
+use Rattle.acl_core.specs.Identity.{Identity}
+use Rattle.suite_prefix.specs.SettingsRules.{Opening}
+use Rattle.file_ops.specs.declared.operation.Op.{Op}
+use Rattle.rep_core.specs.declared.lock.Lock.{Lock}
+use Rattle.rep_core.specs.declared.request.Request.{Request}
+use Rattle.rep_core.specs.declared.request.Request.TheVariants as request
+use Rattle.rep_core.specs.declared.stamped.Stamped.{Stamped}
+use Rattle.rep_core.specs.State.{State}
+use Rattle.rep_core.specs.Service.{after_up, after_down, after}
+use Rattle.rep_core.specs.Serving.{is_full, served, answer_of}
+use Rattle.rep_core.proofs.Members.{Has, any_has}
+use Rattle.txn_core.specs.declared.job.Job.TheVariants.{Transaction}
+use Rattle.txn_core.specs.Doing.{Fixed}
+use Rattle.txn_core.specs.Agents.{fixed_of, next_of}
+use Rattle.run_core.specs.declared.done.Served.{Served}
+use Rattle.run_core.specs.declared.event.Event.{Event}
+use Rattle.run_core.specs.declared.event.Event.TheVariants.{Begin, Step, Crash, Return, Forget, Lack}
+use Rattle.run_core.specs.Worlds.{Actor, World, server_at, actor_at, operates, operated, step}
+use Rattle.run_core.specs.Runs.{run}
+use Rattle.law_headline.specs.Premises.{CanBe}
+use Rattle.law_run_alone.specs.Alone.{begins_job}
+use Rattle.law_runs.proofs.Worlds.{puts_in}
+use Rattle.law_run_recovers.specs.Standing.{up_in, is_up, locks_in, locks_at}
+use Rattle.law_run_recovers.specs.Near.{AreNear, asks_for}
+use Rattle.law_run_recovers.specs.Unmet.{running_in, is_running, is_telling, begun_world, world_after, up_and, of_up, robs, hinders_itself}
+use Rattle.law_run_recovers.specs.Among.{GoesAmongLocks}
+use Rattle.law_run_recovers.specs.Told.{AsAtItsBegin, ToldAsAtItsBegin, bereaves, drops, everywhere}
+use Rattle.law_run_recovers.proofs.Keeps.{IsAtWork, OfAsks, after_append, as_at_its_begin, operates_it}
+use Rattle.law_run_recovers.proofs.Serves.{On}
+
+-- ---- a crash
+
+module _ (fixed : Fixed) (w : World) (server : ℕ) where
+  abbrev asked : Stamped Request
+  asked = record { stamp = 0; value = request.Crash }
+
+  -- a server that crashed is down
+  crash_downs : (what : Served) → (step fixed w (Crash server)).done.served ≡ Some what → (what.server ≡ server) × (is_up (step fixed w (Crash server)).world server ≡ false)
+  crash_downs what = of (server_at w server) refl
+    where
+      downs : (st : State) → (after st request.Crash).up ≡ false
+      downs st = by st.up refl
+        where
+          by : (b : Bool) → st.up ≡ b → (cond b (after_up st request.Crash) (after_down st request.Crash)).up ≡ false
+          by true up = refl
+          by false up = up
+
+      of : (found : Option State) → server_at w server ≡ found → (operates w server request.Crash found).done.served ≡ Some what → (what.server ≡ server) × (is_up (operates w server request.Crash found).world server ≡ false)
+      of None at is = absurd (none-some what is)
+      of (Some st) at is = by (is_full st asked) is
+        where
+          by : (b : Bool) → (operated w st (cond b None (Some (record { server = server; request = asked; reply = answer_of st asked })))).done.served ≡ Some what
+              → (what.server ≡ server) × (is_up (operated w st (cond b None (Some (record { server = server; request = asked; reply = answer_of st asked })))).world server ≡ false)
+          by true is = absurd (none-some what is)
+          by false is = (
+            ap (λ (what : Served). what.server) (sym (same_Some _ what is)),
+            ap up_in (puts_in w.servers server st (served st asked) at).here ∙ downs st,
+          )
+
+  -- agents are as they were
+  crash_agents : (step fixed w (Crash server)).world.agents ≡ w.agents
+  crash_agents = of (server_at w server)
+    where
+      of : (found : Option State) → (operates w server request.Crash found).world.agents ≡ w.agents
+      of None = refl
+      of (Some st) = by (is_full st asked)
+        where
+          by : (b : Bool) → (operated w st (cond b None (Some (record { server = server; request = asked; reply = answer_of st asked })))).world.agents ≡ w.agents
+          by true = refl
+          by false = refl
+
+-- ---- either premise
+
+-- What is in its way at near servers, and what they show, is as at its begin where it asks them before its end is fixed; its steps are served until then,
+-- nobody takes a lock of it or has it recorded, and no crash takes a lock that a near server gave it.
+pub record GoesSteadily (given : Opening) (events later : List Event) (agent t : ℕ) (caller : Identity) (site : ℕ) (ops : List Op) (actor : Actor) : Type 0 where
+  pub can : CanBe given (events ++ Begin agent (Transaction caller site ops) ∷ later)
+  pub there : actor_at (run given events) agent ≡ Some actor
+  pub begins : begins_job given (run given events) (Begin agent (Transaction caller site ops)) ≡ Some (t, Transaction caller site ops)
+  pub near : ℕ → Bool
+  pub are_near : AreNear given events t caller site ops actor.agent.cache near
+  pub same : (so_far rest : List Event) (here : Actor) (asked : ℕ × Request) → later ≡ so_far ++ Step agent ∷ rest → IsAtWork (world_after given events agent caller site ops so_far) agent t
+      → actor_at (world_after given events agent caller site ops so_far) agent ≡ Some here → next_of (fixed_of given) here.agent ≡ Some asked
+      → near asked.0 ≡ true → OfAsks t (asks_for given events t caller ops) asked.1 → AsAtItsBegin (run given events) (world_after given events agent caller site ops so_far) asked.0 asked.1
+  pub free_hand : (so_far rest : List Event) (event : Event) → later ≡ so_far ++ event ∷ rest → IsAtWork (world_after given events agent caller site ops so_far) agent t
+      → (hinders_itself given agent (world_after given events agent caller site ops so_far) event || robs given agent t (world_after given events agent caller site ops so_far) event) ≡ false
+  pub kept : (so_far rest : List Event) (event : Event) → later ≡ so_far ++ event ∷ rest → IsAtWork (world_after given events agent caller site ops so_far) agent t
+      → ((server z : ℕ) → On (locks_at (world_after given events agent caller site ops so_far) server) t z → (near server && is_up (run given events) server) ≡ true)
+      → bereaves given agent t (world_after given events agent caller site ops so_far) event ≡ false
+
+both : (a b : Bool) → b ≡ false → (a && b) ≡ false
+both true b is = is
+both false b is = refl
+
+module _ (given : Opening) (events later : List Event) (agent t : ℕ) (caller : Identity) (site : ℕ) (ops : List Op) (actor : Actor) where
+  abbrev then : List Event → World
+  then so_far = world_after given events agent caller site ops so_far
+
+  -- ---- among locks that stay
+
+  module _ (goes : GoesAmongLocks given events later agent t caller site ops actor) where
+    abbrev Answered : List Event → Type 0
+    Answered so_far = (server z : ℕ) → On (locks_at (world_after given events agent caller site ops so_far) server) t z → (goes.near server && is_up (run given events) server) ≡ true
+
+    module _ (so_far rest : List Event) (server : ℕ) (split : later ≡ so_far ++ Crash server ∷ rest) (work : IsAtWork (world_after given events agent caller site ops so_far) agent t) (answered : Answered so_far) where
+      next_is : world_after given events agent caller site ops (so_far ++ Crash server ∷ []) ≡ (step (fixed_of given) (world_after given events agent caller site ops so_far) (Crash server)).world
+      next_is = after_append (fixed_of given) so_far (Crash server ∷ []) (begun_world given events agent caller site ops)
+
+      runs_on : is_running (world_after given events agent caller site ops (so_far ++ Crash server ∷ [])) agent t ≡ true
+      runs_on = ap (λ w. is_running w agent t) next_is ∙ ap (λ agents. running_in t (slice_get agents agent)) (crash_agents (fixed_of given) (then so_far) server) ∙ work.running
+
+      none_crashes : (what : Served) → (step (fixed_of given) (world_after given events agent caller site ops so_far) (Crash server)).done.served ≡ Some what
+          → (goes.near what.server && is_up (run given events) what.server) ≡ true → ⊥
+      none_crashes what done answered =
+          let crashed = crash_downs (fixed_of given) (then so_far) server what done in
+          let parts = and_parts (goes.near what.server) (is_up (run given events) what.server) answered in
+          let up = (goes.stays (so_far ++ Crash server ∷ []) rest (split ∙ sym (append_assoc so_far (Crash server ∷ []) rest)) runs_on).up what.server parts.0 ∙ parts.1 in
+          let now : is_up (world_after given events agent caller site ops (so_far ++ Crash server ∷ [])) what.server ≡ false =
+          ap (λ w. is_up w what.server) next_is ∙ ap (is_up (step (fixed_of given) (then so_far) (Crash server)).world) crashed.0 ∙ crashed.1 in
+          false≢true (sym now ∙ up)
+
+      at_server : (what : Served) → (step (fixed_of given) (world_after given events agent caller site ops so_far) (Crash server)).done.served ≡ Some what → (found : Option State)
+          → server_at (world_after given events agent caller site ops so_far) what.server ≡ found → up_and (drops t) what.request.value found ≡ true → ⊥
+      at_server what done None at some = false≢true some
+      at_server what done (Some st) at some =
+          let parts = and_parts st.up (drops t st what.request.value) some in
+          let asked = operates_it (then so_far) server request.Crash (server_at (then so_far) server) what done in
+          let lock = any_has (λ (lock : Lock). (lock.t == t) && not lock.prepared) st.locks (ap (drops t st) (sym asked) ∙ parts.1) in
+          let own = and_parts (lock.0.t == t) (not lock.0.prepared) lock.2 in
+          none_crashes what done (answered what.server lock.0.suite (record { lock = lock.0; has = has_so st at lock.0 lock.1; of_it = eqb-true lock.0.t t own.0; on_it = refl }))
+        where
+          has_so : (st : State) → server_at (world_after given events agent caller site ops so_far) what.server ≡ Some st → (lock : Lock) → Has st.locks lock → Has (locks_at (world_after given events agent caller site ops so_far) what.server) lock
+          has_so st at lock has = subst (λ locks. Has locks lock) (sym (ap locks_in at)) has
+
+      served_so : (found : Option Served) → (step (fixed_of given) (world_after given events agent caller site ops so_far) (Crash server)).done.served ≡ found → of_up (drops t) (world_after given events agent caller site ops so_far) found ≡ true → ⊥
+      served_so None done some = false≢true some
+      served_so (Some what) done some = at_server what done (server_at (then so_far) what.server) refl some
+
+      kept_so : bereaves given agent t (world_after given events agent caller site ops so_far) (Crash server) ≡ false
+      kept_so = by (of_up (drops t) (then so_far) (step (fixed_of given) (then so_far) (Crash server)).done.served) refl
+        where
+          by : (b : Bool) → of_up (drops t) (world_after given events agent caller site ops so_far) (step (fixed_of given) (world_after given events agent caller site ops so_far) (Crash server)).done.served ≡ b
+              → (not (is_telling (world_after given events agent caller site ops so_far) agent)
+              && of_up (drops t) (world_after given events agent caller site ops so_far) (step (fixed_of given) (world_after given events agent caller site ops so_far) (Crash server)).done.served) ≡ false
+          by true some = absurd (served_so (step (fixed_of given) (then so_far) (Crash server)).done.served refl some)
+          by false none = both (not (is_telling (then so_far) agent)) _ none
+
+    pub among_kept : (so_far rest : List Event) (event : Event) → later ≡ so_far ++ event ∷ rest → IsAtWork (world_after given events agent caller site ops so_far) agent t → Answered so_far
+        → bereaves given agent t (world_after given events agent caller site ops so_far) event ≡ false
+    among_kept so_far rest (Begin i job) split work answered = refl
+    among_kept so_far rest (Step i) split work answered = refl
+    among_kept so_far rest (Crash server) split work answered = kept_so so_far rest server split work answered
+    among_kept so_far rest (Return server) split work answered = refl
+    among_kept so_far rest (Forget i site') split work answered = refl
+    among_kept so_far rest (Lack i why) split work answered = refl
+
+    abbrev pub steady : GoesSteadily given events later agent t caller site ops actor
+    steady = record {
+      can = goes.can;
+      there = goes.there;
+      begins = goes.begins;
+      near = goes.near;
+      are_near = goes.are_near;
+      same = λ so_far rest here asked split work there next near of_it. as_at_its_begin given events later agent t caller site ops actor goes so_far (Step agent ∷ rest) split work asked.0 asked.1 near of_it;
+      free_hand = λ so_far rest event split work. goes.free_hand so_far rest event split work.running;
+      kept = among_kept;
+    }
+
+    -- its steps are served to its end
+    pub never_hindered : (so_far rest : List Event) (event : Event) → later ≡ so_far ++ event ∷ rest → is_running (world_after given events agent caller site ops so_far) agent t ≡ true
+        → hinders_itself given agent (world_after given events agent caller site ops so_far) event ≡ false
+    never_hindered so_far rest event split running =
+        of (hinders_itself given agent (then so_far) event) (robs given agent t (then so_far) event) (goes.free_hand so_far rest event split running)
+      where
+        of : (a b : Bool) → (a || b) ≡ false → a ≡ false
+        of a b is = grind (arith, nat_tests)
+
+  -- ---- told as at its begin
+
+  module _ (goes : ToldAsAtItsBegin given events later agent t caller site ops actor) where
+    pub first_two : (a b c : Bool) → (a || (b || c)) ≡ false → (a || b) ≡ false
+    first_two a b c is = grind (arith, nat_tests)
+
+    pub third : (a b c : Bool) → (a || (b || c)) ≡ false → c ≡ false
+    third a b c is = grind (arith, nat_tests)
+
+    abbrev pub told_steady : GoesSteadily given events later agent t caller site ops actor
+    told_steady = record {
+      can = goes.can;
+      there = goes.there;
+      begins = goes.begins;
+      near = everywhere;
+      are_near = record { home = refl; first = λ server vote. refl; hints = λ one prefix server has is vote. refl; shown = λ one by server has near up vote. refl; set = λ one server has vote. refl };
+      same = λ so_far rest here asked split work there next near of_it. goes.same so_far rest here asked split work.running work.untold there next;
+      free_hand = λ so_far rest event split work.
+          first_two (hinders_itself given agent (then so_far) event) (robs given agent t (then so_far) event) (bereaves given agent t (then so_far) event) (goes.free_hand so_far rest event split work.running work.untold);
+      kept = λ so_far rest event split work answered.
+          third (hinders_itself given agent (then so_far) event) (robs given agent t (then so_far) event) (bereaves given agent t (then so_far) event) (goes.free_hand so_far rest event split work.running work.untold);
+    }

@@ -1,0 +1,26 @@
+-- A run in which two users meet: they write one file at once, step by step in turn. One is answered, by computation.
+use Rattle.std.specs.Prelude.{◌≡◌, List, [], ◌∷◌, ◌++◌}
+use Rattle.file_ops.specs.declared.answer.Answer.TheVariants as answer
+use Rattle.txn_core.specs.declared.ending.Ending.TheVariants.{Answered, Undecided}
+use Rattle.txn_core.specs.declared.ending.Cause.TheVariants.{Busy}
+use Rattle.txn_core.specs.declared.job.Job.TheVariants.{Transaction}
+use Rattle.txn_core.specs.Runs.{owner, a}
+use Rattle.run_core.specs.declared.event.Event.{Event}
+use Rattle.run_core.specs.declared.event.Event.TheVariants.{Begin}
+use Rattle.law_headline.specs.Worked.{with_caches}
+use Rattle.law_run_recovers.specs.Beside.{Begun}
+use Rattle.law_run_recovers.specs.BesideWorked.{two_made, turns}
+use Rattle.law_run_recovers.specs.Contending.{puts}
+use Rattle.law_run_recovers.specs.Meets.{TheyMeet}
+use Rattle.law_run_recovers.specs.Worked.{endings_in}
+
+-- each writes the first of the two files
+abbrev pub two_meet : List Event
+two_meet = Begin 0 (Transaction owner 0 (puts a 0 ∷ [])) ∷ Begin 1 (Transaction owner 0 (puts a 1 ∷ [])) ∷ turns 16
+
+pub record SomeRunsMeet : Type 0 where
+  pub one : Begun with_caches two_made two_meet
+  pub other : Begun with_caches two_made two_meet
+  pub meets : TheyMeet with_caches two_made two_meet one other
+  pub ends : endings_in with_caches (two_made ++ two_meet) ≡
+      (0, Answered (answer.Made 1 ∷ answer.Made 2 ∷ [])) ∷ (1, Undecided (Busy 0 64)) ∷ (64, Answered (answer.Wrote ∷ [])) ∷ []

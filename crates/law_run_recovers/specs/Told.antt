@@ -1,0 +1,158 @@
+-- What is promised to a transaction that is told what it would have been told as it began, and whose locks stay: laws of Among, by a weaker premise. Nothing is said of
+-- servers while it does not ask them, nor of what others decide.
+use Rattle.std.specs.Prelude.{◌≡◌, ℕ, ◌<◌, ◌==◌, Bool, true, false, ◌&&◌, ◌||◌, not, List, ◌∷◌, ◌++◌, Contains, Option, Some}
+use Rattle.std.specs.List.{list_any}
+use Rattle.acl_core.specs.Identity.{Identity}
+use Rattle.suite_prefix.specs.SettingsRules.{Opening}
+use Rattle.suite_prefix.specs.declared.lock_mode.LockMode.{LockMode}
+use Rattle.suite_prefix.specs.declared.lock_mode.LockMode.TheVariants.{Exclusive}
+use Rattle.file_ops.specs.declared.operation.Op.{Op}
+use Rattle.rep_core.specs.declared.lock.Lock.{Lock}
+use Rattle.rep_core.specs.declared.request.Request.{Request}
+use Rattle.rep_core.specs.declared.request.Request.TheVariants as request
+use Rattle.rep_core.specs.Store.{copy_of}
+use Rattle.rep_core.specs.State.{State}
+use Rattle.txn_core.specs.declared.job.Job.TheVariants.{Transaction}
+use Rattle.txn_core.specs.Agents.{fixed_of, next_of}
+use Rattle.run_core.specs.declared.done.EndedJob.{EndedJob}
+use Rattle.run_core.specs.declared.event.Event.{Event}
+use Rattle.run_core.specs.declared.event.Event.TheVariants.{Begin, Step, Crash}
+use Rattle.run_core.specs.Worlds.{Actor, World, actor_at, server_at, step}
+use Rattle.run_core.specs.Runs.{run}
+use Rattle.run_core.specs.Decisions.{Decided, decisions}
+use Rattle.run_core.specs.TableOfRun.{table_of}
+use Rattle.law_headline.specs.Premises.{CanBe}
+use Rattle.law_run_alone.specs.Alone.{begins_job}
+use Rattle.law_run_alone.specs.Undisturbed.{is_decided}
+use Rattle.law_run_recovers.specs.Standing.{is_up}
+use Rattle.law_run_recovers.specs.Alone.{own_steps}
+use Rattle.law_run_recovers.specs.Laws.{answer_on}
+use Rattle.law_run_recovers.specs.Near.{asks_for, way_at, is_open_at}
+use Rattle.law_run_recovers.specs.Unmet.{is_telling, world_after, is_running, of_up, robs, hinders_itself}
+use Rattle.law_run_recovers.specs.Local.{EndsThen, Ended, VotesNeverMovedOf, WasDecidedThen, few_steps}
+use Rattle.law_run_recovers.specs.Among.{GoesAmongLocks, EndsByOpenVotes, GathersItsAsks, has_votes_open}
+
+-- ---- what it is told
+
+-- what a server shows of a suite: the prefix, and the version of the content
+abbrev pub shows_same : Option State → Option State → ℕ → Type 0
+shows_same (Some st) (Some old) suite = ((copy_of st.store suite).prefix ≡ (copy_of old.store suite).prefix) × ((copy_of st.store suite).dver ≡ (copy_of old.store suite).dver)
+shows_same found was suite = Unit {0}
+
+-- What was in its way at a server is; and where nothing was, the server shows what it showed.
+pub record SameWay (first world : World) (server t suite : ℕ) (mode : LockMode) : Type 0 where
+  pub way : way_at world t suite mode server ≡ way_at first t suite mode server
+  pub shown : is_open_at world t suite mode server ≡ true → shows_same (server_at world server) (server_at first server) suite
+
+-- A Poll and an Upgrade are told as they would have been told at its begin.
+abbrev pub told_as_first : World → World → ℕ → Request → Type 0
+told_as_first first world server (request.Poll t suite mode) = SameWay first world server t suite mode
+told_as_first first world server (request.Upgrade t suite) = SameWay first world server t suite Exclusive
+told_as_first first world server other = Unit {0}
+
+-- The server that it asks is up just where it was at its begin, and tells it the same.
+pub record AsAtItsBegin (first world : World) (server : ℕ) (asked : Request) : Type 0 where
+  pub up : is_up world server ≡ is_up first server
+  pub told : told_as_first first world server asked
+
+-- ---- what is taken of it
+
+-- it goes down with an unprepared lock of a transaction
+abbrev pub drops : ℕ → State → Request → Bool
+drops t st request.Crash = list_any (λ (lock : Lock). (lock.t == t) && not lock.prepared) st.locks
+drops t st other = false
+
+-- a crash so robs it too, where it is not asked that servers stay up
+abbrev pub bereaves : Opening → ℕ → ℕ → World → Event → Bool
+bereaves given agent t world (Crash server) = not (is_telling world agent) && of_up (drops t) world (step (fixed_of given) world (Crash server)).done.served
+bereaves given agent t world other = false
+
+-- ---- the premise
+
+module _ (given : Opening) (events later : List Event) (agent t : ℕ) (caller : Identity) (site : ℕ) (ops : List Op) where
+  abbrev then : List Event → World
+  then so_far = world_after given events agent caller site ops so_far
+
+  -- Until its end is fixed each step of it is served, by a server that is up just where it was at its begin and that tells it the same; no event takes a
+  -- lock of it, and none but its own has it recorded.
+  pub record ToldAsAtItsBegin (actor : Actor) : Type 0 where
+    pub can : CanBe given (events ++ Begin agent (Transaction caller site ops) ∷ later)
+    pub there : actor_at (run given events) agent ≡ Some actor
+    pub begins : begins_job given (run given events) (Begin agent (Transaction caller site ops)) ≡ Some (t, Transaction caller site ops)
+    pub same : (so_far rest : List Event) (here : Actor) (asked : ℕ × Request) → later ≡ so_far ++ Step agent ∷ rest → is_running (then so_far) agent t ≡ true → is_telling (then so_far) agent ≡ false
+        → actor_at (then so_far) agent ≡ Some here → next_of (fixed_of given) here.agent ≡ Some asked → AsAtItsBegin (run given events) (then so_far) asked.0 asked.1
+    pub free_hand : (so_far rest : List Event) (event : Event) → later ≡ so_far ++ event ∷ rest → is_running (then so_far) agent t ≡ true → is_telling (then so_far) agent ≡ false
+        → (hinders_itself given agent (then so_far) event || (robs given agent t (then so_far) event || bereaves given agent t (then so_far) event)) ≡ false
+
+-- One that goes among locks that stay is told so.
+abbrev pub AmongLocksAreToldAsBegun : Type 0
+AmongLocksAreToldAsBegun =
+    (given : Opening) (events later : List Event) (agent t : ℕ) (caller : Identity) (site : ℕ) (ops : List Op) (actor : Actor)
+    → GoesAmongLocks given events later agent t caller site ops actor → ToldAsAtItsBegin given events later agent t caller site ops actor
+
+-- ---- how it ends
+
+-- no server is left out
+abbrev pub everywhere : ℕ → Bool
+everywhere server = true
+
+-- It ends as the votes say that were open to it as it began, or tells of a server, and whose lock was in its way there.
+abbrev pub ToldEndByVotesAt : Opening → List Event → Type 0
+ToldEndByVotesAt given events =
+    (later : List Event) (agent t : ℕ) (caller : Identity) (site : ℕ) (ops : List Op) (actor : Actor)
+    → ToldAsAtItsBegin given events later agent t caller site ops actor
+    → (job : EndedJob) → EndsThen given events later agent t caller site ops job → EndsByOpenVotes given events t caller site ops actor.agent.cache everywhere job
+
+abbrev pub ToldEndByVotes : Type 0
+ToldEndByVotes = (given : Opening) (events : List Event) → ToldEndByVotesAt given events
+
+-- in time
+abbrev pub ToldEndInTimeAt : Opening → List Event → Type 0
+ToldEndInTimeAt given events =
+    (later : List Event) (agent t : ℕ) (caller : Identity) (site : ℕ) (ops : List Op) (actor : Actor)
+    → ToldAsAtItsBegin given events later agent t caller site ops actor
+    → few_steps given events t caller ops < own_steps agent later → Ended given events later agent t caller site ops
+
+abbrev pub ToldEndInTime : Type 0
+ToldEndInTime = (given : Opening) (events : List Event) → ToldEndInTimeAt given events
+
+-- It is decided only where its home was up and the votes of the rows were open to it.
+abbrev pub ToldHadVotesOpenAt : Opening → List Event → Type 0
+ToldHadVotesOpenAt given events =
+    (later : List Event) (agent t : ℕ) (caller : Identity) (site : ℕ) (ops : List Op) (actor : Actor)
+    → ToldAsAtItsBegin given events later agent t caller site ops actor → WasDecidedThen given events later agent t caller site ops
+    → has_votes_open given events t caller ops ≡ true
+
+abbrev pub ToldHadVotesOpen : Type 0
+ToldHadVotesOpen = (given : Opening) (events : List Event) → ToldHadVotesOpenAt given events
+
+-- Where votes were never moved it is decided just where these are.
+abbrev pub ToldAreDecidedWhereVotesAreAt : Opening → List Event → Type 0
+ToldAreDecidedWhereVotesAreAt given events =
+    (later : List Event) (agent t : ℕ) (caller : Identity) (site : ℕ) (ops : List Op) (actor : Actor)
+    → ToldAsAtItsBegin given events later agent t caller site ops actor → VotesNeverMovedOf given events (asks_for given events t caller ops)
+    → (job : EndedJob) → EndsThen given events later agent t caller site ops job → is_decided job.ending ≡ has_votes_open given events t caller ops
+
+abbrev pub ToldAreDecidedWhereVotesAre : Type 0
+ToldAreDecidedWhereVotesAre = (given : Opening) (events : List Event) → ToldAreDecidedWhereVotesAreAt given events
+
+-- What is decided of it is answered as the table answers it that there was as it began.
+abbrev pub ToldAreAnsweredAsBegunAt : Opening → List Event → Type 0
+ToldAreAnsweredAsBegunAt given events =
+    (later : List Event) (agent t : ℕ) (caller : Identity) (site : ℕ) (ops : List Op) (actor : Actor)
+    → ToldAsAtItsBegin given events later agent t caller site ops actor
+    → (one : Decided) → Contains (decisions given (events ++ Begin agent (Transaction caller site ops) ∷ later)) one → one.t ≡ t
+    → one.answer ≡ answer_on (table_of given events) t caller ops
+
+abbrev pub ToldAreAnsweredAsBegun : Type 0
+ToldAreAnsweredAsBegun = (given : Opening) (events : List Event) → ToldAreAnsweredAsBegunAt given events
+
+-- And then it has gathered just what it asks for on that table.
+abbrev pub ToldGatherTheirAsksAt : Opening → List Event → Type 0
+ToldGatherTheirAsksAt given events =
+    (later : List Event) (agent t : ℕ) (caller : Identity) (site : ℕ) (ops : List Op) (actor : Actor)
+    → ToldAsAtItsBegin given events later agent t caller site ops actor → WasDecidedThen given events later agent t caller site ops
+    → GathersItsAsks given events later agent t caller site ops
+
+abbrev pub ToldGatherTheirAsks : Type 0
+ToldGatherTheirAsks = (given : Opening) (events : List Event) → ToldGatherTheirAsksAt given events

@@ -1,0 +1,6 @@
+use Rattle.std.proofs.Common.{◌≡◌, take, map}
+use Rattle.rep_core.specs.code.KeptVerdicts.{answer_of}
+use Rattle.rep_core.proofs.kept_verdict.packed_each.Given as goal
+
+abbrev pub invariant-loop-reply : goal.invariant-loop-reply
+invariant-loop-reply l = map answer_of l.kept.items ≡ take l.reply-index l.replies

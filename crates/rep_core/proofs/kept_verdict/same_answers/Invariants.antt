@@ -1,0 +1,6 @@
+use Rattle.std.proofs.Common.{◌≡◌, take, map}
+use Rattle.rep_core.specs.code.KeptVerdicts.{answer_of}
+use Rattle.rep_core.proofs.kept_verdict.same_answers.Given as goal
+
+abbrev pub invariant-loop-i : goal.invariant-loop-i
+invariant-loop-i l = map answer_of (take l.i l.own) ≡ map answer_of (take l.i l.theirs)
