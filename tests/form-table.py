@@ -15,10 +15,11 @@ import typing
 
 import played
 
+import fitting
 import forms
 
 # A word that fits in each place, whatever fits in the others.
-SAMPLES = {**{name: place.sample for name, place in forms.PLACES.items()}, "OPERATIONS": "read /a"}
+SAMPLES = {**fitting.SAMPLES, "OPERATIONS": "read /a"}
 LAST = {"servers": int(SAMPLES["SERVERS"]) - 1, "agents": int(SAMPLES["AGENTS"]) - 1}
 
 
