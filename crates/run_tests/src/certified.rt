@@ -2,13 +2,9 @@
 //!
 //! What memory was refused to is called again, so that each allocation can be refused in turn.
 
-ghost use Rattle.std.specs.Prelude.{IfOk};
-ghost use Rattle.law_certified.specs.Histories.{ChangesAreMetInHistoryAt, FinishedBeforeInHistoryAt};
-
 use crate::fixtures::push;
 use byte_streams::MemoryOut;
 use file_ops::{Answers, Refusal};
-use law_certified::promise;
 use run_certify::{CertifyFault, Decided, Decision, Entry, Transcript, Transcripts, certify};
 use server_lock::{Histories, History, Item};
 use std::alloc::AllocError;
@@ -37,19 +33,13 @@ pub(crate) fn transcripts(
     Transcripts::from_vec(transcripts)
 }
 
-/// What is certified. Whose decision came first is told by each history, and changes are met.
 fn judge(
     rt: &impl AllocGlobal,
     settings: &Settings,
     histories: &Histories,
     transcripts: &Transcripts,
-) -> Result<Decided, CertifyFault>
-    ensures finished { IfOk result (λ decided. FinishedBeforeInHistoryAt histories.now decided) }
-    ensures changes { IfOk result (λ decided. ChangesAreMetInHistoryAt settings.now histories.now decided) }
-{
-    let decided = certify(rt.alloc(), settings, histories, transcripts)?;
-    promise(settings, histories, transcripts);
-    Ok(decided)
+) -> Result<Decided, CertifyFault> {
+    certify(rt.alloc(), settings, histories, transcripts)
 }
 
 /// What is certified, or that nothing is. A test that memory is refused to twice stops for that.

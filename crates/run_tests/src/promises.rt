@@ -6,7 +6,6 @@ ghost use Rattle.law_headline.specs.Promises.{IsRunOf, Promises};
 ghost use Rattle.run_core.specs.Opened.{Opened};
 ghost use Rattle.run_core.specs.declared.event.Event.{Event as AnEvent};
 ghost use Rattle.law_run_recovers.specs.Beside.{SideBySideAreDecidedAt, SideBySideEndInTimeAt};
-ghost use Rattle.law_run_recovers.specs.Meets.{OneThatMeetsIsDecidedAt};
 ghost use Rattle.law_run_recovers.specs.Promises.{Lends};
 
 use crate::events::{event, events};
@@ -92,31 +91,4 @@ fn two_users_write_side_by_side(rt: HostRuntime) {
         }
     }
     assert!(rt; ended == 2);
-}
-
-/// A world for users who want the same thing: from each of its moments on, of two that alone meet one is decided.
-fn fought_over_by_users(alloc: Global, settings: &Settings, events: &[Event]) -> Option<World>
-    ensures { (world : Opened) → result ≡ Some world → (before later : List AnEvent) → IsRunOf world (before ++ later)
-        → OneThatMeetsIsDecidedAt world.given before }
-{
-    promised(alloc, settings, events)
-}
-
-#[test]
-fn one_of_two_who_write_a_file_is_done(rt: HostRuntime) {
-    let settings = settings(&rt, 2);
-    let made = events(&rt, "begin 0 file /a; file /b,step 0");
-    let mut world = fought_over_by_users(rt.alloc(), &settings, &made).expect(&rt, "memory");
-    for _ in 0..40 {
-        step(&rt, &mut world, &Event::Step { agent: 0 });
-    }
-    step(&rt, &mut world, &event(&rt, "begin 0 write /a hi"));
-    step(&rt, &mut world, &event(&rt, "begin 1 write /a ho"));
-    let mut written = 0usize;
-    for _ in 0..40 {
-        let done = step(&rt, &mut world, &Event::Step { agent: 0 });
-        written = written.saturating_add(wrote(&rt, &done.outcome));
-        step(&rt, &mut world, &Event::Step { agent: 1 });
-    }
-    assert!(rt; written == 1);
 }
