@@ -199,13 +199,11 @@ impl<'a> Trial<'a> {
 
     /// Adds the numbers of words without which the line has its form.
     fn push_without(self, text: &mut Vec<u8>, from: u64, below: u64) -> Result<(), AllocError> {
-        let mut at = from;
-        while at < below {
+        for at in from..below {
             if self.fits(at, Change::Without)? {
                 push_number(text, at)?;
                 text.push(b' ')?;
             }
-            at = at.saturating_add(1);
         }
         Ok(())
     }
