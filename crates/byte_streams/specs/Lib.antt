@@ -1,3 +1,4 @@
 pub mod Streams
 pub mod Whole
 pub mod Endings
+pub mod Programs

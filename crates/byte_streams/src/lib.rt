@@ -12,7 +12,7 @@
 //!
 //! **Files**: `traits`, `memory` (streams of tests, where a given call can fail), `system`, `reading`, `writing`,
 //! `ending`, `wanted` (the words of a program that takes none but `--help`). **Definitions** (`specs/`): `Streams`,
-//! `Whole`, `Endings`.
+//! `Whole`, `Endings`, `Programs` (a program's two streams, before and after).
 #![tactic(auto)]
 
 mod ending;
