@@ -15,3 +15,4 @@ pub mod RoundTrip
 pub mod Trimming
 pub mod ItemGrammar
 pub mod Ids
+pub mod ItemFaults

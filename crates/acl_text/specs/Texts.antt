@@ -1,5 +1,5 @@
 -- Whole texts: the entries that a text spells, and the fault of one that spells no lists.
-use Rattle.std.specs.Prelude.{◌≡◌, ℕ, ◌+◌, List, [], ◌∷◌, map, IsPermutation, Option, None, Some, option_map, Result, Ok, Err}
+use Rattle.std.specs.Prelude.{◌≡◌, ◌≢◌, ℕ, ◌+◌, List, [], ◌∷◌, map, IsPermutation, Option, None, Some, option_map, Result, Ok, Err}
 use Rattle.std.specs.List.{filter_map}
 use Rattle.std.specs.Option.{option_or}
 use Rattle.acl_core.specs.declared.entry.Entry.{Entry}
@@ -57,6 +57,11 @@ said_before [] = []
 said_before (Ok None ∷ more) = said_before more
 said_before (Ok (Some said) ∷ more) = said ∷ said_before more
 said_before (Err fault ∷ more) = []
+
+-- a text of which it may be said that memory ran out: none of its items is faulty, and some say an entry
+pub record HasEntriesToKeep (text : List ℕ) (names : Tables) : Type 0 where
+  pub faultless : first_item_fault 1 (readings text names) ≡ None
+  pub entries : said_before (readings text names) ≢ []
 
 -- the fault of the entries of a default list: without entries there is no list, and no fault
 abbrev pub default_fault : List Entry → Option TextFault

@@ -16,12 +16,13 @@
 //!   name). Else it is the access list's first fault (A1 to A8), or A13 with that of the default list.
 //!   `docs/FAULTS.md` explains them.
 //!
-//! **Promises.** `read_acl` gives the lists that a text spells, or its fault (`Spells`, `fault`). Two lists have
-//! one long text (`write_acl`, `append_acl`) and one short text (`write_short`, `append_short`), in canonical order
-//! and with numbers. That each spells its lists is a law (`long_text_spells_its_lists`,
-//! `short_text_spells_its_lists`). `item_place` tells where an item begins, by the number that a fault tells. `Names`
-//! takes names of 1 to 64 bytes that are not digits alone, each once. `read_caller` gives the caller whose groups a
-//! text numbers (`caller_in`). `push_text_code` writes the code of a fault, and `append_decider` what decided a denial.
+//! **Promises.** `read_acl` gives the lists that a text spells, or its fault (`Spells`, `fault`). A faulty item is told
+//! also where memory would not have sufficed (`HasEntriesToKeep`). Two lists have one long text (`write_acl`,
+//! `append_acl`) and one short text (`write_short`, `append_short`), in canonical order and with numbers. That each
+//! spells its lists is a law (`long_text_spells_its_lists`, `short_text_spells_its_lists`). `item_place` tells where an
+//! item begins, by the number that a fault tells. `Names` takes names of 1 to 64 bytes that are not digits alone, each
+//! once. `read_caller` gives the caller whose groups a text numbers (`caller_in`). `push_text_code` writes the code of
+//! a fault, and `append_decider` what decided a denial.
 //!
 //! **The caller owes** nothing.
 //!

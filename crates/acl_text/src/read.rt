@@ -8,7 +8,7 @@ ghost use Rattle.acl_text.specs.code.Tallied.{AreTallied, ForTallied};
 ghost use Rattle.acl_text.specs.declared.item.SidedEntry.{SidedEntry};
 ghost use Rattle.acl_text.specs.declared.item.Side.TheVariants.{Access, Default};
 ghost use Rattle.acl_text.specs.Sides.{default_entries, default_of, entries_of, lists_of};
-ghost use Rattle.acl_text.specs.Texts.{SpellsLists, default_fault, fault, lists_fault, readings, said_before, said_in};
+ghost use Rattle.acl_text.specs.Texts.{HasEntriesToKeep, SpellsLists, default_fault, fault, first_item_fault, lists_fault, readings, said_before, said_in};
 ghost use Rattle.acl_text.specs.declared.read.TextFault.TheVariants.{Memory};
 
 use crate::cut::Items;
@@ -133,10 +133,9 @@ impl Tallies {
     }
 }
 
-/// The lists that a text spells: an access list, and a default list where an item is of one. A growth that
-/// is refused is answered at once, and nothing is then said of the rest of the text. Items that say no entry
-/// take no memory, so a fault before the first entry is told.
-pub fn read_acl(alloc: Global, text: &[u8], names: &Names) -> Result<Lists, TextFault>
+/// The lists that a text spells, or its first fault; or that a growth was refused, and then nothing is said of the
+/// rest of the text. Items that say no entry take no memory.
+fn read_lists(alloc: Global, text: &[u8], names: &Names) -> Result<Lists, TextFault>
     ensures spelled { IfOk result (SpellsLists text.now names.now) }
     ensures value { IfOk result (λ lists. lists ≡ lists_of (said_in text.now names.now)) }
     ensures faultless { OnOk result (fault text.now names.now ≡ None) }
@@ -154,4 +153,40 @@ pub fn read_acl(alloc: Global, text: &[u8], names: &Names) -> Result<Lists, Text
         }
     }
     tallies.finish()
+}
+
+/// The fault of the first faulty item, if there is one. No memory is taken.
+fn item_fault(text: &[u8], names: &Names) -> Option<TextFault>
+    ensures { result ≡ first_item_fault 1 (readings text.now names.now) }
+{
+    let mut number = 0;
+    for item in Items::of(text) {
+        number += 1;
+        if let Err(fault) = read_item(item, names) {
+            return Some(fault.at(number));
+        }
+    }
+    None
+}
+
+/// The lists that a text spells: an access list, and a default list where an item is of one. A faulty item is told
+/// also where memory would not have sufficed for the entries before it; the lists' own faults are not, since the
+/// entries have to be kept to find them.
+pub fn read_acl(alloc: Global, text: &[u8], names: &Names) -> Result<Lists, TextFault>
+    ensures spelled { IfOk result (SpellsLists text.now names.now) }
+    ensures value { IfOk result (λ lists. lists ≡ lists_of (said_in text.now names.now)) }
+    ensures faultless { OnOk result (fault text.now names.now ≡ None) }
+    ensures refused { IfErr result (λ e. e ≢ TextFault.Memory → fault text.now names.now ≡ Some e) }
+    ensures memory { result ≡ Err TextFault.Memory → HasEntriesToKeep text.now names.now }
+{
+    match read_lists(alloc, text, names) {
+        Ok(lists) => Ok(lists),
+        Err(TextFault::Memory) => {
+            match item_fault(text, names) {
+                Some(fault) => Err(fault),
+                None => Err(TextFault::Memory),
+            }
+        }
+        Err(fault) => Err(fault),
+    }
 }

@@ -5,7 +5,7 @@ use Rattle.acl_text.specs.Grammar.{reading}
 use Rattle.acl_text.specs.code.Remaining.{items_left}
 use Rattle.acl_text.specs.code.Tallied.{AreTallied}
 use Rattle.acl_text.specs.Texts.{readings, first_item_fault, entry_said, said_before, said_in}
-use Rattle.acl_text.proofs.read.read_acl.Given as goal
+use Rattle.acl_text.proofs.read.read_lists.Given as goal
 
 -- The entries that were taken and those of the items left are all entries, and the first fault of the items left, by
 -- their numbers, is that of the text.
