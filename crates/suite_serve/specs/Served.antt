@@ -103,8 +103,9 @@ abbrev pub EndsIn : List Entry → Option EndedJob → Type 0
 EndsIn entries (Some told) = Contains entries (Ended told)
 EndsIn entries None = ⊥
 
--- So many of the first had ended before any other was begun: agent 0 began with a part in which it began just these, and in which each of them ended. What
--- a server served for that part it served before all that it served for the rest, or for others: its stamps rise, and each stamp that it gave in it is below.
+-- So many of the first were served before all others: agent 0 began with a part in which it began just these, and in which each of them ended. What a
+-- server served for that part it served before all that it served for the rest, or for others: its stamps rise, and each stamp that it gave in it is below.
+-- Of a job that asked nothing yet it is not said when it was begun.
 pub record AreBefore (alone : ℕ) (ends : List JobEnd) (transcripts : List (List Entry)) : Type 0 where
   pub first : List Entry
   pub rest : List Entry
@@ -116,7 +117,7 @@ pub record AreBefore (alone : ℕ) (ends : List JobEnd) (transcripts : List (Lis
       → Contains entries (Asked server later) → stamp < later
 
 -- What came of a script's jobs is what came of them in one run of servers and agents, which opens with the script's settings: each job ended so in what
--- the agents did, those above `together` as the first jobs of agent 0, in their order, and before any other was begun; each agent did its jobs in their
+-- the agents did, those above `together` as the first jobs of agent 0, in their order, and served before all others; each agent did its jobs in their
 -- order; and so many requests were served.
 pub record IsServed (plan : Plan) (came : Came) : Type 0 where
   pub histories : List (List Item)

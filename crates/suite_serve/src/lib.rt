@@ -5,8 +5,8 @@
 //! and asks `certify`. What it gives (`IsServed`) names one run. For each job, in the script's order, its agent's
 //! transcript has it as its begin of some count, then so many requests, and then the end that its line tells. The
 //! jobs above `together` are the first that agent 0 began, in their order, and each agent began its jobs in theirs.
-//! Those above had ended before any other was begun, as each server saw it: what it served for them stands before what
-//! it served for the others (`AreBefore`). No two lines are of one agent and count. So a line cannot be another job's,
+//! Those above ended before any other had asked anything: what a server served for them stands before what it served
+//! for the others (`AreBefore`). No two lines are of one agent and count. So a line cannot be another job's,
 //! and nothing is printed that was not certified.
 //!
 //! A fault of the pool but Memory, of closing, or of certifying prints `mismatch` and no outcome. No clause says
