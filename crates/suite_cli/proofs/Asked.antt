@@ -17,7 +17,8 @@ use Rattle.suite_cli.proofs.Ran.{ran_out, unread_readable}
 use Rattle.suite_cli.proofs.Served.{lacked}
 use Rattle.suite_cli.specs.Names.{names_from}
 use Rattle.suite_cli.specs.Outputs.{acl_output, command_line_fault, script_output_of}
-use Rattle.suite_cli.specs.Runs.{Does, GivesNames, Helps, IsUnread, LacksMemory, Refuses, Runs, RunsAcl, Serves, ServesBy, Streams}
+use Rattle.byte_streams.specs.Programs.{LacksMemory, Streams}
+use Rattle.suite_cli.specs.Runs.{Does, GivesNames, Helps, IsUnread, Refuses, Runs, RunsAcl, Serves, ServesBy}
 use Rattle.suite_cli.specs.code.Errors.{Told, of_args}
 use Rattle.suite_cli.specs.declared.command_error.CommandError.{CommandError}
 use Rattle.suite_cli.specs.declared.command_error.CommandError.TheVariants as error

@@ -12,7 +12,8 @@ use Rattle.suite_script.specs.Outputs.{Output, Done, Faulty}
 use Rattle.suite_script.specs.declared.play_error.PlayError.{PlayError}
 use Rattle.suite_script.specs.declared.play_error.PlayError.TheVariants as play
 use Rattle.suite_cli.specs.Outputs.{text_fault_line}
-use Rattle.suite_cli.specs.Runs.{BreaksOff, GivesList, IsReadWithin, IsUnread, LacksMemory, RunsOn, Streams, WriteFailed, Writes}
+use Rattle.byte_streams.specs.Programs.{IsReadWithin, LacksMemory, Streams}
+use Rattle.suite_cli.specs.Runs.{BreaksOff, GivesList, IsUnread, RunsOn, WriteFailed, Writes}
 use Rattle.suite_cli.specs.code.Errors.{ComesTo, Told, of_play, of_read}
 use Rattle.suite_cli.specs.declared.command_error.CommandError.{CommandError}
 use Rattle.suite_cli.specs.declared.command_error.CommandError.TheVariants as error

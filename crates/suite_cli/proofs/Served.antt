@@ -17,7 +17,8 @@ use Rattle.suite_script.specs.declared.play_error.PlayError.{PlayError}
 use Rattle.suite_script.specs.declared.play_error.PlayError.TheVariants as play
 use Rattle.suite_cli.proofs.Ran.{IsReadable, lack_readable, whole_readable}
 use Rattle.suite_cli.specs.Outputs.{certified_line}
-use Rattle.suite_cli.specs.Runs.{Concludes, LacksMemory, Reports, ServesOn, ServesScript, Streams, Tells}
+use Rattle.byte_streams.specs.Programs.{LacksMemory, Streams}
+use Rattle.suite_cli.specs.Runs.{Concludes, Reports, ServesOn, ServesScript, Tells}
 use Rattle.suite_cli.specs.code.Errors.{Told, of_play, of_read, of_script}
 use Rattle.suite_serve.specs.Readings.{GivesScript}
 use Rattle.suite_serve.specs.Scripts.{Plan, plan_in}

@@ -1,8 +1,8 @@
 -- What a command that ended has done.
-use Rattle.std.specs.Prelude.{◌≡◌, Bool, true, false, alloc_error, Vec, ℕ, ◌<◌, ◌≤◌, ◌⊎◌, List, ◌++◌, length, Option, Some, None, Result, Ok, Err}
+use Rattle.std.specs.Prelude.{◌≡◌, Bool, true, false, alloc_error, Vec, ℕ, ◌≤◌, ◌⊎◌, List, ◌++◌, length, Option, Some, None, Result, Ok, Err}
 use Rattle.byte_streams.specs.Endings.{Finishes, SaysMemory, bad_words, done, faulty, max_input, memory_line, no_memory, no_stream}
+use Rattle.byte_streams.specs.Programs.{IsReadWithin, LacksMemory, StoppedUnread, Streams}
 use Rattle.byte_streams.specs.Streams.{Adds, one_more}
-use Rattle.byte_streams.specs.Whole.{IsWithin}
 use Rattle.run_certify.specs.declared.fault.CertifyFault.{CertifyFault}
 use Rattle.run_certify.specs.declared.fault.CertifyFault.TheVariants as certify
 use Rattle.suite_args.specs.CommandLine.{Asked, agents_of}
@@ -33,30 +33,13 @@ abbrev pub Writes : Output → ℕ → Option (List ℕ) → Option (List ℕ) �
 Writes (Done text) status before after = (status ≡ done) × Adds before text after
 Writes (Faulty text) status before after = (status ≡ faulty) × Adds before text after
 
--- what is known of the streams before and after a command
-pub record Streams : Type 0 where
-  pub input : Option (List ℕ)
-  pub input_after : Option (List ℕ)
-  pub written : Option (List ℕ)
-  pub written_after : Option (List ℕ)
-  pub failed_reads : ℕ
-  pub failed_reads_after : ℕ
-  pub failed_writes : ℕ
-  pub failed_writes_after : ℕ
-
--- nothing was written
-abbrev pub IsUnwritten : Streams → Type 0
-IsUnwritten streams = (streams.written_after ≡ streams.written) × (streams.failed_writes_after ≡ streams.failed_writes)
-
 -- a write failed and was counted
 abbrev pub WriteFailed : Streams → Type 0
 WriteFailed streams = streams.failed_writes_after ≡ one_more streams.failed_writes
 
 -- nothing was written, since a read failed and was counted or the input passed its limit; or a write failed
 abbrev pub StreamFailed : List ℕ → Streams → Type 0
-StreamFailed input streams =
-    (IsUnwritten streams × ((streams.failed_reads_after ≡ one_more streams.failed_reads) ⊎ (max_input < length input)))
-    ⊎ WriteFailed streams
+StreamFailed input streams = StoppedUnread input streams ⊎ WriteFailed streams
 
 -- memory ran out, and that was said: behind the front of an output, which is empty where the output tells a fault; or a write failed
 abbrev pub BreaksOff : Output → Streams → ℕ → Type 0
@@ -64,11 +47,6 @@ BreaksOff output streams status =
     (status ≡ no_memory)
     × (((front : List ℕ) × (IsBegun output front × Adds streams.written (front ++ memory_line) streams.written_after))
     ⊎ WriteFailed streams)
-
--- no read failed, and the input is within the limit, or no more of it than the limit was read
-abbrev pub IsReadWithin : List ℕ → Streams → Type 0
-IsReadWithin input streams =
-    ((length input ≤ max_input) ⊎ IsWithin (Some input) max_input streams.input_after) × (streams.failed_reads_after ≡ streams.failed_reads)
 
 -- for the input that a stream tells, which is within the limit, all of the command's output is written with its status; or memory
 -- ran out, and it is not the input that failed; or a stream failed
@@ -80,11 +58,6 @@ RunsOn output streams status (Some input) =
 
 abbrev pub Runs : (List ℕ → Output) → Streams → ℕ → Type 0
 Runs output streams status = RunsOn output streams status streams.input
-
--- memory ran out, and that was said
-abbrev pub LacksMemory : Streams → ℕ → Type 0
-LacksMemory streams status =
-    (status ≡ no_memory) × SaysMemory streams.written streams.written_after streams.failed_writes streams.failed_writes_after
 
 -- nothing was read
 abbrev pub IsUnread : Streams → Type 0
