@@ -6,6 +6,7 @@ ghost use Rattle.law_headline.specs.Promises.{IsRunOf, Promises};
 ghost use Rattle.run_core.specs.Opened.{Opened};
 ghost use Rattle.run_core.specs.declared.event.Event.{Event as AnEvent};
 ghost use Rattle.law_run_recovers.specs.Beside.{SideBySideAreDecidedAt, SideBySideEndInTimeAt};
+ghost use Rattle.law_run_recovers.specs.Meets.{OneThatMeetsIsDecidedAt};
 ghost use Rattle.law_run_recovers.specs.Promises.{Lends};
 
 use crate::events::{event, events};
@@ -58,37 +59,79 @@ fn shared_by_users(alloc: Global, settings: &Settings, events: &[Event]) -> Opti
     promised(alloc, settings, events)
 }
 
-/// How many jobs ended as both writes are to end.
+/// A world for users who want the same thing: from each of its moments on, of two that alone meet one is decided.
+fn fought_over_by_users(alloc: Global, settings: &Settings, events: &[Event]) -> Option<World>
+    ensures { (world : Opened) → result ≡ Some world → (before later : List AnEvent) → IsRunOf world (before ++ later)
+        → OneThatMeetsIsDecidedAt world.given before }
+{
+    promised(alloc, settings, events)
+}
+
+/// 1 where a job ended as a write is to end, else 0.
 fn wrote(rt: &(impl Abort + AllocGlobal), outcome: &Option<EndedJob>) -> usize {
     let Some(outcome) = outcome else {
         return 0;
     };
     let words = had(rt, format!(in rt.alloc(); "{:?}", outcome.ending));
-    same(
-        rt,
-        &words,
-        "Answered(Answers { replies: [Wrote] })",
-        "a write",
-    );
-    1
+    usize::from(words.as_str() == "Answered(Answers { replies: [Wrote] })")
+}
+
+/// A step of an agent: 1 where its job ended as a write is to end, else 0.
+fn turn(rt: &(impl Abort + AllocGlobal), world: &mut World, agent: u8) -> usize {
+    wrote(rt, &step(rt, world, &Event::Step { agent }).outcome)
+}
+
+/// Makes two files, each of the owner, by agent 0.
+fn make_files(rt: &(impl Abort + AllocGlobal), world: &mut World) {
+    for _ in 0..40 {
+        turn(rt, world, 0);
+    }
+}
+
+/// How many jobs end as writes are to end, of two that begin at once and take steps in turn.
+fn written(rt: &(impl Abort + AllocGlobal), world: &mut World, first: &str, second: &str) -> usize {
+    step(rt, world, &event(rt, first));
+    step(rt, world, &event(rt, second));
+    let mut count = 0usize;
+    for _ in 0..40 {
+        count = count.saturating_add(turn(rt, world, 0));
+        count = count.saturating_add(turn(rt, world, 1));
+    }
+    count
+}
+
+/// The settings of two users, and the events in which the first begins to make two files.
+fn two_users(rt: &(impl Abort + AllocGlobal)) -> (Settings, Vec<Event>) {
+    (
+        settings(rt, 2),
+        events(rt, "begin 0 file /a; file /b,step 0"),
+    )
 }
 
 #[test]
 fn two_users_write_side_by_side(rt: HostRuntime) {
-    let settings = settings(&rt, 2);
-    let made = events(&rt, "begin 0 file /a; file /b,step 0");
+    let (settings, made) = two_users(&rt);
     let mut world = shared_by_users(rt.alloc(), &settings, &made).expect(&rt, "memory");
-    for _ in 0..40 {
-        step(&rt, &mut world, &Event::Step { agent: 0 });
-    }
-    step(&rt, &mut world, &event(&rt, "begin 0 write /a hi"));
-    step(&rt, &mut world, &event(&rt, "begin 1 write /b ho"));
-    let mut ended = 0usize;
-    for _ in 0..40 {
-        for agent in 0..2 {
-            let done = step(&rt, &mut world, &Event::Step { agent });
-            ended = ended.saturating_add(wrote(&rt, &done.outcome));
-        }
-    }
-    assert!(rt; ended == 2);
+    make_files(&rt, &mut world);
+    let count = written(
+        &rt,
+        &mut world,
+        "begin 0 write /a hi",
+        "begin 1 write /b ho",
+    );
+    assert!(rt; count == 2);
+}
+
+#[test]
+fn one_of_two_who_write_a_file_is_done(rt: HostRuntime) {
+    let (settings, made) = two_users(&rt);
+    let mut world = fought_over_by_users(rt.alloc(), &settings, &made).expect(&rt, "memory");
+    make_files(&rt, &mut world);
+    let count = written(
+        &rt,
+        &mut world,
+        "begin 0 write /a hi",
+        "begin 1 write /a ho",
+    );
+    assert!(rt; count == 1);
 }
