@@ -30,7 +30,7 @@ use Rattle.law_run_recovers.specs.Alone.{unhindered_from}
 use Rattle.law_run_recovers.specs.Demands.{VotesAreUp}
 use Rattle.law_run_recovers.specs.Laws.{GoesAlone, again, goes_again, OneIsDecided, OneOfThemIsDecided}
 use Rattle.law_run_recovers.proofs.Homes.{homes_go_round}
-use Rattle.law_run_recovers.proofs.Counts.{has_after}
+use Rattle.law_run_recovers.proofs.AmongOver.{has_after}
 use Rattle.law_run_recovers.proofs.Tries.{ends_decided, Left, left_so}
 
 -- ---- lists
@@ -170,14 +170,14 @@ module _ (given : Opening) (agent : ℕ) (caller : Identity) (site : ℕ) (ops :
           → goes_again given agent the_job (run given events) tries ≡ true → (more : ℕ) → more < length tries → is_up (run given events) (home_of its_fixed.service (64 * (actor.agent.count + more) + agent)) ≡ true
           → OneIsDecided (outcomes (dones its_fixed (run given events) (again agent the_job tries))) agent)
           → OneIsDecided (outcomes (dones its_fixed first (again agent the_job (later ∷ tries)))) agent
-      of true up go = in_try first later (again agent the_job tries) (ends_decided given events later agent t caller site ops actor goes_so met idle up)
+      of true up go = in_try first later (again agent the_job tries) (ends_decided given events later agent t caller site ops actor goes_so idle met up)
       of false down go = by more few home
         where
           next : List Event
           next = events ++ Begin agent the_job ∷ later
 
-          it : Left given events later agent (64 * actor.agent.count + agent) caller site ops actor goes_so met idle down
-          it = left_so given events later agent (64 * actor.agent.count + agent) caller site ops actor goes_so met idle down
+          it : Left given events later agent (64 * actor.agent.count + agent) caller site ops actor goes_so idle
+          it = left_so given events later agent (64 * actor.agent.count + agent) caller site ops actor goes_so idle down
 
           here : Actor
           here = it.here

@@ -28,7 +28,7 @@ use Rattle.law_run_recovers.specs.Near.{asks_for}
 use Rattle.law_run_recovers.proofs.Steady.{GoesSteadily}
 use Rattle.law_run_recovers.proofs.Asked.{onto_left, onto_so_far, asked_exclusive, next_mode}
 use Rattle.law_run_recovers.proofs.Asking.{onto}
-use Rattle.law_run_recovers.proofs.Ends.{fetch_is}
+use Rattle.law_run_recovers.proofs.Early.{fetch_is}
 use Rattle.law_run_recovers.proofs.Heard.{AsksFor, asks_for as asked_by}
 use Rattle.law_run_recovers.proofs.Keeps.{OfAsks}
 use Rattle.law_run_recovers.proofs.NearGround.{its, number}

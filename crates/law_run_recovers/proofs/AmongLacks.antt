@@ -23,7 +23,7 @@ use Rattle.law_runs.specs.Numbers.{number_of}
 use Rattle.law_runs.proofs.Agents.{take_keeps}
 use Rattle.law_run_recovers.specs.Unmet.{world_after, hinders_itself, robs}
 use Rattle.law_run_recovers.proofs.Steady.{GoesSteadily}
-use Rattle.law_run_recovers.proofs.Ends.{ending_in}
+use Rattle.law_run_recovers.proofs.Early.{ending_in}
 use Rattle.law_run_recovers.proofs.NearGround.{its}
 use Rattle.law_run_recovers.proofs.Still.{IsOpenPhase}
 use Rattle.law_run_recovers.proofs.AmongCourse.{Course, RunsIt, PhaseIn, StandsIn, Right, next_is, spared_on, locks_on as answered_on, TellsNone, open_works, runs_it, shown_on}

@@ -2,7 +2,7 @@
 use Rattle.std.proofs.Common.{◌≡◌, ◌⊎◌, inl, inr, ⊎_elim, ℕ, ◌+◌, ◌≤◌, ◌<◌, Bool, true, false, List, [], ◌∷◌, ◌++◌, append-nil, append_assoc, length, Option, Some, None, is_some, refl, sym, ap, subst, ◌∙◌, arith}
 use Rattle.std.specs.Prelude.{◌*◌, ◌==◌, ◌&&◌, ◌||◌, filter, slice_get, slice_set}
 use Rattle.std.specs.List.{list_any}
-use Rattle.std.proofs.lemmas.Bool.{false≢true, and_parts, and_from, eqb-true, eq-eqb}
+use Rattle.std.proofs.lemmas.Bool.{false≢true, and_parts, and_from, eqb-true, eq-eqb, or_right}
 use Rattle.std.proofs.lemmas.List.Folds.{list_any-append}
 use Rattle.std.proofs.lemmas.Option.{same_Some, slice_get_within}
 use Rattle.acl_core.specs.Identity.{Identity}
@@ -43,7 +43,6 @@ use Rattle.law_run_recovers.specs.Unmet.{world_after}
 use Rattle.law_run_recovers.specs.Among.{GoesAmongLocks, AmongLocksLeaveNoLock}
 use Rattle.law_run_recovers.proofs.Apart.{Apart, event_apart}
 use Rattle.law_run_recovers.proofs.Downs.{held-append}
-use Rattle.law_run_recovers.proofs.Freed.{or_left, or_right}
 use Rattle.law_run_recovers.proofs.Keeps.{run_at}
 use Rattle.law_run_recovers.proofs.Locked.{freed}
 use Rattle.law_run_recovers.proofs.Knows.{among_numbers}
@@ -56,6 +55,10 @@ use Rattle.law_run_recovers.proofs.Steady.{GoesSteadily, steady, never_hindered}
 use Rattle.law_run_recovers.proofs.AmongEnds.{Over, over_on, over_now}
 use Rattle.law_run_recovers.proofs.AmongOver.{never_others, never_over, ended_over, course_not_over}
 use Rattle.law_run_recovers.proofs.AmongStep.{idle_before, first_course, is_then, own_on}
+
+or_left : (a b : Bool) → a ≡ true → (a || b) ≡ true
+or_left true b is = refl
+or_left false b is = absurd (false≢true is)
 
 -- ---- exchanges
 

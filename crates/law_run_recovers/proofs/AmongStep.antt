@@ -61,7 +61,7 @@ use Rattle.law_run_recovers.specs.Near.{asks_for}
 use Rattle.law_run_recovers.specs.Unmet.{runs, running_in, world_after}
 use Rattle.law_run_recovers.proofs.Steady.{GoesSteadily}
 use Rattle.law_run_recovers.proofs.Asked.{onto_left, next_vote}
-use Rattle.law_run_recovers.proofs.Ends.{early_open, early_asks, fetch_is, ending_in}
+use Rattle.law_run_recovers.proofs.Early.{early_open, early_asks, fetch_is, ending_in}
 use Rattle.law_run_recovers.proofs.Executes.{begin_stands}
 use Rattle.law_run_recovers.proofs.Heard.{LockRight, RightFor, MayExecute, AsksFor, asks_for as asked_by, reply_stands}
 use Rattle.law_run_recovers.proofs.Keeps.{IsAtWork, last_of, run_at}
@@ -386,7 +386,7 @@ module _ (given : Opening) (events later : List Event) (agent t : ℕ) (caller :
 
     -- ---- its course
 
-    abbrev step_of : Task → CourseStep
+    abbrev pub step_of : Task → CourseStep
     step_of task = after_reply (fixed_of given) task c.here.agent.cache r.txn_run.suites r.txn_run.phase took.asked.0 took.asked.1 said
 
     taken : take (fixed_of given) c.here.agent (Replied said) ≡ with_step c.here.agent (step_of r.txn_run.task)
@@ -394,10 +394,10 @@ module _ (given : Opening) (events later : List Event) (agent t : ℕ) (caller :
         ap (λ doing. take_in (fixed_of given) c.here.agent (Replied said) doing (next_of (fixed_of given) c.here.agent)) r.running
         ∙ ap (take_in (fixed_of given) c.here.agent (Replied said) (Some (Running r.txn_run))) took.next
 
-    here_is : took.new.agent ≡ (with_step c.here.agent (step_of r.txn_run.task)).agent
+    pub here_is : took.new.agent ≡ (with_step c.here.agent (step_of r.txn_run.task)).agent
     here_is = took.took ∙ ap (λ (taken : Taken). taken.agent) taken
 
-    there_then : actor_at (world_after given events agent caller site ops (so_far ++ Step agent ∷ [])) agent ≡ Some took.new
+    pub there_then : actor_at (world_after given events agent caller site ops (so_far ++ Step agent ∷ [])) agent ≡ Some took.new
     there_then = ap (λ w. actor_at w agent) (next_is given events later agent t caller site ops actor goes so_far (Step agent)) ∙ took.now
 
     count_then : took.new.agent.count ≡ actor.agent.count + 1

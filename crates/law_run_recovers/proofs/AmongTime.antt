@@ -2,12 +2,12 @@
 use Rattle.std.proofs.Common.{◌≡◌, ◌⊎◌, inl, inr, ⊎_elim, ℕ, ◌+◌, ◌<◌, ◌≤◌, Bool, true, false, cond, List, [], ◌∷◌, ◌++◌, append_assoc, length, Some, is_some, refl, sym, ap, subst, ◌∙◌, arith, Option, suc, zero, None}
 use Rattle.std.specs.Prelude.{◌==◌, ◌&&◌, ◌||◌}
 use Rattle.std.specs.List.{cons_option, list_all}
+use Rattle.std.proofs.lemmas.Bool.Decides.{nat_tests}
 use Rattle.std.proofs.lemmas.List.Folds.{list_all-append}
 use Rattle.std.proofs.lemmas.Option.{slice_get_within, none-some, slice_get_cases}
 use Rattle.acl_core.specs.Identity.{Identity}
 use Rattle.suite_prefix.specs.SettingsRules.{Opening}
 use Rattle.file_ops.specs.declared.operation.Op.{Op}
-use Rattle.rep_core.specs.declared.reply.Reply.{Reply}
 use Rattle.rep_core.specs.Service.{reply_of}
 use Rattle.rep_core.proofs.Members.{Has, has_any, contains_from, any_has, has_filter, has_from}
 use Rattle.txn_core.specs.declared.job.Job.TheVariants.{Transaction}
@@ -18,7 +18,7 @@ use Rattle.txn_core.specs.Agents.{Agent, fixed_of, next_in, next_of, begin, afte
 use Rattle.txn_core.specs.Laws.{Exchange, exchange_of, exchanges, among, asks_only, names_of, names_only, says_held}
 use Rattle.txn_core.proofs.Upheld.{exchanges-take, exchanges-forget}
 use Rattle.run_core.specs.declared.event.Event.{Event}
-use Rattle.run_core.specs.declared.event.Event.TheVariants.{Begin, Step}
+use Rattle.run_core.specs.declared.event.Event.TheVariants.{Begin, Step, Crash, Return, Forget, Lack}
 use Rattle.run_core.specs.declared.done.EndedJob.{EndedJob}
 use Rattle.run_core.specs.Worlds.{Actor, World, step, server_at}
 use Rattle.run_core.specs.Runs.{dones, outcomes, run}
@@ -31,12 +31,12 @@ use Rattle.law_run_recovers.proofs.Steady.{GoesSteadily, steady}
 use Rattle.law_run_recovers.specs.Local.{Ended, UnmetEndInTime, few_steps}
 use Rattle.law_run_recovers.specs.Unmet.{begun_world, world_after, hinders_itself}
 use Rattle.law_run_recovers.proofs.Apart.{event_apart}
-use Rattle.law_run_recovers.proofs.Counts.{one_longer, and_one, has_after, step_of}
+use Rattle.law_run_recovers.proofs.AmongOver.{has_after}
 use Rattle.law_run_recovers.proofs.Keeps.{run_at}
 use Rattle.law_run_recovers.proofs.Knows.{among_numbers}
 use Rattle.law_run_recovers.proofs.Names.{itself, suites_named, names_for, CountedOf, few_enough}
 use Rattle.law_run_recovers.proofs.NearGround.{its, Known, ground, number, sight, can_first}
-use Rattle.law_run_recovers.proofs.Took.{OwnTook, own_took}
+use Rattle.law_run_recovers.proofs.Took.{own_took}
 use Rattle.law_run_recovers.proofs.Open.{unmet_is_among_locks}
 use Rattle.law_run_recovers.proofs.AmongCourse.{Course, RunsIt, runs_it, next_is, apart_on}
 use Rattle.law_run_recovers.proofs.AmongStep.{idle_before, first_course, first_told, own_on}
@@ -69,6 +69,26 @@ pub all_has : {X : Type 0} (p : X → Bool) (xs : List X) (x : X) → list_all p
 all_has p [] x all has = absurd has
 all_has p (y ∷ ys) x all (inl same) = ap p (sym same) ∙ (and_parts (p y) (list_all p ys) all).0
 all_has p (y ∷ ys) x all (inr rest) = all_has p ys x (and_parts (p y) (list_all p ys) all).1 rest
+
+one_longer : {X : Type 0} (xs : List X) (x : X) → length (xs ++ x ∷ []) ≡ length xs + 1
+one_longer [] x = refl
+one_longer (y ∷ xs) x = let rest = one_longer xs x in omega (arith, rest)
+
+and_one : (a b : Bool) → a ≡ true → b ≡ true → (a && (b && true)) ≡ true
+and_one true true a b = refl
+and_one true false a b = absurd (false≢true b)
+and_one false b a _ = absurd (false≢true a)
+
+step_of : (agent : ℕ) (event : Event) → its_step agent event ≡ true → event ≡ Step agent
+step_of agent (Step other) is = ap Step (same_at other agent is)
+  where
+    same_at : (a b : ℕ) → (a == b) ≡ true → a ≡ b
+    same_at a b is = grind (arith, nat_tests)
+step_of agent (Begin other _) is = absurd (false≢true is)
+step_of agent (Crash server) is = absurd (false≢true is)
+step_of agent (Return server) is = absurd (false≢true is)
+step_of agent (Forget other _) is = absurd (false≢true is)
+step_of agent (Lack other why) is = absurd (false≢true is)
 
 -- who is among so many numbers is below their end
 below : (count start n : ℕ) → among (numbers_from start count) n ≡ true → n < start + count

@@ -48,7 +48,7 @@ use Rattle.law_run_recovers.specs.Unmet.{world_after, GoesUnmet, hinders_itself}
 use Rattle.law_run_recovers.specs.Among.{GoesAmongLocks}
 use Rattle.law_run_recovers.specs.Local.{EndsThen}
 use Rattle.law_run_recovers.proofs.Apart.{Apart, event_apart}
-use Rattle.law_run_recovers.proofs.Ends.{ending_in}
+use Rattle.law_run_recovers.proofs.Early.{ending_in}
 use Rattle.law_run_recovers.proofs.Heard.{RightFor, asks_for as asked_by}
 use Rattle.law_run_recovers.proofs.Keeps.{run_at}
 use Rattle.law_run_recovers.proofs.NearGround.{its, opens, sight}

@@ -86,7 +86,7 @@ job_same given w k job pair = of (begins_now (fixed_of given) k job (actor_at w 
 -- ---- a server
 
 -- a request that tells no answer leaves what is stored
-abbrev Spares : Request → Type 0
+abbrev pub Spares : Request → Type 0
 Spares asked = (t : ℕ) (v : Verdict) → asked ≡ request.Finish t v → is_answered v ≡ false
 
 stored_ways : (st : State) (z : ℕ) → Ways st (λ asked new. Spares asked → copy_of new.store z ≡ copy_of st.store z)
@@ -103,7 +103,7 @@ stored_ways st z = record {
   return = λ spares. refl;
 }
 
-stored_stays : (st : State) (asked : Stamped Request) (z : ℕ) → Spares asked.value → copy_of (serving.step st asked).store z ≡ copy_of st.store z
+pub stored_stays : (st : State) (asked : Stamped Request) (z : ℕ) → Spares asked.value → copy_of (serving.step st asked).store z ≡ copy_of st.store z
 stored_stays st asked z spares = by_step st _ (stored_ways st z) (λ asked new stamp stays. stays) asked spares
 
 -- ---- the run

@@ -79,7 +79,7 @@ use Rattle.law_run_recovers.specs.Unmet.{runs, world_after}
 use Rattle.law_run_recovers.proofs.Apart.{Apart, hint_forgotten}
 use Rattle.law_run_recovers.proofs.AtWork.{stands_next, locks_stand}
 use Rattle.law_run_recovers.proofs.BesideNext.{mine_taken}
-use Rattle.law_run_recovers.proofs.Ends.{early_asks, fetch_is}
+use Rattle.law_run_recovers.proofs.Early.{early_asks, fetch_is}
 use Rattle.law_run_recovers.proofs.Executes.{begin_stands}
 use Rattle.law_run_recovers.proofs.Found.{Answering, all_answer}
 use Rattle.law_run_recovers.proofs.Heard.{LockRight, RightFor, reply_stands}

@@ -48,7 +48,7 @@ use Rattle.law_run_recovers.specs.OpenDemands.{Want}
 use Rattle.law_run_recovers.specs.Unmet.{world_after}
 use Rattle.law_run_recovers.proofs.Asked.{onto_left, onto_so_far, asked_exclusive, next_mode}
 use Rattle.law_run_recovers.proofs.Asking.{onto}
-use Rattle.law_run_recovers.proofs.Ends.{fetch_is}
+use Rattle.law_run_recovers.proofs.Early.{fetch_is}
 use Rattle.law_run_recovers.proofs.Heard.{asks_for as asked_by}
 use Rattle.law_run_recovers.proofs.Keeps.{IsAtWork}
 use Rattle.law_run_recovers.proofs.Leading.{led}

@@ -35,7 +35,7 @@ use Rattle.run_core.specs.TableOfRun.{table_of}
 use Rattle.law_run_recovers.specs.Demands.{has_asked, locks_asked}
 use Rattle.law_run_recovers.proofs.Asked.{onto_left, onto_so_far}
 use Rattle.law_run_recovers.proofs.Asking.{onto, held_in, held_if}
-use Rattle.law_run_recovers.proofs.Ends.{fetch_is}
+use Rattle.law_run_recovers.proofs.Early.{fetch_is}
 use Rattle.law_run_recovers.proofs.Heard.{asks_for}
 use Rattle.law_run_recovers.proofs.Polled.{Sight}
 use Rattle.law_run_recovers.proofs.Stands.{Ground, locks_on, PhaseStands}

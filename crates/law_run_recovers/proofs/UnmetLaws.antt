@@ -80,7 +80,7 @@ maps_of d f g [] same = refl
 maps_of d f g (x ∷ xs) same = ap (λ y. y ∷ map d (map f xs)) (same x) ∙ ap (λ ys. g x ∷ ys) (maps_of d f g xs same)
 
 -- nothing is in the way there, so it is open where it is up
-open_where_free : (way : Option (Option ℕ)) (up : Bool) → (is_way_met way ≡ false → way ≡ cond up (Some None) None) → is_way_met way ≡ false → is_open_way way ≡ up
+pub open_where_free : (way : Option (Option ℕ)) (up : Bool) → (is_way_met way ≡ false → way ≡ cond up (Some None) None) → is_way_met way ≡ false → is_open_way way ≡ up
 open_where_free way true so free = ap is_open_way (so free)
 open_where_free way false so free = ap is_open_way (so free)
 
