@@ -139,7 +139,9 @@ module _ (given : Opening) (events later : List Event) (agent t : ℕ) (caller :
 
     -- nothing is decided
     pub decisions_same : (so_far rest : List Event) → later ≡ so_far ++ rest → decisions given (events ++ Begin agent (Transaction caller site ops) ∷ so_far) ≡ decisions given events
-    decisions_same so_far rest split = none_since given events so_far agent t caller site ops actor (can_so_far given events later agent t caller site ops actor (steadily given events later agent t caller site ops actor goes) so_far rest split) goes.there begun_number (none_so_far so_far rest split)
+    decisions_same so_far rest split =
+        none_since given events so_far agent t caller site ops actor (can_so_far given events later agent t caller site ops actor (steadily given events later agent t caller site ops actor goes) so_far rest split) goes.there begun_number
+        (none_so_far so_far rest split)
 
     pub table_same : table_of given (events ++ Begin agent (Transaction caller site ops) ∷ later) ≡ table_of given events
     table_same = ap (table_after_all (rows.opening given)) (decisions_same later [] (sym (append-nil later)))

@@ -32,7 +32,7 @@ use Rattle.law_run_recovers.proofs.Serves.{Told}
 use Rattle.law_run_recovers.proofs.Sides.{names_one}
 use Rattle.law_run_recovers.proofs.AmongCourse.{Course}
 use Rattle.law_run_recovers.proofs.AmongEnds.{Over, small_at}
-use Rattle.law_run_recovers.proofs.AmongStep.{begun}
+use Rattle.law_run_recovers.proofs.AmongBegin.{begun}
 
 pub has_after : {X : Type 0} (found : Option X) (xs : List X) (x : X) → Has xs x → Has (cons_option found xs) x
 has_after None xs x has = has
@@ -52,7 +52,8 @@ module _ (given : Opening) (events later : List Event) (agent t : ℕ) (caller :
   small_own = (holds_of given goes.can.accepted events).agents.small agent actor.agent (ap agent_of goes.there)
 
   -- the agent of its number that is over is idle, unless it began more since
-  over_idle : (so_far : List Event) → Over given events later agent t caller site ops actor goes so_far → (here : Actor) → actor_at (world_after given events agent caller site ops so_far) agent ≡ Some here → here.agent.count ≡ actor.agent.count + 1 → here.agent.doing ≡ None
+  over_idle : (so_far : List Event) → Over given events later agent t caller site ops actor goes so_far → (here : Actor) → actor_at (world_after given events agent caller site ops so_far) agent ≡ Some here
+      → here.agent.count ≡ actor.agent.count + 1 → here.agent.doing ≡ None
   over_idle so_far over here there last =
       let was = (holds_of given goes.can.accepted (all so_far)).over over.0 over.1 in
       let small_was = (holds_of given goes.can.accepted (all so_far)).agents.small over.0.agent was.agent was.at in
@@ -118,7 +119,8 @@ module _ (given : Opening) (events later : List Event) (agent t : ℕ) (caller :
 
   -- ---- who asks in its name
 
-  module _ (so_far : List Event) (event : Event) (what : Served) (is : (step (fixed_of given) (world_after given events agent caller site ops so_far) event).done.served ≡ Some what) (named : names t what.request.value ≡ true) (own : may_sweep what.request.value ≡ false) where
+  module _ (so_far : List Event) (event : Event) (what : Served) (is : (step (fixed_of given) (world_after given events agent caller site ops so_far) event).done.served ≡ Some what) (named : names t what.request.value ≡ true)
+      (own : may_sweep what.request.value ≡ false) where
     asked_by : IsAsker (fixed_of given) (world_after given events agent caller site ops so_far) event what
     asked_by = asker (fixed_of given) (world_at so_far) t event what is named
 

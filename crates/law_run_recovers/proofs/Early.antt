@@ -24,7 +24,8 @@ early_open (Deciding outcome) may = absurd may
 early_open (Finishing left v ended) may = absurd may
 
 -- it asks for nothing that takes a lock away, or that decides
-pub early_asks : (fixed : Fixed) (task : Task) (suites : Suites) (phase : Phase) → MayExecute phase → (server : ℕ) (asked : Request) → request_in fixed task suites phase ≡ Some (server, asked) → (releases asked ≡ false) × (is_decide asked ≡ false)
+pub early_asks : (fixed : Fixed) (task : Task) (suites : Suites) (phase : Phase) → MayExecute phase → (server : ℕ) (asked : Request) → request_in fixed task suites phase ≡ Some (server, asked)
+    → (releases asked ≡ false) × (is_decide asked ≡ false)
 early_asks fixed task suites (Gathering number) may server asked is =
     (asked_as releases false task number (suite_of suites number) server asked (λ mode. refl) refl is, asked_as is_decide false task number (suite_of suites number) server asked (λ mode. refl) refl is)
 early_asks fixed task suites (Fetching number) may server asked is =

@@ -173,7 +173,8 @@ module _ (given : Opening) (events later : List Event) (agent t : ℕ) (caller :
     same_table : table_of given all ≡ table_of given events
     same_table = ap (table_after_all (rows.opening given))
         (decisions_from-append (fixed_of given) (opening given) events (Begin agent job ∷ found.before)
-        ∙ ap (λ more. decisions given events ++ more) (ap (λ (first : Option Decided). cons_option first (decisions_from (fixed_of given) begun_world found.before)) (no_task world (step (fixed_of given) world (Begin agent job)).done.served) ∙ found.none)
+        ∙ ap (λ more. decisions given events ++ more)
+        (ap (λ (first : Option Decided). cons_option first (decisions_from (fixed_of given) begun_world found.before)) (no_task world (step (fixed_of given) world (Begin agent job)).done.served) ∙ found.none)
         ∙ append-nil (decisions given events))
 
     module _ (z : ℕ) (suite : Suite) (is : suite_of so.txn_run.suites z ≡ Some suite) where
@@ -316,7 +317,8 @@ module _ (given : Opening) (events later : List Event) (agent t : ℕ) (caller :
           absurd (false≢true (sym down ∙ (had given events later agent t caller site ops actor alone found).home))
 
   -- it has begun one job since
-  pub last_now : Now given (run given events) agent (begin (fixed_of given) actor.agent (Transaction caller site ops)) (after (fixed_of given) (step (fixed_of given) (run given events) (Begin agent (Transaction caller site ops))).world later)
+  pub last_now : Now given (run given events) agent (begin (fixed_of given) actor.agent (Transaction caller site ops))
+      (after (fixed_of given) (step (fixed_of given) (run given events) (Begin agent (Transaction caller site ops))).world later)
   last_now = now_after given (run given events) agent (begin (fixed_of given) actor.agent its) later begins (first_now given events later agent t caller site ops actor alone) alone.alone
 
   pub count_then : (begin (fixed_of given) actor.agent (Transaction caller site ops)).count ≡ actor.agent.count + 1
@@ -327,7 +329,8 @@ module _ (given : Opening) (events later : List Event) (agent t : ℕ) (caller :
     where
       there : Contains (ended given the_end) one.job
       there = subst (λ jobs. Contains jobs one.job)
-          (sym (ap outcomes (dones-append (fixed_of given) (opening given) events (Begin agent its ∷ later)) ∙ outcomes-append (dones (fixed_of given) (opening given) events) (dones (fixed_of given) (run given events) (Begin agent its ∷ later))))
+          (sym (ap outcomes (dones-append (fixed_of given) (opening given) events (Begin agent its ∷ later))
+          ∙ outcomes-append (dones (fixed_of given) (opening given) events) (dones (fixed_of given) (run given events) (Begin agent its ∷ later))))
           (Contains-append_right (ended given events) (outcomes (dones (fixed_of given) (run given events) (Begin agent its ∷ later))) one.job
           (contains_later (step (fixed_of given) (run given events) (Begin agent its)).done.outcome (outcomes (dones (fixed_of given) begins later)) one.job one.there))
 
@@ -341,5 +344,7 @@ pub decided_had_votes_up : DecidedHadVotesUp
 decided_had_votes_up given events later agent t caller site ops actor alone was =
     let is = ⊎_elim (λ is. is) (λ one. ended_stands given events later agent t caller site ops actor alone one) was in
     had given events later agent t caller site ops actor alone
-    (found_in given (run given events) agent (begin (fixed_of given) actor.agent (Transaction caller site ops)) (λ (one : Decided). one.t == t) later (step (fixed_of given) (run given events) (Begin agent (Transaction caller site ops))).world
-    (first_now given events later agent t caller site ops actor alone) alone.alone (decided_since given events later agent t caller site ops actor alone.can alone.there (starts given events later agent t caller site ops actor alone).number is))
+    (found_in given (run given events) agent (begin (fixed_of given) actor.agent (Transaction caller site ops)) (λ (one : Decided). one.t == t) later
+    (step (fixed_of given) (run given events) (Begin agent (Transaction caller site ops))).world
+    (first_now given events later agent t caller site ops actor alone) alone.alone
+    (decided_since given events later agent t caller site ops actor alone.can alone.there (starts given events later agent t caller site ops actor alone).number is))

@@ -128,7 +128,8 @@ module _ (fixed : Fixed) (world : World) (sight : Sight) (table : PlainTable) (t
     as_now : (step : Step) → step.cache ≡ now → Led step.cache
     as_now step same = subst Led (sym same) led
 
-    heard_hints : (suites : Suites) (phase : Phase) (number : ℕ) (found : Option Suite) (go_on : Suites → Step) → ((suites : Suites) → Led (go_on suites).cache) → Led (heard_of task now suites phase number found server asked said go_on).cache
+    heard_hints : (suites : Suites) (phase : Phase) (number : ℕ) (found : Option Suite) (go_on : Suites → Step) → ((suites : Suites) → Led (go_on suites).cache)
+        → Led (heard_of task now suites phase number found server asked said go_on).cache
     heard_hints suites phase number None go_on go = as_now (give_up task now suites (Lost server)) (up_cache task now suites (Lost server))
     heard_hints suites phase number (Some suite) go_on go = of (txn_run.said_to asked said)
       where
@@ -137,7 +138,8 @@ module _ (fixed : Fixed) (world : World) (sight : Sight) (table : PlainTable) (t
 
         by : (new : Suite) (after : Next) → Led (collected task now suites phase number new after on).cache
         by new (Ask who question) = led
-        by new (Short had wanting busy) = as_now (give_up task now (with_suite number new suites) (txn_run.short_cause number had wanting busy)) (up_cache task now (with_suite number new suites) (txn_run.short_cause number had wanting busy))
+        by new (Short had wanting busy) =
+            as_now (give_up task now (with_suite number new suites) (txn_run.short_cause number had wanting busy)) (up_cache task now (with_suite number new suites) (txn_run.short_cause number had wanting busy))
         by new (Current prefix dver members) = go (with_suite number (settled prefix dver members new) suites)
 
         of : (found : Option Said) → Led (hear task now suites phase number suite server asked found on).cache
@@ -151,7 +153,8 @@ module _ (fixed : Fixed) (world : World) (sight : Sight) (table : PlainTable) (t
       where
         by : (suite : Suite) → suite_of suites number ≡ Some suite → (content : Content) (first : Option ReadPoint) → suite.first ≡ first → Led (keep_content fixed task now suites number suite content first server).cache
         by suite there content None had = as_now (give_up task now suites (Lost server)) (up_cache task now suites (Lost server))
-        by suite there content (Some first) had = execute_hints (record { suites = with_suite number (record suite { content = Some content }) suites; cache = put fixed.limits entry now }) (λ z prefix hinted. at z prefix hinted (number == z) refl)
+        by suite there content (Some first) had =
+            execute_hints (record { suites = with_suite number (record suite { content = Some content }) suites; cache = put fixed.limits entry now }) (λ z prefix hinted. at z prefix hinted (number == z) refl)
           where
             entry : Entry
             entry = record { site = task.site; suite = number; prefix = first.prefix; dver = first.dver; content = content }
@@ -180,7 +183,8 @@ module _ (fixed : Fixed) (world : World) (sight : Sight) (table : PlainTable) (t
     reply_hints suites (Fetching number) at = fetched_hints suites number at.0 (given_in said)
     reply_hints suites (doing.Widening [] granted) at = absurd at
     reply_hints suites (doing.Widening (number ∷ left) granted) at =
-        heard_hints suites (doing.Widening (number ∷ left) granted) number (suite_of suites number) (λ suites. widen_all task now suites granted left) (λ suites. as_now (widen_all task now suites granted left) (widen_cache task now granted left suites))
+        heard_hints suites (doing.Widening (number ∷ left) granted) number (suite_of suites number) (λ suites. widen_all task now suites granted left)
+        (λ suites. as_now (widen_all task now suites granted left) (widen_cache task now granted left suites))
     reply_hints suites (Preparing [] outcome) at = as_now (give_up task now suites (Lost server)) (up_cache task now suites (Lost server))
     reply_hints suites (Preparing (first ∷ left) outcome) at = prepared_hints suites outcome left (is_prepared said)
     reply_hints suites (Deciding outcome) at =

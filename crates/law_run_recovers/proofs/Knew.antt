@@ -41,7 +41,8 @@ use Rattle.law_run_recovers.proofs.Still.{record_stays}
 
 -- ---- right after an own step that records nothing
 
-module _ (fixed : Fixed) (w : World) (agent t : ℕ) (here : Actor) (there : actor_at w agent ≡ Some here) (stepped : Stepped) (took : OwnTook fixed w agent here there stepped) (is : is_decide took.asked.1 ≡ false) (other : is_resolve took.asked.1 ≡ false) where
+module _ (fixed : Fixed) (w : World) (agent t : ℕ) (here : Actor) (there : actor_at w agent ≡ Some here) (stepped : Stepped) (took : OwnTook fixed w agent here there stepped) (is : is_decide took.asked.1 ≡ false)
+    (other : is_resolve took.asked.1 ≡ false) where
   abbrev asks_it : Stamped Request
   asks_it = record { stamp = here.stamp; value = took.asked.1 }
 
@@ -76,7 +77,8 @@ knows_registers given all can agent here txn_run there running stands unanswered
     (known_owed given z (machine_of given z all) (run given all) (holds_after given all can z) agent here txn_run there running suite first is had)
 
 -- and so on its table
-pub knows_table : (given : Opening) (all : List Event) → CanBe given all → (agent : ℕ) (here : Actor) (txn_run : TransactionRun) → actor_at (run given all) agent ≡ Some here → here.agent.doing ≡ Some (Running txn_run) → IsOrdered nat_cmp txn_run.suites
+pub knows_table : (given : Opening) (all : List Event) → CanBe given all → (agent : ℕ) (here : Actor) (txn_run : TransactionRun) → actor_at (run given all) agent ≡ Some here → here.agent.doing ≡ Some (Running txn_run)
+    → IsOrdered nat_cmp txn_run.suites
     → ((z : ℕ) → Stands (machine_of given z all) txn_run.task.t) → ((z : ℕ) → (machine_of given z all).verdict txn_run.task.t ≢ Some Answered)
     → AgreesWith (known_of txn_run.suites) (row_of (table_of given all).rows)
 knows_table given all can agent here txn_run there running ordered stands unanswered =

@@ -65,6 +65,7 @@ pub mod AmongAt
 pub mod AmongKnows
 pub mod AmongCourse
 pub mod AmongAsks
+pub mod AmongBegin
 pub mod AmongStep
 pub mod AmongLacks
 pub mod AmongEnds

@@ -249,7 +249,8 @@ module _ (given : Opening) (events later : List Event) (agent t : ℕ) (caller :
 
 -- ---- at its begin it runs
 
-begun_so : (given : Opening) (actor : Actor) (agent t : ℕ) (job : Job) → with_job job (begins_now (fixed_of given) agent job (Some actor)) ≡ Some (t, job) → (64 * actor.agent.count + agent ≡ t) × (begins (fixed_of given) actor.agent job ≡ true)
+begun_so : (given : Opening) (actor : Actor) (agent t : ℕ) (job : Job) → with_job job (begins_now (fixed_of given) agent job (Some actor)) ≡ Some (t, job)
+    → (64 * actor.agent.count + agent ≡ t) × (begins (fixed_of given) actor.agent job ≡ true)
 begun_so given actor agent t job =
     elim (is_idle actor.agent.doing && has_sense (fixed_of given) job && nat_lt actor.agent.count max_jobs) as
     (λ b. with_job job (cond b (Some (64 * actor.agent.count + agent)) None) ≡ Some (t, job) → (64 * actor.agent.count + agent ≡ t) × (b ≡ true)) [

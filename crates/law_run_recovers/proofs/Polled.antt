@@ -330,7 +330,9 @@ module _ (fixed : Fixed) (world : World) (sight : Sight) (suite : ℕ) where
       → find (λ (rep : Representative). nat_lt 0 rep.1 && not (holds mode told rep.0) && not (has_refused told rep.0)) reps ≡ None → Refusing mode reps (first_busy told)
   refusing mode wanted told right reps none = record {
     met = busy_met wanted told right;
-    free = λ free rep has some. of rep free (find_fails (λ (rep : Representative). nat_lt 0 rep.1 && not (holds mode told rep.0) && not (has_refused told rep.0)) reps none rep has) some (holds mode told rep.0) (has_refused told rep.0) refl refl;
+    free =
+        λ free rep has some. of rep free (find_fails (λ (rep : Representative). nat_lt 0 rep.1 && not (holds mode told rep.0) && not (has_refused told rep.0)) reps none rep has) some (holds mode told rep.0)
+        (has_refused told rep.0) refl refl;
   }
     where
       of : (rep : Representative) → first_busy told ≡ None → (nat_lt 0 rep.1 && not (holds mode told rep.0) && not (has_refused told rep.0)) ≡ false → nat_lt 0 rep.1 ≡ true

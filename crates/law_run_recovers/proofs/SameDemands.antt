@@ -34,7 +34,8 @@ abbrev pub HintsLed : (ℕ → Prefix → Prefix) → Fixed → Cache → ℕ �
 HintsLed led fixed cache site now = (z : ℕ) (prefix : Prefix) → hint now site z ≡ Some prefix → (hint cache site z ≡ Some prefix) ⊎ LeadsFrom led fixed cache site z prefix
 
 -- what leads to the same
-pub hints_alike : (led other : ℕ → Prefix → Prefix) (fixed : Fixed) (cache : Cache) (site : ℕ) (now : Cache) → ((z : ℕ) (start : Prefix) → led z start ≡ other z start) → HintsLed led fixed cache site now → HintsLed other fixed cache site now
+pub hints_alike : (led other : ℕ → Prefix → Prefix) (fixed : Fixed) (cache : Cache) (site : ℕ) (now : Cache) → ((z : ℕ) (start : Prefix) → led z start ≡ other z start) → HintsLed led fixed cache site now
+    → HintsLed other fixed cache site now
 hints_alike led other fixed cache site now same hints z prefix hinted =
     ⊎_elim
     (λ old. inl old)
@@ -74,7 +75,8 @@ module _ (fixed : Fixed) (before after : World) (was now : ℕ → Bool) (same :
       of None go = refl
       of (Some newer) go = go newer
 
-module _ (fixed : Fixed) (before after : World) (many : length after.servers ≡ length before.servers) (up : (i : ℕ) → is_up after i ≡ is_up before i) (shown : (z i : ℕ) → is_up before i ≡ true → shown_at fixed after z i ≡ shown_at fixed before z i) where
+module _ (fixed : Fixed) (before after : World) (many : length after.servers ≡ length before.servers) (up : (i : ℕ) → is_up after i ≡ is_up before i)
+    (shown : (z i : ℕ) → is_up before i ≡ true → shown_at fixed after z i ≡ shown_at fixed before z i) where
   pub same_led : (z : ℕ) (prefix : Prefix) → led_to fixed after z prefix ≡ led_to fixed before z prefix
   same_led z prefix = ap (λ n. led_so_far_by n fixed after (is_up after) z prefix) many ∙ same_so_far fixed before after (is_up before) (is_up after) up shown (length before.servers) z prefix
 

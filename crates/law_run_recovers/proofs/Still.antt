@@ -134,7 +134,8 @@ no_decide fixed task cache suites (Deciding outcome) server asked (Lacked lacked
 no_decide fixed task cache suites (Finishing [] v ending) server asked response is open' = cc
 no_decide fixed task cache suites (Finishing (now ∷ left) v ending) server asked response is open' = ap is_decide (sym (asks_same now server (request.Finish task.t v) asked is))
 
-pub open_undecided : (fixed : Fixed) (agent : Agent) (response : Response) (doing : Option Doing) (asked : ℕ × Request) → next_in fixed doing ≡ Some asked → IsOpen (take_in fixed agent response doing (Some asked)).agent.doing → is_decide asked.1 ≡ false
+pub open_undecided : (fixed : Fixed) (agent : Agent) (response : Response) (doing : Option Doing) (asked : ℕ × Request) → next_in fixed doing ≡ Some asked → IsOpen (take_in fixed agent response doing (Some asked)).agent.doing
+    → is_decide asked.1 ≡ false
 open_undecided fixed agent response (Some (Running txn_run)) asked is open' = no_decide fixed txn_run.task agent.cache txn_run.suites txn_run.phase asked.0 asked.1 response is open'
 open_undecided fixed agent response (Some (RunningSweep sweep_run)) asked is open' = absurd (of (sweep.after_response fixed.service sweep_run asked.0 response) open')
   where

@@ -37,7 +37,8 @@ use Rattle.law_run_recovers.proofs.AmongCourse.{Course, RunsIt, runs_it, course_
 use Rattle.law_run_recovers.proofs.AmongEnds.{Over}
 use Rattle.law_run_recovers.proofs.AmongLeft.{left_at}
 use Rattle.law_run_recovers.proofs.AmongOver.{over_then}
-use Rattle.law_run_recovers.proofs.AmongStep.{begun, first_course, here_is, own_on, there_then}
+use Rattle.law_run_recovers.proofs.AmongBegin.{begun, first_course}
+use Rattle.law_run_recovers.proofs.AmongStep.{here_is, own_on, there_then}
 use Rattle.law_run_recovers.proofs.Apart.{event_apart}
 use Rattle.law_run_recovers.proofs.Aside.{Aside, event_aside}
 use Rattle.law_run_recovers.proofs.Found.{all_answer}
@@ -182,7 +183,8 @@ module _ (given : Opening) (events later : List Event) (agent t : ℕ) (caller :
           (λ apart. apart_then (apart_on given events later agent t caller site ops actor steady_so so_far rest event split c apart.0 apart.1).0 apart.1)
           (λ own. own_then' own.0 own.1)
           (event_apart given agent (world_at so_far) c.here c.there c.busy event
-          (never_hindered given events later agent t caller site ops actor (unmet_is_among_locks given events later agent t caller site ops actor (alone_is_unmet given events later agent t caller site ops actor goes)) so_far rest event split
+          (never_hindered given events later agent t caller site ops actor
+          (unmet_is_among_locks given events later agent t caller site ops actor (alone_is_unmet given events later agent t caller site ops actor goes)) so_far rest event split
           (course_runs given events later agent t caller site ops actor steady_so so_far c)))
 
     along_on : Along so_far → Along (so_far ++ event ∷ [])
@@ -200,7 +202,8 @@ module _ (given : Opening) (events later : List Event) (agent t : ℕ) (caller :
 
     over : Over given events later agent t caller site ops actor steady_so later
     over = ⊎_elim (λ on. absurd (not_running on.0)) (λ left. left.0)
-        (left_at given events later agent t caller site ops actor (unmet_is_among_locks given events later agent t caller site ops actor (alone_is_unmet given events later agent t caller site ops actor goes)) later [] (sym (append-nil later)))
+        (left_at given events later agent t caller site ops actor (unmet_is_among_locks given events later agent t caller site ops actor (alone_is_unmet given events later agent t caller site ops actor goes)) later []
+        (sym (append-nil later)))
 
     at_end : IsIdle later
     at_end = ⊎_elim (λ on. absurd (not_running on.0)) (λ idle. idle) along_at
