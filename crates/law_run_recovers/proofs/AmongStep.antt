@@ -356,7 +356,7 @@ module _ (given : Opening) (events later : List Event) (agent t : ℕ) (caller :
       ordered_on =
           (subst (Keeps (plus_all nothing_held (exchanges (fixed_of given) (begin (fixed_of given) actor.agent (Transaction caller site ops)) told_then))) (ap (λ (a : Agent). a.doing) (sym is_then) ∙ running_on)
           (keeping.all_keep nothing_held (fixed_of given) (begin (fixed_of given) actor.agent (Transaction caller site ops)) told_then
-          (begin_keeps (fixed_of given) actor.agent (Transaction caller site ops) idle_before given events later agent t caller site ops actor goes))).0
+          (begin_keeps (fixed_of given) actor.agent (Transaction caller site ops) (idle_before given events later agent t caller site ops actor goes)))).0
 
       asks_early : is_decide took.asked.1 ≡ false
       asks_early = (early_asks (fixed_of given) its_task r.txn_run.suites r.txn_run.phase may took.asked.0 took.asked.1 request_is).1

@@ -309,9 +309,9 @@ module _ (given : Opening) (events later : List Event) (agent t : ℕ) (caller :
   pub none_decided : is_up (run given events) (home_of (fixed_of given).service t) ≡ false → decisions_from (fixed_of given) (step (fixed_of given) (run given events) (Begin agent (Transaction caller site ops))).world later ≡ []
   none_decided down = of (decisions_from (fixed_of given) begins later) refl
     where
-      of : (all : List Decided) → decisions_from (fixed_of given) begins later ≡ all → all ≡ []
+      of : (found : List Decided) → decisions_from (fixed_of given) begins later ≡ found → found ≡ []
       of [] is = refl
-      of (one ∷ all) is =
+      of (one ∷ more) is =
           let found = found_in given (run given events) agent (begin (fixed_of given) actor.agent its) (λ one. true) later begins (first_now given events later agent t caller site ops actor alone) alone.alone
           (ap (list_any (λ (one : Decided). true)) is) in
           absurd (false≢true (sym down ∙ (had given events later agent t caller site ops actor alone found).home))
