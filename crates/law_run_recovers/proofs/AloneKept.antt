@@ -51,12 +51,12 @@ use Rattle.law_run_recovers.proofs.Open.{Here, here_at, is_calm, its_begin, alon
 
 -- ---- lists
 
+some_not : {X : Type 0} (x : X) (xs : List X) → x ∷ xs ≡ [] → ⊥
+some_not x xs is = cc
+
 front_none : {X : Type 0} (xs ys : List X) → xs ++ ys ≡ [] → xs ≡ []
 front_none [] ys is = refl
 front_none (x ∷ xs) ys is = absurd (some_not x (xs ++ ys) is)
-  where
-    some_not : (x : X) (xs : List X) → x ∷ xs ≡ [] → ⊥
-    some_not x xs is = cc
 
 all_places : {X : Type 0} (p : X → Bool) (xs : List X) → ((i : ℕ) (x : X) → slice_get xs i ≡ Some x → p x ≡ true) → list_all p xs ≡ true
 all_places p [] each = refl
