@@ -1,12 +1,11 @@
 -- A transaction that goes steadily ends as the votes say that are open: its begin.
 use Rattle.std.proofs.Common.{◌≡◌, ℕ, Bool, true, false, cond, List, [], ◌∷◌, ◌++◌, Option, Some, None, refl, sym, ap, subst, ◌∙◌}
-use Rattle.std.specs.Prelude.{◌*◌, ◌+◌, ◌-◌, ◌&&◌, nat_lt}
+use Rattle.std.specs.Prelude.{◌*◌, ◌+◌, ◌&&◌, nat_lt}
 use Rattle.std.proofs.lemmas.Bool.{false≢true, and_parts}
 use Rattle.std.proofs.lemmas.Option.{none-some, same_Some}
 use Rattle.acl_core.specs.Identity.{Identity}
 use Rattle.suite_prefix.specs.SettingsRules.{Opening}
 use Rattle.file_ops.specs.declared.operation.Op.{Op}
-use Rattle.rep_core.specs.Service.{after}
 use Rattle.rep_core.specs.State.{State}
 use Rattle.rep_core.proofs.Members.{Has}
 use Rattle.txn_core.specs.declared.ending.Ending.{Ending}

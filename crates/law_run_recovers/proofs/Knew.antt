@@ -1,6 +1,6 @@
 -- What a transaction knows is what the registers of the run hold, and so on its table, as long as no lock of it was taken away and it is not answered.
-use Rattle.std.proofs.Common.{◌≡◌, ◌≢◌, ◌⊎◌, ⊎_elim, ℕ, false, List, Option, Some, None, refl, sym, ap, ◌∙◌}
-use Rattle.std.specs.Prelude.{not, unwrap_or, slice_get, slice_set}
+use Rattle.std.proofs.Common.{◌≡◌, ◌≢◌, ⊎_elim, ℕ, false, List, Option, Some, None, refl, sym, ap, ◌∙◌}
+use Rattle.std.specs.Prelude.{unwrap_or, slice_get, slice_set}
 use Rattle.std.specs.Ordering.{nat_cmp}
 use Rattle.std.proofs.lemmas.Option.{none-some, same_Some}
 use Rattle.sorted_map.specs.SortedMap.{IsOrdered}
@@ -17,7 +17,7 @@ use Rattle.txn_core.specs.Suites.{ReadPoint, Suite, suite_of, known_of}
 use Rattle.txn_core.specs.Doing.{Fixed, TransactionRun, Running}
 use Rattle.txn_core.specs.Laws.{is_decide}
 use Rattle.run_core.specs.declared.event.Event.{Event}
-use Rattle.run_core.specs.Worlds.{Actor, World, Stepped, server_at, actor_at, answered, step}
+use Rattle.run_core.specs.Worlds.{Actor, World, Stepped, server_at, actor_at}
 use Rattle.run_core.specs.Runs.{run}
 use Rattle.run_core.specs.TableOfRun.{table_of}
 use Rattle.law_suite_machine.specs.Machine.{Answered}

@@ -1,6 +1,6 @@
 -- What an agent that nobody hinders was told since it began: each server that told it of a lock was up then.
 use Rattle.std.proofs.Common.{◌≡◌, ⊎_elim, ℕ, true, false, cond, List, [], ◌∷◌, ◌++◌, Option, Some, None, is_some, refl, sym, ap, subst, ◌∙◌}
-use Rattle.std.specs.Prelude.{◌==◌, ◌&&◌, not, slice_get, slice_set}
+use Rattle.std.specs.Prelude.{◌==◌, not, slice_get, slice_set}
 use Rattle.std.proofs.lemmas.Bool.{false≢true, and_parts, eqb-true, not-true, or_cases}
 use Rattle.suite_prefix.specs.SettingsRules.{Opening}
 use Rattle.rep_core.specs.declared.request.Request.{Request}
