@@ -11,7 +11,7 @@
 //! Nothing is said of the order of two transactions that no server was asked of.
 //!
 //! **The caller owes** to `promise` what `run_certify::certify` gives with each list of decisions
-//! (`CertifiedIsPromised`).
+//! (`CertifiedIsPromised`). `crates/run_tests/src/certified.rt` does it.
 //!
 //! **Files**: `lib`, `promises`. **Definitions** (`specs/`): `Histories`.
 #![tactic(auto)]

@@ -30,7 +30,7 @@ use Rattle.law_run_recovers.specs.Alone.{unhindered_from}
 use Rattle.law_run_recovers.specs.Demands.{VotesAreUp}
 use Rattle.law_run_recovers.specs.Laws.{GoesAlone, again, goes_again, OneIsDecided, OneOfThemIsDecided}
 use Rattle.law_run_recovers.proofs.Homes.{homes_go_round}
-use Rattle.law_run_recovers.proofs.Counts.{has_after}
+use Rattle.law_run_recovers.proofs.AmongOver.{has_after}
 use Rattle.law_run_recovers.proofs.Tries.{ends_decided, Left, left_so}
 
 -- ---- lists
@@ -101,26 +101,32 @@ module _ (given : Opening) (agent : ℕ) (caller : Identity) (site : ℕ) (ops :
   abbrev its_fixed : Fixed
   its_fixed = fixed_of given
 
-  in_try : (world : World) (later rest : List Event) → OneIsDecided (outcomes (dones its_fixed (step its_fixed world (Begin agent the_job)).world later)) agent → OneIsDecided (outcomes (dones its_fixed world (Begin agent the_job ∷ later ++ rest))) agent
+  in_try : (world : World) (later rest : List Event) → OneIsDecided (outcomes (dones its_fixed (step its_fixed world (Begin agent the_job)).world later)) agent
+      → OneIsDecided (outcomes (dones its_fixed world (Begin agent the_job ∷ later ++ rest))) agent
   in_try world later rest one =
       let begun = (step its_fixed world (Begin agent the_job)).world in
       let here = has_left (outcomes (dones its_fixed begun later)) (outcomes (dones its_fixed (after its_fixed begun later) rest)) one.job (has_from (outcomes (dones its_fixed begun later)) one.job one.there) in
       let both = subst (λ jobs. Has jobs one.job) (sym (ap outcomes (dones-append its_fixed begun later rest) ∙ outcomes-append (dones its_fixed begun later) (dones its_fixed (after its_fixed begun later) rest))) here in
       record {
         job = one.job;
-        there = contains_from (outcomes (dones its_fixed world (Begin agent the_job ∷ later ++ rest))) one.job (has_after (step its_fixed world (Begin agent the_job)).done.outcome (outcomes (dones its_fixed begun (later ++ rest))) one.job both);
+        there =
+            contains_from (outcomes (dones its_fixed world (Begin agent the_job ∷ later ++ rest))) one.job
+            (has_after (step its_fixed world (Begin agent the_job)).done.outcome (outcomes (dones its_fixed begun (later ++ rest))) one.job both);
         of_it = one.of_it;
         decided = one.decided;
       }
 
-  in_rest : (world : World) (later rest : List Event) → OneIsDecided (outcomes (dones its_fixed (after its_fixed (step its_fixed world (Begin agent the_job)).world later) rest)) agent → OneIsDecided (outcomes (dones its_fixed world (Begin agent the_job ∷ later ++ rest))) agent
+  in_rest : (world : World) (later rest : List Event) → OneIsDecided (outcomes (dones its_fixed (after its_fixed (step its_fixed world (Begin agent the_job)).world later) rest)) agent
+      → OneIsDecided (outcomes (dones its_fixed world (Begin agent the_job ∷ later ++ rest))) agent
   in_rest world later rest one =
       let begun = (step its_fixed world (Begin agent the_job)).world in
       let there = has_right (outcomes (dones its_fixed begun later)) (outcomes (dones its_fixed (after its_fixed begun later) rest)) one.job (has_from (outcomes (dones its_fixed (after its_fixed begun later) rest)) one.job one.there) in
       let both = subst (λ jobs. Has jobs one.job) (sym (ap outcomes (dones-append its_fixed begun later rest) ∙ outcomes-append (dones its_fixed begun later) (dones its_fixed (after its_fixed begun later) rest))) there in
       record {
         job = one.job;
-        there = contains_from (outcomes (dones its_fixed world (Begin agent the_job ∷ later ++ rest))) one.job (has_after (step its_fixed world (Begin agent the_job)).done.outcome (outcomes (dones its_fixed begun (later ++ rest))) one.job both);
+        there =
+            contains_from (outcomes (dones its_fixed world (Begin agent the_job ∷ later ++ rest))) one.job
+            (has_after (step its_fixed world (Begin agent the_job)).done.outcome (outcomes (dones its_fixed begun (later ++ rest))) one.job both);
         of_it = one.of_it;
         decided = one.decided;
       }
@@ -170,14 +176,14 @@ module _ (given : Opening) (agent : ℕ) (caller : Identity) (site : ℕ) (ops :
           → goes_again given agent the_job (run given events) tries ≡ true → (more : ℕ) → more < length tries → is_up (run given events) (home_of its_fixed.service (64 * (actor.agent.count + more) + agent)) ≡ true
           → OneIsDecided (outcomes (dones its_fixed (run given events) (again agent the_job tries))) agent)
           → OneIsDecided (outcomes (dones its_fixed first (again agent the_job (later ∷ tries)))) agent
-      of true up go = in_try first later (again agent the_job tries) (ends_decided given events later agent t caller site ops actor goes_so met idle up)
+      of true up go = in_try first later (again agent the_job tries) (ends_decided given events later agent t caller site ops actor goes_so idle met up)
       of false down go = by more few home
         where
           next : List Event
           next = events ++ Begin agent the_job ∷ later
 
-          it : Left given events later agent (64 * actor.agent.count + agent) caller site ops actor goes_so met idle down
-          it = left_so given events later agent (64 * actor.agent.count + agent) caller site ops actor goes_so met idle down
+          it : Left given events later agent (64 * actor.agent.count + agent) caller site ops actor goes_so idle
+          it = left_so given events later agent (64 * actor.agent.count + agent) caller site ops actor goes_so idle down
 
           here : Actor
           here = it.here
@@ -188,7 +194,8 @@ module _ (given : Opening) (agent : ℕ) (caller : Identity) (site : ℕ) (ops :
           number_then : (k : ℕ) → 64 * (actor.agent.count + suc k) + agent ≡ 64 * (here.agent.count + k) + agent
           number_then k = moves actor.agent.count here.agent.count k agent it.count
 
-          by : (more : ℕ) → more < length (later ∷ tries) → is_up first (home_of its_fixed.service (64 * (actor.agent.count + more) + agent)) ≡ true → OneIsDecided (outcomes (dones its_fixed first (again agent the_job (later ∷ tries)))) agent
+          by : (more : ℕ) → more < length (later ∷ tries) → is_up first (home_of its_fixed.service (64 * (actor.agent.count + more) + agent)) ≡ true
+              → OneIsDecided (outcomes (dones its_fixed first (again agent the_job (later ∷ tries)))) agent
           by zero few home = absurd (false≢true (sym down ∙ ap (λ n. is_up first (home_of its_fixed.service n)) (sym (none_more actor.agent.count agent)) ∙ home))
           by (suc k) few home =
               in_rest first later (again agent the_job tries)

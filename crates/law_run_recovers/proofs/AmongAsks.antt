@@ -28,7 +28,7 @@ use Rattle.law_run_recovers.specs.Near.{asks_for}
 use Rattle.law_run_recovers.proofs.Steady.{GoesSteadily}
 use Rattle.law_run_recovers.proofs.Asked.{onto_left, onto_so_far, asked_exclusive, next_mode}
 use Rattle.law_run_recovers.proofs.Asking.{onto}
-use Rattle.law_run_recovers.proofs.Ends.{fetch_is}
+use Rattle.law_run_recovers.proofs.Early.{fetch_is}
 use Rattle.law_run_recovers.proofs.Heard.{AsksFor, asks_for as asked_by}
 use Rattle.law_run_recovers.proofs.Keeps.{OfAsks}
 use Rattle.law_run_recovers.proofs.NearGround.{its, number}
@@ -55,7 +55,8 @@ module _ (given : Opening) (events later : List Event) (agent t : ℕ) (caller :
         subst (λ mode. Contains (asks_for given events t caller ops) (z, mode)) (sym mode)
         (asked_there (z, g.mode) (subst (λ locks. Has locks (z, g.mode)) (sym (g.asks.order ∙ ap (onto g.asked) g.next_is)) (onto_left g.asked _ (z, g.mode) (inl refl))))
 
-    pub widen_asks : (now : Cache) (suites : Suites) (z : ℕ) (left : List ℕ) (granted : Granted) (at : PhaseIn given events later agent t caller site ops actor goes suites now (doing.Widening (z ∷ left) granted)) (asks : AsksFor its_task.t z at.suite.collector server asked)
+    pub widen_asks : (now : Cache) (suites : Suites) (z : ℕ) (left : List ℕ) (granted : Granted) (at : PhaseIn given events later agent t caller site ops actor goes suites now (doing.Widening (z ∷ left) granted))
+        (asks : AsksFor its_task.t z at.suite.collector server asked)
         → Contains (asks_for given events t caller ops) (z, mode_asked asks.question)
     widen_asks now suites z left granted at asks =
         let mode : mode_asked asks.question ≡ Exclusive = next_mode at.suite.collector server asks.question asks.is ∙ ap (λ o. mode_or o at.suite.collector.mode) at.widening_is in
@@ -70,7 +71,8 @@ module _ (given : Opening) (events later : List Event) (agent t : ℕ) (caller :
     lock_asked z Upgrade has = (number given events later agent t caller site ops actor goes, has)
 
     -- a lock that it asks for is one of these, in its name
-    pub of_its_asks : (now : Cache) (suites : Suites) (phase : Phase) → PhaseIn given events later agent t caller site ops actor goes suites now phase → request_in (fixed_of given) its_task suites phase ≡ Some (server, asked) → OfAsks t (asks_for given events t caller ops) asked
+    pub of_its_asks : (now : Cache) (suites : Suites) (phase : Phase) → PhaseIn given events later agent t caller site ops actor goes suites now phase → request_in (fixed_of given) its_task suites phase ≡ Some (server, asked)
+        → OfAsks t (asks_for given events t caller ops) asked
     of_its_asks now suites (Gathering z) at is =
         let asks = asked_by its_task z at.0.suite.collector server asked (sym (ap (asked_for its_task z) at.0.there) ∙ is) in
         subst Asks (sym asks.asked_is) (lock_asked z asks.question (gather_asks now suites z at asks))

@@ -13,8 +13,6 @@ use Rattle.file_ops.specs.Rows as rows
 use Rattle.file_ops.specs.Rows.{PlainTable}
 use Rattle.rep_core.specs.declared.request.Request.TheVariants as request
 use Rattle.rep_core.specs.State.{State}
-use Rattle.rep_core.specs.Service.{after}
-use Rattle.rep_core.specs.Serving.{served}
 use Rattle.rep_core.proofs.Members.{Has}
 use Rattle.weak_cache.specs.Entries.{Cache, forgotten}
 use Rattle.txn_core.specs.declared.job.Job.{Job}
@@ -53,7 +51,6 @@ use Rattle.law_run_recovers.proofs.AmongAt.{IsCalm, IsSpared, HasWhereOpen, Show
 use Rattle.law_run_recovers.proofs.Still.{IsOpen, IsOpenPhase}
 use Rattle.suite_prefix.specs.declared.copies.Replica.{Replica}
 use Rattle.law_run_alone.proofs.Unhindered.{all_consistent}
-use Rattle.rep_core.specs.Store.{copy_of}
 use Rattle.law_run_recovers.proofs.Locked.{copy_stays}
 
 -- ---- lists

@@ -58,7 +58,7 @@ use Rattle.law_run_recovers.proofs.Still.{IsOpen, IsOpenPhase}
 use Rattle.law_run_recovers.proofs.AmongCourse.{Course, StandsIn, PhaseIn, next_is}
 use Rattle.law_run_recovers.proofs.AmongEnds.{Over, small_at, over_on, state_on as course_on}
 use Rattle.law_run_recovers.proofs.AmongOver.{ended_has}
-use Rattle.law_run_recovers.proofs.AmongStep.{first_course}
+use Rattle.law_run_recovers.proofs.AmongBegin.{first_course}
 use Rattle.law_run_recovers.proofs.UnmetLaws.{open_is_more}
 
 module _ (given : Opening) (events later : List Event) (agent t : ℕ) (caller : Identity) (site : ℕ) (ops : List Op) (actor : Actor) (goes : GoesSteadily given events later agent t caller site ops actor) where
@@ -78,7 +78,8 @@ module _ (given : Opening) (events later : List Event) (agent t : ℕ) (caller :
 
   -- ---- at its decision
 
-  module _ (so_far rest : List Event) (event : Event) (split : later ≡ so_far ++ event ∷ rest) (one : Decided) (is : decided (fixed_of given) (world_after given events agent caller site ops so_far) event ≡ Some one) (of_it : one.t ≡ t) where
+  module _ (so_far rest : List Event) (event : Event) (split : later ≡ so_far ++ event ∷ rest) (one : Decided) (is : decided (fixed_of given) (world_after given events agent caller site ops so_far) event ≡ Some one)
+      (of_it : one.t ≡ t) where
     abbrev all : List Event
     all = events ++ Begin agent (Transaction caller site ops) ∷ so_far
 
@@ -147,10 +148,12 @@ module _ (given : Opening) (events later : List Event) (agent t : ℕ) (caller :
     answer_so =
         let w = world_at so_far in
         decides_answer (fixed_of given) w agent so.actor so.txn_run.task so.outcome one home (server_at w home) refl
-        (subst (λ doing. decided_by (world_after given events agent caller site ops so_far) (task_of doing) (asks_at (fixed_of given) (world_after given events agent caller site ops so_far) agent so.actor what (server_at (world_after given events agent caller site ops so_far) home)).done.served ≡ Some one) so.running served_so)
+        (subst (λ doing. decided_by (world_after given events agent caller site ops so_far) (task_of doing)
+        (asks_at (fixed_of given) (world_after given events agent caller site ops so_far) agent so.actor what (server_at (world_after given events agent caller site ops so_far) home)).done.served ≡ Some one) so.running served_so)
 
     all_had : Course given events later agent t caller site ops actor goes so_far
-        → HasAll (fixed_of given) (run given events) (sight given events later agent t caller site ops actor goes) (table_of given events) (its given events later agent t caller site ops actor goes) actor.agent.cache so.txn_run.suites (answer_as so.outcome)
+        → HasAll (fixed_of given) (run given events) (sight given events later agent t caller site ops actor goes) (table_of given events) (its given events later agent t caller site ops actor goes)
+        actor.agent.cache so.txn_run.suites (answer_as so.outcome)
     all_had c =
         let same = same_Some c.here so.actor (sym c.there ∙ here) in
         let stands : StandsIn given events later agent t caller site ops actor goes c.here.agent.cache (Some (Running so.txn_run)) =
@@ -158,11 +161,13 @@ module _ (given : Opening) (events later : List Event) (agent t : ℕ) (caller :
         as_all (subst (PhaseIn given events later agent t caller site ops actor goes so.txn_run.suites c.here.agent.cache) so.deciding stands.1)
       where
         as_all : PhaseIn given events later agent t caller site ops actor goes so.txn_run.suites c.here.agent.cache (doing.Deciding so.outcome)
-            → HasAll (fixed_of given) (run given events) (sight given events later agent t caller site ops actor goes) (table_of given events) (its given events later agent t caller site ops actor goes) actor.agent.cache so.txn_run.suites (answer_as so.outcome)
+            → HasAll (fixed_of given) (run given events) (sight given events later agent t caller site ops actor goes) (table_of given events) (its given events later agent t caller site ops actor goes)
+            actor.agent.cache so.txn_run.suites (answer_as so.outcome)
         as_all has = of so.outcome has
           where
             of : (outcome : doing.Proposal) → PhaseIn given events later agent t caller site ops actor goes so.txn_run.suites c.here.agent.cache (doing.Deciding outcome)
-                → HasAll (fixed_of given) (run given events) (sight given events later agent t caller site ops actor goes) (table_of given events) (its given events later agent t caller site ops actor goes) actor.agent.cache so.txn_run.suites (answer_as outcome)
+                → HasAll (fixed_of given) (run given events) (sight given events later agent t caller site ops actor goes) (table_of given events) (its given events later agent t caller site ops actor goes)
+                actor.agent.cache so.txn_run.suites (answer_as outcome)
             of (Ok granted) has = has
             of (Err refusal) has = has
 
@@ -202,8 +207,11 @@ module _ (given : Opening) (events later : List Event) (agent t : ℕ) (caller :
         let has = all_had c in
         let none : first_wanting (run given events) t (wants (fixed_of given) (run given events) (table_of given events) t caller ops has.start) ≡ None =
         sym (first_same given events later agent t caller site ops actor goes has.start has.from)
-        ∙ subst (λ n. find (unmet (sight given events later agent t caller site ops actor goes)) (wants_of (fixed_of given) (run given events) (sight given events later agent t caller site ops actor goes) (table_of given events) n caller ops has.start) ≡ None) (number given events later agent t caller site ops actor goes) has.none in
-        let rows = rows_met given events later agent t caller site ops actor goes has.start has.from (all_is (run given events) t (wants (fixed_of given) (run given events) (table_of given events) t caller ops has.start) ∙ ap none_in none) in
+        ∙ subst (λ n. find (unmet (sight given events later agent t caller site ops actor goes))
+        (wants_of (fixed_of given) (run given events) (sight given events later agent t caller site ops actor goes) (table_of given events) n caller ops has.start) ≡ None)
+        (number given events later agent t caller site ops actor goes) has.none in
+        let rows = rows_met given events later agent t caller site ops actor goes has.start has.from
+        (all_is (run given events) t (wants (fixed_of given) (run given events) (table_of given events) t caller ops has.start) ∙ ap none_in none) in
         ap (λ b. b && is_up (run given events) (home_of (fixed_of given).service t)) rows ∙ sym home_same ∙ home_now
 
     -- it is not after its end
@@ -253,7 +261,8 @@ module _ (given : Opening) (events later : List Event) (agent t : ℕ) (caller :
       (has_from (decisions given (events ++ Begin agent (Transaction caller site ops) ∷ later)) one there) of_it) of_it
 
   -- what is so in the step in which it is decided, wherever that is
-  module _ (P : Type 0) (each : (so_far rest : List Event) (event : Event) → later ≡ so_far ++ event ∷ rest → (one : Decided) → decided (fixed_of given) (world_after given events agent caller site ops so_far) event ≡ Some one → one.t ≡ t → State so_far → P) where
+  module _ (P : Type 0) (each : (so_far rest : List Event) (event : Event) → later ≡ so_far ++ event ∷ rest → (one : Decided) → decided (fixed_of given)
+      (world_after given events agent caller site ops so_far) event ≡ Some one → one.t ≡ t → State so_far → P) where
     decided_in : (rest so_far : List Event) → later ≡ so_far ++ rest → State so_far → list_any (λ (one : Decided). one.t == t) (decisions_from (fixed_of given) (world_after given events agent caller site ops so_far) rest) ≡ true → P
     decided_in [] so_far split state some = absurd (false≢true some)
     decided_in (event ∷ rest) so_far split state some =
@@ -282,10 +291,12 @@ module _ (given : Opening) (events later : List Event) (agent t : ℕ) (caller :
   stood_gathered some = decided_where (GathersItsAsks given events later agent t caller site ops) gathered_then some
 
   -- what ended decided stands among the decisions
-  ended_stands : (job : EndedJob) → EndsThen given events later agent t caller site ops job → is_decided job.ending ≡ true → list_any (λ (one : Decided). one.t == t) (decisions given (events ++ Begin agent (Transaction caller site ops) ∷ later)) ≡ true
+  ended_stands : (job : EndedJob) → EndsThen given events later agent t caller site ops job → is_decided job.ending ≡ true
+      → list_any (λ (one : Decided). one.t == t) (decisions given (events ++ Begin agent (Transaction caller site ops) ∷ later)) ≡ true
   ended_stands job ends = of job.ending ((holds_of given goes.can.accepted (events ++ Begin agent (Transaction caller site ops) ∷ later)).over job (ended_has given events later agent t caller site ops actor goes job ends)).stands
     where
-      stands : (answer : Result (List Answer) Refusal) → In (decisions given (events ++ Begin agent (Transaction caller site ops) ∷ later)) (64 * job.count + job.agent) answer → list_any (λ (one : Decided). one.t == t) (decisions given (events ++ Begin agent (Transaction caller site ops) ∷ later)) ≡ true
+      stands : (answer : Result (List Answer) Refusal) → In (decisions given (events ++ Begin agent (Transaction caller site ops) ∷ later)) (64 * job.count + job.agent) answer
+          → list_any (λ (one : Decided). one.t == t) (decisions given (events ++ Begin agent (Transaction caller site ops) ∷ later)) ≡ true
       stands answer is =
           has_any (λ (one : Decided). one.t == t) (decisions given (events ++ Begin agent (Transaction caller site ops) ∷ later)) is.decision is.there (eq-eqb is.decision.t t (is.of_it ∙ ends.of_it))
 

@@ -28,7 +28,8 @@ use Rattle.law_run_recovers.proofs.Keeps.{run_at}
 use Rattle.law_run_recovers.proofs.NearGround.{number}
 use Rattle.law_run_recovers.proofs.Took.{OwnTook, own_took}
 use Rattle.law_run_recovers.proofs.AmongCourse.{Course, Right, runs_it, next_is, apart_on}
-use Rattle.law_run_recovers.proofs.AmongStep.{begun, first_course, ends_right, own_on}
+use Rattle.law_run_recovers.proofs.AmongBegin.{begun, first_course}
+use Rattle.law_run_recovers.proofs.AmongStep.{ends_right, own_on}
 use Rattle.law_run_recovers.proofs.AmongLacks.{lack_on, lack_right, quiet_on}
 use Rattle.law_run_recovers.proofs.Lacking.{hindered}
 
@@ -52,13 +53,19 @@ module _ (given : Opening) (events later : List Event) (agent t : ℕ) (caller :
       (sym (run_at given events later agent t caller site ops actor goes.can goes.there goes.begins so_far))
 
   pub over_on : (so_far : List Event) (event : Event) → Over so_far → Over (so_far ++ event ∷ [])
-  over_on so_far event over =
-      (over.0, subst (λ all. Has all over.0) (sym (ended_more so_far event)) (append_has_left (ended given (events ++ Begin agent (Transaction caller site ops) ∷ so_far)) (cons_option (step (fixed_of given) (world_at so_far) event).done.outcome []) over.0 over.1), over.2)
+  over_on so_far event over = (
+    over.0,
+    subst (λ all. Has all over.0) (sym (ended_more so_far event))
+        (append_has_left (ended given (events ++ Begin agent (Transaction caller site ops) ∷ so_far)) (cons_option (step (fixed_of given) (world_at so_far) event).done.outcome []) over.0 over.1),
+    over.2,
+  )
 
   pub over_now : (so_far : List Event) (event : Event) (one : EndedJob) → (step (fixed_of given) (world_after given events agent caller site ops so_far) event).done.outcome ≡ Some one → number_of one ≡ t → Over (so_far ++ event ∷ [])
   over_now so_far event one is number = (
     one,
-    subst (λ all. Has all one) (sym (ended_more so_far event)) (append_has_right (ended given (events ++ Begin agent (Transaction caller site ops) ∷ so_far)) (cons_option (step (fixed_of given) (world_at so_far) event).done.outcome []) one (subst (λ found. Has (cons_option found []) one) (sym is) (inl refl))),
+    subst (λ all. Has all one) (sym (ended_more so_far event))
+        (append_has_right (ended given (events ++ Begin agent (Transaction caller site ops) ∷ so_far)) (cons_option (step (fixed_of given) (world_at so_far) event).done.outcome []) one
+        (subst (λ found. Has (cons_option found []) one) (sym is) (inl refl))),
     number,
   )
 
@@ -76,7 +83,8 @@ module _ (given : Opening) (events later : List Event) (agent t : ℕ) (caller :
       let small_was = (holds_of given goes.can.accepted (events ++ Begin agent (Transaction caller site ops) ∷ so_far)).agents.small over.0.agent was.agent was.at in
       let small_now = small_at so_far one.agent now.actor.agent (ap agent_of now.there) in
       let places = same_place over.0.count one.count over.0.agent one.agent (over.2 ∙ sym number) small_was small_now in
-      let same : was.agent ≡ now.actor.agent = same_Some was.agent now.actor.agent (sym was.at ∙ ap (agent_at (run given (events ++ Begin agent (Transaction caller site ops) ∷ so_far))) places.1 ∙ ap (λ w. agent_at w one.agent) (sym run_so) ∙ ap agent_of now.there) in
+      let same : was.agent ≡ now.actor.agent = same_Some was.agent now.actor.agent
+      (sym was.at ∙ ap (agent_at (run given (events ++ Begin agent (Transaction caller site ops) ∷ so_far))) places.1 ∙ ap (λ w. agent_at w one.agent) (sym run_so) ∙ ap agent_of now.there) in
       let counts : was.agent.count ≡ now.actor.agent.count = ap (λ (a : Agent). a.count) same in
       let before = was.before in
       let count = now.count in
@@ -85,7 +93,8 @@ module _ (given : Opening) (events later : List Event) (agent t : ℕ) (caller :
       none-some now.asked (sym (ap (next_in (fixed_of given)) (sym (ap (λ (a : Agent). a.doing) same) ∙ idle)) ∙ now.next)
 
   -- while it runs another's event ends no job of its number
-  not_ended : (so_far rest : List Event) (event : Event) → later ≡ so_far ++ event ∷ rest → (c : Course given events later agent t caller site ops actor goes so_far) → ((one : EndedJob) → (step (fixed_of given) (world_after given events agent caller site ops so_far) event).done.outcome ≡ Some one → one.agent ≡ agent → ⊥)
+  not_ended : (so_far rest : List Event) (event : Event) → later ≡ so_far ++ event ∷ rest → (c : Course given events later agent t caller site ops actor goes so_far)
+      → ((one : EndedJob) → (step (fixed_of given) (world_after given events agent caller site ops so_far) event).done.outcome ≡ Some one → one.agent ≡ agent → ⊥)
       → (one : EndedJob) → (step (fixed_of given) (world_after given events agent caller site ops so_far) event).done.outcome ≡ Some one → number_of one ≡ t → ⊥
   not_ended so_far rest event split c other one is number =
       let now = who_ends (fixed_of given) (world_at so_far) one event is in
@@ -179,7 +188,8 @@ module _ (given : Opening) (events later : List Event) (agent t : ℕ) (caller :
 
   -- ---- all along
 
-  ends_in : (rest so_far : List Event) → later ≡ so_far ++ rest → Course given events later agent t caller site ops actor goes so_far ⊎ Over so_far → (one : EndedJob) → Has (outcomes (dones (fixed_of given) (world_after given events agent caller site ops so_far) rest)) one → number_of one ≡ t → Where one
+  ends_in : (rest so_far : List Event) → later ≡ so_far ++ rest → Course given events later agent t caller site ops actor goes so_far ⊎ Over so_far → (one : EndedJob)
+      → Has (outcomes (dones (fixed_of given) (world_after given events agent caller site ops so_far) rest)) one → number_of one ≡ t → Where one
   ends_in [] so_far split state one has numbered = absurd has
   ends_in (event ∷ rest) so_far split state one has numbered =
       ⊎_elim

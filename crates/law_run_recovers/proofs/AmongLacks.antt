@@ -1,6 +1,6 @@
 -- A step of a transaction that is not served, or of which its agent is told so, once its end is fixed: it goes on to tell its end.
-use Rattle.std.proofs.Common.{◌≡◌, ◌⊎◌, inl, inr, ⊎_elim, ℕ, Bool, true, false, List, [], ◌∷◌, ◌++◌, Some, refl, sym, ap, subst, ◌∙◌, arith}
-use Rattle.std.specs.Prelude.{◌+◌, ◌-◌, ◌||◌}
+use Rattle.std.proofs.Common.{◌≡◌, ◌⊎◌, inl, inr, ℕ, Bool, true, false, List, [], ◌∷◌, ◌++◌, Some, refl, sym, ap, subst, ◌∙◌, arith}
+use Rattle.std.specs.Prelude.{◌-◌, ◌||◌}
 use Rattle.std.proofs.lemmas.Bool.{false≢true}
 use Rattle.std.proofs.lemmas.Option.{none-some}
 use Rattle.acl_core.specs.Identity.{Identity}
@@ -23,11 +23,11 @@ use Rattle.law_runs.specs.Numbers.{number_of}
 use Rattle.law_runs.proofs.Agents.{take_keeps}
 use Rattle.law_run_recovers.specs.Unmet.{world_after, hinders_itself, robs}
 use Rattle.law_run_recovers.proofs.Steady.{GoesSteadily}
-use Rattle.law_run_recovers.proofs.Ends.{ending_in}
+use Rattle.law_run_recovers.proofs.Early.{ending_in}
 use Rattle.law_run_recovers.proofs.NearGround.{its}
 use Rattle.law_run_recovers.proofs.Still.{IsOpenPhase}
 use Rattle.law_run_recovers.proofs.AmongCourse.{Course, RunsIt, PhaseIn, StandsIn, Right, next_is, spared_on, locks_on as answered_on, TellsNone, open_works, runs_it, shown_on}
-use Rattle.law_run_recovers.proofs.AmongStep.{Good, begun, right_end, stands_left}
+use Rattle.law_run_recovers.proofs.AmongBegin.{Good, begun, right_end, stands_left}
 use Rattle.txn_core.specs.declared.response.Response.TheVariants.{Lacked}
 use Rattle.law_run_recovers.proofs.Lacking.{Lacking, Nothing}
 use Rattle.std.proofs.lemmas.Bool.Decides.{nat_tests}
@@ -91,7 +91,8 @@ module _ (given : Opening) (events later : List Event) (agent t : ℕ) (caller :
           (subst (λ task. Good given events later agent t caller site ops actor goes (lack_step task (Finishing tells_now.servers tells_now.v tells_now.ending))) (sym r'.at.0)
           (of tells_now.servers (subst (PhaseIn given events later agent t caller site ops actor goes r'.txn_run.suites c.here.agent.cache) tells_now.is r'.at.1)))
         where
-          of : (servers : List ℕ) → Right given events later agent t caller site ops actor goes tells_now.ending → Good given events later agent t caller site ops actor goes (lack_step its_task (Finishing servers tells_now.v tells_now.ending))
+          of : (servers : List ℕ) → Right given events later agent t caller site ops actor goes tells_now.ending
+              → Good given events later agent t caller site ops actor goes (lack_step its_task (Finishing servers tells_now.v tells_now.ending))
           of [] right = right
           of (first ∷ []) right = right
           of (first ∷ (next ∷ servers)) right = (refl, right)
@@ -127,10 +128,14 @@ module _ (given : Opening) (events later : List Event) (agent t : ℕ) (caller :
             record {
               here = lacks.new;
               there = ap (λ w. actor_at w agent) (next_is given events later agent t caller site ops actor goes so_far event) ∙ lacks.now;
-              stands = subst (λ (a : Agent). StandsIn given events later agent t caller site ops actor goes a.cache a.doing) (sym here_lack) (stands_left given events later agent t caller site ops actor goes (lack_step r'.txn_run.task r'.txn_run.phase) good_lack);
+              stands =
+                  subst (λ (a : Agent). StandsIn given events later agent t caller site ops actor goes a.cache a.doing) (sym here_lack)
+                  (stands_left given events later agent t caller site ops actor goes (lack_step r'.txn_run.task r'.txn_run.phase) good_lack);
               busy = ap (λ (a : Agent). is_idle a.doing) here_lack ∙ ap (λ after. is_idle (left Running after)) is;
               told = c.told ++ agents.Take (Lacked lacks.why) ∷ [];
-              is = lacks.took ∙ ap (λ a. (take (fixed_of given) a (Lacked lacks.why)).agent) c.is ∙ sym (after-append (fixed_of given) (begin (fixed_of given) actor.agent (Transaction caller site ops)) c.told (agents.Take (Lacked lacks.why)));
+              is =
+                  lacks.took ∙ ap (λ a. (take (fixed_of given) a (Lacked lacks.why)).agent) c.is
+                  ∙ sym (after-append (fixed_of given) (begin (fixed_of given) actor.agent (Transaction caller site ops)) c.told (agents.Take (Lacked lacks.why)));
               count = ap (λ (a : Agent). a.count) lacks.took ∙ (take_keeps (fixed_of given) c.here.agent (Lacked lacks.why) c.here.agent.doing (next_of (fixed_of given) c.here.agent)).1 ∙ c.count;
               locks = answered_on given events later agent t caller site ops actor goes so_far rest event split c (λ server z told same. absurd (none_told server told));
               shown = shown_on given events later agent t caller site ops actor goes so_far rest event split c (λ server z told same. absurd (none_told server told));

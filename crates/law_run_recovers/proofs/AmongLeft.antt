@@ -2,7 +2,7 @@
 use Rattle.std.proofs.Common.{◌≡◌, ◌⊎◌, inl, inr, ⊎_elim, ℕ, ◌+◌, ◌≤◌, ◌<◌, Bool, true, false, List, [], ◌∷◌, ◌++◌, append-nil, append_assoc, length, Option, Some, None, is_some, refl, sym, ap, subst, ◌∙◌, arith}
 use Rattle.std.specs.Prelude.{◌*◌, ◌==◌, ◌&&◌, ◌||◌, filter, slice_get, slice_set}
 use Rattle.std.specs.List.{list_any}
-use Rattle.std.proofs.lemmas.Bool.{false≢true, and_parts, and_from, eqb-true, eq-eqb}
+use Rattle.std.proofs.lemmas.Bool.{false≢true, and_parts, and_from, eqb-true, eq-eqb, or_right}
 use Rattle.std.proofs.lemmas.List.Folds.{list_any-append}
 use Rattle.std.proofs.lemmas.Option.{same_Some, slice_get_within}
 use Rattle.acl_core.specs.Identity.{Identity}
@@ -43,7 +43,6 @@ use Rattle.law_run_recovers.specs.Unmet.{world_after}
 use Rattle.law_run_recovers.specs.Among.{GoesAmongLocks, AmongLocksLeaveNoLock}
 use Rattle.law_run_recovers.proofs.Apart.{Apart, event_apart}
 use Rattle.law_run_recovers.proofs.Downs.{held-append}
-use Rattle.law_run_recovers.proofs.Freed.{or_left, or_right}
 use Rattle.law_run_recovers.proofs.Keeps.{run_at}
 use Rattle.law_run_recovers.proofs.Locked.{freed}
 use Rattle.law_run_recovers.proofs.Knows.{among_numbers}
@@ -55,7 +54,12 @@ use Rattle.law_run_recovers.proofs.AmongCourse.{Course, runs_it, next_is, runnin
 use Rattle.law_run_recovers.proofs.Steady.{GoesSteadily, steady, never_hindered}
 use Rattle.law_run_recovers.proofs.AmongEnds.{Over, over_on, over_now}
 use Rattle.law_run_recovers.proofs.AmongOver.{never_others, never_over, ended_over, course_not_over}
-use Rattle.law_run_recovers.proofs.AmongStep.{idle_before, first_course, is_then, own_on}
+use Rattle.law_run_recovers.proofs.AmongBegin.{idle_before, first_course}
+use Rattle.law_run_recovers.proofs.AmongStep.{is_then, own_on}
+
+or_left : (a b : Bool) → a ≡ true → (a || b) ≡ true
+or_left true b is = refl
+or_left false b is = absurd (false≢true is)
 
 -- ---- exchanges
 
@@ -159,7 +163,8 @@ module _ (given : Opening) (events later : List Event) (agent t : ℕ) (caller :
       of None at on = subst (λ found. Has (locks_in found) on.lock) at on.has
       of (Some st) at on = no_lock given goes.can.accepted events agent t (Transaction caller site ops) goes.begins server st at on.lock (subst (λ found. Has (locks_in found) on.lock) at on.has) on.of_it
 
-  next_on : (so_far : List Event) (event : Event) (server z : ℕ) → On (locks_at (world_after given events agent caller site ops (so_far ++ event ∷ [])) server) t z → On (locks_at (step (fixed_of given) (world_after given events agent caller site ops so_far) event).world server) t z
+  next_on : (so_far : List Event) (event : Event) (server z : ℕ) → On (locks_at (world_after given events agent caller site ops (so_far ++ event ∷ [])) server) t z
+      → On (locks_at (step (fixed_of given) (world_after given events agent caller site ops so_far) event).world server) t z
   next_on so_far event server z on = subst (λ w. On (locks_at w server) t z) (next_is given events later agent t caller site ops actor goes so_far event) on
 
   -- once it has ended it gets none
@@ -171,7 +176,8 @@ module _ (given : Opening) (events later : List Event) (agent t : ℕ) (caller :
   -- ---- a step of its own
 
   module _ (so_far rest : List Event) (split : later ≡ so_far ++ Step agent ∷ rest) (c : Course given events later agent t caller site ops actor goes so_far)
-      (took : OwnTook (fixed_of given) (world_after given events agent caller site ops so_far) agent c.here c.there (step (fixed_of given) (world_after given events agent caller site ops so_far) (Step agent))) (held : Held so_far c.told) where
+      (took : OwnTook (fixed_of given) (world_after given events agent caller site ops so_far) agent c.here c.there (step (fixed_of given) (world_after given events agent caller site ops so_far) (Step agent)))
+      (held : Held so_far c.told) where
     abbrev said : Reply
     said = reply_of took.st took.asked.1
 
@@ -246,8 +252,11 @@ module _ (given : Opening) (events later : List Event) (agent t : ℕ) (caller :
 
         old : On (locks_at (world_after given events agent caller site ops so_far) server) t z → (was_held (past told_then) z server ≡ true) × (was_done (past told_then) server ≡ false)
         old before =
-            let was = held server z before in
-            (held_is z server ∙ or_left (was_held (past c.told) z server) (was_held (one ∷ []) z server) was.0, done_is server ∙ both_none (was_done (past c.told) server) ((took.asked.0 == server) && is_finish took.asked.1) was.1 (no ((took.asked.0 == server) && is_finish took.asked.1) refl))
+            let was = held server z before in (
+              held_is z server ∙ or_left (was_held (past c.told) z server) (was_held (one ∷ []) z server) was.0,
+              done_is server
+                  ∙ both_none (was_done (past c.told) server) ((took.asked.0 == server) && is_finish took.asked.1) was.1 (no ((took.asked.0 == server) && is_finish took.asked.1) refl),
+            )
           where
             no : (b : Bool) → ((took.asked.0 == server) && is_finish took.asked.1) ≡ b → b ≡ false
             no true is = absurd (done_none server z before on is)
@@ -286,7 +295,8 @@ module _ (given : Opening) (events later : List Event) (agent t : ℕ) (caller :
         let was = held_then server z on in
         let sent = all_finish (fixed_of given) actor.agent caller site ops told_then (idle_before given events later agent t caller site ops actor goes)
         (ap (λ (a : Agent). is_idle a.doing) (sym (is_then given events later agent t caller site ops actor goes so_far rest split c (runs_it given events later agent t caller site ops actor goes so_far c) took)) ∙ idle) in
-        let there : Has (locked (past told_then)) server = filter_has (was_locked (past told_then)) (numbers_from 0 max_servers) server (among_numbers max_servers 0 server (omega arith) (few server on.lock on.has)) (locked_of (past told_then) z server was.0) in
+        let there : Has (locked (past told_then)) server = filter_has (was_locked (past told_then)) (numbers_from 0 max_servers) server (among_numbers max_servers 0 server (omega arith) (few server on.lock on.has))
+        (locked_of (past told_then) z server was.0) in
         false≢true (sym was.1 ∙ done_of (past told_then) server (subst (λ list. Has list server) (sym sent) there))
       where
         few : (server : ℕ) (lock : Lock) → Has (locks_at (world_after given events agent caller site ops (so_far ++ Step agent ∷ [])) server) lock → server < 0 + max_servers
@@ -326,7 +336,8 @@ module _ (given : Opening) (events later : List Event) (agent t : ℕ) (caller :
       same_past told (inl same) = ap past {x = told} {y = on.0.told} same
       same_past told (inr gone) = ap past {x = told} {y = on.0.told ++ agents.Forget gone.0 ∷ []} gone.1 ∙ exchanges-forget (fixed_of given) begun_agent on.0.told gone.0
 
-      aside : Apart given agent (world_after given events agent caller site ops so_far) on.0.here on.0.there on.0.busy (step (fixed_of given) (world_after given events agent caller site ops so_far) event) × (event ≡ Step agent → ⊥) → Left (so_far ++ event ∷ [])
+      aside : Apart given agent (world_after given events agent caller site ops so_far) on.0.here on.0.there on.0.busy (step (fixed_of given) (world_after given events agent caller site ops so_far) event) × (event ≡ Step agent → ⊥)
+          → Left (so_far ++ event ∷ [])
       aside apart =
           let next = apart_on given events later agent t caller site ops actor goes so_far rest event split on.0 apart.0 apart.1 in
           inl (

@@ -1,18 +1,19 @@
 -- Who asks in the name of a transaction that goes steadily: its agent, which began no more since; and once it has ended nobody.
-use Rattle.std.proofs.Common.{◌≡◌, ⊎_elim, ℕ, ◌+◌, ◌<◌, true, false, List, ◌∷◌, ◌++◌, Some, None, refl, sym, ap, subst, ◌∙◌, arith}
+use Rattle.std.proofs.Common.{◌≡◌, inr, ⊎_elim, ℕ, ◌+◌, ◌<◌, true, false, List, ◌∷◌, ◌++◌, Option, Some, None, refl, sym, ap, subst, ◌∙◌, arith}
+use Rattle.std.specs.List.{cons_option}
 use Rattle.std.proofs.lemmas.Bool.{false≢true, eq-eqb}
 use Rattle.std.proofs.lemmas.Option.{none-some, same_Some}
 use Rattle.acl_core.specs.Identity.{Identity}
 use Rattle.suite_prefix.specs.SettingsRules.{Opening}
 use Rattle.file_ops.specs.declared.operation.Op.{Op}
-use Rattle.rep_core.proofs.Members.{Has, has_from}
+use Rattle.rep_core.proofs.Members.{Has, has_from, contains_from}
 use Rattle.txn_core.specs.declared.job.Job.TheVariants.{Transaction}
-use Rattle.txn_core.specs.Agents.{Agent, fixed_of, is_idle, next_in}
+use Rattle.txn_core.specs.Agents.{Agent, fixed_of, is_idle, next_in, begin}
 use Rattle.run_core.specs.declared.done.EndedJob.{EndedJob}
 use Rattle.run_core.specs.declared.done.Served.{Served}
 use Rattle.run_core.specs.declared.event.Event.{Event}
 use Rattle.run_core.specs.declared.event.Event.TheVariants.{Begin, Step}
-use Rattle.run_core.specs.Worlds.{Actor, World, opening, step, actor_at}
+use Rattle.run_core.specs.Worlds.{Actor, World, becomes, opening, step, actor_at}
 use Rattle.run_core.specs.Runs.{dones, done_in, outcomes, run}
 use Rattle.run_core.proofs.Appending.{dones-append, outcomes-append}
 use Rattle.law_runs.specs.Claims.{ended}
@@ -20,19 +21,22 @@ use Rattle.law_runs.specs.Naming.{names, may_sweep}
 use Rattle.law_runs.proofs.Agents.{same_place}
 use Rattle.law_runs.proofs.Begun.{agents_ask_for_themselves}
 use Rattle.law_runs.proofs.Conclusions.{holds_of}
-use Rattle.law_runs.proofs.Standing.{append_has_right}
+use Rattle.law_runs.proofs.Standing.{has_append, append_has_right}
 use Rattle.law_runs.proofs.Worlds.{agent_of, agent_at}
 use Rattle.law_run_recovers.specs.Unmet.{begun_world, world_after}
 use Rattle.law_run_recovers.proofs.Steady.{GoesSteadily}
-use Rattle.law_run_recovers.specs.Local.{EndsThen}
+use Rattle.law_run_recovers.specs.Local.{EndsThen, Ended}
 use Rattle.law_run_recovers.proofs.Asker.{IsAsker, asker}
-use Rattle.law_run_recovers.proofs.Counts.{has_after}
 use Rattle.law_run_recovers.proofs.Keeps.{run_at}
 use Rattle.law_run_recovers.proofs.Serves.{Told}
 use Rattle.law_run_recovers.proofs.Sides.{names_one}
 use Rattle.law_run_recovers.proofs.AmongCourse.{Course}
 use Rattle.law_run_recovers.proofs.AmongEnds.{Over, small_at}
-use Rattle.law_run_recovers.proofs.AmongStep.{begun}
+use Rattle.law_run_recovers.proofs.AmongBegin.{begun}
+
+pub has_after : {X : Type 0} (found : Option X) (xs : List X) (x : X) → Has xs x → Has (cons_option found xs) x
+has_after None xs x has = has
+has_after (Some y) xs x has = inr has
 
 module _ (given : Opening) (events later : List Event) (agent t : ℕ) (caller : Identity) (site : ℕ) (ops : List Op) (actor : Actor) (goes : GoesSteadily given events later agent t caller site ops actor) where
   abbrev world_at : List Event → World
@@ -48,7 +52,8 @@ module _ (given : Opening) (events later : List Event) (agent t : ℕ) (caller :
   small_own = (holds_of given goes.can.accepted events).agents.small agent actor.agent (ap agent_of goes.there)
 
   -- the agent of its number that is over is idle, unless it began more since
-  over_idle : (so_far : List Event) → Over given events later agent t caller site ops actor goes so_far → (here : Actor) → actor_at (world_after given events agent caller site ops so_far) agent ≡ Some here → here.agent.count ≡ actor.agent.count + 1 → here.agent.doing ≡ None
+  over_idle : (so_far : List Event) → Over given events later agent t caller site ops actor goes so_far → (here : Actor) → actor_at (world_after given events agent caller site ops so_far) agent ≡ Some here
+      → here.agent.count ≡ actor.agent.count + 1 → here.agent.doing ≡ None
   over_idle so_far over here there last =
       let was = (holds_of given goes.can.accepted (all so_far)).over over.0 over.1 in
       let small_was = (holds_of given goes.can.accepted (all so_far)).agents.small over.0.agent was.agent was.at in
@@ -62,21 +67,60 @@ module _ (given : Opening) (events later : List Event) (agent t : ℕ) (caller :
   pub course_not_over : (so_far : List Event) → Course given events later agent t caller site ops actor goes so_far → Over given events later agent t caller site ops actor goes so_far → ⊥
   course_not_over so_far c over = false≢true (sym c.busy ∙ ap is_idle (over_idle so_far over c.here c.there c.count))
 
+  parted : ended given (events ++ Begin agent (Transaction caller site ops) ∷ later) ≡ ended given events ++ outcomes (dones (fixed_of given) (run given events) (Begin agent (Transaction caller site ops) ∷ later))
+  parted =
+      ap outcomes (dones-append (fixed_of given) (opening given) events (Begin agent (Transaction caller site ops) ∷ later))
+      ∙ outcomes-append (done_in given events) (dones (fixed_of given) (run given events) (Begin agent (Transaction caller site ops) ∷ later))
+
   pub ended_has : (job : EndedJob) → EndsThen given events later agent t caller site ops job → Has (ended given (events ++ Begin agent (Transaction caller site ops) ∷ later)) job
   ended_has job ends =
-      subst (λ list. Has list job)
-      (sym (ap outcomes (dones-append (fixed_of given) (opening given) events (Begin agent (Transaction caller site ops) ∷ later))
-      ∙ outcomes-append (done_in given events) (dones (fixed_of given) (run given events) (Begin agent (Transaction caller site ops) ∷ later))))
+      subst (λ list. Has list job) (sym parted)
       (append_has_right (ended given events) (outcomes (dones (fixed_of given) (run given events) (Begin agent (Transaction caller site ops) ∷ later))) job
       (has_after (step (fixed_of given) (run given events) (Begin agent (Transaction caller site ops))).done.outcome (outcomes (dones (fixed_of given) (begun_world given events agent caller site ops) later)) job
       (has_from (outcomes (dones (fixed_of given) (begun_world given events agent caller site ops) later)) job ends.there)))
+
+  -- its job is its agent's
+  pub ended_own : (job : EndedJob) → EndsThen given events later agent t caller site ops job → job.agent ≡ agent
+  ended_own job ends =
+      let was = (holds_of given goes.can.accepted (all later)).over job (ended_has job ends) in
+      let small = (holds_of given goes.can.accepted (all later)).agents.small job.agent was.agent was.at in
+      (same_place job.count actor.agent.count job.agent agent (ends.of_it ∙ sym (begun given events later agent t caller site ops actor goes).0) small small_own).1
+
+  -- what ended of its number ended since its begin
+  pub over_then : Over given events later agent t caller site ops actor goes later → Ended given events later agent t caller site ops
+  over_then over = ⊎_elim before since (has_append (ended given events) (outcomes (dones (fixed_of given) (run given events) (Begin agent (Transaction caller site ops) ∷ later))) over.0 (subst (λ list. Has list over.0) parted over.1))
+    where
+      before : Has (ended given events) over.0 → Ended given events later agent t caller site ops
+      before has =
+          let was = (holds_of given goes.can.accepted events).over over.0 has in
+          let small = (holds_of given goes.can.accepted events).agents.small over.0.agent was.agent was.at in
+          let places = same_place over.0.count actor.agent.count over.0.agent agent (over.2 ∙ sym (begun given events later agent t caller site ops actor goes).0) small small_own in
+          let same : was.agent ≡ actor.agent = same_Some was.agent actor.agent (sym was.at ∙ ap (agent_at (run given events)) places.1 ∙ ap agent_of goes.there) in
+          let counts : was.agent.count ≡ actor.agent.count = ap (λ (a : Agent). a.count) same in
+          let less = was.before in
+          let place = places.0 in
+          absurd (omega (arith, counts, less, place))
+
+      since : Has (outcomes (dones (fixed_of given) (run given events) (Begin agent (Transaction caller site ops) ∷ later))) over.0 → Ended given events later agent t caller site ops
+      since has = record {
+        job = over.0;
+        ends = record {
+          there = contains_from (outcomes (dones (fixed_of given) (begun_world given events agent caller site ops) later)) over.0
+              (subst (λ found. Has (cons_option found (outcomes (dones (fixed_of given) (begun_world given events agent caller site ops) later))) over.0) none has);
+          of_it = over.2;
+        };
+      }
+        where
+          none : (step (fixed_of given) (run given events) (Begin agent (Transaction caller site ops))).done.outcome ≡ None
+          none = ap (λ found. (becomes (run given events) agent (λ a. begin (fixed_of given) a (Transaction caller site ops)) found).done.outcome) goes.there
 
   pub ended_over : (job : EndedJob) → EndsThen given events later agent t caller site ops job → Over given events later agent t caller site ops actor goes later
   ended_over job ends = (job, ended_has job ends, ends.of_it)
 
   -- ---- who asks in its name
 
-  module _ (so_far : List Event) (event : Event) (what : Served) (is : (step (fixed_of given) (world_after given events agent caller site ops so_far) event).done.served ≡ Some what) (named : names t what.request.value ≡ true) (own : may_sweep what.request.value ≡ false) where
+  module _ (so_far : List Event) (event : Event) (what : Served) (is : (step (fixed_of given) (world_after given events agent caller site ops so_far) event).done.served ≡ Some what) (named : names t what.request.value ≡ true)
+      (own : may_sweep what.request.value ≡ false) where
     asked_by : IsAsker (fixed_of given) (world_after given events agent caller site ops so_far) event what
     asked_by = asker (fixed_of given) (world_at so_far) t event what is named
 

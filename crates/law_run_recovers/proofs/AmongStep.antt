@@ -1,6 +1,6 @@
 -- A transaction that goes steadily ends as the votes say that are open: its own steps.
-use Rattle.std.proofs.Common.{◌≡◌, ◌⊎◌, inl, inr, ⊎_elim, ℕ, Bool, true, false, cond, List, [], ◌∷◌, ◌++◌, Option, Some, None, is_some, refl, sym, ap, subst, ◌∙◌, arith}
-use Rattle.std.specs.Prelude.{◌*◌, ◌+◌, ◌-◌, ◌&&◌, nat_lt, Contains, slice_get}
+use Rattle.std.proofs.Common.{◌≡◌, ◌⊎◌, inl, inr, ⊎_elim, ℕ, Bool, true, false, List, [], ◌∷◌, ◌++◌, Option, Some, None, is_some, refl, sym, ap, subst, ◌∙◌, arith}
+use Rattle.std.specs.Prelude.{◌+◌, ◌-◌, Contains, slice_get}
 use Rattle.std.specs.Ordering.{nat_cmp}
 use Rattle.std.proofs.lemmas.Bool.{false≢true, and_parts, eq-eqb}
 use Rattle.std.proofs.lemmas.Option.{none-some, same_Some}
@@ -23,7 +23,6 @@ use Rattle.rep_core.proofs.Members.{Has}
 use Rattle.suite_collect.specs.Telling.{newest}
 use Rattle.suite_collect.specs.Collecting.{Collector, Asked, Poll, Upgrade, counted, votes_or, request_for, mode_asked, mode_of}
 use Rattle.weak_cache.specs.Entries.{Cache}
-use Rattle.txn_core.specs.declared.ending.Ending.{Ending}
 use Rattle.txn_core.specs.declared.job.Job.TheVariants.{Transaction}
 use Rattle.txn_core.specs.declared.response.Response.TheVariants.{Replied}
 use Rattle.file_ops.specs.Rows.{row_of}
@@ -33,10 +32,10 @@ use Rattle.run_core.specs.TableOfRun.{table_of}
 use Rattle.txn_core.specs.Suites.{Suites, suite_of, known_of}
 use Rattle.txn_core.specs.Writing.{has_vote, parts_at}
 use Rattle.txn_core.specs.Doing as doing
-use Rattle.txn_core.specs.Doing.{Task, Phase, Gathering, Fetching, Preparing, Deciding, Finishing, TransactionRun, Doing, Running, After, GoesOn, Ends, home_of}
-use Rattle.txn_core.specs.Transactions.{Step as CourseStep, execute, asked_for, given_in, changes_of, decision_of, request_in, after_reply}
+use Rattle.txn_core.specs.Doing.{Task, Phase, Gathering, Fetching, Preparing, Deciding, Finishing, TransactionRun, Running, After, GoesOn, Ends, home_of}
+use Rattle.txn_core.specs.Transactions.{Step as CourseStep, asked_for, given_in, changes_of, decision_of, request_in, after_reply}
 use Rattle.txn_core.specs.Agents as agents
-use Rattle.txn_core.specs.Agents.{Agent, Taken, fixed_of, is_idle, has_sense, max_jobs, next_in, next_of, left, end_of, with_step, take_in, take, begins, begin, started, after_all}
+use Rattle.txn_core.specs.Agents.{Agent, Taken, fixed_of, is_idle, next_in, next_of, left, end_of, with_step, take_in, take, begins, begin, after_all}
 use Rattle.txn_core.specs.Laws.{exchanges, is_decide}
 use Rattle.txn_core.proofs.Asks.{asks_same}
 use Rattle.txn_core.proofs.Locks as keeping
@@ -54,26 +53,24 @@ use Rattle.law_runs.specs.Numbers.{number_of}
 use Rattle.law_runs.proofs.Agents.{take_keeps}
 use Rattle.law_runs.proofs.Conclusions.{holds_of}
 use Rattle.law_runs.proofs.Worlds.{agent_of, puts_in}
-use Rattle.law_run_alone.proofs.Named.{no_lock}
 use Rattle.law_run_alone.proofs.Unswept.{is_resolve, never_resolves}
-use Rattle.law_run_recovers.specs.Standing.{is_up, locks_in, locks_at, shown_at, shown_in}
+use Rattle.law_run_recovers.specs.Standing.{is_up, shown_at, shown_in}
 use Rattle.law_run_recovers.specs.Near.{asks_for}
-use Rattle.law_run_recovers.specs.Unmet.{runs, running_in, world_after}
+use Rattle.law_run_recovers.specs.Unmet.{runs, world_after}
 use Rattle.law_run_recovers.proofs.Steady.{GoesSteadily}
 use Rattle.law_run_recovers.proofs.Asked.{onto_left, next_vote}
-use Rattle.law_run_recovers.proofs.Ends.{early_open, early_asks, fetch_is, ending_in}
-use Rattle.law_run_recovers.proofs.Executes.{begin_stands}
+use Rattle.law_run_recovers.proofs.Early.{early_open, early_asks, fetch_is, ending_in}
 use Rattle.law_run_recovers.proofs.Heard.{LockRight, RightFor, MayExecute, AsksFor, asks_for as asked_by, reply_stands}
 use Rattle.law_run_recovers.proofs.Keeps.{IsAtWork, last_of, run_at}
 use Rattle.law_run_recovers.proofs.NearGround.{its, opens, first_asked, opens_first, Known, ground, number, sight}
-use Rattle.law_run_recovers.proofs.Open.{its_begin, begun_there, begun_servers, begun_runs}
 use Rattle.law_run_recovers.proofs.Polled.{Answers, dver_at, dver_in}
-use Rattle.law_run_recovers.proofs.Serves.{On, Told}
-use Rattle.law_run_recovers.proofs.Stands.{AfterStands, StepStands, asks_of, locks_on}
+use Rattle.law_run_recovers.proofs.Serves.{Told}
+use Rattle.law_run_recovers.proofs.Stands.{asks_of, locks_on}
 use Rattle.law_run_recovers.proofs.Still.{IsOpenPhase}
 use Rattle.law_run_recovers.proofs.Took.{OwnTook}
 use Rattle.law_run_recovers.proofs.AmongAt.{HasWhereOpen, lock_right, fetch_right, prepare_right, decide_right, ShowsWhereLocked, on_locks}
 use Rattle.law_run_recovers.proofs.AmongAsks.{gather_asks, widen_asks, set_there}
+use Rattle.law_run_recovers.proofs.AmongBegin.{Good, stands_left, right_end, begun, idle_before}
 use Rattle.law_run_recovers.proofs.AmongCourse.{Course, RunsIt, PhaseIn, StandsIn, Right, same_service, next_is, NewOpen, spared_on, locks_on as answered_on, NewShown, shown_on, open_works}
 use Rattle.law_run_recovers.proofs.Widened.{same_mode}
 use Rattle.law_run_recovers.proofs.AmongKnows.{knows_begun}
@@ -99,92 +96,11 @@ module _ (given : Opening) (events later : List Event) (agent t : ℕ) (caller :
   abbrev world_at : List Event → World
   world_at so_far = world_after given events agent caller site ops so_far
 
-  abbrev pub Good : CourseStep → Type 0
-  Good step = StepStands (fixed_of given) (run given events) (sight given events later agent t caller site ops actor goes) (table_of given events) (its given events later agent t caller site ops actor goes) actor.agent.cache (Known given events later agent t caller site ops actor goes) (ground given events later agent t caller site ops actor goes) step
-
-  pub stands_left : (step : CourseStep) → Good step → StandsIn given events later agent t caller site ops actor goes step.cache (left Running step.after)
-  stands_left step = of step.after
-    where
-      of : (after : After TransactionRun) → AfterStands (fixed_of given) (run given events) (sight given events later agent t caller site ops actor goes) (table_of given events) (its given events later agent t caller site ops actor goes) actor.agent.cache (Known given events later agent t caller site ops actor goes) (ground given events later agent t caller site ops actor goes) step.cache after → StandsIn given events later agent t caller site ops actor goes step.cache (left Running after)
-      of (GoesOn txn_run) good = good
-      of (Ends ended) good = tt
-
-  pub right_end : (step : CourseStep) → Good step → (ended : Ending) → end_of step.after ≡ Some ended → Right given events later agent t caller site ops actor goes ended
-  right_end step = of step.after
-    where
-      of : (after : After TransactionRun) → AfterStands (fixed_of given) (run given events) (sight given events later agent t caller site ops actor goes) (table_of given events) (its given events later agent t caller site ops actor goes) actor.agent.cache (Known given events later agent t caller site ops actor goes) (ground given events later agent t caller site ops actor goes) step.cache after → (ended : Ending) → end_of after ≡ Some ended → Right given events later agent t caller site ops actor goes ended
-      of (GoesOn txn_run) good ended is = absurd (none-some ended is)
-      of (Ends other) good ended is = subst (Right given events later agent t caller site ops actor goes) (same_Some other ended is) good
-
-  -- ---- its begin
-
-  pub begun : (64 * actor.agent.count + agent ≡ t) × (begins (fixed_of given) actor.agent (Transaction caller site ops) ≡ true)
-  begun = its_begin given events later agent t caller site ops actor goes.can goes.there goes.begins
-
-  first_stands : StandsIn given events later agent t caller site ops actor goes (begin (fixed_of given) actor.agent (Transaction caller site ops)).cache (begin (fixed_of given) actor.agent (Transaction caller site ops)).doing
-  first_stands =
-      subst (λ b. StandsIn given events later agent t caller site ops actor goes (begin_if b).cache (begin_if b).doing) (sym begun.1)
-      (stands_left (execute (fixed_of given) its_task (record { suites = []; cache = actor.agent.cache }))
-      (begin_stands (fixed_of given) (run given events) (sight given events later agent t caller site ops actor goes) (table_of given events) (its given events later agent t caller site ops actor goes) actor.agent.cache (Known given events later agent t caller site ops actor goes) (ground given events later agent t caller site ops actor goes) (same_service given events later agent t caller site ops actor goes)))
-    where
-      begin_if : Bool → Agent
-      begin_if b = cond b (record (started (fixed_of given) actor.agent (Transaction caller site ops)) { count = actor.agent.count + 1 }) actor.agent
-
-  first_count : (begin (fixed_of given) actor.agent (Transaction caller site ops)).count ≡ actor.agent.count + 1
-  first_count = ap (λ b. (cond b (record (started (fixed_of given) actor.agent (Transaction caller site ops)) { count = actor.agent.count + 1 }) actor.agent).count) begun.1
-
-  pub idle_before : is_idle actor.agent.doing ≡ true
-  idle_before =
-      (and_parts (is_idle actor.agent.doing) (has_sense (fixed_of given) (Transaction caller site ops))
-      (and_parts (is_idle actor.agent.doing && has_sense (fixed_of given) (Transaction caller site ops)) (nat_lt actor.agent.count max_jobs) begun.1).0).0
-
-  pub first_course : Course given events later agent t caller site ops actor goes []
-  first_course = record {
-    here = record actor { agent = begin (fixed_of given) actor.agent (Transaction caller site ops) };
-    there = begun_there given events later agent t caller site ops actor goes.can goes.there goes.begins;
-    stands = first_stands;
-    busy = busy_so (begin (fixed_of given) actor.agent (Transaction caller site ops)).doing runs_so;
-    told = [];
-    is = refl;
-    count = first_count;
-    locks = none_has;
-    shown = λ server z on. absurd (none_there server z on);
-    spared = λ front back event is. absurd (nil_not front event back is);
-  }
-    where
-      runs_so : runs t (begin (fixed_of given) actor.agent (Transaction caller site ops)).doing ≡ true
-      runs_so =
-          ap (running_in t) (sym (begun_there given events later agent t caller site ops actor goes.can goes.there goes.begins))
-          ∙ begun_runs given events later agent t caller site ops actor goes.can goes.there goes.begins
-
-      busy_so : (doing : Option Doing) → runs t doing ≡ true → is_idle doing ≡ false
-      busy_so None is = absurd (false≢true is)
-      busy_so (Some doing) is = refl
-
-      nil_not : (front : List Event) (event : Event) (back : List Event) → [] ≡ front ++ event ∷ back → ⊥
-      nil_not [] event back is = cc
-      nil_not (one ∷ front) event back is = cc
-
-      none_there : (server z : ℕ) → On (locks_at (world_after given events agent caller site ops []) server) t z → ⊥
-      none_there server z on =
-          of (server_at (run given events) server) refl
-          (subst (λ found. On (locks_in found) t z) (begun_servers given events later agent t caller site ops actor goes.can goes.there goes.begins server) on)
-        where
-          of : (found : Option State) → server_at (run given events) server ≡ found → On (locks_in (server_at (run given events) server)) t z → ⊥
-          of None at on = subst (λ found. Has (locks_in found) on.lock) at on.has
-          of (Some st) at on = no_lock given goes.can.accepted events agent t (Transaction caller site ops) goes.begins server st at on.lock (subst (λ found. Has (locks_in found) on.lock) at on.has) on.of_it
-
-      none_has : HasWhereOpen given events later agent t caller site ops actor goes (world_after given events agent caller site ops [])
-      none_has server z on = absurd (none_there server z on)
-
-  pub first_told : first_course.told ≡ []
-  unfolding first_course
-  first_told = refl
-
   -- ---- a step of its own
 
   module _ (so_far rest : List Event) (split : later ≡ so_far ++ Step agent ∷ rest) (c : Course given events later agent t caller site ops actor goes so_far)
-      (r : RunsIt given events later agent t caller site ops actor goes so_far c) (took : OwnTook (fixed_of given) (world_after given events agent caller site ops so_far) agent c.here c.there (step (fixed_of given) (world_after given events agent caller site ops so_far) (Step agent))) where
+      (r : RunsIt given events later agent t caller site ops actor goes so_far c)
+      (took : OwnTook (fixed_of given) (world_after given events agent caller site ops so_far) agent c.here c.there (step (fixed_of given) (world_after given events agent caller site ops so_far) (Step agent))) where
     abbrev said : Reply
     said = reply_of took.st took.asked.1
 
@@ -214,11 +130,13 @@ module _ (given : Opening) (events later : List Event) (agent t : ℕ) (caller :
         let is : took.asked.1 ≡ request_for t z question = asked ∙ ap (λ n. request_for n z question) (number given events later agent t caller site ops actor goes) in
         let modes : mode_asked asks.question ≡ mode_asked question = sym (same_mode its_task.t z asks.question) ∙ ap mode_of (sym asks.asked_is ∙ asked) ∙ same_mode its_task.t z question in
         subst (λ asked. Answers (fixed_of given) (run given events) (sight given events later agent t caller site ops actor goes) z question took.asked.0 (reply_of took.st asked)) (sym is)
-        (lock_right given events later agent t caller site ops actor goes so_far rest split work c.spared c.locks took.asked.0 took.st took.at c.here r.txn_run c.there r.running number_here z question (asks_so (request_for t z question) is) near
+        (lock_right given events later agent t caller site ops actor goes so_far rest split work c.spared c.locks took.asked.0 took.st took.at c.here r.txn_run c.there r.running number_here z question
+        (asks_so (request_for t z question) is) near
         (subst (λ mode. Contains (asks_for given events t caller ops) (z, mode)) modes has))
 
     -- whom it asks before its end is fixed is near
-    pub near_for : (now : Cache) (suites : Suites) (phase : Phase) → PhaseIn given events later agent t caller site ops actor goes suites now phase → (IsOpenPhase phase → IsAtWork (world_after given events agent caller site ops so_far) agent t)
+    pub near_for : (now : Cache) (suites : Suites) (phase : Phase) → PhaseIn given events later agent t caller site ops actor goes suites now phase
+        → (IsOpenPhase phase → IsAtWork (world_after given events agent caller site ops so_far) agent t)
         → request_in (fixed_of given) its_task suites phase ≡ Some (took.asked.0, took.asked.1) → IsOpenPhase phase → goes.near took.asked.0 ≡ true
     near_for now suites (Gathering z) at work asks' open' =
         let g = at.0 in
@@ -243,8 +161,10 @@ module _ (given : Opening) (events later : List Event) (agent t : ℕ) (caller :
         ap goes.near home ∙ goes.are_near.home
     near_for now suites (Finishing left v ended) at work asks' open' = absurd open'
 
-    right_for : (now : Cache) (suites : Suites) (phase : Phase) → PhaseIn given events later agent t caller site ops actor goes suites now phase → (IsOpenPhase phase → IsAtWork (world_after given events agent caller site ops so_far) agent t)
-        → request_in (fixed_of given) its_task suites phase ≡ Some (took.asked.0, took.asked.1) → RightFor (fixed_of given) (run given events) (sight given events later agent t caller site ops actor goes) its_task phase took.asked.0 took.asked.1 said
+    right_for : (now : Cache) (suites : Suites) (phase : Phase) → PhaseIn given events later agent t caller site ops actor goes suites now phase
+        → (IsOpenPhase phase → IsAtWork (world_after given events agent caller site ops so_far) agent t)
+        → request_in (fixed_of given) its_task suites phase ≡ Some (took.asked.0, took.asked.1)
+        → RightFor (fixed_of given) (run given events) (sight given events later agent t caller site ops actor goes) its_task phase took.asked.0 took.asked.1 said
     right_for now suites (Gathering z) at work asks' =
         let g = at.0 in
         let asks = asked_by its_task z g.suite.collector took.asked.0 took.asked.1 (sym (ap (asked_for its_task z) g.there) ∙ asks') in
@@ -261,17 +181,22 @@ module _ (given : Opening) (events later : List Event) (agent t : ℕ) (caller :
     right_for now suites (Preparing [] outcome) at work asks' = absurd (none-some (took.asked.0, took.asked.1) asks')
     right_for now suites (Preparing (server ∷ left) outcome) at work asks' =
         let parts = parts_at suites (changes_of outcome) server in
-        let is : took.asked.1 ≡ request.Prepare t parts = sym (asks_same server took.asked.0 (request.Prepare its_task.t parts) took.asked.1 asks') ∙ ap (λ n. request.Prepare n parts) (number given events later agent t caller site ops actor goes) in
+        let is : took.asked.1 ≡ request.Prepare t parts = sym (asks_same server took.asked.0 (request.Prepare its_task.t parts) took.asked.1 asks')
+        ∙ ap (λ n. request.Prepare n parts) (number given events later agent t caller site ops actor goes) in
         ap (λ asked. is_prepared (reply_of took.st asked)) is
-        ∙ prepare_right given events later agent t caller site ops actor goes so_far rest split (work tt) c.spared c.locks took.asked.0 took.st took.at c.here r.txn_run c.there r.running number_here parts (asks_so (request.Prepare t parts) is)
+        ∙ prepare_right given events later agent t caller site ops actor goes so_far rest split (work tt) c.spared c.locks took.asked.0 took.st took.at c.here r.txn_run c.there r.running number_here parts
+        (asks_so (request.Prepare t parts) is)
     right_for now suites (Deciding outcome) at work asks' =
         let decision = decision_of its_task outcome in
-        let is : took.asked.1 ≡ request.Decide t decision = sym (asks_same (home_of (fixed_of given).service its_task.t) took.asked.0 (request.Decide its_task.t decision) took.asked.1 asks') ∙ ap (λ n. request.Decide n decision) (number given events later agent t caller site ops actor goes) in
+        let is : took.asked.1 ≡ request.Decide t decision = sym (asks_same (home_of (fixed_of given).service its_task.t) took.asked.0 (request.Decide its_task.t decision) took.asked.1 asks')
+        ∙ ap (λ n. request.Decide n decision) (number given events later agent t caller site ops actor goes) in
         let near = near_for now suites (Deciding outcome) at work asks' tt in
-        let d = decide_right given events later agent t caller site ops actor goes so_far rest split (work tt) c.spared c.locks took.asked.0 took.st took.at c.here r.txn_run c.there r.running number_here decision (asks_so (request.Decide t decision) is) near in
+        let d = decide_right given events later agent t caller site ops actor goes so_far rest split (work tt) c.spared c.locks took.asked.0 took.st took.at c.here r.txn_run c.there r.running number_here decision
+        (asks_so (request.Decide t decision) is) near in
         by (is_up (run given events) took.asked.0) refl (λ up. ap (reply_of took.st) is ∙ d.0 up) (λ down. ap (reply_of took.st) is ∙ d.1 down)
       where
-        by : (b : Bool) → is_up (run given events) took.asked.0 ≡ b → (is_up (run given events) took.asked.0 ≡ true → said ≡ reply.Verdict (verdict_of (decision_of its_task outcome))) → (is_up (run given events) took.asked.0 ≡ false → said ≡ reply.Down)
+        by : (b : Bool) → is_up (run given events) took.asked.0 ≡ b → (is_up (run given events) took.asked.0 ≡ true → said ≡ reply.Verdict (verdict_of (decision_of its_task outcome)))
+            → (is_up (run given events) took.asked.0 ≡ false → said ≡ reply.Down)
             → ((is_up (run given events) took.asked.0 ≡ true) × (said ≡ reply.Verdict (verdict_of (decision_of its_task outcome)))) ⊎ ((is_up (run given events) took.asked.0 ≡ false) × (said ≡ reply.Down))
         by true is up down = inl (is, up is)
         by false is up down = inr (is, down is)
@@ -296,7 +221,8 @@ module _ (given : Opening) (events later : List Event) (agent t : ℕ) (caller :
         (opens_first given events later agent t caller site ops actor goes z (mode_asked question) has took.asked.0 right.0, right.1, right.2)
 
     polls_answered : (phase : Phase) → PhaseIn given events later agent t caller site ops actor goes r.txn_run.suites c.here.agent.cache phase → request_in (fixed_of given) its_task r.txn_run.suites phase ≡ Some (took.asked.0, took.asked.1)
-        → RightFor (fixed_of given) (run given events) (sight given events later agent t caller site ops actor goes) its_task phase took.asked.0 took.asked.1 said → (u suite : ℕ) (mode : LockMode) → took.asked.1 ≡ request.Poll u suite mode → (copy : Replica) → said ≡ held copy
+        → RightFor (fixed_of given) (run given events) (sight given events later agent t caller site ops actor goes) its_task phase took.asked.0 took.asked.1 said → (u suite : ℕ) (mode : LockMode)
+        → took.asked.1 ≡ request.Poll u suite mode → (copy : Replica) → said ≡ held copy
         → ShowsAt copy suite
     polls_answered (Gathering z) at asks' right u suite mode poll copy is =
         let asks = asked_by its_task z at.0.suite.collector took.asked.0 took.asked.1 (sym (ap (asked_for its_task z) at.0.there) ∙ asks') in
@@ -346,7 +272,8 @@ module _ (given : Opening) (events later : List Event) (agent t : ℕ) (caller :
     new_answered : NewOpen given events later agent t caller site ops actor goes so_far (Step agent)
     new_answered server z told of_it =
         subst (λ z. opens given events later agent t caller site ops actor goes z (first_asked given events later agent t caller site ops actor goes z) server ≡ true) of_it
-        (subst (λ server. opens given events later agent t caller site ops actor goes told.told.suite (first_asked given events later agent t caller site ops actor goes told.told.suite) server ≡ true) (at_it server told) (told_shows server told).0)
+        (subst (λ server. opens given events later agent t caller site ops actor goes told.told.suite (first_asked given events later agent t caller site ops actor goes told.told.suite) server ≡ true) (at_it server told)
+        (told_shows server told).0)
 
     new_shown : NewShown given events later agent t caller site ops actor goes so_far (Step agent)
     new_shown server z told of_it =
@@ -386,7 +313,7 @@ module _ (given : Opening) (events later : List Event) (agent t : ℕ) (caller :
 
     -- ---- its course
 
-    abbrev step_of : Task → CourseStep
+    abbrev pub step_of : Task → CourseStep
     step_of task = after_reply (fixed_of given) task c.here.agent.cache r.txn_run.suites r.txn_run.phase took.asked.0 took.asked.1 said
 
     taken : take (fixed_of given) c.here.agent (Replied said) ≡ with_step c.here.agent (step_of r.txn_run.task)
@@ -394,10 +321,10 @@ module _ (given : Opening) (events later : List Event) (agent t : ℕ) (caller :
         ap (λ doing. take_in (fixed_of given) c.here.agent (Replied said) doing (next_of (fixed_of given) c.here.agent)) r.running
         ∙ ap (take_in (fixed_of given) c.here.agent (Replied said) (Some (Running r.txn_run))) took.next
 
-    here_is : took.new.agent ≡ (with_step c.here.agent (step_of r.txn_run.task)).agent
+    pub here_is : took.new.agent ≡ (with_step c.here.agent (step_of r.txn_run.task)).agent
     here_is = took.took ∙ ap (λ (taken : Taken). taken.agent) taken
 
-    there_then : actor_at (world_after given events agent caller site ops (so_far ++ Step agent ∷ [])) agent ≡ Some took.new
+    pub there_then : actor_at (world_after given events agent caller site ops (so_far ++ Step agent ∷ [])) agent ≡ Some took.new
     there_then = ap (λ w. actor_at w agent) (next_is given events later agent t caller site ops actor goes so_far (Step agent)) ∙ took.now
 
     count_then : took.new.agent.count ≡ actor.agent.count + 1
@@ -419,15 +346,17 @@ module _ (given : Opening) (events later : List Event) (agent t : ℕ) (caller :
       number_on =
           let at = (holds_of given goes.can.accepted (events ++ Begin agent (Transaction caller site ops) ∷ (so_far ++ Step agent ∷ []))).agents.at agent took.new.agent
           (ap agent_of (ap (λ w. actor_at w agent) (sym (run_at given events later agent t caller site ops actor goes.can goes.there goes.begins (so_far ++ Step agent ∷ []))) ∙ there_then)) in
-          let last = last_of (decisions given (events ++ Begin agent (Transaction caller site ops) ∷ (so_far ++ Step agent ∷ []))) agent took.new.agent.count more.task.t took.new.agent.doing at (ap (runs more.task.t) running_on ∙ eq-eqb more.task.t more.task.t refl) in
+          let last = last_of (decisions given (events ++ Begin agent (Transaction caller site ops) ∷ (so_far ++ Step agent ∷ []))) agent took.new.agent.count more.task.t took.new.agent.doing at
+          (ap (runs more.task.t) running_on ∙ eq-eqb more.task.t more.task.t refl) in
           let counts = count_then in
-          let first = begun.0 in
+          let first = (begun given events later agent t caller site ops actor goes).0 in
           omega (arith, last, counts, first)
 
       ordered_on : IsOrdered nat_cmp more.suites
       ordered_on =
           (subst (Keeps (plus_all nothing_held (exchanges (fixed_of given) (begin (fixed_of given) actor.agent (Transaction caller site ops)) told_then))) (ap (λ (a : Agent). a.doing) (sym is_then) ∙ running_on)
-          (keeping.all_keep nothing_held (fixed_of given) (begin (fixed_of given) actor.agent (Transaction caller site ops)) told_then (begin_keeps (fixed_of given) actor.agent (Transaction caller site ops) idle_before))).0
+          (keeping.all_keep nothing_held (fixed_of given) (begin (fixed_of given) actor.agent (Transaction caller site ops)) told_then
+          (begin_keeps (fixed_of given) actor.agent (Transaction caller site ops) (idle_before given events later agent t caller site ops actor goes)))).0
 
       asks_early : is_decide took.asked.1 ≡ false
       asks_early = (early_asks (fixed_of given) its_task r.txn_run.suites r.txn_run.phase may took.asked.0 took.asked.1 request_is).1
@@ -437,22 +366,25 @@ module _ (given : Opening) (events later : List Event) (agent t : ℕ) (caller :
 
       knows_on : (z : ℕ) → asks_of (locks_on (table_of given events) its_task) z ≡ true → IsSoAt (known.known_of (known_of more.suites) z) (row_of (table_of given events).rows z)
       knows_on =
-          knows_begun given events later agent t caller site ops actor goes so_far rest split (work_in (early_open r.txn_run.phase may)) (spared_on given events later agent t caller site ops actor goes so_far rest (Step agent) split c) c.here c.there took asks_early resolves_none
+          knows_begun given events later agent t caller site ops actor goes so_far rest split (work_in (early_open r.txn_run.phase may))
+          (spared_on given events later agent t caller site ops actor goes so_far rest (Step agent) split c) c.here c.there took asks_early resolves_none
           locks_then shown_then took.new more there_then running_on number_on ordered_on
 
-    good_step : Good (step_of r.txn_run.task)
+    good_step : Good given events later agent t caller site ops actor goes (step_of r.txn_run.task)
     good_step =
-        subst (λ task. Good (step_of task)) (sym r.at.0)
-        (reply_stands (fixed_of given) (run given events) (sight given events later agent t caller site ops actor goes) (table_of given events) (its given events later agent t caller site ops actor goes) actor.agent.cache (Known given events later agent t caller site ops actor goes) (ground given events later agent t caller site ops actor goes) (same_service given events later agent t caller site ops actor goes) c.here.agent.cache r.txn_run.suites r.txn_run.phase r.at.1
+        subst (λ task. Good given events later agent t caller site ops actor goes (step_of task)) (sym r.at.0)
+        (reply_stands (fixed_of given) (run given events) (sight given events later agent t caller site ops actor goes) (table_of given events) (its given events later agent t caller site ops actor goes) actor.agent.cache
+        (Known given events later agent t caller site ops actor goes) (ground given events later agent t caller site ops actor goes)
+        (same_service given events later agent t caller site ops actor goes) c.here.agent.cache r.txn_run.suites r.txn_run.phase r.at.1
         took.asked.0 took.asked.1 request_is said right_here knows_on)
 
     stands_then : StandsIn given events later agent t caller site ops actor goes took.new.agent.cache took.new.agent.doing
-    stands_then = subst (λ (a : Agent). StandsIn given events later agent t caller site ops actor goes a.cache a.doing) (sym here_is) (stands_left (step_of r.txn_run.task) good_step)
+    stands_then = subst (λ (a : Agent). StandsIn given events later agent t caller site ops actor goes a.cache a.doing) (sym here_is) (stands_left given events later agent t caller site ops actor goes (step_of r.txn_run.task) good_step)
 
     -- how it ends, where it ends in this step
     pub ends_right : (one : EndedJob) → (step (fixed_of given) (world_after given events agent caller site ops so_far) (Step agent)).done.outcome ≡ Some one → Right given events later agent t caller site ops actor goes one.ending
     ends_right one is =
-        right_end (step_of r.txn_run.task) good_step one.ending
+        right_end given events later agent t caller site ops actor goes (step_of r.txn_run.task) good_step one.ending
         (sym (ap (λ (taken : Taken). taken.ending) taken) ∙ ending_in agent c.here (take (fixed_of given) c.here.agent (Replied said)).ending one (sym took.ended ∙ is))
 
     -- it goes on, and was told this; or it is idle, and its job has ended
@@ -466,7 +398,7 @@ module _ (given : Opening) (events later : List Event) (agent t : ℕ) (caller :
         number_ended : (one : EndedJob) → one.agent ≡ agent → one.count ≡ c.here.agent.count - 1 → number_of one ≡ t
         number_ended one at count =
             let counts = c.count in
-            let first = begun.0 in
+            let first = (begun given events later agent t caller site ops actor goes).0 in
             omega (arith, at, count, counts, first)
 
         of : (after : After TransactionRun) → (step_of r.txn_run.task).after ≡ after → OwnOn
@@ -486,7 +418,13 @@ module _ (given : Opening) (events later : List Event) (agent t : ℕ) (caller :
           refl,
         )
         of (Ends ended) is =
-            inr (the_one, took.ended ∙ ap (outcome_of agent c.here) (ap (λ (taken : Taken). taken.ending) taken ∙ ap end_of is), number_ended the_one refl refl, ap (λ (a : Agent). is_idle a.doing) here_is ∙ ap (λ after. is_idle (left Running after)) is)
+            inr (
+              the_one,
+              took.ended ∙ ap (outcome_of agent c.here) (ap (λ (taken : Taken). taken.ending) taken ∙ ap end_of is),
+              number_ended the_one refl refl,
+              ap (λ (a : Agent). is_idle a.doing) here_is
+                  ∙ ap (λ after. is_idle (left Running after)) is,
+            )
           where
             the_one : EndedJob
             the_one = record { agent = agent; count = c.here.agent.count - 1; steps = one_more c.here.steps; ending = ended }

@@ -2,12 +2,12 @@
 use Rattle.std.proofs.Common.{◌≡◌, ◌⊎◌, inl, inr, ⊎_elim, ℕ, ◌+◌, ◌<◌, ◌≤◌, Bool, true, false, cond, List, [], ◌∷◌, ◌++◌, append_assoc, length, Some, is_some, refl, sym, ap, subst, ◌∙◌, arith, Option, suc, zero, None}
 use Rattle.std.specs.Prelude.{◌==◌, ◌&&◌, ◌||◌}
 use Rattle.std.specs.List.{cons_option, list_all}
+use Rattle.std.proofs.lemmas.Bool.Decides.{nat_tests}
 use Rattle.std.proofs.lemmas.List.Folds.{list_all-append}
 use Rattle.std.proofs.lemmas.Option.{slice_get_within, none-some, slice_get_cases}
 use Rattle.acl_core.specs.Identity.{Identity}
 use Rattle.suite_prefix.specs.SettingsRules.{Opening}
 use Rattle.file_ops.specs.declared.operation.Op.{Op}
-use Rattle.rep_core.specs.declared.reply.Reply.{Reply}
 use Rattle.rep_core.specs.Service.{reply_of}
 use Rattle.rep_core.proofs.Members.{Has, has_any, contains_from, any_has, has_filter, has_from}
 use Rattle.txn_core.specs.declared.job.Job.TheVariants.{Transaction}
@@ -18,7 +18,7 @@ use Rattle.txn_core.specs.Agents.{Agent, fixed_of, next_in, next_of, begin, afte
 use Rattle.txn_core.specs.Laws.{Exchange, exchange_of, exchanges, among, asks_only, names_of, names_only, says_held}
 use Rattle.txn_core.proofs.Upheld.{exchanges-take, exchanges-forget}
 use Rattle.run_core.specs.declared.event.Event.{Event}
-use Rattle.run_core.specs.declared.event.Event.TheVariants.{Begin, Step}
+use Rattle.run_core.specs.declared.event.Event.TheVariants.{Begin, Step, Crash, Return, Forget, Lack}
 use Rattle.run_core.specs.declared.done.EndedJob.{EndedJob}
 use Rattle.run_core.specs.Worlds.{Actor, World, step, server_at}
 use Rattle.run_core.specs.Runs.{dones, outcomes, run}
@@ -31,15 +31,16 @@ use Rattle.law_run_recovers.proofs.Steady.{GoesSteadily, steady}
 use Rattle.law_run_recovers.specs.Local.{Ended, UnmetEndInTime, few_steps}
 use Rattle.law_run_recovers.specs.Unmet.{begun_world, world_after, hinders_itself}
 use Rattle.law_run_recovers.proofs.Apart.{event_apart}
-use Rattle.law_run_recovers.proofs.Counts.{one_longer, and_one, has_after, step_of}
+use Rattle.law_run_recovers.proofs.AmongOver.{has_after}
 use Rattle.law_run_recovers.proofs.Keeps.{run_at}
 use Rattle.law_run_recovers.proofs.Knows.{among_numbers}
 use Rattle.law_run_recovers.proofs.Names.{itself, suites_named, names_for, CountedOf, few_enough}
 use Rattle.law_run_recovers.proofs.NearGround.{its, Known, ground, number, sight, can_first}
-use Rattle.law_run_recovers.proofs.Took.{OwnTook, own_took}
+use Rattle.law_run_recovers.proofs.Took.{own_took}
 use Rattle.law_run_recovers.proofs.Open.{unmet_is_among_locks}
 use Rattle.law_run_recovers.proofs.AmongCourse.{Course, RunsIt, runs_it, next_is, apart_on}
-use Rattle.law_run_recovers.proofs.AmongStep.{idle_before, first_course, first_told, own_on}
+use Rattle.law_run_recovers.proofs.AmongBegin.{idle_before, first_course, first_told}
+use Rattle.law_run_recovers.proofs.AmongStep.{own_on}
 use Rattle.law_run_recovers.proofs.InTime.{AllShow, Shows, exchanges_show, reply_shows, show_both}
 use Rattle.law_headline.specs.Premises.{CanBe}
 use Rattle.txn_core.specs.declared.ending.Ending.{Ending}
@@ -69,6 +70,26 @@ pub all_has : {X : Type 0} (p : X → Bool) (xs : List X) (x : X) → list_all p
 all_has p [] x all has = absurd has
 all_has p (y ∷ ys) x all (inl same) = ap p (sym same) ∙ (and_parts (p y) (list_all p ys) all).0
 all_has p (y ∷ ys) x all (inr rest) = all_has p ys x (and_parts (p y) (list_all p ys) all).1 rest
+
+one_longer : {X : Type 0} (xs : List X) (x : X) → length (xs ++ x ∷ []) ≡ length xs + 1
+one_longer [] x = refl
+one_longer (y ∷ xs) x = let rest = one_longer xs x in omega (arith, rest)
+
+and_one : (a b : Bool) → a ≡ true → b ≡ true → (a && (b && true)) ≡ true
+and_one true true a b = refl
+and_one true false a b = absurd (false≢true b)
+and_one false b a _ = absurd (false≢true a)
+
+step_of : (agent : ℕ) (event : Event) → its_step agent event ≡ true → event ≡ Step agent
+step_of agent (Step other) is = ap Step (same_at other agent is)
+  where
+    same_at : (a b : ℕ) → (a == b) ≡ true → a ≡ b
+    same_at a b is = grind (arith, nat_tests)
+step_of agent (Begin other _) is = absurd (false≢true is)
+step_of agent (Crash server) is = absurd (false≢true is)
+step_of agent (Return server) is = absurd (false≢true is)
+step_of agent (Forget other _) is = absurd (false≢true is)
+step_of agent (Lack other why) is = absurd (false≢true is)
 
 -- who is among so many numbers is below their end
 below : (count start n : ℕ) → among (numbers_from start count) n ≡ true → n < start + count
@@ -128,7 +149,8 @@ module _ (given : Opening) (events later : List Event) (agent t : ℕ) (caller :
       next_told : next_of (fixed_of given) (after_all (fixed_of given) begun c.told) ≡ Some asked
       next_told = ap (next_of (fixed_of given)) (sym c.is) ∙ next
 
-      request_of : (r : RunsIt given events later agent t caller site ops actor goes so_far c) → request_in (fixed_of given) (its given events later agent t caller site ops actor goes) r.txn_run.suites r.txn_run.phase ≡ Some (asked.0, asked.1)
+      request_of : (r : RunsIt given events later agent t caller site ops actor goes so_far c)
+          → request_in (fixed_of given) (its given events later agent t caller site ops actor goes) r.txn_run.suites r.txn_run.phase ≡ Some (asked.0, asked.1)
       request_of r = subst (λ task. request_in (fixed_of given) task r.txn_run.suites r.txn_run.phase ≡ Some (asked.0, asked.1)) r.at.0 (sym (ap (next_in (fixed_of given)) r.running) ∙ next)
 
       -- a server that there is
@@ -140,7 +162,8 @@ module _ (given : Opening) (events later : List Event) (agent t : ℕ) (caller :
           has_any (λ n. n == asked.0) servers asked.0 (among_numbers given.servers 0 asked.0 (omega arith) (omega (arith, few, many))) (itself asked.0)
 
       -- it tells its end to servers that gave it locks
-      tells_known : (servers' : List ℕ) (v : Verdict) (ending : Ending) (r : RunsIt given events later agent t caller site ops actor goes so_far c) → r.txn_run.phase ≡ Finishing servers' v ending → asks_only servers (past c.told) ≡ true → among servers asked.0 ≡ true
+      tells_known : (servers' : List ℕ) (v : Verdict) (ending : Ending) (r : RunsIt given events later agent t caller site ops actor goes so_far c) → r.txn_run.phase ≡ Finishing servers' v ending → asks_only servers (past c.told) ≡ true
+          → among servers asked.0 ≡ true
       tells_known servers' v ending r is only =
           let finish = of servers' (ap (request_in (fixed_of given) (its given events later agent t caller site ops actor goes) r.txn_run.suites) (sym is) ∙ request_of r) in
           let one = finishes_in_order (fixed_of given) actor.agent caller site ops c.told asked.0 (its given events later agent t caller site ops actor goes).t v (idle_before given events later agent t caller site ops actor goes)
@@ -163,7 +186,8 @@ module _ (given : Opening) (events later : List Event) (agent t : ℕ) (caller :
 
         named : names_of suites asked.1 ≡ true
         named =
-            names_for (fixed_of given) (run given events) (sight given events later agent t caller site ops actor goes) (table_of given events) (its given events later agent t caller site ops actor goes) actor.agent.cache (Known given events later agent t caller site ops actor goes) (ground given events later agent t caller site ops actor goes) c.here.agent.cache r.txn_run.suites r.txn_run.phase r.at.1 asked.0 asked.1
+            names_for (fixed_of given) (run given events) (sight given events later agent t caller site ops actor goes) (table_of given events) (its given events later agent t caller site ops actor goes) actor.agent.cache
+            (Known given events later agent t caller site ops actor goes) (ground given events later agent t caller site ops actor goes) c.here.agent.cache r.txn_run.suites r.txn_run.phase r.at.1 asked.0 asked.1
             (request_of r)
 
         -- one more
@@ -224,7 +248,8 @@ module _ (given : Opening) (events later : List Event) (agent t : ℕ) (caller :
     where
       none : (k : ℕ) → k + 0 ≤ k
       none k = omega arith
-  lasts (event ∷ rest) so_far split c k counted = of (hinders_itself given agent (world_after given events agent caller site ops so_far) event) refl (λ c k counted. lasts rest (so_far ++ event ∷ []) (split ∙ sym (append_assoc so_far (event ∷ []) rest)) c k counted)
+  lasts (event ∷ rest) so_far split c k counted =
+      of (hinders_itself given agent (world_after given events agent caller site ops so_far) event) refl (λ c k counted. lasts rest (so_far ++ event ∷ []) (split ∙ sym (append_assoc so_far (event ∷ []) rest)) c k counted)
     where
       Rest : Type 0
       Rest = (c : Course given events later agent t caller site ops actor goes (so_far ++ event ∷ [])) (k : ℕ) → Counted c.told k → OneEnds (so_far ++ event ∷ []) rest ⊎ Runs (k + own_steps agent rest)
@@ -256,14 +281,16 @@ module _ (given : Opening) (events later : List Event) (agent t : ℕ) (caller :
           of false is = refl
 
       -- its job ended in it
-      ended_now : (one : EndedJob) → (step (fixed_of given) (world_after given events agent caller site ops so_far) event).done.outcome ≡ Some one → number_of one ≡ t → OneEnds so_far (event ∷ rest) ⊎ Runs (k + own_steps agent (event ∷ rest))
+      ended_now : (one : EndedJob) → (step (fixed_of given) (world_after given events agent caller site ops so_far) event).done.outcome ≡ Some one → number_of one ≡ t
+          → OneEnds so_far (event ∷ rest) ⊎ Runs (k + own_steps agent (event ∷ rest))
       ended_now one is of_it = inl (record {
         one = one;
         there = subst (λ found. Has (cons_option found (outcomes (dones (fixed_of given) (step (fixed_of given) (world_after given events agent caller site ops so_far) event).world rest))) one) (sym is) (inl refl);
         of_it = of_it;
       })
 
-      aside : (event ≡ Step agent → ⊥) → (on : Course given events later agent t caller site ops actor goes (so_far ++ event ∷ [])) × ((on.told ≡ c.told) ⊎ ((site' : ℕ) × (on.told ≡ c.told ++ agents.Forget site' ∷ []))) → Rest → OneEnds so_far (event ∷ rest) ⊎ Runs (k + own_steps agent (event ∷ rest))
+      aside : (event ≡ Step agent → ⊥) → (on : Course given events later agent t caller site ops actor goes (so_far ++ event ∷ [])) × ((on.told ≡ c.told) ⊎ ((site' : ℕ) × (on.told ≡ c.told ++ agents.Forget site' ∷ []))) → Rest
+          → OneEnds so_far (event ∷ rest) ⊎ Runs (k + own_steps agent (event ∷ rest))
       aside apart on go =
           lift k 0 (zero k) (ap (λ b. cond b 1 0) (not_its event apart))
           (go on.0 k (⊎_elim
@@ -298,7 +325,8 @@ module _ (given : Opening) (events later : List Event) (agent t : ℕ) (caller :
           ⊎_elim
           (λ on.
           lift (k + 1) 1 one_more_step (ap (λ event. cond (its_step agent event) 1 0) is ∙ ap (λ b. cond b 1 0) (itself agent))
-          (subst (λ event. ((c : Course given events later agent t caller site ops actor goes (so_far ++ event ∷ [])) (k : ℕ) → Counted c.told k → OneEnds (so_far ++ event ∷ []) rest ⊎ Runs (k + own_steps agent rest)) → OneEnds (so_far ++ event ∷ []) rest ⊎ Runs (k + 1 + own_steps agent rest)) (sym is)
+          (subst (λ event. ((c : Course given events later agent t caller site ops actor goes (so_far ++ event ∷ [])) (k : ℕ) → Counted c.told k → OneEnds (so_far ++ event ∷ []) rest ⊎ Runs (k + own_steps agent rest)) → OneEnds
+          (so_far ++ event ∷ []) rest ⊎ Runs (k + 1 + own_steps agent rest)) (sym is)
           (λ go. go on.0 (k + 1) (subst (λ told. Counted told (k + 1)) (sym on.1) counted')) go))
           (λ ended. ended_now ended.0 (ap (λ event. (step (fixed_of given) (world_after given events agent caller site ops so_far) event).done.outcome) is ∙ ended.1) ended.2)
           (own_on given events later agent t caller site ops actor goes so_far rest split' c r took)
@@ -313,7 +341,8 @@ module _ (given : Opening) (events later : List Event) (agent t : ℕ) (caller :
           let tells = tells_now given events later agent t caller site ops actor goes so_far rest event split c hinders in
           ⊎_elim
           (λ lacks.
-          let counted' = counted_on so_far (event ∷ rest) split c lacks.asked lacks.next tells.r (tells_known so_far (event ∷ rest) split c lacks.asked lacks.next tells.servers tells.v tells.ending tells.r tells.is counted.counts.asks) (Lacked lacks.why) tt k counted in
+          let counted' = counted_on so_far (event ∷ rest) split c lacks.asked lacks.next tells.r (tells_known so_far (event ∷ rest) split c lacks.asked lacks.next tells.servers tells.v tells.ending tells.r tells.is counted.counts.asks)
+          (Lacked lacks.why) tt k counted in
           ⊎_elim
           (λ on. lift (k + 1) (cond (its_step agent event) 1 0) (few (its_step agent event)) refl (go on.0 (k + 1) (subst (λ told. Counted told (k + 1)) (sym on.1) counted')))
           (λ ended. ended_now ended.0 ended.1 ended.2)

@@ -48,7 +48,7 @@ use Rattle.law_run_recovers.specs.Unmet.{world_after, GoesUnmet, hinders_itself}
 use Rattle.law_run_recovers.specs.Among.{GoesAmongLocks}
 use Rattle.law_run_recovers.specs.Local.{EndsThen}
 use Rattle.law_run_recovers.proofs.Apart.{Apart, event_apart}
-use Rattle.law_run_recovers.proofs.Ends.{ending_in}
+use Rattle.law_run_recovers.proofs.Early.{ending_in}
 use Rattle.law_run_recovers.proofs.Heard.{RightFor, asks_for as asked_by}
 use Rattle.law_run_recovers.proofs.Keeps.{run_at}
 use Rattle.law_run_recovers.proofs.NearGround.{its, opens, sight}
@@ -60,7 +60,8 @@ use Rattle.law_run_recovers.proofs.AmongCourse.{Course, PhaseIn, runs_it, next_i
 use Rattle.law_run_recovers.proofs.Steady.{GoesSteadily, steady, never_hindered}
 use Rattle.law_run_recovers.proofs.AmongEnds.{Over, over_on, over_now, ends_where}
 use Rattle.law_run_recovers.proofs.AmongOver.{course_not_over}
-use Rattle.law_run_recovers.proofs.AmongStep.{idle_before, first_course, first_told, request_is, right_here, own_on}
+use Rattle.law_run_recovers.proofs.AmongBegin.{idle_before, first_course, first_told}
+use Rattle.law_run_recovers.proofs.AmongStep.{request_is, right_here, own_on}
 
 -- ---- what is right for one that nobody meets
 
@@ -118,7 +119,8 @@ module _ (given : Opening) (events later : List Event) (agent t : ℕ) (caller :
   goes = steady given events later agent t caller site ops actor among
 
   -- its steps are served
-  calm : (so_far rest : List Event) (event : Event) → later ≡ so_far ++ event ∷ rest → Course given events later agent t caller site ops actor goes so_far → hinders_itself given agent (world_after given events agent caller site ops so_far) event ≡ false
+  calm : (so_far rest : List Event) (event : Event) → later ≡ so_far ++ event ∷ rest → Course given events later agent t caller site ops actor goes so_far
+      → hinders_itself given agent (world_after given events agent caller site ops so_far) event ≡ false
   calm so_far rest event split c = never_hindered given events later agent t caller site ops actor among so_far rest event split (course_runs given events later agent t caller site ops actor goes so_far c)
 
   abbrev its_task : Task
@@ -146,7 +148,8 @@ module _ (given : Opening) (events later : List Event) (agent t : ℕ) (caller :
         sym ((unmet.unmet so_far (Step agent ∷ rest) split (running_now given events later agent t caller site ops actor goes so_far rest (Step agent) split c)).up took.asked.0 (near took.asked.0))
         ∙ ap up_in took.at ∙ st_up
 
-    lock_kind : (z : ℕ) (question : Asked) → Contains (asks_for given events t caller ops) (z, mode_asked question) → (other : Reply) → Answers (fixed_of given) (run given events) (sight given events later agent t caller site ops actor goes) z question took.asked.0 other → IsKind took.asked.1 other
+    lock_kind : (z : ℕ) (question : Asked) → Contains (asks_for given events t caller ops) (z, mode_asked question) → (other : Reply)
+        → Answers (fixed_of given) (run given events) (sight given events later agent t caller site ops actor goes) z question took.asked.0 other → IsKind took.asked.1 other
     lock_kind z question has (reply.Held prefix dver) right = record { busy = refl; down = refl; kept = refl; decides = λ decide is. cc }
     lock_kind z question has (reply.Busy holder prepared) right = absurd (false≢true (sym right.0 ∙ open_so took.asked.0 z (mode_asked question) has first_up))
     lock_kind z question has reply.Down right = absurd (false≢true (sym right.0 ∙ open_so took.asked.0 z (mode_asked question) has first_up))
@@ -243,7 +246,8 @@ module _ (given : Opening) (events later : List Event) (agent t : ℕ) (caller :
       split_on = split ∙ sym (append_assoc so_far (event ∷ []) rest)
 
       -- what it was told since leaves it so
-      since_told : (told : List agents.Event) → (told ≡ on.0.told) ⊎ ((site' : ℕ) × (told ≡ on.0.told ++ agents.Forget site' ∷ [])) → HasValidVotes (after_all (fixed_of given) begun_agent told).cache → Since (fixed_of given) (after_all (fixed_of given) begun_agent told)
+      since_told : (told : List agents.Event) → (told ≡ on.0.told) ⊎ ((site' : ℕ) × (told ≡ on.0.told ++ agents.Forget site' ∷ [])) → HasValidVotes (after_all (fixed_of given) begun_agent told).cache
+          → Since (fixed_of given) (after_all (fixed_of given) begun_agent told)
       since_told told (inl same) cache = subst (λ told. Since (fixed_of given) (after_all (fixed_of given) begun_agent told)) (sym same) (subst (Since (fixed_of given)) on.0.is on.1)
       since_told told (inr gone) cache =
           let is : after_all (fixed_of given) begun_agent told ≡ forget on.0.here.agent gone.0 =
@@ -252,15 +256,18 @@ module _ (given : Opening) (events later : List Event) (agent t : ℕ) (caller :
 
       -- and so does a reply to what it asked
       since_reply : (took : OwnTook (fixed_of given) (world_after given events agent caller site ops so_far) agent on.0.here on.0.there (step (fixed_of given) (world_after given events agent caller site ops so_far) (Step agent)))
-          → IsFree true took.asked.1 (reply_of took.st took.asked.1) → (told : List agents.Event) → told ≡ on.0.told ++ agents.Take (Replied (reply_of took.st took.asked.1)) ∷ [] → HasValidVotes (after_all (fixed_of given) begun_agent told).cache
+          → IsFree true took.asked.1 (reply_of took.st took.asked.1) → (told : List agents.Event) → told ≡ on.0.told ++ agents.Take (Replied (reply_of took.st took.asked.1)) ∷ []
+          → HasValidVotes (after_all (fixed_of given) begun_agent told).cache
           → Since (fixed_of given) (after_all (fixed_of given) begun_agent told)
       since_reply took free told same cache =
           let said' = reply_of took.st took.asked.1 in
           let is : after_all (fixed_of given) begun_agent told ≡ (take (fixed_of given) on.0.here.agent (Replied said')).agent =
-          ap (after_all (fixed_of given) begun_agent) {x = told} {y = on.0.told ++ agents.Take (Replied said') ∷ []} same ∙ after-append (fixed_of given) begun_agent on.0.told (agents.Take (Replied said')) ∙ ap (λ a. (take (fixed_of given) a (Replied said')).agent) (sym on.0.is) in
+          ap (after_all (fixed_of given) begun_agent) {x = told} {y = on.0.told ++ agents.Take (Replied said') ∷ []} same ∙ after-append (fixed_of given) begun_agent on.0.told (agents.Take (Replied said'))
+          ∙ ap (λ a. (take (fixed_of given) a (Replied said')).agent) (sym on.0.is) in
           subst (Since (fixed_of given)) (sym is) (since_take (fixed_of given) on.0.here.agent on.1 took.asked said' took.next free (subst (λ (a : Agent). HasValidVotes a.cache) is cache))
 
-      aside : Apart given agent (world_after given events agent caller site ops so_far) on.0.here on.0.there on.0.busy (step (fixed_of given) (world_after given events agent caller site ops so_far) event) × (event ≡ Step agent → ⊥) → Told (so_far ++ event ∷ [])
+      aside : Apart given agent (world_after given events agent caller site ops so_far) on.0.here on.0.there on.0.busy (step (fixed_of given) (world_after given events agent caller site ops so_far) event) × (event ≡ Step agent → ⊥)
+          → Told (so_far ++ event ∷ [])
       aside apart =
           let next = apart_on given events later agent t caller site ops actor goes so_far rest event split on.0 apart.0 apart.1 in
           let cache = cache_at (so_far ++ event ∷ []) rest split_on next.0.here next.0.there in
@@ -272,7 +279,8 @@ module _ (given : Opening) (events later : List Event) (agent t : ℕ) (caller :
       own : (event ≡ Step agent) × (is_some (step (fixed_of given) (world_after given events agent caller site ops so_far) event).done.served ≡ true) → Told (so_far ++ event ∷ [])
       own is =
           let split' : later ≡ so_far ++ Step agent ∷ rest = split ∙ ap (λ event. so_far ++ event ∷ rest) is.0 in
-          let took = own_took (fixed_of given) (world_after given events agent caller site ops so_far) agent on.0.here on.0.there (subst (λ event. is_some (step (fixed_of given) (world_after given events agent caller site ops so_far) event).done.served ≡ true) is.0 is.1) in
+          let took = own_took (fixed_of given) (world_after given events agent caller site ops so_far) agent on.0.here on.0.there
+          (subst (λ event. is_some (step (fixed_of given) (world_after given events agent caller site ops so_far) event).done.served ≡ true) is.0 is.1) in
           subst (λ event. Told (so_far ++ event ∷ [])) (sym is.0)
           (⊎_elim
           (λ goes_on. inl (

@@ -31,6 +31,7 @@ use Rattle.txn_core.proofs.Locks.{Keeps, nothing_held, plus_all, begin_keeps}
 use Rattle.txn_core.proofs.Quorums.{decides_on_quorums}
 use Rattle.run_core.specs.declared.event.Event.{Event}
 use Rattle.run_core.specs.declared.event.Event.TheVariants.{Begin, Step}
+use Rattle.run_core.specs.declared.done.EndedJob.{EndedJob}
 use Rattle.run_core.specs.Worlds.{Actor, World, server_at, actor_at, becomes, asks, steps_once, opening, step}
 use Rattle.run_core.specs.Runs.{after, dones, outcomes, run}
 use Rattle.run_core.specs.Decisions.{Decided, decided, decided_by, decisions, decisions_from, task_of, task_at}
@@ -40,7 +41,7 @@ use Rattle.run_core.proofs.Appending.{dones-append, outcomes-append, decisions_f
 use Rattle.law_runs.proofs.Answering.{answers_follow_knowledge}
 use Rattle.law_runs.specs.Answers.{IsAnsweredAsKnown}
 use Rattle.law_runs.proofs.Agents.{Runs, IsAt, not_begun}
-use Rattle.law_runs.proofs.Standing.{NotIn, has_append}
+use Rattle.law_runs.proofs.Standing.{has_append}
 use Rattle.law_runs.proofs.Conclusions.{holds_of, decided_once}
 use Rattle.law_runs.specs.Numbers.{number_of}
 use Rattle.law_runs.specs.Claims.{ended}
@@ -58,7 +59,7 @@ use Rattle.law_run_recovers.specs.Laws.{OneIsDecided, GoesAlone, HadVotesUp, Dec
 use Rattle.law_runs.specs.Numbers.{begins_now}
 use Rattle.law_run_recovers.specs.Standing.{is_up}
 use Rattle.law_run_recovers.proofs.Downs.{holds_shared}
-use Rattle.law_run_recovers.proofs.Since.{Now}
+use Rattle.law_run_recovers.proofs.Since.{Now, now_after}
 use Rattle.law_run_recovers.proofs.Decider.{Found, found_in, count_in}
 use Rattle.law_run_recovers.proofs.AtDecision.{decides_up, same_version, newest_votes}
 
@@ -172,7 +173,8 @@ module _ (given : Opening) (events later : List Event) (agent t : ℕ) (caller :
     same_table : table_of given all ≡ table_of given events
     same_table = ap (table_after_all (rows.opening given))
         (decisions_from-append (fixed_of given) (opening given) events (Begin agent job ∷ found.before)
-        ∙ ap (λ more. decisions given events ++ more) (ap (λ (first : Option Decided). cons_option first (decisions_from (fixed_of given) begun_world found.before)) (no_task world (step (fixed_of given) world (Begin agent job)).done.served) ∙ found.none)
+        ∙ ap (λ more. decisions given events ++ more)
+        (ap (λ (first : Option Decided). cons_option first (decisions_from (fixed_of given) begun_world found.before)) (no_task world (step (fixed_of given) world (Begin agent job)).done.served) ∙ found.none)
         ∙ append-nil (decisions given events))
 
     module _ (z : ℕ) (suite : Suite) (is : suite_of so.txn_run.suites z ≡ Some suite) where
@@ -242,38 +244,36 @@ module _ (given : Opening) (events later : List Event) (agent t : ℕ) (caller :
   abbrev pub by_then : Bool
   by_then = list_any (λ (one : Decided). one.t == t) (decisions_from (fixed_of given) (step (fixed_of given) (run given events) (Begin agent (Transaction caller site ops))).world later)
 
-  -- each that is of it stands among those since
-  pub stood_since : (one : Decided) → Has (decisions given (events ++ Begin agent (Transaction caller site ops) ∷ later)) one → one.t ≡ t
-      → Has (decisions_from (fixed_of given) (step (fixed_of given) (run given events) (Begin agent (Transaction caller site ops))).world later) one
-  stood_since one has of_it =
-      let job : Job = Transaction caller site ops in
-      let rest = decisions_from (fixed_of given) (step (fixed_of given) (run given events) (Begin agent job)).world later in
-      let new : NotIn (decisions given events) (64 * actor.agent.count + agent) =
-      not_begun (agent_at (run given events)) (decisions given events) agent actor.agent (holds_of given can.accepted events).agents (ap agent_of there) actor.agent.count (self actor.agent.count) in
-      let parts : decisions given (events ++ Begin agent job ∷ later) ≡ decisions given events ++ rest =
-      decisions_from-append (fixed_of given) (opening given) events (Begin agent job ∷ later)
-      ∙ ap (λ more. decisions given events ++ more) (ap (λ (first : Option Decided). cons_option first rest) (no_task (run given events) (step (fixed_of given) (run given events) (Begin agent job)).done.served)) in
-      ⊎_elim (λ before. absurd (new one before (of_it ∙ sym number))) (λ since. since)
-      (has_append (decisions given events) rest one (subst (λ ds. Has ds one) parts has))
+  -- none of its number stood there as it began
+  pub not_before : (one : Decided) → Has (decisions given events) one → one.t ≡ t → ⊥
+  not_before one before of_it =
+      not_begun (agent_at (run given events)) (decisions given events) agent actor.agent (holds_of given can.accepted events).agents (ap agent_of there) actor.agent.count (self actor.agent.count) one before (of_it ∙ sym number)
     where
       self : (n : ℕ) → n ≤ n
       self n = omega arith
 
+  abbrev since : List Decided
+  since = decisions_from (fixed_of given) (step (fixed_of given) (run given events) (Begin agent (Transaction caller site ops))).world later
+
+  parts : decisions given (events ++ Begin agent (Transaction caller site ops) ∷ later) ≡ decisions given events ++ since
+  parts =
+      decisions_from-append (fixed_of given) (opening given) events (Begin agent (Transaction caller site ops) ∷ later)
+      ∙ ap (λ more. decisions given events ++ more) (ap (λ (first : Option Decided). cons_option first since) (no_task (run given events) (step (fixed_of given) (run given events) (Begin agent (Transaction caller site ops))).done.served))
+
+  -- each that is of it stands among those since
+  pub stood_since : (one : Decided) → Has (decisions given (events ++ Begin agent (Transaction caller site ops) ∷ later)) one → one.t ≡ t
+      → Has (decisions_from (fixed_of given) (step (fixed_of given) (run given events) (Begin agent (Transaction caller site ops))).world later) one
+  stood_since one has of_it =
+      ⊎_elim (λ before. absurd (not_before one before of_it)) (λ since. since) (has_append (decisions given events) since one (subst (λ ds. Has ds one) parts has))
+
   pub decided_since : list_any (λ (one : Decided). one.t == t) (decisions given (events ++ Begin agent (Transaction caller site ops) ∷ later)) ≡ true → by_then ≡ true
   decided_since is =
-      let job : Job = Transaction caller site ops in
-      let rest = decisions_from (fixed_of given) (step (fixed_of given) (run given events) (Begin agent job)).world later in
-      let new : NotIn (decisions given events) (64 * actor.agent.count + agent) =
-      not_begun (agent_at (run given events)) (decisions given events) agent actor.agent (holds_of given can.accepted events).agents (ap agent_of there) actor.agent.count (self actor.agent.count) in
-      any_right (λ (one : Decided). one.t == t) (decisions given events) rest
-      (λ one has same. new one has (eqb-true one.t t same ∙ sym number))
-      (sym (ap (list_any (λ (one : Decided). one.t == t))
-      (decisions_from-append (fixed_of given) (opening given) events (Begin agent job ∷ later)
-      ∙ ap (λ more. decisions given events ++ more) (ap (λ (first : Option Decided). cons_option first rest) (no_task (run given events) (step (fixed_of given) (run given events) (Begin agent job)).done.served))))
-      ∙ is)
-    where
-      self : (n : ℕ) → n ≤ n
-      self n = omega arith
+      any_right (λ (one : Decided). one.t == t) (decisions given events) since (λ one has same. not_before one has (eqb-true one.t t same)) (sym (ap (list_any (λ (one : Decided). one.t == t)) parts) ∙ is)
+
+  -- where none stands among those since, they are as they were
+  pub none_since : decisions_from (fixed_of given) (step (fixed_of given) (run given events) (Begin agent (Transaction caller site ops))).world later ≡ []
+      → decisions given (events ++ Begin agent (Transaction caller site ops) ∷ later) ≡ decisions given events
+  none_since none = parts ∙ ap (λ more. decisions given events ++ more) none ∙ append-nil (decisions given events)
 
 contains_later : {X : Type 0} (found : Option X) (xs : List X) (x : X) → Contains xs x → Contains (cons_option found xs) x
 contains_later None xs x has = has
@@ -296,26 +296,47 @@ module _ (given : Opening) (events later : List Event) (agent t : ℕ) (caller :
   stands_there : (one : Decided) → Contains (decisions given the_end) one → one.t ≡ t → list_any (λ (one : Decided). one.t == t) (decisions given the_end) ≡ true
   stands_there one has is = has_any (λ (one : Decided). one.t == t) (decisions given the_end) one (has_from (decisions given the_end) one has) (eq-eqb one.t t is)
 
+  -- each job of its agent that ends from then on is it
+  pub its_number : (job : EndedJob) → Contains (outcomes (dones (fixed_of given) (step (fixed_of given) (run given events) (Begin agent (Transaction caller site ops))).world later)) job → job.agent ≡ agent → number_of job ≡ t
+  its_number job there own =
+      let began' = starts given events later agent t caller site ops actor alone in
+      let count = count_in given (run given events) agent (begin (fixed_of given) actor.agent its) job own later begins (first_now given events later agent t caller site ops actor alone) alone.alone
+      (has_from (outcomes (dones (fixed_of given) begins later)) job there) in
+      let is = count_is job.count (begin (fixed_of given) actor.agent its).count actor.agent.count count began'.count in
+      ap (λ n. 64 * n + job.agent) is ∙ ap (λ i. 64 * actor.agent.count + i) own ∙ began'.number
+
+  -- where its home was down nothing is decided
+  pub none_decided : is_up (run given events) (home_of (fixed_of given).service t) ≡ false → decisions_from (fixed_of given) (step (fixed_of given) (run given events) (Begin agent (Transaction caller site ops))).world later ≡ []
+  none_decided down = of (decisions_from (fixed_of given) begins later) refl
+    where
+      of : (found : List Decided) → decisions_from (fixed_of given) begins later ≡ found → found ≡ []
+      of [] is = refl
+      of (one ∷ more) is =
+          let found = found_in given (run given events) agent (begin (fixed_of given) actor.agent its) (λ one. true) later begins (first_now given events later agent t caller site ops actor alone) alone.alone
+          (ap (list_any (λ (one : Decided). true)) is) in
+          absurd (false≢true (sym down ∙ (had given events later agent t caller site ops actor alone found).home))
+
+  -- it has begun one job since
+  pub last_now : Now given (run given events) agent (begin (fixed_of given) actor.agent (Transaction caller site ops))
+      (after (fixed_of given) (step (fixed_of given) (run given events) (Begin agent (Transaction caller site ops))).world later)
+  last_now = now_after given (run given events) agent (begin (fixed_of given) actor.agent its) later begins (first_now given events later agent t caller site ops actor alone) alone.alone
+
+  pub count_then : (begin (fixed_of given) actor.agent (Transaction caller site ops)).count ≡ actor.agent.count + 1
+  count_then = (starts given events later agent t caller site ops actor alone).count
+
   pub ended_stands : OneIsDecided (outcomes (dones (fixed_of given) begins later)) agent → list_any (λ (one : Decided). one.t == t) (decisions given the_end) ≡ true
   ended_stands one = of one.job.ending refl one.decided
     where
       there : Contains (ended given the_end) one.job
       there = subst (λ jobs. Contains jobs one.job)
-          (sym (ap outcomes (dones-append (fixed_of given) (opening given) events (Begin agent its ∷ later)) ∙ outcomes-append (dones (fixed_of given) (opening given) events) (dones (fixed_of given) (run given events) (Begin agent its ∷ later))))
+          (sym (ap outcomes (dones-append (fixed_of given) (opening given) events (Begin agent its ∷ later))
+          ∙ outcomes-append (dones (fixed_of given) (opening given) events) (dones (fixed_of given) (run given events) (Begin agent its ∷ later))))
           (Contains-append_right (ended given events) (outcomes (dones (fixed_of given) (run given events) (Begin agent its ∷ later))) one.job
           (contains_later (step (fixed_of given) (run given events) (Begin agent its)).done.outcome (outcomes (dones (fixed_of given) begins later)) one.job one.there))
 
-      number : number_of one.job ≡ t
-      number =
-          let began' = starts given events later agent t caller site ops actor alone in
-          let count = count_in given (run given events) agent (begin (fixed_of given) actor.agent its) one.job one.of_it later begins (first_now given events later agent t caller site ops actor alone) alone.alone
-          (has_from (outcomes (dones (fixed_of given) begins later)) one.job one.there) in
-          let is = count_is one.job.count (begin (fixed_of given) actor.agent its).count actor.agent.count count began'.count in
-          ap (λ n. 64 * n + one.job.agent) is ∙ ap (λ i. 64 * actor.agent.count + i) one.of_it ∙ began'.number
-
       of : (ending : Ending) → one.job.ending ≡ ending → is_decided ending ≡ true → list_any (λ (one : Decided). one.t == t) (decisions given the_end) ≡ true
-      of (ending.Answered answers) is sure = let as' = (decided_once given alone.can.accepted the_end).answered one.job answers there is in stands_there as'.decision as'.there (as'.of_it ∙ number)
-      of (ending.Refused refusal) is sure = let as' = (decided_once given alone.can.accepted the_end).refused one.job refusal there is in stands_there as'.decision as'.there (as'.of_it ∙ number)
+      of (ending.Answered answers) is sure = let as' = (decided_once given alone.can.accepted the_end).answered one.job answers there is in stands_there as'.decision as'.there (as'.of_it ∙ its_number one.job one.there one.of_it)
+      of (ending.Refused refusal) is sure = let as' = (decided_once given alone.can.accepted the_end).refused one.job refusal there is in stands_there as'.decision as'.there (as'.of_it ∙ its_number one.job one.there one.of_it)
       of (ending.Swept broken finished left) is sure = absurd (false≢true sure)
       of (ending.Undecided cause) is sure = absurd (false≢true sure)
 
@@ -323,5 +344,7 @@ pub decided_had_votes_up : DecidedHadVotesUp
 decided_had_votes_up given events later agent t caller site ops actor alone was =
     let is = ⊎_elim (λ is. is) (λ one. ended_stands given events later agent t caller site ops actor alone one) was in
     had given events later agent t caller site ops actor alone
-    (found_in given (run given events) agent (begin (fixed_of given) actor.agent (Transaction caller site ops)) (λ (one : Decided). one.t == t) later (step (fixed_of given) (run given events) (Begin agent (Transaction caller site ops))).world
-    (first_now given events later agent t caller site ops actor alone) alone.alone (decided_since given events later agent t caller site ops actor alone.can alone.there (starts given events later agent t caller site ops actor alone).number is))
+    (found_in given (run given events) agent (begin (fixed_of given) actor.agent (Transaction caller site ops)) (λ (one : Decided). one.t == t) later
+    (step (fixed_of given) (run given events) (Begin agent (Transaction caller site ops))).world
+    (first_now given events later agent t caller site ops actor alone) alone.alone
+    (decided_since given events later agent t caller site ops actor alone.can alone.there (starts given events later agent t caller site ops actor alone).number is))

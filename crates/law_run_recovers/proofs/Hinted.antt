@@ -1,4 +1,4 @@
--- What a transaction that goes alone leaves in its agent's cache: of a suite the site is hinted what it was before, or where the suite was found.
+-- What a transaction leaves in its agent's cache: of a suite the site is hinted what it was before, or where the suite was found.
 use Rattle.std.proofs.Common.{◌≡◌, ◌⊎◌, inr, ℕ, zero, suc, Bool, true, false, cond, List, [], ◌∷◌, length, Option, Some, None, Ok, Err, refl, sym, ap, subst, ◌∙◌}
 use Rattle.std.specs.Prelude.{◌==◌}
 use Rattle.std.proofs.lemmas.Bool.{eqb-true}
@@ -29,10 +29,10 @@ use Rattle.txn_core.specs.Doing.{Fixed, Task, Granted, Phase, Gathering, Fetchin
 use Rattle.txn_core.specs.Transactions as txn_run
 use Rattle.txn_core.specs.Transactions.{Step, Gathered, tell_end, give_up, prepare, gather_by, raised_or_new, widened, widen_by, widen_one, widen_all, to_widen, proceed, heard_on, free_content, opened_with, open_first, open_suite, open_needed, or_all, opened, execute, hear, collected, heard_of, given_in, keep_content, fetched, verdict_in, cause_of_abort, locked_at, after_reply}
 use Rattle.run_core.specs.Worlds.{World}
-use Rattle.law_run_recovers.specs.Standing.{is_up}
+use Rattle.law_run_recovers.specs.Demands.{led_to_by}
 use Rattle.law_run_recovers.proofs.Hinting.{hint_put, hint_put_here}
 use Rattle.law_run_recovers.proofs.SameDemands.{LeadsFrom, HintsLed}
-use Rattle.law_run_recovers.proofs.Plain.{seen}
+use Rattle.law_run_recovers.proofs.Polled.{Sight, finds_at}
 use Rattle.law_run_recovers.proofs.Stands.{Ground, locks_on, IsReady, PhaseStands}
 use Rattle.law_run_recovers.proofs.Executes.{hint_after}
 
@@ -77,9 +77,12 @@ proceed_cache fixed task now suites (exec.Need (Know number)) = refl
 proceed_cache fixed task now suites (exec.Done answers changes) = widen_cache task now (record { answers = answers; changes = changes }) (to_widen changes) suites
 proceed_cache fixed task now suites (exec.Refused refusal) = prepare_cache task now suites (Err refusal) (locked_at suites)
 
-module _ (fixed : Fixed) (world : World) (table : PlainTable) (task : Task) (cache : Cache) (Was : ℕ → Prefix → Type 0) (ground : Ground fixed world (seen (is_up world) (locks_on table task)) cache task.site (locks_on table task) Was) where
+module _ (fixed : Fixed) (world : World) (sight : Sight) (table : PlainTable) (task : Task) (cache : Cache) (Was : ℕ → Prefix → Type 0) (ground : Ground fixed world sight cache task.site (locks_on table task) Was) where
+  abbrev found_from : ℕ → Prefix → Prefix
+  found_from z start = led_to_by fixed world (finds_at sight z) z start
+
   abbrev Led : Cache → Type 0
-  Led now = HintsLed fixed world cache task.site now
+  Led now = HintsLed (λ z start. led_to_by fixed world (finds_at sight z) z start) fixed cache task.site now
 
   -- ---- contents that are to be had without asking
 
@@ -89,7 +92,7 @@ module _ (fixed : Fixed) (world : World) (table : PlainTable) (task : Task) (cac
 
     with_hint : (number : ℕ) (suite : Suite) (first : ReadPoint) (found : Option Content) (more : Gathered) → opened_with task all number suite first found ≡ Some more → SameHint more
     with_hint number suite first None more is = absurd (none-some more is)
-    with_hint number suite first (Some content) more is = subst SameHint (same_Some _ more is) (hint_after fixed world (seen (is_up world) (locks_on table task)) table task cache Was ground all.cache number first z)
+    with_hint number suite first (Some content) more is = subst SameHint (same_Some _ more is) (hint_after fixed world sight table task cache Was ground all.cache number first z)
 
     first_hint : (number : ℕ) (suite : Suite) (first : Option ReadPoint) (more : Gathered) → open_first task all number suite first ≡ Some more → SameHint more
     first_hint number suite None more is = absurd (none-some more is)
@@ -125,7 +128,8 @@ module _ (fixed : Fixed) (world : World) (table : PlainTable) (task : Task) (cac
     as_now : (step : Step) → step.cache ≡ now → Led step.cache
     as_now step same = subst Led (sym same) led
 
-    heard_hints : (suites : Suites) (phase : Phase) (number : ℕ) (found : Option Suite) (go_on : Suites → Step) → ((suites : Suites) → Led (go_on suites).cache) → Led (heard_of task now suites phase number found server asked said go_on).cache
+    heard_hints : (suites : Suites) (phase : Phase) (number : ℕ) (found : Option Suite) (go_on : Suites → Step) → ((suites : Suites) → Led (go_on suites).cache)
+        → Led (heard_of task now suites phase number found server asked said go_on).cache
     heard_hints suites phase number None go_on go = as_now (give_up task now suites (Lost server)) (up_cache task now suites (Lost server))
     heard_hints suites phase number (Some suite) go_on go = of (txn_run.said_to asked said)
       where
@@ -134,7 +138,8 @@ module _ (fixed : Fixed) (world : World) (table : PlainTable) (task : Task) (cac
 
         by : (new : Suite) (after : Next) → Led (collected task now suites phase number new after on).cache
         by new (Ask who question) = led
-        by new (Short had wanting busy) = as_now (give_up task now (with_suite number new suites) (txn_run.short_cause number had wanting busy)) (up_cache task now (with_suite number new suites) (txn_run.short_cause number had wanting busy))
+        by new (Short had wanting busy) =
+            as_now (give_up task now (with_suite number new suites) (txn_run.short_cause number had wanting busy)) (up_cache task now (with_suite number new suites) (txn_run.short_cause number had wanting busy))
         by new (Current prefix dver members) = go (with_suite number (settled prefix dver members new) suites)
 
         of : (found : Option Said) → Led (hear task now suites phase number suite server asked found on).cache
@@ -143,21 +148,22 @@ module _ (fixed : Fixed) (world : World) (table : PlainTable) (task : Task) (cac
             let one : Told = record { server = server; mode = mode_of asked; said = heard } in
             by (record suite { collector = tell one suite.collector }) (next (tell one suite.collector))
 
-    fetched_hints : (suites : Suites) (number : ℕ) → IsReady fixed world (seen (is_up world) (locks_on table task)) table task cache Was ground suites → (given : Option Content) → Led (fetched fixed task now suites number (suite_of suites number) server given).cache
+    fetched_hints : (suites : Suites) (number : ℕ) → IsReady fixed world sight table task cache Was ground suites → (given : Option Content) → Led (fetched fixed task now suites number (suite_of suites number) server given).cache
     fetched_hints suites number ready given = of (suite_of suites number) refl given
       where
         by : (suite : Suite) → suite_of suites number ≡ Some suite → (content : Content) (first : Option ReadPoint) → suite.first ≡ first → Led (keep_content fixed task now suites number suite content first server).cache
         by suite there content None had = as_now (give_up task now suites (Lost server)) (up_cache task now suites (Lost server))
-        by suite there content (Some first) had = execute_hints (record { suites = with_suite number (record suite { content = Some content }) suites; cache = put fixed.limits entry now }) (λ z prefix hinted. at z prefix hinted (number == z) refl)
+        by suite there content (Some first) had =
+            execute_hints (record { suites = with_suite number (record suite { content = Some content }) suites; cache = put fixed.limits entry now }) (λ z prefix hinted. at z prefix hinted (number == z) refl)
           where
             entry : Entry
             entry = record { site = task.site; suite = number; prefix = first.prefix; dver = first.dver; content = content }
 
-            at : (z : ℕ) (prefix : Prefix) → hint (put fixed.limits entry now) task.site z ≡ Some prefix → (b : Bool) → (number == z) ≡ b → (hint cache task.site z ≡ Some prefix) ⊎ LeadsFrom fixed world cache task.site z prefix
+            at : (z : ℕ) (prefix : Prefix) → hint (put fixed.limits entry now) task.site z ≡ Some prefix → (b : Bool) → (number == z) ≡ b → (hint cache task.site z ≡ Some prefix) ⊎ LeadsFrom found_from fixed cache task.site z prefix
             at z prefix hinted true same =
                 let is = eqb-true number z same in
                 let found = (ready.whole number suite there).found in
-                subst (λ z. (hint cache task.site z ≡ Some prefix) ⊎ LeadsFrom fixed world cache task.site z prefix) is
+                subst (λ z. (hint cache task.site z ≡ Some prefix) ⊎ LeadsFrom found_from fixed cache task.site z prefix) is
                 (inr (record { start = found.start; may = found.may; is = hint_put_here fixed.limits entry now prefix (ap (hint (put fixed.limits entry now) task.site) is ∙ hinted) ∙ found.led first had }))
             at z prefix hinted false apart = led z prefix (hint_put task.site z number apart fixed.limits entry refl refl now prefix hinted)
 
@@ -171,13 +177,14 @@ module _ (fixed : Fixed) (world : World) (table : PlainTable) (task : Task) (cac
     prepared_hints suites outcome left true = as_now (prepare task now suites outcome left) (prepare_cache task now suites outcome left)
     prepared_hints suites outcome left false = as_now (give_up task now suites (Lost server)) (up_cache task now suites (Lost server))
 
-    pub reply_hints : (suites : Suites) (phase : Phase) → PhaseStands fixed world (seen (is_up world) (locks_on table task)) table task cache Was ground suites now phase → Led (after_reply fixed task now suites phase server asked said).cache
+    pub reply_hints : (suites : Suites) (phase : Phase) → PhaseStands fixed world sight table task cache Was ground suites now phase → Led (after_reply fixed task now suites phase server asked said).cache
     reply_hints suites (Gathering number) at =
         heard_hints suites (Gathering number) number (suite_of suites number) (λ suites. execute fixed task (record { suites = suites; cache = now })) (λ suites. execute_hints (record { suites = suites; cache = now }) led)
     reply_hints suites (Fetching number) at = fetched_hints suites number at.0 (given_in said)
     reply_hints suites (doing.Widening [] granted) at = absurd at
     reply_hints suites (doing.Widening (number ∷ left) granted) at =
-        heard_hints suites (doing.Widening (number ∷ left) granted) number (suite_of suites number) (λ suites. widen_all task now suites granted left) (λ suites. as_now (widen_all task now suites granted left) (widen_cache task now granted left suites))
+        heard_hints suites (doing.Widening (number ∷ left) granted) number (suite_of suites number) (λ suites. widen_all task now suites granted left)
+        (λ suites. as_now (widen_all task now suites granted left) (widen_cache task now granted left suites))
     reply_hints suites (Preparing [] outcome) at = as_now (give_up task now suites (Lost server)) (up_cache task now suites (Lost server))
     reply_hints suites (Preparing (first ∷ left) outcome) at = prepared_hints suites outcome left (is_prepared said)
     reply_hints suites (Deciding outcome) at =

@@ -9,7 +9,6 @@ pub mod Found
 pub mod Leading
 pub mod Picks
 pub mod Polled
-pub mod Plain
 pub mod Led
 pub mod Rows
 pub mod Free
@@ -28,8 +27,6 @@ pub mod Deciding
 pub mod HadVotes
 pub mod Took
 pub mod Still
-pub mod Moments
-pub mod OwnAsks
 pub mod Asking
 pub mod VotesSet
 pub mod Widened
@@ -40,16 +37,10 @@ pub mod Gathered
 pub mod Executes
 pub mod Knows
 pub mod Heard
+pub mod Early
 pub mod Knew
-pub mod Ends
-pub mod Counts
 pub mod SameDemands
 pub mod Hinted
-pub mod NotHome
-pub mod Freed
-pub mod Leaves
-pub mod Tries
-pub mod Again
 pub mod InTime
 pub mod Promised
 pub mod Open
@@ -74,6 +65,7 @@ pub mod AmongAt
 pub mod AmongKnows
 pub mod AmongCourse
 pub mod AmongAsks
+pub mod AmongBegin
 pub mod AmongStep
 pub mod AmongLacks
 pub mod AmongEnds
@@ -85,6 +77,7 @@ pub mod UnmetLaws
 pub mod AmongDecided
 pub mod Names
 pub mod AmongTime
+pub mod AloneLaws
 pub mod ToldLaws
 pub mod Histories
 pub mod Owned
@@ -98,6 +91,9 @@ pub mod BesideLaws
 pub mod BesideWorked
 pub mod MeetCount
 pub mod MeetCalm
+pub mod AloneKept
+pub mod Tries
+pub mod Again
 pub mod MeetQuiet
 pub mod MeetCourse
 pub mod MeetRun

@@ -86,7 +86,7 @@ job_same given w k job pair = of (begins_now (fixed_of given) k job (actor_at w 
 -- ---- a server
 
 -- a request that tells no answer leaves what is stored
-abbrev Spares : Request → Type 0
+abbrev pub Spares : Request → Type 0
 Spares asked = (t : ℕ) (v : Verdict) → asked ≡ request.Finish t v → is_answered v ≡ false
 
 stored_ways : (st : State) (z : ℕ) → Ways st (λ asked new. Spares asked → copy_of new.store z ≡ copy_of st.store z)
@@ -103,7 +103,7 @@ stored_ways st z = record {
   return = λ spares. refl;
 }
 
-stored_stays : (st : State) (asked : Stamped Request) (z : ℕ) → Spares asked.value → copy_of (serving.step st asked).store z ≡ copy_of st.store z
+pub stored_stays : (st : State) (asked : Stamped Request) (z : ℕ) → Spares asked.value → copy_of (serving.step st asked).store z ≡ copy_of st.store z
 stored_stays st asked z spares = by_step st _ (stored_ways st z) (λ asked new stamp stays. stays) asked spares
 
 -- ---- the run
@@ -211,11 +211,13 @@ module _ (given : Opening) (events later : List Event) (fair : Fair given events
             record { one = onward given events so_far (event ∷ []) was.one; who = was.who; runs_it = was.runs_it }
 
     -- who begins a transaction runs it
-    begins_it : (k : ℕ) (caller : Identity) (site : ℕ) (ops : List Op) → event ≡ Begin k (Transaction caller site ops) → (t : ℕ) → begins_job given (run given (events ++ so_far)) (Begin k (Transaction caller site ops)) ≡ Some (t, Transaction caller site ops)
+    begins_it : (k : ℕ) (caller : Identity) (site : ℕ) (ops : List Op) → event ≡ Begin k (Transaction caller site ops) → (t : ℕ)
+        → begins_job given (run given (events ++ so_far)) (Begin k (Transaction caller site ops)) ≡ Some (t, Transaction caller site ops)
         → (i : ℕ) (here : Actor) → actor_at (step (fixed_of given) (run given (events ++ so_far)) event).world i ≡ Some here → i ≡ k → Busy (so_far ++ event ∷ []) i here.agent.doing
     begins_it k caller site ops is t begins i here there same =
         let actor = begins_there given w k t (Transaction caller site ops) begins in
-        let can = subst (λ all. CanBe given all) (sym (append_assoc events so_far (event ∷ [])) ∙ ap (λ event. (events ++ so_far) ++ event ∷ []) is) (can_at (so_far ++ event ∷ []) rest (split ∙ sym (append_assoc so_far (event ∷ []) rest))) in
+        let can = subst (λ all. CanBe given all) (sym (append_assoc events so_far (event ∷ [])) ∙ ap (λ event. (events ++ so_far) ++ event ∷ []) is)
+        (can_at (so_far ++ event ∷ []) rest (split ∙ sym (append_assoc so_far (event ∷ []) rest))) in
         let runs_now = begun_runs given (events ++ so_far) [] k t caller site ops actor.0 can actor.1 begins in
         record {
           one = record { before = so_far; after = []; agent = k; t = t; caller = caller; site = site; ops = ops; parts = ap (λ event. so_far ++ event ∷ []) is; begins = begins };
@@ -257,7 +259,8 @@ module _ (given : Opening) (events later : List Event) (fair : Fair given events
 
   -- ---- who asks
 
-  module _ (so_far rest : List Event) (split : later ≡ so_far ++ rest) (i : ℕ) (here : Actor) (there : actor_at (run given (events ++ so_far)) i ≡ Some here) (asked : ℕ × Request) (next : next_of (fixed_of given) here.agent ≡ Some asked) where
+  module _ (so_far rest : List Event) (split : later ≡ so_far ++ rest) (i : ℕ) (here : Actor) (there : actor_at (run given (events ++ so_far)) i ≡ Some here) (asked : ℕ × Request)
+      (next : next_of (fixed_of given) here.agent ≡ Some asked) where
     pub busy_one : Busy so_far i here.agent.doing
     busy_one = busy_at so_far rest split i here there (asks_busy given here.agent asked next)
 
@@ -296,7 +299,8 @@ module _ (given : Opening) (events later : List Event) (calm : Calm given events
 
   -- ---- what is finished was not answered
 
-  module _ (so_far rest : List Event) (split : later ≡ so_far ++ rest) (i : ℕ) (here : Actor) (there : actor_at (run given (events ++ so_far)) i ≡ Some here) (asked : ℕ × Request) (next : next_of (fixed_of given) here.agent ≡ Some asked) where
+  module _ (so_far rest : List Event) (split : later ≡ so_far ++ rest) (i : ℕ) (here : Actor) (there : actor_at (run given (events ++ so_far)) i ≡ Some here) (asked : ℕ × Request)
+      (next : next_of (fixed_of given) here.agent ≡ Some asked) where
     abbrev busy : Busy given events later calm.fair so_far i here.agent.doing
     busy = busy_one given events later calm.fair so_far rest split i here there asked next
 

@@ -79,7 +79,7 @@ use Rattle.law_run_recovers.specs.Unmet.{runs, world_after}
 use Rattle.law_run_recovers.proofs.Apart.{Apart, hint_forgotten}
 use Rattle.law_run_recovers.proofs.AtWork.{stands_next, locks_stand}
 use Rattle.law_run_recovers.proofs.BesideNext.{mine_taken}
-use Rattle.law_run_recovers.proofs.Ends.{early_asks, fetch_is}
+use Rattle.law_run_recovers.proofs.Early.{early_asks, fetch_is}
 use Rattle.law_run_recovers.proofs.Executes.{begin_stands}
 use Rattle.law_run_recovers.proofs.Found.{Answering, all_answer}
 use Rattle.law_run_recovers.proofs.Heard.{LockRight, RightFor, reply_stands}
@@ -180,13 +180,15 @@ module _ (given : Opening) (base events later : List Event) (agent t : ℕ) (cal
     pub course_works : (so_far : List Event) (c : Course so_far) → IsAtWork (world_after given events agent caller site ops so_far) agent t
     course_works so_far c = at_work (world_at so_far) agent t c.here c.there (subst IsOpen (sym c.running) c.is_open) (runs_it so_far c)
 
-    closed_rests : (so_far : List Event) (here : Actor) → actor_at (world_after given events agent caller site ops so_far) agent ≡ Some here → (IsOpen here.agent.doing → ⊥) → IsAtWork (world_after given events agent caller site ops so_far) agent t → ⊥
+    closed_rests : (so_far : List Event) (here : Actor) → actor_at (world_after given events agent caller site ops so_far) agent ≡ Some here → (IsOpen here.agent.doing → ⊥)
+        → IsAtWork (world_after given events agent caller site ops so_far) agent t → ⊥
     closed_rests so_far here there closed work =
         let now = works (world_at so_far) agent t work in
         closed (subst (λ (a : Actor). IsOpen a.agent.doing) (same_Some now.actor here (sym now.there ∙ there)) now.is_open)
 
     -- what a step leaves, of which nothing is decided
-    by_after : (so_far : List Event) (here : Actor) (now : Cache) (after : After TransactionRun) → actor_at (world_after given events agent caller site ops so_far) agent ≡ Some here → here.agent.doing ≡ left Running after → here.agent.cache ≡ now
+    by_after : (so_far : List Event) (here : Actor) (now : Cache) (after : After TransactionRun) → actor_at (world_after given events agent caller site ops so_far) agent ≡ Some here → here.agent.doing ≡ left Running after
+        → here.agent.cache ≡ now
         → AfterStands (fixed_of given) (run given base) sight (table_of given base) its actor.agent.cache Known ground now after → words.Leaves its verdict.Aborted after → State' so_far
     by_after so_far here now (Ends ended) there does cache stands leaves =
         inr (closed_rests so_far here there (λ open'. subst IsOpen does open'), record { cause = leaves.0; right = subst Right leaves.1 stands })
@@ -398,7 +400,8 @@ module _ (given : Opening) (base events later : List Event) (agent t : ℕ) (cal
               let same : h.here ≡ c.here = same_Some h.here c.here (sym h.there ∙ c.there) in
               let told : List agents.Event = h.told ++ agents.Take (Replied said) ∷ [] in
               let is_then : took.new.agent ≡ agents.after_all (fixed_of given) (begin (fixed_of given) actor.agent (Transaction caller site ops)) told =
-              took.took ∙ ap (λ a. (take (fixed_of given) a (Replied said)).agent) (ap (λ (a : Actor). a.agent) (sym same) ∙ h.is) ∙ sym (after-append (fixed_of given) (begin (fixed_of given) actor.agent (Transaction caller site ops)) h.told (agents.Take (Replied said))) in
+              took.took ∙ ap (λ a. (take (fixed_of given) a (Replied said)).agent) (ap (λ (a : Actor). a.agent) (sym same) ∙ h.is)
+              ∙ sym (after-append (fixed_of given) (begin (fixed_of given) actor.agent (Transaction caller site ops)) h.told (agents.Take (Replied said))) in
               (subst (Keeps (plus_all nothing_held (exchanges (fixed_of given) (begin (fixed_of given) actor.agent (Transaction caller site ops)) told))) (ap (λ (a : Agent). a.doing) (sym is_then) ∙ running_on)
               (keeping.all_keep nothing_held (fixed_of given) (begin (fixed_of given) actor.agent (Transaction caller site ops)) told
               (begin_keeps (fixed_of given) actor.agent (Transaction caller site ops) (idle_before given base events later agent t caller site ops actor goes)))).0

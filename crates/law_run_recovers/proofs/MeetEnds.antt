@@ -26,7 +26,7 @@ use Rattle.law_run_recovers.specs.Beside.{Begun}
 use Rattle.law_run_recovers.specs.Local.{EndsThen}
 use Rattle.law_run_recovers.specs.Unmet.{runs, is_running, is_telling, begun_world, world_after}
 use Rattle.law_run_recovers.proofs.AmongCourse.{head_or, tail_or, parted}
-use Rattle.law_run_recovers.proofs.Counts.{has_after}
+use Rattle.law_run_recovers.proofs.AmongOver.{has_after}
 use Rattle.law_run_recovers.proofs.Keeps.{IsAtWork}
 use Rattle.law_run_recovers.proofs.Sides.{ended_runs_not}
 use Rattle.law_run_recovers.proofs.MeetBoth.{same_place}

@@ -48,7 +48,7 @@ use Rattle.law_run_recovers.specs.OpenDemands.{Want}
 use Rattle.law_run_recovers.specs.Unmet.{world_after}
 use Rattle.law_run_recovers.proofs.Asked.{onto_left, onto_so_far, asked_exclusive, next_mode}
 use Rattle.law_run_recovers.proofs.Asking.{onto}
-use Rattle.law_run_recovers.proofs.Ends.{fetch_is}
+use Rattle.law_run_recovers.proofs.Early.{fetch_is}
 use Rattle.law_run_recovers.proofs.Heard.{asks_for as asked_by}
 use Rattle.law_run_recovers.proofs.Keeps.{IsAtWork}
 use Rattle.law_run_recovers.proofs.Leading.{led}
@@ -110,7 +110,8 @@ module _ (votes : Configuration) (asked : List (ℕ × LockMode)) (held : ℕ �
       (find_onto p r.before (one ∷ r.after) first (ap (find p) (sym r.parts) ∙ is))
 
   -- and so by whoever granted more
-  pub reached_wider : (wider : ℕ → LockMode → ℕ → Bool) → ((z : ℕ) (mode : LockMode) (server : ℕ) → held z mode server ≡ true → wider z mode server ≡ true) → (one : ℕ × LockMode) → Reached votes asked held one → Reached votes asked wider one
+  pub reached_wider : (wider : ℕ → LockMode → ℕ → Bool) → ((z : ℕ) (mode : LockMode) (server : ℕ) → held z mode server ≡ true → wider z mode server ≡ true) → (one : ℕ × LockMode) → Reached votes asked held one
+      → Reached votes asked wider one
   reached_wider wider more one r = record {
     before = r.before;
     after = r.after;
@@ -129,7 +130,8 @@ too_few : (a b : ℕ) → not (nat_le a b) ≡ true → b < a
 too_few a b is = grind (arith, nat_tests)
 
 module _ (given : Opening) (base events later : List Event) (agent t : ℕ) (caller : Identity) (site : ℕ) (ops : List Op) (actor : Actor) (goes : GoesQuietly given base events later agent t caller site ops actor)
-    (never : (so_far rest : List Event) → later ≡ so_far ++ Step agent ∷ rest → IsAtWork (world_after given events agent caller site ops so_far) agent t → (here : Actor) → actor_at (world_after given events agent caller site ops so_far) agent ≡ Some here
+    (never : (so_far rest : List Event) → later ≡ so_far ++ Step agent ∷ rest → IsAtWork (world_after given events agent caller site ops so_far) agent t → (here : Actor) → actor_at
+    (world_after given events agent caller site ops so_far) agent ≡ Some here
     → (asked : ℕ × Request) → next_of (fixed_of given) here.agent ≡ Some asked → is_decide asked.1 ≡ false)
     (unmoved : VotesNeverMovedOf given base (asks_for given base t caller ops)) where
   abbrev asked : List (ℕ × LockMode)
@@ -204,7 +206,8 @@ module _ (given : Opening) (base events later : List Event) (agent t : ℕ) (cal
             (λ set.
             let one = has_map of_votes (sets_on (table_of given base) (its given base events later agent t caller site ops actor goes)) want set in
             let there = subst (λ all. Has all one.0) sets_are one.1 in
-            short_of (one.0.0, Exclusive) one.0.1 (contains_from asked (one.0.0, Exclusive) (sets_asked (table_of given base) t caller ops one.0 there)) (moves_none one.0 (contains_from (votes_set (table_of given base) t caller ops) one.0 there))
+            short_of (one.0.0, Exclusive) one.0.1 (contains_from asked (one.0.0, Exclusive) (sets_asked (table_of given base) t caller ops one.0 there))
+            (moves_none one.0 (contains_from (votes_set (table_of given base) t caller ops) one.0 there))
             (ap (unmet S) one.2 ∙ some.1))
             (has_append (map (of_lock (fixed_of given) (run given base) S short.right.start) (locks_on (table_of given base) (its given base events later agent t caller site ops actor goes))) _ want some.0)
 
@@ -226,9 +229,11 @@ module _ (given : Opening) (base events later : List Event) (agent t : ℕ) (cal
       → IsHad (fixed_of given) (run given base) H (table_of given base) (its given base events later agent t caller site ops actor goes) actor.agent.cache suites one
       → needed_of one.1 given.c0 ≤ votes_in given.c0.reps (held given base events later agent t caller site ops actor goes one.0 one.1)
   had_held suites one has right had =
-      let first = found_first (opens_held given base events later agent t caller site ops actor goes) (held_weaker given base events later agent t caller site ops actor goes) (held_up given base events later agent t caller site ops actor goes)
+      let first = found_first (opens_held given base events later agent t caller site ops actor goes) (held_weaker given base events later agent t caller site ops actor goes)
+      (held_up given base events later agent t caller site ops actor goes)
       (held_fits given base events later agent t caller site ops actor goes) one has had.suite.collector.start (right had.suite had.there).may in
-      enough (needed_of one.1 given.c0) (votes_in given.c0.reps (opens_held given base events later agent t caller site ops actor goes one.0 one.1)) (votes_in given.c0.reps (held given base events later agent t caller site ops actor goes one.0 one.1))
+      enough (needed_of one.1 given.c0) (votes_in given.c0.reps (opens_held given base events later agent t caller site ops actor goes one.0 one.1))
+      (votes_in given.c0.reps (held given base events later agent t caller site ops actor goes one.0 one.1))
       (subst (λ (votes : Configuration). is_met (demand_by (opens_held given base events later agent t caller site ops actor goes one.0 one.1) one.0 one.1 votes) ≡ true) first had.met)
       (votes_in-wider given.c0.reps (opens_held given base events later agent t caller site ops actor goes one.0 one.1) (held given base events later agent t caller site ops actor goes one.0 one.1)
       (λ server is. (and_parts (is_up (run given base) server) (held given base events later agent t caller site ops actor goes one.0 one.1 server) is).1))
@@ -256,8 +261,10 @@ module _ (given : Opening) (base events later : List Event) (agent t : ℕ) (cal
     not_lock asked' is none = absurd (false≢true (sym none ∙ ap (for_lock t z) (sym is) ∙ lock))
 
     -- what was asked for is what came before, with this
-    reaches_by : (y : ℕ) (mode : LockMode) (before after : List (ℕ × LockMode)) → y ≡ z → mode_of what.request.value ≡ mode → locks_on (table_of given base) (its given base events later agent t caller site ops actor goes) ≡ onto before ((y, mode) ∷ after)
-        → ((other : ℕ × LockMode) → Has before other → Contains (asks_for given base t caller ops) other → needed_of other.1 given.c0 ≤ votes_in given.c0.reps (held given base events later agent t caller site ops actor goes other.0 other.1))
+    reaches_by : (y : ℕ) (mode : LockMode) (before after : List (ℕ × LockMode)) → y ≡ z → mode_of what.request.value ≡ mode
+        → locks_on (table_of given base) (its given base events later agent t caller site ops actor goes) ≡ onto before ((y, mode) ∷ after)
+        → ((other : ℕ × LockMode) → Has before other → Contains (asks_for given base t caller ops) other
+        → needed_of other.1 given.c0 ≤ votes_in given.c0.reps (held given base events later agent t caller site ops actor goes other.0 other.1))
         → Reaches (z, mode_of what.request.value)
     reaches_by y mode before after at is order had =
         let all : asks_for given base t caller ops ≡ onto before ((y, mode) ∷ after) =
@@ -270,7 +277,8 @@ module _ (given : Opening) (base events later : List Event) (agent t : ℕ) (cal
           had = λ other has. had other has (contains_from asked other (subst (λ list. Has list other) (sym all) (onto_so_far before ((y, mode) ∷ after) other has)));
         }
 
-    of_phase : (now : Cache) (suites : Suites) (phase : Phase) → HeldPhase suites now phase → request_in (fixed_of given) (its given base events later agent t caller site ops actor goes) suites phase ≡ Some (what.server, what.request.value) → Reaches (z, mode_of what.request.value)
+    of_phase : (now : Cache) (suites : Suites) (phase : Phase) → HeldPhase suites now phase
+        → request_in (fixed_of given) (its given base events later agent t caller site ops actor goes) suites phase ≡ Some (what.server, what.request.value) → Reaches (z, mode_of what.request.value)
     of_phase now suites (Gathering y) at is =
         let task = its given base events later agent t caller site ops actor goes in
         let g = at.0 in

@@ -35,7 +35,7 @@ use Rattle.run_core.specs.TableOfRun.{table_of}
 use Rattle.law_run_recovers.specs.Demands.{has_asked, locks_asked}
 use Rattle.law_run_recovers.proofs.Asked.{onto_left, onto_so_far}
 use Rattle.law_run_recovers.proofs.Asking.{onto, held_in, held_if}
-use Rattle.law_run_recovers.proofs.Ends.{fetch_is}
+use Rattle.law_run_recovers.proofs.Early.{fetch_is}
 use Rattle.law_run_recovers.proofs.Heard.{asks_for}
 use Rattle.law_run_recovers.proofs.Polled.{Sight}
 use Rattle.law_run_recovers.proofs.Stands.{Ground, locks_on, PhaseStands}
@@ -125,7 +125,8 @@ module _ (given : Opening) (events : List Event) (before : Agent) (t : ℕ) (cal
       let same : bound (length suites) (length servers) ≡ bound (length (locks_asked (table_of given events) t caller ops)) given.servers =
       ap (λ k. bound k (length servers)) (mapped (locks_on (table_of given events) its) ∙ ap (λ n. length (locks_asked (table_of given events) n caller ops)) number)
       ∙ ap (bound (length (locks_asked (table_of given events) t caller ops))) (counted given.servers 0) in
-      within (length (exchanges (fixed_of given) (begin (fixed_of given) before (Transaction caller site ops)) told)) so_far (bound (length suites) (length servers)) (bound (length (locks_asked (table_of given events) t caller ops)) given.servers) c.many most same
+      within (length (exchanges (fixed_of given) (begin (fixed_of given) before (Transaction caller site ops)) told)) so_far (bound (length suites) (length servers))
+      (bound (length (locks_asked (table_of given events) t caller ops)) given.servers) c.many most same
     where
       mapped : (xs : List (ℕ × LockMode)) → length (map (λ (one : ℕ × LockMode). one.0) xs) ≡ length xs
       mapped [] = refl

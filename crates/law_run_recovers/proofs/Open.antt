@@ -1,6 +1,6 @@
 -- Who goes alone is left alone where it asks; and who meets no lock is among locks that stay.
 use Rattle.std.proofs.Common.{◌≡◌, ⊎_elim, ℕ, ◌+◌, Bool, true, false, cond, List, [], ◌∷◌, ◌++◌, Option, Some, None, is_some, refl, sym, ap, subst, ◌∙◌, arith}
-use Rattle.std.specs.Prelude.{◌*◌, ◌==◌, ◌&&◌, ◌||◌, not, nat_lt, option_map, slice_get, slice_set, Contains}
+use Rattle.std.specs.Prelude.{◌*◌, ◌==◌, ◌&&◌, ◌||◌, not, nat_lt, option_map, length, slice_get, slice_set, Contains}
 use Rattle.std.proofs.lemmas.Bool.{false≢true, and_parts, eqb-true, eq-eqb, false_from_ne_true}
 use Rattle.std.proofs.lemmas.Bool.Decides.{nat_tests}
 use Rattle.std.proofs.lemmas.Option.{none-some, same_Some}
@@ -14,6 +14,7 @@ use Rattle.rep_core.specs.declared.reply.Verdict.TheVariants as verdict
 use Rattle.rep_core.specs.Locks.{in_the_way}
 use Rattle.rep_core.specs.State.{State}
 use Rattle.rep_core.specs.Serving.{served}
+use Rattle.rep_core.proofs.Members.{all_at}
 use Rattle.txn_core.specs.declared.job.Job.{Job}
 use Rattle.txn_core.specs.declared.job.Job.TheVariants.{Transaction}
 use Rattle.txn_core.specs.Doing.{Fixed, Task, Doing, Running, RunningSweep, TransactionRun, After, GoesOn, Ends}
@@ -32,7 +33,11 @@ use Rattle.law_headline.specs.Premises.{CanBe}
 use Rattle.law_run_alone.specs.Alone.{begins_job}
 use Rattle.law_run_alone.proofs.Own.{IsOwnAt, nothing_in_the_way}
 use Rattle.law_run_alone.proofs.Turns.{with_job}
+use Rattle.law_run_alone.proofs.Clear.{at_has, none_own}
 use Rattle.law_run_alone.proofs.Goes as alone
+use Rattle.law_run_alone.proofs.Named.{no_lock}
+use Rattle.law_run_alone.proofs.Owns.{IsCalm}
+use Rattle.law_run_alone.proofs.Went.{busy}
 use Rattle.law_run_alone.proofs.Reached.{can_front}
 use Rattle.law_run_alone.proofs.Starts.{starts}
 use Rattle.law_run_alone.proofs.Votes.{cache_valid}
@@ -43,7 +48,27 @@ use Rattle.law_run_recovers.specs.Near.{asks_for, way_in, is_way_met, in_its_way
 use Rattle.law_run_recovers.specs.Unmet.{runs, running_in, is_running, is_telling, begun_world, world_after, takes, of_up, robs, hinders_itself, StandsOpen, GoesUnmet}
 use Rattle.law_run_recovers.specs.Among.{StandsStill, GoesAmongLocks}
 use Rattle.law_run_recovers.proofs.Serves.{Serves, event_serves}
-use Rattle.law_run_recovers.proofs.Moments.{is_calm, moment_first}
+
+-- ---- what does not hinder is calm
+
+not_some : {X : Type 0} (b : Bool) (found : Option X) → (b && is_some found) ≡ false → b ≡ true → found ≡ None
+not_some b None calm is = refl
+not_some true (Some x) calm is = absurd (false≢true (sym calm))
+not_some false (Some x) calm is = absurd (false≢true is)
+
+its_turn : (idle b served : Bool) → idle ≡ false → (not idle && not (b && served)) ≡ false → b ≡ true
+its_turn false true served is calm = refl
+its_turn false false served is calm = absurd (false≢true (sym calm))
+its_turn true b served is calm = absurd (false≢true (sym is))
+
+pub is_calm : (given : Opening) (up : ℕ → Bool) (agent : ℕ) (w : World) (event : Event) → hinders given agent w event ≡ false → IsCalm given up agent w event
+is_calm given up agent w (Begin other job) calm = λ at. not_some (other == agent) (begins_job given w (Begin other job)) calm (eq-eqb other agent at)
+is_calm given up agent w (Step other) calm = λ actor asked is next.
+    eqb-true other agent (its_turn (has_no_job (actor_at w other)) (other == agent) (is_some (step (fixed_of given) w (Step other)).done.served) (ap has_no_job is ∙ busy (fixed_of given) actor.agent.doing asked next) calm)
+is_calm given up agent w (Crash server) calm = absurd (false≢true (sym calm))
+is_calm given up agent w (Return server) calm = absurd (false≢true (sym calm))
+is_calm given up agent w (Forget other site) calm = tt
+is_calm given up agent w (Lack other why) calm = tt
 
 -- ---- a server
 
@@ -57,6 +82,10 @@ own_way false t suite mode st own = ap (λ b. is_way_met (cond b (Some (option_m
 own_up : (b : Bool) (t : ℕ) (st : State) → IsOwnAt b t st → st.up ≡ b
 own_up true t st own = own.0
 own_up false t st own = own.0
+
+none_where : (b : Bool) (n : ℕ) → (not b || (n == 0)) ≡ true → b ≡ true → (n == 0) ≡ true
+none_where true n is up = is
+none_where false n is up = absurd (false≢true up)
 
 -- where nothing is in the way, that it is up says all
 pub plain_way : (t suite : ℕ) (mode : LockMode) (found : Option State) → is_way_met (way_in t suite mode found) ≡ false → way_in t suite mode found ≡ cond (up_in found) (Some None) None
@@ -136,7 +165,7 @@ none_comes fixed w event i none = ⊎_elim (λ same. ap (λ servers. slice_get s
 
 -- ---- GoesAlone gives GoesUnmet
 
-not_true : (b : Bool) → not b ≡ true → b ≡ false
+pub not_true : (b : Bool) → not b ≡ true → b ≡ false
 not_true true is = sym is
 not_true false is = refl
 
@@ -147,20 +176,33 @@ module _ (given : Opening) (events later : List Event) (agent t : ℕ) (caller :
   abbrev first : World
   first = run given events
 
+  free_at : (i : ℕ) (st : State) → server_at first i ≡ Some st → IsOwnAt (is_up first i) t st
+  free_at i st at = subst (λ b. IsOwnAt b t st) (sym (ap up_in at)) (of (st.up) refl)
+    where
+      of : (b : Bool) → st.up ≡ b → IsOwnAt b t st
+      of true is = (is, none_own t st.locks (none_where st.up (length st.locks) (all_at (λ (st : State). not st.up || (length st.locks == 0)) first.servers st goes.free (at_has first.servers i st at)) is))
+      of false is = (is, λ lock has. no_lock given goes.can.accepted events agent t (Transaction caller site ops) goes.begins i st at lock has)
+
+  -- nothing is in its way as it begins
+  pub clear_first : (z : ℕ) (mode : LockMode) (server : ℕ) → in_its_way (run given events) t z mode server ≡ false
+  clear_first z mode server = of (server_at first server) refl
+    where
+      of : (found : Option State) → server_at (run given events) server ≡ found → in_its_way (run given events) t z mode server ≡ false
+      of None at = ap (λ found. is_way_met (way_in t z mode found)) at
+      of (Some st) at = ap (λ found. is_way_met (way_in t z mode found)) at ∙ own_way (is_up first server) t z mode st (free_at server st at)
+
   -- as it stands in the books, where these events are to come
-  record Here (w : World) (rest : List Event) : Type 0 where
-    g : alone.Goes given (is_up first) t agent w rest
-    missing : (i : ℕ) → server_at w i ≡ None → server_at first i ≡ None
-    calm : unhindered_from given agent w rest ≡ true
+  pub record Here (w : World) (rest : List Event) : Type 0 where
+    pub g : alone.Goes given (is_up first) t agent w rest
+    pub missing : (i : ℕ) → server_at w i ≡ None → server_at first i ≡ None
+    pub calm : unhindered_from given agent w rest ≡ true
 
   here_first : Here (begun_world given events agent caller site ops) later
-  here_first =
-      let m = moment_first given events later agent t caller site ops actor goes in
-      record {
-        g = record { owns = m.owns; unswept = m.unswept; machines = m.machines; carried = m.carried; stand = m.stand; all = m.all; run_is = m.run_is; machines_are = m.machines_are; can = m.can };
-        missing = none_comes fixed first (Begin agent (Transaction caller site ops));
-        calm = goes.alone;
-      }
+  here_first = record {
+    g = alone.goes_first given (is_up first) t agent events later caller site ops goes.can goes.begins free_at;
+    missing = none_comes fixed first (Begin agent (Transaction caller site ops));
+    calm = goes.alone;
+  }
 
   walk : (so_far rest : List Event) (w : World) → Here w (so_far ++ rest) → Here (after fixed w so_far) rest
   walk [] rest w here = here
@@ -172,10 +214,10 @@ module _ (given : Opening) (events later : List Event) (agent t : ℕ) (caller :
         calm = parts.1;
       })
 
-  here_at : (so_far rest : List Event) → later ≡ so_far ++ rest → Here (world_after given events agent caller site ops so_far) rest
+  pub here_at : (so_far rest : List Event) → later ≡ so_far ++ rest → Here (world_after given events agent caller site ops so_far) rest
   here_at so_far rest is = walk so_far rest (begun_world given events agent caller site ops) (subst (Here (begun_world given events agent caller site ops)) is here_first)
 
-  stands_open : (w : World) (rest : List Event) (asked : List (ℕ × LockMode)) (near : ℕ → Bool) → Here w rest → StandsOpen first w t asked near
+  pub stands_open : (w : World) (rest : List Event) (asked : List (ℕ × LockMode)) (near : ℕ → Bool) → Here w rest → StandsOpen first w t asked near
   stands_open w rest asked near here = record { up = λ server is. same_up server (server_at w server) refl; way = λ server one is has. no_way server one (server_at w server) refl }
     where
       same_up : (server : ℕ) (found : Option State) → server_at w server ≡ found → is_up w server ≡ is_up first server
@@ -201,9 +243,14 @@ module _ (given : Opening) (events later : List Event) (agent t : ℕ) (caller :
         free_hand given agent t w event (not_true (hinders given agent w event) parts.0) running;
   }
 
+  pub near_alone : (server : ℕ) → alone_is_unmet.near server ≡ true
+  unfolding alone_is_unmet
+  near_alone server = refl
+
 -- ---- at its begin it runs
 
-begun_so : (given : Opening) (actor : Actor) (agent t : ℕ) (job : Job) → with_job job (begins_now (fixed_of given) agent job (Some actor)) ≡ Some (t, job) → (64 * actor.agent.count + agent ≡ t) × (begins (fixed_of given) actor.agent job ≡ true)
+begun_so : (given : Opening) (actor : Actor) (agent t : ℕ) (job : Job) → with_job job (begins_now (fixed_of given) agent job (Some actor)) ≡ Some (t, job)
+    → (64 * actor.agent.count + agent ≡ t) × (begins (fixed_of given) actor.agent job ≡ true)
 begun_so given actor agent t job =
     elim (is_idle actor.agent.doing && has_sense (fixed_of given) job && nat_lt actor.agent.count max_jobs) as
     (λ b. with_job job (cond b (Some (64 * actor.agent.count + agent)) None) ≡ Some (t, job) → (64 * actor.agent.count + agent ≡ t) × (b ≡ true)) [

@@ -45,10 +45,6 @@ pub record Sight : Type 0 where
 abbrev pub finds_at : Sight → ℕ → ℕ → Bool
 finds_at sight suite server = sight.opens suite (sight.first suite) server
 
--- some servers answer, whatever the mode, and nothing is in the way there
-abbrev pub plain : (ℕ → Bool) → (ℕ → LockMode) → Sight
-plain answers first = record { opens = λ suite mode server. answers server; first = first; met = λ suite server holder. false; weaker = λ suite server is. is }
-
 pub opens_wider : (sight : Sight) (suite : ℕ) (mode other : LockMode) (server : ℕ) → serves mode other ≡ true → sight.opens suite mode server ≡ true → sight.opens suite other server ≡ true
 opens_wider sight suite Shared Shared server wide is = is
 opens_wider sight suite Exclusive Exclusive server wide is = is
@@ -334,7 +330,9 @@ module _ (fixed : Fixed) (world : World) (sight : Sight) (suite : ℕ) where
       → find (λ (rep : Representative). nat_lt 0 rep.1 && not (holds mode told rep.0) && not (has_refused told rep.0)) reps ≡ None → Refusing mode reps (first_busy told)
   refusing mode wanted told right reps none = record {
     met = busy_met wanted told right;
-    free = λ free rep has some. of rep free (find_fails (λ (rep : Representative). nat_lt 0 rep.1 && not (holds mode told rep.0) && not (has_refused told rep.0)) reps none rep has) some (holds mode told rep.0) (has_refused told rep.0) refl refl;
+    free =
+        λ free rep has some. of rep free (find_fails (λ (rep : Representative). nat_lt 0 rep.1 && not (holds mode told rep.0) && not (has_refused told rep.0)) reps none rep has) some (holds mode told rep.0)
+        (has_refused told rep.0) refl refl;
   }
     where
       of : (rep : Representative) → first_busy told ≡ None → (nat_lt 0 rep.1 && not (holds mode told rep.0) && not (has_refused told rep.0)) ≡ false → nat_lt 0 rep.1 ≡ true

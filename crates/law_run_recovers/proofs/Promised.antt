@@ -14,12 +14,11 @@ use Rattle.law_run_alone.proofs.Endings.{endings_are_the_tables}
 use Rattle.law_run_alone.proofs.Same.{endings_are_one}
 use Rattle.law_run_recovers.specs.Promises.{IsAvailable, Lends}
 use Rattle.law_run_recovers.proofs.Again.{one_of_them_is_decided}
+use Rattle.law_run_recovers.proofs.AloneLaws.{ends_are_by_votes, they_end_in_time, decided_where_votes_are}
 use Rattle.law_run_recovers.proofs.AmongLaws.{among_locks_end_by_votes, among_locks_are_decided_where_votes_are}
-use Rattle.law_run_recovers.proofs.Counts.{they_end_in_time}
 use Rattle.law_run_recovers.proofs.BesideLaws.{side_by_side_are_decided, side_by_side_end_in_time, side_by_side_are_told_freely}
 use Rattle.law_run_recovers.proofs.Blocking.{blocked_by_doubts, some_server_blocks, one_crash_blocks}
 use Rattle.law_run_recovers.proofs.Calm.{sweeps_keep_effects}
-use Rattle.law_run_recovers.proofs.Ends.{ends_are_by_votes}
 use Rattle.law_run_recovers.proofs.Free.{no_lock_is_left}
 use Rattle.law_run_recovers.proofs.HadVotes.{decided_had_votes_up}
 use Rattle.law_run_recovers.proofs.Histories.{finished_before_at_server, changes_are_met_at_server}
@@ -36,14 +35,13 @@ use Rattle.law_run_recovers.proofs.UnmetLaws.{unmet_end_by_votes, unmet_are_deci
 use Rattle.law_run_recovers.proofs.AmongLeft.{among_locks_leave_no_lock}
 use Rattle.law_run_recovers.proofs.AmongTime.{among_locks_end_in_time, unmet_end_in_time}
 use Rattle.law_run_recovers.proofs.ToldLaws.{told_end_by_votes, told_end_in_time, told_had_votes_open, told_are_decided_where_votes_are, told_are_answered_as_begun, told_gather_their_asks}
-use Rattle.law_run_recovers.proofs.Unmoved.{decided_where_votes_are}
 
 pub available : RunsKeepToSites → (given : Opening) (events : List Event) → CanBe given events → IsAvailable given events
 available sites given events can = record {
   had_votes = decided_had_votes_up given events;
   ends = ends_are_by_votes given events;
   in_time = they_end_in_time given events;
-  where_votes = decided_where_votes_are ends_are_by_votes given events;
+  where_votes = decided_where_votes_are given events;
   rows = met_demands_are_rows given events can;
   unmet_ends = unmet_end_by_votes given events;
   unmet_in_time = unmet_end_in_time given events;

@@ -15,7 +15,7 @@ use Rattle.weak_cache.specs.Cache.{hint}
 use Rattle.txn_core.specs.Doing.{Fixed}
 use Rattle.run_core.specs.Worlds.{World}
 use Rattle.law_run_recovers.specs.Standing.{is_up, shown_at}
-use Rattle.law_run_recovers.specs.Demands.{Demand, demand, demands, all_met, shows_newer_by, newer_from, led_on, led_so_far_by, led_to, locks_asked, votes_set, MayStart, VotesAreUp}
+use Rattle.law_run_recovers.specs.Demands.{Demand, demand, demands, all_met, shows_newer_by, newer_by, newer_from, led_on, led_so_far_by, led_to, locks_asked, votes_set, MayStart, VotesAreUp}
 use Rattle.law_run_recovers.proofs.Leading.{stays}
 use Rattle.law_run_recovers.proofs.Picks.{votes_alike}
 use Rattle.law_run_recovers.proofs.Unmoved.{map_alike}
@@ -25,48 +25,60 @@ find_alike f g same [] = refl
 find_alike f g same (x ∷ xs) = ap (λ b. cond b (Some x) (find f xs)) (same x) ∙ ap (λ rest. cond (g x) (Some x) rest) (find_alike f g same xs)
 
 -- what a site's cache hints later: what it did before, or where such a hint or what was never made leads to
-pub record LeadsFrom (fixed : Fixed) (world : World) (cache : Cache) (site z : ℕ) (prefix : Prefix) : Type 0 where
+pub record LeadsFrom (led : ℕ → Prefix → Prefix) (fixed : Fixed) (cache : Cache) (site z : ℕ) (prefix : Prefix) : Type 0 where
   pub start : Prefix
   pub may : MayStart fixed cache site z start
-  pub is : prefix ≡ led_to fixed world z start
+  pub is : prefix ≡ led z start
 
-abbrev pub HintsLed : Fixed → World → Cache → ℕ → Cache → Type 0
-HintsLed fixed world cache site now = (z : ℕ) (prefix : Prefix) → hint now site z ≡ Some prefix → (hint cache site z ≡ Some prefix) ⊎ LeadsFrom fixed world cache site z prefix
+abbrev pub HintsLed : (ℕ → Prefix → Prefix) → Fixed → Cache → ℕ → Cache → Type 0
+HintsLed led fixed cache site now = (z : ℕ) (prefix : Prefix) → hint now site z ≡ Some prefix → (hint cache site z ≡ Some prefix) ⊎ LeadsFrom led fixed cache site z prefix
 
-module _ (fixed : Fixed) (before after : World) (many : length after.servers ≡ length before.servers) (up : (i : ℕ) → is_up after i ≡ is_up before i) (shown : (z i : ℕ) → is_up before i ≡ true → shown_at fixed after z i ≡ shown_at fixed before z i) where
-  same_test : (z : ℕ) (prefix : Prefix) (rep : Representative) → shows_newer_by fixed after (is_up after) z prefix rep ≡ shows_newer_by fixed before (is_up before) z prefix rep
+-- what leads to the same
+pub hints_alike : (led other : ℕ → Prefix → Prefix) (fixed : Fixed) (cache : Cache) (site : ℕ) (now : Cache) → ((z : ℕ) (start : Prefix) → led z start ≡ other z start) → HintsLed led fixed cache site now
+    → HintsLed other fixed cache site now
+hints_alike led other fixed cache site now same hints z prefix hinted =
+    ⊎_elim
+    (λ old. inl old)
+    (λ (new : LeadsFrom led fixed cache site z prefix). inr (record { start = new.start; may = new.may; is = new.is ∙ same z new.start }))
+    (hints z prefix hinted)
+
+-- where the same answer, and show what they showed, a prefix leads to what it did
+module _ (fixed : Fixed) (before after : World) (was now : ℕ → Bool) (same : (i : ℕ) → now i ≡ was i) (shown : (z i : ℕ) → was i ≡ true → shown_at fixed after z i ≡ shown_at fixed before z i) where
+  same_test : (z : ℕ) (prefix : Prefix) (rep : Representative) → shows_newer_by fixed after now z prefix rep ≡ shows_newer_by fixed before was z prefix rep
   same_test z prefix rep =
-      ap (λ b. nat_lt 0 rep.1 && b && nat_lt prefix.pver (shown_at fixed after z rep.0).pver) (up rep.0) ∙ of (nat_lt 0 rep.1) (is_up before rep.0) refl
+      ap (λ b. nat_lt 0 rep.1 && b && nat_lt prefix.pver (shown_at fixed after z rep.0).pver) (same rep.0) ∙ of (nat_lt 0 rep.1) (was rep.0) refl
     where
-      of : (a b : Bool) → is_up before rep.0 ≡ b → (a && b && nat_lt prefix.pver (shown_at fixed after z rep.0).pver) ≡ (a && b && nat_lt prefix.pver (shown_at fixed before z rep.0).pver)
+      of : (a b : Bool) → was rep.0 ≡ b → (a && b && nat_lt prefix.pver (shown_at fixed after z rep.0).pver) ≡ (a && b && nat_lt prefix.pver (shown_at fixed before z rep.0).pver)
       of true true is = ap (λ (p : Prefix). nat_lt prefix.pver p.pver) (shown z rep.0 is)
       of true false is = refl
       of false b is = refl
 
-  same_newer : (z : ℕ) (prefix : Prefix) → newer_from fixed after z prefix ≡ newer_from fixed before z prefix
+  same_newer : (z : ℕ) (prefix : Prefix) → newer_by fixed after now z prefix ≡ newer_by fixed before was z prefix
   same_newer z prefix =
-      ap (option_map (λ (rep : Representative). shown_at fixed after z rep.0)) (find_alike (shows_newer_by fixed after (is_up after) z prefix) (shows_newer_by fixed before (is_up before) z prefix) (same_test z prefix) prefix.votes.reps)
-      ∙ of (find (shows_newer_by fixed before (is_up before) z prefix) prefix.votes.reps) refl
+      ap (option_map (λ (rep : Representative). shown_at fixed after z rep.0)) (find_alike (shows_newer_by fixed after now z prefix) (shows_newer_by fixed before was z prefix) (same_test z prefix) prefix.votes.reps)
+      ∙ of (find (shows_newer_by fixed before was z prefix) prefix.votes.reps) refl
     where
-      of : (found : Option Representative) → find (shows_newer_by fixed before (is_up before) z prefix) prefix.votes.reps ≡ found
+      of : (found : Option Representative) → find (shows_newer_by fixed before was z prefix) prefix.votes.reps ≡ found
           → option_map (λ (rep : Representative). shown_at fixed after z rep.0) found ≡ option_map (λ (rep : Representative). shown_at fixed before z rep.0) found
       of None is = refl
       of (Some rep) is =
-          let test = (find_some (shows_newer_by fixed before (is_up before) z prefix) prefix.votes.reps rep is).1 in
-          let parts = and_parts (nat_lt 0 rep.1 && is_up before rep.0) (nat_lt prefix.pver (shown_at fixed before z rep.0).pver) test in
-          ap (λ (p : Prefix). Some p) (shown z rep.0 (and_parts (nat_lt 0 rep.1) (is_up before rep.0) parts.0).1)
+          let test = (find_some (shows_newer_by fixed before was z prefix) prefix.votes.reps rep is).1 in
+          let parts = and_parts (nat_lt 0 rep.1 && was rep.0) (nat_lt prefix.pver (shown_at fixed before z rep.0).pver) test in
+          ap (λ (p : Prefix). Some p) (shown z rep.0 (and_parts (nat_lt 0 rep.1) (was rep.0) parts.0).1)
 
-  same_so_far : (n z : ℕ) (prefix : Prefix) → led_so_far_by n fixed after (is_up after) z prefix ≡ led_so_far_by n fixed before (is_up before) z prefix
+  pub same_so_far : (n z : ℕ) (prefix : Prefix) → led_so_far_by n fixed after now z prefix ≡ led_so_far_by n fixed before was z prefix
   same_so_far zero z prefix = refl
-  same_so_far (suc n) z prefix = ap (λ found. led_on prefix found (λ newer. led_so_far_by n fixed after (is_up after) z newer)) (same_newer z prefix) ∙ of (newer_from fixed before z prefix) (same_so_far n z)
+  same_so_far (suc n) z prefix = ap (λ found. led_on prefix found (λ newer. led_so_far_by n fixed after now z newer)) (same_newer z prefix) ∙ of (newer_by fixed before was z prefix) (same_so_far n z)
     where
-      of : (found : Option Prefix) → ((prefix : Prefix) → led_so_far_by n fixed after (is_up after) z prefix ≡ led_so_far_by n fixed before (is_up before) z prefix)
-          → led_on prefix found (λ newer. led_so_far_by n fixed after (is_up after) z newer) ≡ led_on prefix found (λ newer. led_so_far_by n fixed before (is_up before) z newer)
+      of : (found : Option Prefix) → ((prefix : Prefix) → led_so_far_by n fixed after now z prefix ≡ led_so_far_by n fixed before was z prefix)
+          → led_on prefix found (λ newer. led_so_far_by n fixed after now z newer) ≡ led_on prefix found (λ newer. led_so_far_by n fixed before was z newer)
       of None go = refl
       of (Some newer) go = go newer
 
+module _ (fixed : Fixed) (before after : World) (many : length after.servers ≡ length before.servers) (up : (i : ℕ) → is_up after i ≡ is_up before i)
+    (shown : (z i : ℕ) → is_up before i ≡ true → shown_at fixed after z i ≡ shown_at fixed before z i) where
   pub same_led : (z : ℕ) (prefix : Prefix) → led_to fixed after z prefix ≡ led_to fixed before z prefix
-  same_led z prefix = ap (λ n. led_so_far_by n fixed after (is_up after) z prefix) many ∙ same_so_far (length before.servers) z prefix
+  same_led z prefix = ap (λ n. led_so_far_by n fixed after (is_up after) z prefix) many ∙ same_so_far fixed before after (is_up before) (is_up after) up shown (length before.servers) z prefix
 
   same_votes_up : (votes : Configuration) → votes_in votes.reps (is_up after) ≡ votes_in votes.reps (is_up before)
   same_votes_up votes = votes_alike votes.reps (is_up after) (is_up before) (λ rep has some. up rep.0)
@@ -111,7 +123,7 @@ module _ (fixed : Fixed) (before after : World) (many : length after.servers ≡
 
   -- so where votes are up from wherever a suite may be looked for, they are still, by what its cache then hints
   pub still_up : (table : PlainTable) (cache now : Cache) (t site : ℕ) (caller : Identity) (ops : List Op) → ((z : ℕ) (start : Prefix) → MayStart fixed cache site z start → newer_from fixed before z (led_to fixed before z start) ≡ None)
-      → HintsLed fixed before cache site now → VotesAreUp fixed before table cache t site caller ops → VotesAreUp fixed after table now t site caller ops
+      → HintsLed (λ z start. led_to fixed before z start) fixed cache site now → VotesAreUp fixed before table cache t site caller ops → VotesAreUp fixed after table now t site caller ops
   still_up table cache now t site caller ops last hints all start' may =
       ap all_met (same_demands table t caller ops (λ z. (from z).start) start' (λ z. (from z).same)) ∙ all (λ z. (from z).start) (λ z. (from z).may)
     where
@@ -120,7 +132,7 @@ module _ (fixed : Fixed) (before after : World) (many : length after.servers ≡
           (λ absent. record { start = absent_prefix fixed.service.c0; may = inl refl; same = ap (led_to fixed before z) absent })
           (λ hinted. ⊎_elim
           (λ old. record { start = start' z; may = inr old; same = refl })
-          (λ (new : LeadsFrom fixed before cache site z (start' z)). record {
+          (λ (new : LeadsFrom (λ z start. led_to fixed before z start) fixed cache site z (start' z)). record {
             start = new.start;
             may = new.may;
             same = ap (led_to fixed before z) new.is ∙ stays fixed before (is_up before) z (length before.servers) (led_to fixed before z new.start) (last z new.start new.may);

@@ -1,7 +1,7 @@
 -- What an agent that nobody hinders was told since it began: each server that told it of a lock was up then.
 use Rattle.std.proofs.Common.{◌≡◌, ⊎_elim, ℕ, true, false, cond, List, [], ◌∷◌, ◌++◌, Option, Some, None, is_some, refl, sym, ap, subst, ◌∙◌}
-use Rattle.std.specs.Prelude.{◌==◌, slice_get, slice_set}
-use Rattle.std.proofs.lemmas.Bool.{false≢true, eqb-true, or_cases}
+use Rattle.std.specs.Prelude.{◌==◌, not, slice_get, slice_set}
+use Rattle.std.proofs.lemmas.Bool.{false≢true, and_parts, eqb-true, not-true, or_cases}
 use Rattle.suite_prefix.specs.SettingsRules.{Opening}
 use Rattle.rep_core.specs.declared.request.Request.{Request}
 use Rattle.rep_core.specs.declared.stamped.Stamped.{Stamped}
@@ -19,11 +19,12 @@ use Rattle.run_core.specs.declared.event.Event.{Event}
 use Rattle.run_core.specs.declared.event.Event.TheVariants.{Step}
 use Rattle.run_core.specs.declared.done.Served.{Served}
 use Rattle.run_core.specs.Worlds.{Actor, World, Stepped, server_at, actor_at, serve, moved, answered, asks_at, asks, steps_once, step}
+use Rattle.run_core.specs.Runs.{after}
 use Rattle.law_runs.proofs.Agents.{take_keeps}
 use Rattle.law_runs.proofs.Worlds.{puts_in}
 use Rattle.law_runs.proofs.Places.{same_or}
 use Rattle.law_run_recovers.specs.Standing.{up_in, is_up}
-use Rattle.law_run_recovers.specs.Alone.{hinders}
+use Rattle.law_run_recovers.specs.Alone.{hinders, unhindered_from}
 use Rattle.law_run_recovers.proofs.Aside.{Aside, event_aside}
 use Rattle.law_run_recovers.proofs.Downs.{is_return, never_returns, was_up, held_up, held-append, three}
 
@@ -123,3 +124,9 @@ module _ (given : Opening) (first : World) (agent : ℕ) (begun : Agent) where
       (λ aside. aside_now w (step fixed w event) aside now)
       (λ own. subst (λ event. is_some (step fixed w event).done.served ≡ true → Now (step fixed w event).world) (sym own.0) (own_now w now) own.1)
       (event_aside given agent w event calm)
+
+  pub now_after : (events : List Event) (w : World) → Now w → unhindered_from given agent w events ≡ true → Now (after fixed w events)
+  now_after [] w now calm = now
+  now_after (event ∷ events) w now calm =
+      let parts = and_parts (not (hinders given agent w event)) (unhindered_from given agent (step fixed w event).world events) calm in
+      now_after events (step fixed w event).world (event_now w event (not-true (hinders given agent w event) parts.0) now) parts.1

@@ -1,4 +1,4 @@
--- Until a transaction tells how it ended nothing that it asks changes a stored copy; and until it is decided nothing records how it ended.
+-- Until a transaction tells how it ended nothing that it asks finishes anything; and until it is decided nothing records how it ended.
 use Rattle.std.proofs.Common.{◌≡◌, ℕ, false, List, [], ◌∷◌, Option, Some, None, refl, sym, ap, ◌∙◌}
 use Rattle.std.proofs.lemmas.Bool.{false≢true}
 use Rattle.rep_core.specs.declared.request.Request.{Request}
@@ -6,7 +6,6 @@ use Rattle.rep_core.specs.declared.request.Request.TheVariants as request
 use Rattle.rep_core.specs.declared.reply.Verdict.{Verdict}
 use Rattle.rep_core.specs.declared.reply.Verdict.TheVariants as verdict
 use Rattle.rep_core.specs.declared.stamped.Stamped.{Stamped}
-use Rattle.rep_core.specs.Store.{copy_of}
 use Rattle.rep_core.specs.State.{State, record_of}
 use Rattle.rep_core.specs.Serving.{step}
 use Rattle.rep_core.proofs.Ways.{Ways, by_step}
@@ -28,27 +27,7 @@ use Rattle.txn_core.proofs.Asks.{asks_same, asked_as, fetched_as}
 
 -- ---- a server
 
-abbrev Stays : State → ℕ → Request → State → Type 0
-Stays st z asked new = is_finish asked ≡ false → copy_of new.store z ≡ copy_of st.store z
-
-ways : (st : State) (z : ℕ) → Ways st (Stays st z)
-ways st z = record {
-  same = λ asked other. refl;
-  poll = λ named suite mode free other. refl;
-  upgrade = λ named suite has free other. refl;
-  prepare = λ named parts may room other. refl;
-  decide = λ named decision free other. refl;
-  resolve = λ named free other. refl;
-  finish = λ named verdict up other. absurd (false≢true (sym other));
-  break = λ named suite other. refl;
-  crash = λ other. refl;
-  return = λ other. refl;
-}
-
-pub copy_stays : (st : State) (asked : Stamped Request) (z : ℕ) → is_finish asked.value ≡ false → copy_of (step st asked).store z ≡ copy_of st.store z
-copy_stays st asked z other = by_step st (Stays st z) (ways st z) (λ asked new stamp stays. stays) asked other
-
--- nor a record, but a Decide and a Resolve
+-- what is recorded stays, but for a Decide and a Resolve
 abbrev StaysRecorded : State → ℕ → Request → State → Type 0
 StaysRecorded st t asked new = is_decide asked ≡ false → is_resolve asked ≡ false → record_of new t ≡ record_of st t
 
@@ -155,7 +134,8 @@ no_decide fixed task cache suites (Deciding outcome) server asked (Lacked lacked
 no_decide fixed task cache suites (Finishing [] v ending) server asked response is open' = cc
 no_decide fixed task cache suites (Finishing (now ∷ left) v ending) server asked response is open' = ap is_decide (sym (asks_same now server (request.Finish task.t v) asked is))
 
-pub open_undecided : (fixed : Fixed) (agent : Agent) (response : Response) (doing : Option Doing) (asked : ℕ × Request) → next_in fixed doing ≡ Some asked → IsOpen (take_in fixed agent response doing (Some asked)).agent.doing → is_decide asked.1 ≡ false
+pub open_undecided : (fixed : Fixed) (agent : Agent) (response : Response) (doing : Option Doing) (asked : ℕ × Request) → next_in fixed doing ≡ Some asked → IsOpen (take_in fixed agent response doing (Some asked)).agent.doing
+    → is_decide asked.1 ≡ false
 open_undecided fixed agent response (Some (Running txn_run)) asked is open' = no_decide fixed txn_run.task agent.cache txn_run.suites txn_run.phase asked.0 asked.1 response is open'
 open_undecided fixed agent response (Some (RunningSweep sweep_run)) asked is open' = absurd (of (sweep.after_response fixed.service sweep_run asked.0 response) open')
   where

@@ -1,5 +1,5 @@
 -- What is promised to a transaction that is told what it would have been told as it began; and one that goes among locks that stay is told so.
-use Rattle.std.proofs.Common.{◌≡◌, ⊎_elim, ℕ, Bool, true, false, List, [], ◌∷◌, ◌++◌, Some, is_some, refl, sym, ap, subst, ◌∙◌, arith}
+use Rattle.std.proofs.Common.{◌≡◌, ⊎_elim, ℕ, Bool, true, false, List, ◌∷◌, ◌++◌, Some, is_some, refl, sym, ap, subst, ◌∙◌, arith}
 use Rattle.std.specs.Prelude.{◌||◌}
 use Rattle.std.proofs.lemmas.Bool.Decides.{nat_tests}
 use Rattle.std.proofs.lemmas.Option.{same_Some}
@@ -8,25 +8,23 @@ use Rattle.suite_prefix.specs.SettingsRules.{Opening}
 use Rattle.file_ops.specs.declared.operation.Op.{Op}
 use Rattle.rep_core.specs.declared.request.Request.{Request}
 use Rattle.txn_core.specs.declared.job.Job.TheVariants.{Transaction}
-use Rattle.txn_core.specs.Doing.{Running}
 use Rattle.txn_core.specs.Agents.{fixed_of, next_of}
 use Rattle.run_core.specs.declared.event.Event.{Event}
 use Rattle.run_core.specs.declared.event.Event.TheVariants.{Begin, Step}
 use Rattle.run_core.specs.Worlds.{Actor, World, actor_at, step}
 use Rattle.run_core.specs.Runs.{run}
-use Rattle.law_run_recovers.specs.Near.{asks_for}
-use Rattle.law_run_recovers.specs.Unmet.{is_running, is_telling, world_after, robs, hinders_itself}
+use Rattle.law_run_recovers.specs.Unmet.{is_running, world_after, robs, hinders_itself}
 use Rattle.law_run_recovers.specs.Among.{GoesAmongLocks}
 use Rattle.law_run_recovers.specs.Told.{AsAtItsBegin, bereaves, AmongLocksAreToldAsBegun, ToldEndByVotes, ToldEndInTime, ToldHadVotesOpen, ToldAreDecidedWhereVotesAre, ToldAreAnsweredAsBegun, ToldGatherTheirAsks}
 use Rattle.law_run_recovers.proofs.AmongAsks.{of_its_asks}
-use Rattle.law_run_recovers.proofs.AmongCourse.{Course, RunsIt, open_works, runs_it}
+use Rattle.law_run_recovers.proofs.AmongCourse.{Course, RunsIt, runs_it}
 use Rattle.law_run_recovers.proofs.AmongDecided.{answered_begun, was_gathered, was_had}
 use Rattle.law_run_recovers.proofs.AmongLaws.{among_by_votes, among_where_votes}
 use Rattle.law_run_recovers.proofs.AmongLeft.{left_at}
 use Rattle.law_run_recovers.proofs.AmongStep.{near_for, request_is}
 use Rattle.law_run_recovers.proofs.AmongTime.{in_time}
 use Rattle.law_run_recovers.proofs.Apart.{event_apart}
-use Rattle.law_run_recovers.proofs.Keeps.{IsAtWork, OfAsks, as_at_its_begin, run_at, works}
+use Rattle.law_run_recovers.proofs.Keeps.{IsAtWork, as_at_its_begin, run_at, works}
 use Rattle.law_run_recovers.proofs.NearGround.{first_asked, opens_up}
 use Rattle.law_run_recovers.proofs.Sides.{ended_runs_not}
 use Rattle.law_run_recovers.proofs.Steady.{GoesSteadily, never_hindered, steady, told_steady}

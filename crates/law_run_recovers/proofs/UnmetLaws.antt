@@ -71,7 +71,8 @@ first_up world t (want ∷ all) found is same = of (is_met (open_demand world t 
         ∙ ap (λ one. Some one) (sym here) ∙ ap (option_map (open_demand world t)) is
 
 -- what is demanded of wants
-fronts_of : {X : Type 0} (d : Want → Demand) (f : X → Want) (g : X → Demand) (xs : List X) (later : List Want) (others : List Demand) → ((x : X) → Has xs x → d (f x) ≡ g x) → map d later ≡ others → map d (map f xs ++ later) ≡ map g xs ++ others
+fronts_of : {X : Type 0} (d : Want → Demand) (f : X → Want) (g : X → Demand) (xs : List X) (later : List Want) (others : List Demand) → ((x : X) → Has xs x → d (f x) ≡ g x) → map d later ≡ others
+    → map d (map f xs ++ later) ≡ map g xs ++ others
 fronts_of d f g [] later others same rest = rest
 fronts_of d f g (x ∷ xs) later others same rest = ap (λ y. y ∷ map d (map f xs ++ later)) (same x (inl refl)) ∙ ap (λ ys. g x ∷ ys) (fronts_of d f g xs later others (λ y has. same y (inr has)) rest)
 
@@ -80,7 +81,7 @@ maps_of d f g [] same = refl
 maps_of d f g (x ∷ xs) same = ap (λ y. y ∷ map d (map f xs)) (same x) ∙ ap (λ ys. g x ∷ ys) (maps_of d f g xs same)
 
 -- nothing is in the way there, so it is open where it is up
-open_where_free : (way : Option (Option ℕ)) (up : Bool) → (is_way_met way ≡ false → way ≡ cond up (Some None) None) → is_way_met way ≡ false → is_open_way way ≡ up
+pub open_where_free : (way : Option (Option ℕ)) (up : Bool) → (is_way_met way ≡ false → way ≡ cond up (Some None) None) → is_way_met way ≡ false → is_open_way way ≡ up
 open_where_free way true so free = ap is_open_way (so free)
 open_where_free way false so free = ap is_open_way (so free)
 
@@ -131,7 +132,8 @@ module _ (given : Opening) (events later : List Event) (agent t : ℕ) (caller :
       (λ (one : ℕ × LockMode). demand (run given events) one.0 one.1 (led_to (fixed_of given) (run given events) one.0 (start one.0)).votes) asked (map of_votes (votes_set (table_of given events) t caller ops))
       (map (λ (one : ℕ × Configuration). record { suite = one.0; got = votes_in one.1.reps (is_up (run given events)); needed = one.1.w }) (votes_set (table_of given events) t caller ops))
       (λ one has. ap (λ (prefix : Prefix). demand (run given events) one.0 one.1 prefix.votes) (led_same one has (start one.0) (may one.0)))
-      (maps_of (up_demand (run given events)) of_votes (λ (one : ℕ × Configuration). record { suite = one.0; got = votes_in one.1.reps (is_up (run given events)); needed = one.1.w }) (votes_set (table_of given events) t caller ops) (λ one. refl))
+      (maps_of (up_demand (run given events)) of_votes (λ (one : ℕ × Configuration). record { suite = one.0; got = votes_in one.1.reps (is_up (run given events)); needed = one.1.w }) (votes_set (table_of given events) t caller ops)
+      (λ one. refl))
 
   the : Demand → Demand
   the one = one
@@ -143,11 +145,13 @@ module _ (given : Opening) (events later : List Event) (agent t : ℕ) (caller :
   short_up want free =
       ap (λ n. the (record { suite = want.suite; got = n; needed = needed_of want.mode want.votes }))
       (votes_alike want.votes.reps (is_open_at (run given events) t want.suite want.mode) (is_up (run given events))
-      (λ rep has some. open_where_free (way_at (run given events) t want.suite want.mode rep.0) (is_up (run given events) rep.0) (plain_way t want.suite want.mode (server_at (run given events) rep.0)) (free rep (contains_from want.votes.reps rep has) some)))
+      (λ rep has some. open_where_free (way_at (run given events) t want.suite want.mode rep.0) (is_up (run given events) rep.0) (plain_way t want.suite want.mode (server_at (run given events) rep.0))
+      (free rep (contains_from want.votes.reps rep has) some)))
 
   ending_of_first : (start : ℕ → Prefix) (job : EndedJob) (found : Option Want) → first_wanting (run given events) t (wants (fixed_of given) (run given events) (table_of given events) t caller ops start) ≡ found
       → EndsOpenly given events t caller ops among.near job.ending found
-      → job.ending ≡ ending_by (first_short (map (up_demand (run given events)) (wants (fixed_of given) (run given events) (table_of given events) t caller ops start))) (is_up (run given events) (home_of (fixed_of given).service t)) (answer_on (table_of given events) t caller ops)
+      → job.ending ≡ ending_by (first_short (map (up_demand (run given events)) (wants (fixed_of given) (run given events) (table_of given events) t caller ops start)))
+      (is_up (run given events) (home_of (fixed_of given).service t)) (answer_on (table_of given events) t caller ops)
   ending_of_first start job None first is =
       is ∙ sym (ap (λ found. ending_by found (is_up (run given events) (home_of (fixed_of given).service t)) (answer_on (table_of given events) t caller ops))
       (first_up (run given events) t (wants (fixed_of given) (run given events) (table_of given events) t caller ops start) None first (λ want none. absurd (none-some want none))))

@@ -44,9 +44,10 @@
 //! **Files**: `lib`, `meeting`, `promises`, `told`. **Definitions** (`specs/`): `Standing`, `Alone`, `Demands`,
 //! `InTime`, `Laws`, `Sweeping`, `Promises`, `Worked`, `Near`, `Unmet`, `OpenDemands`, `Local`, `Among`, `Told`,
 //! `Beside`, `BesideWorked`, `Meets`, `MeetsWorked`, `Histories`, `Blocking`, `Contending`. The proofs follow a
-//! transaction over its agent's steps (`proofs/Ends.antt`, `Stands.antt`, `Asking.antt`; where others go on
-//! `AmongCourse.antt`, `AmongStep.antt`, `AmongEnds.antt`; where two meet `MeetCourse.antt`, `MeetReach.antt`,
-//! `MeetLaw.antt`) and a sweep by its list (`Sweeps.antt`, `Swept.antt`, `Rounds.antt`).
+//! transaction over its agent's steps (`proofs/Stands.antt`, `Asking.antt`; at each moment `AmongCourse.antt`,
+//! `AmongStep.antt`, `AmongEnds.antt`, of which what goes alone is a case, `AloneLaws.antt`, `Tries.antt`; where two
+//! meet `MeetCourse.antt`, `MeetReach.antt`, `MeetLaw.antt`) and a sweep by its list (`Sweeps.antt`, `Swept.antt`,
+//! `Rounds.antt`).
 #![tactic(auto)]
 
 mod meeting;

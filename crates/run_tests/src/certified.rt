@@ -2,12 +2,16 @@
 //!
 //! What memory was refused to is called again, so that each allocation can be refused in turn.
 
+ghost use Rattle.std.specs.Prelude.{IfOk};
+ghost use Rattle.law_certified.specs.Histories.{ChangesAreMetInHistoryAt, FinishedBeforeInHistoryAt};
+
 use crate::fixtures::push;
 use byte_streams::MemoryOut;
 use file_ops::{Answers, Refusal};
+use law_certified::promise;
 use run_certify::{CertifyFault, Decided, Decision, Entry, Transcript, Transcripts, certify};
 use server_lock::{Histories, History, Item};
-use std::alloc::AllocError;
+use std::alloc::{AllocError, Global};
 use std::process::Abort;
 use suite_cli::report;
 use suite_prefix::Settings;
@@ -33,13 +37,29 @@ pub(crate) fn transcripts(
     Transcripts::from_vec(transcripts)
 }
 
+/// What is certified. Whose decision came first is told by each history, and changes are met.
+fn told_in_time(
+    alloc: Global,
+    settings: &Settings,
+    histories: &Histories,
+    transcripts: &Transcripts,
+) -> Result<Decided, CertifyFault>
+    ensures finished { IfOk result (λ decided. FinishedBeforeInHistoryAt histories.now decided) }
+    ensures changes { IfOk result (λ decided. ChangesAreMetInHistoryAt settings.now histories.now decided) }
+{
+    let decided = certify(alloc, settings, histories, transcripts)?;
+    promise(settings, histories, transcripts);
+    Ok(decided)
+}
+
+/// The same for tests, which look at no contract of it.
 fn judge(
     rt: &impl AllocGlobal,
     settings: &Settings,
     histories: &Histories,
     transcripts: &Transcripts,
 ) -> Result<Decided, CertifyFault> {
-    certify(rt.alloc(), settings, histories, transcripts)
+    told_in_time(rt.alloc(), settings, histories, transcripts)
 }
 
 /// What is certified, or that nothing is. A test that memory is refused to twice stops for that.

@@ -1,4 +1,4 @@
-use Rattle.law_run_recovers.proofs.Ends.{ends_are_by_votes}
+use Rattle.law_run_recovers.proofs.AloneLaws.{ends_are_by_votes}
 use Rattle.law_run_recovers.proofs.ends_are_by_votes.Goals as goal
 
 pub returns : goal.returns

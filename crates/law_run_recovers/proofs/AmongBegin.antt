@@ -1,0 +1,129 @@
+-- A transaction that goes steadily ends as the votes say that are open: its begin.
+use Rattle.std.proofs.Common.{◌≡◌, ℕ, Bool, true, false, cond, List, [], ◌∷◌, ◌++◌, Option, Some, None, refl, sym, ap, subst, ◌∙◌}
+use Rattle.std.specs.Prelude.{◌*◌, ◌+◌, ◌&&◌, nat_lt}
+use Rattle.std.proofs.lemmas.Bool.{false≢true, and_parts}
+use Rattle.std.proofs.lemmas.Option.{none-some, same_Some}
+use Rattle.acl_core.specs.Identity.{Identity}
+use Rattle.suite_prefix.specs.SettingsRules.{Opening}
+use Rattle.file_ops.specs.declared.operation.Op.{Op}
+use Rattle.rep_core.specs.State.{State}
+use Rattle.rep_core.proofs.Members.{Has}
+use Rattle.txn_core.specs.declared.ending.Ending.{Ending}
+use Rattle.txn_core.specs.declared.job.Job.TheVariants.{Transaction}
+use Rattle.run_core.specs.TableOfRun.{table_of}
+use Rattle.txn_core.specs.Doing.{Task, TransactionRun, Doing, Running, After, GoesOn, Ends}
+use Rattle.txn_core.specs.Transactions.{Step as CourseStep, execute}
+use Rattle.txn_core.specs.Agents.{Agent, fixed_of, is_idle, has_sense, max_jobs, left, end_of, begins, begin, started}
+use Rattle.run_core.specs.declared.event.Event.{Event}
+use Rattle.run_core.specs.Worlds.{Actor, World, server_at, step}
+use Rattle.run_core.specs.Runs.{run}
+use Rattle.law_runs.specs.Claims.{ended}
+use Rattle.law_run_alone.proofs.Named.{no_lock}
+use Rattle.law_run_recovers.specs.Standing.{locks_in, locks_at}
+use Rattle.law_run_recovers.specs.Unmet.{runs, running_in, world_after}
+use Rattle.law_run_recovers.proofs.Steady.{GoesSteadily}
+use Rattle.law_run_recovers.proofs.Executes.{begin_stands}
+use Rattle.law_run_recovers.proofs.NearGround.{its, Known, ground, sight}
+use Rattle.law_run_recovers.proofs.Open.{its_begin, begun_there, begun_servers, begun_runs}
+use Rattle.law_run_recovers.proofs.Serves.{On}
+use Rattle.law_run_recovers.proofs.Stands.{AfterStands, StepStands}
+use Rattle.law_run_recovers.proofs.AmongAt.{HasWhereOpen}
+use Rattle.law_run_recovers.proofs.AmongCourse.{Course, StandsIn, Right, same_service}
+
+module _ (given : Opening) (events later : List Event) (agent t : ℕ) (caller : Identity) (site : ℕ) (ops : List Op) (actor : Actor) (goes : GoesSteadily given events later agent t caller site ops actor) where
+  abbrev its_task : Task
+  its_task = its given events later agent t caller site ops actor goes
+
+  abbrev world_at : List Event → World
+  world_at so_far = world_after given events agent caller site ops so_far
+
+  abbrev pub Good : CourseStep → Type 0
+  Good step =
+      StepStands (fixed_of given) (run given events) (sight given events later agent t caller site ops actor goes) (table_of given events) (its given events later agent t caller site ops actor goes) actor.agent.cache
+      (Known given events later agent t caller site ops actor goes) (ground given events later agent t caller site ops actor goes) step
+
+  pub stands_left : (step : CourseStep) → Good step → StandsIn given events later agent t caller site ops actor goes step.cache (left Running step.after)
+  stands_left step = of step.after
+    where
+      of : (after : After TransactionRun)
+          → AfterStands (fixed_of given) (run given events) (sight given events later agent t caller site ops actor goes) (table_of given events) (its given events later agent t caller site ops actor goes) actor.agent.cache
+          (Known given events later agent t caller site ops actor goes) (ground given events later agent t caller site ops actor goes) step.cache after → StandsIn given events later agent t caller site ops actor goes step.cache
+          (left Running after)
+      of (GoesOn txn_run) good = good
+      of (Ends ended) good = tt
+
+  pub right_end : (step : CourseStep) → Good step → (ended : Ending) → end_of step.after ≡ Some ended → Right given events later agent t caller site ops actor goes ended
+  right_end step = of step.after
+    where
+      of : (after : After TransactionRun)
+          → AfterStands (fixed_of given) (run given events) (sight given events later agent t caller site ops actor goes) (table_of given events) (its given events later agent t caller site ops actor goes) actor.agent.cache
+          (Known given events later agent t caller site ops actor goes) (ground given events later agent t caller site ops actor goes) step.cache after →
+          (ended : Ending) → end_of after ≡ Some ended → Right given events later agent t caller site ops actor goes ended
+      of (GoesOn txn_run) good ended is = absurd (none-some ended is)
+      of (Ends other) good ended is = subst (Right given events later agent t caller site ops actor goes) (same_Some other ended is) good
+
+  -- ---- its begin
+
+  pub begun : (64 * actor.agent.count + agent ≡ t) × (begins (fixed_of given) actor.agent (Transaction caller site ops) ≡ true)
+  begun = its_begin given events later agent t caller site ops actor goes.can goes.there goes.begins
+
+  first_stands : StandsIn given events later agent t caller site ops actor goes (begin (fixed_of given) actor.agent (Transaction caller site ops)).cache (begin (fixed_of given) actor.agent (Transaction caller site ops)).doing
+  first_stands =
+      subst (λ b. StandsIn given events later agent t caller site ops actor goes (begin_if b).cache (begin_if b).doing) (sym begun.1)
+      (stands_left (execute (fixed_of given) its_task (record { suites = []; cache = actor.agent.cache }))
+      (begin_stands (fixed_of given) (run given events) (sight given events later agent t caller site ops actor goes) (table_of given events) (its given events later agent t caller site ops actor goes) actor.agent.cache
+      (Known given events later agent t caller site ops actor goes) (ground given events later agent t caller site ops actor goes) (same_service given events later agent t caller site ops actor goes)))
+    where
+      begin_if : Bool → Agent
+      begin_if b = cond b (record (started (fixed_of given) actor.agent (Transaction caller site ops)) { count = actor.agent.count + 1 }) actor.agent
+
+  first_count : (begin (fixed_of given) actor.agent (Transaction caller site ops)).count ≡ actor.agent.count + 1
+  first_count = ap (λ b. (cond b (record (started (fixed_of given) actor.agent (Transaction caller site ops)) { count = actor.agent.count + 1 }) actor.agent).count) begun.1
+
+  pub idle_before : is_idle actor.agent.doing ≡ true
+  idle_before =
+      (and_parts (is_idle actor.agent.doing) (has_sense (fixed_of given) (Transaction caller site ops))
+      (and_parts (is_idle actor.agent.doing && has_sense (fixed_of given) (Transaction caller site ops)) (nat_lt actor.agent.count max_jobs) begun.1).0).0
+
+  pub first_course : Course given events later agent t caller site ops actor goes []
+  first_course = record {
+    here = record actor { agent = begin (fixed_of given) actor.agent (Transaction caller site ops) };
+    there = begun_there given events later agent t caller site ops actor goes.can goes.there goes.begins;
+    stands = first_stands;
+    busy = busy_so (begin (fixed_of given) actor.agent (Transaction caller site ops)).doing runs_so;
+    told = [];
+    is = refl;
+    count = first_count;
+    locks = none_has;
+    shown = λ server z on. absurd (none_there server z on);
+    spared = λ front back event is. absurd (nil_not front event back is);
+  }
+    where
+      runs_so : runs t (begin (fixed_of given) actor.agent (Transaction caller site ops)).doing ≡ true
+      runs_so =
+          ap (running_in t) (sym (begun_there given events later agent t caller site ops actor goes.can goes.there goes.begins))
+          ∙ begun_runs given events later agent t caller site ops actor goes.can goes.there goes.begins
+
+      busy_so : (doing : Option Doing) → runs t doing ≡ true → is_idle doing ≡ false
+      busy_so None is = absurd (false≢true is)
+      busy_so (Some doing) is = refl
+
+      nil_not : (front : List Event) (event : Event) (back : List Event) → [] ≡ front ++ event ∷ back → ⊥
+      nil_not [] event back is = cc
+      nil_not (one ∷ front) event back is = cc
+
+      none_there : (server z : ℕ) → On (locks_at (world_after given events agent caller site ops []) server) t z → ⊥
+      none_there server z on =
+          of (server_at (run given events) server) refl
+          (subst (λ found. On (locks_in found) t z) (begun_servers given events later agent t caller site ops actor goes.can goes.there goes.begins server) on)
+        where
+          of : (found : Option State) → server_at (run given events) server ≡ found → On (locks_in (server_at (run given events) server)) t z → ⊥
+          of None at on = subst (λ found. Has (locks_in found) on.lock) at on.has
+          of (Some st) at on = no_lock given goes.can.accepted events agent t (Transaction caller site ops) goes.begins server st at on.lock (subst (λ found. Has (locks_in found) on.lock) at on.has) on.of_it
+
+      none_has : HasWhereOpen given events later agent t caller site ops actor goes (world_after given events agent caller site ops [])
+      none_has server z on = absurd (none_there server z on)
+
+  pub first_told : first_course.told ≡ []
+  unfolding first_course
+  first_told = refl

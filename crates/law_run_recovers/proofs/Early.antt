@@ -1,0 +1,49 @@
+-- What a transaction asks for where it may execute next, and how its job ends.
+use Rattle.std.proofs.Common.{◌≡◌, ℕ, false, Option, Some, None, refl, sym, ap}
+use Rattle.std.proofs.lemmas.Option.{none-some, same_Some}
+use Rattle.rep_core.specs.declared.request.Request.{Request}
+use Rattle.rep_core.specs.declared.request.Request.TheVariants as request
+use Rattle.txn_core.specs.declared.ending.Ending.{Ending}
+use Rattle.txn_core.specs.Suites.{ReadPoint, Suite, Suites, suite_of}
+use Rattle.txn_core.specs.Doing.{Fixed, Task, Phase, Gathering, Fetching, Widening, Preparing, Deciding, Finishing}
+use Rattle.txn_core.specs.Transactions.{fetched_at, fetched_for, request_in}
+use Rattle.txn_core.specs.Laws.{is_decide}
+use Rattle.txn_core.proofs.Asks.{asks_same, asked_as, fetched_as}
+use Rattle.run_core.specs.declared.done.EndedJob.{EndedJob}
+use Rattle.run_core.specs.Worlds.{Actor, outcome_of}
+use Rattle.law_run_alone.proofs.Standing.{releases}
+use Rattle.law_run_recovers.proofs.Heard.{MayExecute}
+use Rattle.law_run_recovers.proofs.Still.{IsOpenPhase}
+
+pub early_open : (phase : Phase) → MayExecute phase → IsOpenPhase phase
+early_open (Gathering number) may = tt
+early_open (Fetching number) may = tt
+early_open (Widening left granted) may = absurd may
+early_open (Preparing left outcome) may = absurd may
+early_open (Deciding outcome) may = absurd may
+early_open (Finishing left v ended) may = absurd may
+
+-- it asks for nothing that takes a lock away, or that decides
+pub early_asks : (fixed : Fixed) (task : Task) (suites : Suites) (phase : Phase) → MayExecute phase → (server : ℕ) (asked : Request) → request_in fixed task suites phase ≡ Some (server, asked)
+    → (releases asked ≡ false) × (is_decide asked ≡ false)
+early_asks fixed task suites (Gathering number) may server asked is =
+    (asked_as releases false task number (suite_of suites number) server asked (λ mode. refl) refl is, asked_as is_decide false task number (suite_of suites number) server asked (λ mode. refl) refl is)
+early_asks fixed task suites (Fetching number) may server asked is =
+    (fetched_as releases false task number (suite_of suites number) server asked refl is, fetched_as is_decide false task number (suite_of suites number) server asked refl is)
+early_asks fixed task suites (Widening left granted) may server asked is = absurd may
+early_asks fixed task suites (Preparing left outcome) may server asked is = absurd may
+early_asks fixed task suites (Deciding outcome) may server asked is = absurd may
+early_asks fixed task suites (Finishing left v ended) may server asked is = absurd may
+
+-- a content is fetched by Fetch
+pub fetch_is : (task : Task) (number : ℕ) (found : Option Suite) (server : ℕ) (asked : Request) → fetched_for task number found ≡ Some (server, asked) → asked ≡ request.Fetch task.t number
+fetch_is task number None server asked is = absurd (none-some (server, asked) is)
+fetch_is task number (Some suite) server asked is = of suite.first is
+  where
+    of : (first : Option ReadPoint) → fetched_at task number first ≡ Some (server, asked) → asked ≡ request.Fetch task.t number
+    of (Some first) is = sym (asks_same first.source server (request.Fetch task.t number) asked is)
+    of None is = absurd (none-some (server, asked) is)
+
+pub ending_in : (i : ℕ) (actor : Actor) (ended : Option Ending) (job : EndedJob) → outcome_of i actor ended ≡ Some job → ended ≡ Some job.ending
+ending_in i actor None job is = absurd (none-some job is)
+ending_in i actor (Some ended) job is = ap (λ (job : EndedJob). Some job.ending) (same_Some _ job is)
