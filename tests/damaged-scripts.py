@@ -30,7 +30,7 @@ import beside
 import explain
 import forms
 import scenario
-from faulty import WORD
+from laid_out import WORD
 
 FIRSTS = {command: list(forms.lines_of(command, "own")) for command in forms.COMMANDS}
 VERBS = list(forms.OPERATIONS)

@@ -26,6 +26,7 @@ import typing
 import xml.etree.ElementTree as etree
 
 import played
+from played import Tally
 
 import console
 import draw
@@ -153,18 +154,6 @@ class Text:
         self.right, self.top, self.bottom = self.left + width, self.y - ABOVE, self.y + BELOW
 
 
-class Judge:
-    """Keeps what differs."""
-
-    def __init__(self) -> None:
-        self.wrong, self.count = list[str](), 0
-
-    def holds(self, is_so: object, *about: object) -> None:
-        self.count += 1
-        if not is_so:
-            self.wrong.append(": ".join(map(str, about)))
-
-
 def run(script: str, *words: str) -> tuple[int, str, str]:
     done = subprocess.run([sys.executable, DRAW, *words], input=script.encode(), capture_output=True)
     return done.returncode, done.stdout.decode(), done.stderr.decode()
@@ -193,12 +182,12 @@ def scripts() -> typing.Iterator[tuple[str, str]]:
         yield f"seed {seed}", scenario.Scenario(seed, 160).script()
 
 
-def whole(judge: Judge, name: str, picture: Picture) -> None:
+def whole(tally: Tally, name: str, picture: Picture) -> None:
     for text in picture.texts:
         is_on = 0 <= text.left and text.right <= picture.width and 0 <= text.top and text.bottom <= picture.height
-        judge.holds(is_on, name, "off the canvas", text.shown)
-        judge.holds(text.is_cut == text.shown.endswith("…"), name, "cut, and not there whole", text.shown)
-        judge.holds(
+        tally.holds(is_on, name, "off the canvas", text.shown)
+        tally.holds(text.is_cut == text.shown.endswith("…"), name, "cut, and not there whole", text.shown)
+        tally.holds(
             not text.is_cut or text.whole.startswith(text.shown[:-1]) and len(text.whole) > len(text.shown),
             name,
             "cut",
@@ -206,13 +195,13 @@ def whole(judge: Judge, name: str, picture: Picture) -> None:
         )
     for path in picture.paths:
         x, y, end = map(int, re.findall(r"\d+", path))
-        judge.holds(
+        tally.holds(
             x <= picture.width and y <= picture.height and end <= (picture.width if "H" in path else picture.height),
             name,
             path,
         )
     for x, y, wide, high in picture.boxes:
-        judge.holds(
+        tally.holds(
             0 <= x and x + wide <= picture.width and 0 <= y and y + high <= picture.height,
             name,
             "a box is off the canvas",
@@ -224,25 +213,25 @@ def whole(judge: Judge, name: str, picture: Picture) -> None:
         for other in texts[place + 1 :]:
             if other.top >= one.bottom:
                 break
-            judge.holds(
+            tally.holds(
                 other.left >= one.right or one.left >= other.right, name, "on one another", one.shown, other.shown
             )
     for style, arrows in ((None, picture.arrows[::2]), ("reply", picture.arrows[1::2])):
         labels = [text for text in picture.texts if text.style == style]
-        judge.holds(len(labels) == len(arrows), name, "labels and arrows", style, len(labels), len(arrows))
+        tally.holds(len(labels) == len(arrows), name, "labels and arrows", style, len(labels), len(arrows))
         for label, (x, y, end) in zip(labels, arrows):
             is_on = min(x, end) <= label.left and label.right <= max(x, end) and y - SIZE <= label.bottom <= y
-            judge.holds(is_on, name, "not on its arrow", label.shown)
+            tally.holds(is_on, name, "not on its arrow", label.shown)
 
 
-def named(judge: Judge, name: str, script: str, picture: Picture, lines: list[str]) -> None:
+def named(tally: Tally, name: str, script: str, picture: Picture, lines: list[str]) -> None:
     """Who is named: whoever asks, is asked, or stands in a line of the script but of those of a job that is not begun.
     """
     rows = sorted({text.y for text in picture.names})
     shown = [[text.shown for text in picture.names if text.y == y] for y in rows]
-    judge.holds(all(row == shown[0] for row in shown), name, "other names further below")
+    tally.holds(all(row == shown[0] for row in shown), name, "other names further below")
     gaps = [end - begin for begin, end in zip([0, *rows], [*rows, picture.height])]
-    judge.holds(max(gaps) <= SCREEN, name, "no names for", max(gaps))
+    tally.holds(max(gaps) <= SCREEN, name, "no names for", max(gaps))
     asked = [re.match(r"  (\d+) -> s(\d+) ", line) for line in lines]
     acting = {f"agent {found[1]}" for found in asked if found} | {f"server {found[2]}" for found in asked if found}
     for words in map(str.split, script.splitlines()):
@@ -250,10 +239,10 @@ def named(judge: Judge, name: str, script: str, picture: Picture, lines: list[st
             acting.add(f"server {words[1]}")
         elif words and words[0] in ("begin", "sweep", "forget"):
             acting.add(f"agent {words[1]}")
-    judge.holds(set(shown[0] if shown else ()) == acting, name, "named are", shown[:1], "and not", sorted(acting))
+    tally.holds(set(shown[0] if shown else ()) == acting, name, "named are", shown[:1], "and not", sorted(acting))
 
 
-def begun_there(judge: Judge, name: str, picture: Picture, lines: list[str]) -> None:
+def begun_there(tally: Tally, name: str, picture: Picture, lines: list[str]) -> None:
     """Jobs have the numbers with which they end, and are on one screen with their first arrow."""
     ended = [re.match(r"(\d+)\.(\d+) ", line) for line in lines]
     jobs = {(int(found[1]), int(found[2])) for found in ended if found}
@@ -263,8 +252,8 @@ def begun_there(judge: Judge, name: str, picture: Picture, lines: list[str]) -> 
         for found in [re.match(r"job (\d+) \(t (\d+)\)", words)]
         if found
     }
-    judge.holds(jobs <= shown.keys(), name, "jobs that are not named", sorted(jobs - shown.keys()))
-    judge.holds(all(t == 64 * job + agent for (agent, job), t in shown.items()), name, "t of a job", shown)
+    tally.holds(jobs <= shown.keys(), name, "jobs that are not named", sorted(jobs - shown.keys()))
+    tally.holds(all(t == 64 * job + agent for (agent, job), t in shown.items()), name, "t of a job", shown)
     rows = sorted({text.y for text in picture.names})
     arrows = sorted(y for _, y, _ in picture.arrows)
     for text in picture.texts:
@@ -274,7 +263,7 @@ def begun_there(judge: Judge, name: str, picture: Picture, lines: list[str]) -> 
             else None
         )
         is_near = first is not None and first - text.y < draw.NEAR * draw.BAND
-        judge.holds(
+        tally.holds(
             not is_near or not any(text.y < row < first for row in rows),
             name,
             "names between a job and its first arrow",
@@ -282,10 +271,10 @@ def begun_there(judge: Judge, name: str, picture: Picture, lines: list[str]) -> 
         )
 
 
-def folded(judge: Judge, name: str, script: str, lines: list[str]) -> None:
+def folded(tally: Tally, name: str, script: str, lines: list[str]) -> None:
     picture = drawn(script, "--fold", "--anyway")
     count = sum("->" in line for line in lines if line.startswith("  "))
-    judge.holds(
+    tally.holds(
         len(picture.arrows) // 2 + len(picture.dots) == count,
         name,
         "--fold leaves out requests",
@@ -294,66 +283,66 @@ def folded(judge: Judge, name: str, script: str, lines: list[str]) -> None:
         count,
     )
     for one in picture.texts:
-        judge.holds(0 <= one.left and one.right <= picture.width, name, "--fold: off the canvas", one.shown)
+        tally.holds(0 <= one.left and one.right <= picture.width, name, "--fold: off the canvas", one.shown)
 
 
-def everybody(judge: Judge) -> None:
+def everybody(tally: Tally) -> None:
     for name, script in SCRIPTS.items():
         counts = [(word, int(re.search(rf"^{word}s (\d+)", script, re.M)[1])) for word in ("agent", "server")]
         wanted = {f"{word} {number}" for word, count in counts for number in range(count)}
-        judge.holds(set(drawn(script, "--all").places.values()) == wanted, name, "--all leaves some out")
+        tally.holds(set(drawn(script, "--all").places.values()) == wanted, name, "--all leaves some out")
 
 
-def chosen(judge: Judge) -> None:
+def chosen(tally: Tally) -> None:
     two, picture = SCRIPTS["two"], drawn(SCRIPTS["two"])
     every = picture.requests()
-    judge.holds(("agent 1", "forgets its cache of site 0") in picture.said(), "forget is not drawn")
-    judge.holds(drawn(two, "--from", "5", "--to", "9").requests() == every[4:9], "--from 5 --to 9")
-    judge.holds(drawn(two, "--to", "3").requests() == every[:3], "--to 3")
-    judge.holds(drawn(two, "--from", str(len(every))).requests() == every[-1:], "--from the last")
+    tally.holds(("agent 1", "forgets its cache of site 0") in picture.said(), "forget is not drawn")
+    tally.holds(drawn(two, "--from", "5", "--to", "9").requests() == every[4:9], "--from 5 --to 9")
+    tally.holds(drawn(two, "--to", "3").requests() == every[:3], "--to 3")
+    tally.holds(drawn(two, "--from", str(len(every))).requests() == every[-1:], "--from the last")
     own = drawn(two, "--agent", "1")
-    judge.holds(own.requests() == [one for one in every if one[0] == "agent 1"], "--agent 1")
-    judge.holds(("agent 1", "forgets its cache of site 0") in own.said(), "forget of an agent is not drawn")
-    judge.holds(
+    tally.holds(own.requests() == [one for one in every if one[0] == "agent 1"], "--agent 1")
+    tally.holds(("agent 1", "forgets its cache of site 0") in own.said(), "forget of an agent is not drawn")
+    tally.holds(
         {("server 1", "crashes"), ("server 1", "restarts")} <= set(own.said()),
         "servers are left out for an agent",
         own.said(),
     )
     part = drawn(two, "--agent", "1", "--from", "2", "--to", "4").requests()
-    judge.holds(part == own.requests()[1:4], "--agent 1 --from 2 --to 4")
-    judge.holds(
+    tally.holds(part == own.requests()[1:4], "--agent 1 --from 2 --to 4")
+    tally.holds(
         drawn(two, "--suite", "/d/f").requests() == drawn(two, "--suite", "2").requests() != [], "a path and its number"
     )
     status, text, said = run(two, "--from", "1000")
-    judge.holds(status == 1 and text == "" and f"{len(every)} requests" in said, "--from behind the last", said)
-    judge.holds(run(two, "--from", "3", "--to", "2")[:2] == (1, ""), "--from above --to")
-    judge.holds(run(two, "--to", "0")[0] == 2, "--to 0")
-    judge.holds(not drawn(SCRIPTS["still"]).names and len(drawn(SCRIPTS["still"]).texts) == 1, "nothing happens")
+    tally.holds(status == 1 and text == "" and f"{len(every)} requests" in said, "--from behind the last", said)
+    tally.holds(run(two, "--from", "3", "--to", "2")[:2] == (1, ""), "--from above --to")
+    tally.holds(run(two, "--to", "0")[0] == 2, "--to 0")
+    tally.holds(not drawn(SCRIPTS["still"]).names and len(drawn(SCRIPTS["still"]).texts) == 1, "nothing happens")
 
 
-def stands(judge: Judge) -> None:
+def stands(tally: Tally) -> None:
     """What was so before the first request: a job that is under way, and a server that is down."""
     lines = [begun(0, "file /a 666"), "crash 2", begun(0, "read /a"), begun(1, "write /a 00"), begun(0, "write /a 00")]
     picture = drawn(script_of(3, 2, "1,1,1/2/2", *lines))
     at = next(place for place, one in enumerate(picture.requests(), 1) if one[0] == "agent 1") + 1
     later = drawn(script_of(3, 2, "1,1,1/2/2", *lines), "--from", str(at))
-    judge.holds(later.requests() == picture.requests()[at - 1 :], "--from in a job")
-    judge.holds(
+    tally.holds(later.requests() == picture.requests()[at - 1 :], "--from in a job")
+    tally.holds(
         later.said()[:2] == [("server 2", "is down"), ("agent 1", "begun before, job 0 (t 1), user 1000: write /a 00")],
         "before",
         later.said(),
     )
     server = next(x for x, name in later.places.items() if name == "server 2")
-    judge.holds(
+    tally.holds(
         [(x + wide / 2, high > later.height - 100 - draw.LEGEND) for x, _, wide, high in later.greys]
         == [(server, True)],
         "grey from before",
         later.greys,
     )
-    judge.holds(all("file /a" not in words for _, words in later.said()), "a job that ended before is drawn")
+    tally.holds(all("file /a" not in words for _, words in later.said()), "a job that ended before is drawn")
 
 
-def about(judge: Judge, program: str) -> None:
+def about(tally: Tally, program: str) -> None:
     """--suite draws the jobs that asked for it, of which `play` tells how many requests they took."""
     lines = [
         begun(0, "file /a 666"),
@@ -369,30 +358,30 @@ def about(judge: Judge, program: str) -> None:
         f"job {job} (t {64 * job}), user 1000: {asked}"
         for job, asked in ((1, "file /b 666"), (3, "write /b 00"), (4, "read /b"))
     ]
-    judge.holds([words for _, words in picture.said()] == wanted, "--suite /b", picture.said())
+    tally.holds([words for _, words in picture.said()] == wanted, "--suite /b", picture.said())
     own = counts[1] + counts[3] + counts[4]
     # of a job is drawn what it asks of the suite itself, and of its transaction
-    judge.holds(0 < len(picture.requests()) <= own, "requests about /b", len(picture.requests()), own)
-    judge.holds(
+    tally.holds(0 < len(picture.requests()) <= own, "requests about /b", len(picture.requests()), own)
+    tally.holds(
         all("/b" in asked or asked.startswith(("decide", "finish")) for _, _, asked in picture.requests()),
         "--suite /b draws others",
     )
 
 
-def many(judge: Judge, program: str) -> None:
+def many(tally: Tally, program: str) -> None:
     script = script_of(
         3, 2, "1,1,1/2/2", begun(0, "file /a 666"), *[begun(number % 2, "read /a") for number in range(250)]
     )
     total = sum(jobs(program, script))
-    judge.holds(total > 2000, "the script has too few requests", total)
+    tally.holds(total > 2000, "the script has too few requests", total)
     status, text, said = run(script)
     words = [f"{total:,} requests", "2,000", "--agent A", "--suite S", "--from N --to M", "--anyway"]
-    judge.holds((status, text) == (1, "") and all(word in said for word in words), "above 2,000", said)
-    judge.holds(len(drawn(script, "--anyway").requests()) == total, "--anyway")
-    judge.holds(len(drawn(script, "--to", "2000").requests()) == 2000, "2,000 are not drawn")
-    judge.holds(run(script, "--to", "2001")[0] == 1, "2,001 are drawn")
-    judge.holds(0 < len(drawn(script, "--agent", "1").requests()) < total, "--agent of many")
-    judge.holds(len(drawn(script, "--from", str(total - 4)).requests()) == 5, "--from of many")
+    tally.holds((status, text) == (1, "") and all(word in said for word in words), "above 2,000", said)
+    tally.holds(len(drawn(script, "--anyway").requests()) == total, "--anyway")
+    tally.holds(len(drawn(script, "--to", "2000").requests()) == 2000, "2,000 are not drawn")
+    tally.holds(run(script, "--to", "2001")[0] == 1, "2,001 are drawn")
+    tally.holds(0 < len(drawn(script, "--agent", "1").requests()) < total, "--agent of many")
+    tally.holds(len(drawn(script, "--from", str(total - 4)).requests()) == 5, "--from of many")
 
 
 def written(script: str, size: int, agent: int | None) -> str:
@@ -403,22 +392,22 @@ def written(script: str, size: int, agent: int | None) -> str:
     return out.getvalue().decode("latin1")
 
 
-def told(judge: Judge, name: str, script: str, lines: list[str]) -> None:
+def told(tally: Tally, name: str, script: str, lines: list[str]) -> None:
     known = trace.paths(lines)
     whole = "".join(f"{line}\n" for line in trace.with_paths(trace.behind(lines), known))
     for size in (97, 4096, 4 << 20):
-        judge.holds(written(script, size, None) == whole, name, "told in pieces of", size)
-    judge.holds(written(script, 97, 1) == trace.shown(lines, 1), name, "told of an agent in pieces")
+        tally.holds(written(script, size, None) == whole, name, "told in pieces of", size)
+    tally.holds(written(script, 97, 1) == trace.shown(lines, 1), name, "told of an agent in pieces")
     verbs = ("begin", "sweep", "step", "run", "crash", "return", "forget", "audit")
     given = [line for line in script.splitlines() if line.startswith(verbs)]
-    judge.holds(
+    tally.holds(
         [line[2:] for line in whole.splitlines() if line.startswith("> ")] == given, name, "lines of the script"
     )
     asked = [line.partition(" : ")[0] for line in whole.splitlines() if re.match(r"  \d", line)]
-    judge.holds(all(len(words) == max(56, len(words.rstrip())) for words in asked), name, "where replies stand")
+    tally.holds(all(len(words) == max(56, len(words.rstrip())) for words in asked), name, "where replies stand")
     for suite in (0, 1, 2, 9, 10):
         found = trace.narrowed(["\n".join([*lines, ""])], None, suite)
-        judge.holds(list(found) == about_suite(lines, suite), name, "told of suite", suite)
+        tally.holds(list(found) == about_suite(lines, suite), name, "told of suite", suite)
 
 
 def about_suite(lines: list[str], suite: int) -> list[str]:
@@ -456,7 +445,7 @@ def about_suite(lines: list[str], suite: int) -> list[str]:
     return [line for place, line in enumerate(lines) if place in shown]
 
 
-def unordered(judge: Judge) -> None:
+def unordered(tally: Tally) -> None:
     """A folder's names may be told before its own is."""
     lines = [
         f"  0 -> s0  t 0 fetch suite {suite} : given, content 1 names {names}"
@@ -464,7 +453,7 @@ def unordered(judge: Judge) -> None:
     ]
     wanted = {0: "/", 1: "/a", 9: "/d", 17: "/d/f", 25: "/d/g", 33: "/d/f/h"}
     for told in (lines, lines[::-1], ["\n".join(lines)]):
-        judge.holds(trace.paths(told) == wanted, "paths", trace.paths(told))
+        tally.holds(trace.paths(told) == wanted, "paths", trace.paths(told))
 
 
 SLOW = (
@@ -473,7 +462,7 @@ SLOW = (
 )
 
 
-def slow(judge: Judge) -> None:
+def slow(tally: Tally) -> None:
     """Standard error of both tools, as if each took longer than two seconds, where it is a terminal and where it is
     not.
     """
@@ -484,12 +473,12 @@ def slow(judge: Judge) -> None:
         done = subprocess.run(words, input=script, stdout=subprocess.PIPE, stderr=terminal, cwd=folder)
         os.close(terminal)
         said = read_all(own)
-        judge.holds(
+        tally.holds(
             done.returncode == 0 and " % of the script is played, 0 s" in said, tool, "a terminal is told", said
         )
-        judge.holds(said.endswith("\r\033[K"), tool, "what was said last stays", said[-60:])
+        tally.holds(said.endswith("\r\033[K"), tool, "what was said last stays", said[-60:])
         silent = subprocess.run(words, input=script, capture_output=True, cwd=folder)
-        judge.holds(
+        tally.holds(
             "%" not in silent.stderr.decode() and silent.stdout == done.stdout, tool, "not on a terminal", silent.stderr
         )
 
@@ -511,34 +500,31 @@ def read_all(terminal: int) -> str:
 def main() -> int:
     read = console.words(__doc__)
     read.add_argument("program", nargs="?")
-    program, judge = played.program(read.parse_args().program), Judge()
+    program, tally = played.program(read.parse_args().program), Tally(most=20)
     cut = 0
     for name, script in scripts():
         lines = trace.traced(script.encode())
         picture = Picture(draw.picture_of(lines))
-        whole(judge, name, picture)
-        named(judge, name, script, picture, lines)
-        told(judge, name, script, lines)
-        begun_there(judge, name, picture, lines)
-        folded(judge, name, script, lines)
-        judge.holds(
+        whole(tally, name, picture)
+        named(tally, name, script, picture, lines)
+        told(tally, name, script, lines)
+        begun_there(tally, name, picture, lines)
+        folded(tally, name, script, lines)
+        tally.holds(
             len(picture.requests()) == sum("->" in line for line in lines if line.startswith("  ")),
             name,
             "requests that are drawn",
         )
         cut += sum(text.is_cut for text in picture.texts)
-    judge.holds(cut > 0, "no label was cut")
-    unordered(judge)
-    everybody(judge)
-    chosen(judge)
-    stands(judge)
-    about(judge, program)
-    many(judge, program)
-    slow(judge)
-    for one in judge.wrong[:20]:
-        print(one)
-    print(f"{judge.count} looked at, {len(judge.wrong)} differ")
-    return 1 if judge.wrong or not judge.count else 0
+    tally.holds(cut > 0, "no label was cut")
+    unordered(tally)
+    everybody(tally)
+    chosen(tally)
+    stands(tally)
+    about(tally, program)
+    many(tally, program)
+    slow(tally)
+    return tally.told("looked at")
 
 
 if __name__ == "__main__":

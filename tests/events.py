@@ -17,6 +17,7 @@ from typing import Any
 import drawn
 import played
 import shown_page
+from played import Tally
 
 import scenario
 import show
@@ -183,29 +184,26 @@ def lines_in(lines: list[str]) -> Iterator[str]:
 
 
 def main() -> int:
-    judge = shown_page.Judge()
+    tally = Tally(most=20, width=600)
     with open(SCHEMA, encoding="utf-8") as file:
         schema = Schema(json.load(file))
     for name, script in scripts():
         events = [json.loads(line) for line in show.events_of(script.encode())]
         for event in events:
             said = schema.refused(event, schema.whole)
-            judge.holds(said is None, name, "event", event.get("event"), said)
-        judge.holds([event["event"] for event in events] == [*range(len(events))], name, "numbers of events")
-        judge.holds(replayed(events) == events[-1]["servers"], name, "what changed is not what there is at the end")
-        judge.holds(agents_replayed(events) == events[-1]["agents"], name, "agents by their changes")
+            tally.holds(said is None, name, "event", event.get("event"), said)
+        tally.holds([event["event"] for event in events] == [*range(len(events))], name, "numbers of events")
+        tally.holds(replayed(events) == events[-1]["servers"], name, "what changed is not what there is at the end")
+        tally.holds(agents_replayed(events) == events[-1]["agents"], name, "agents by their changes")
         for event, is_so in talks(events):
-            judge.holds(is_so, name, "gathered otherwise than replies say", event)
+            tally.holds(is_so, name, "gathered otherwise than replies say", event)
         lines = trace.traced(script.encode())
         for own, told in zip([*lines_of(events), None], [*lines_in(lines), None]):
-            judge.holds(own == told, name, "told otherwise", own, told)
+            tally.holds(own == told, name, "told otherwise", own, told)
     for words in (["--json", "x"], ["--json", ""], ["x", "--json"]):
         done = subprocess.run([trace.program(), *words], stdin=subprocess.DEVNULL, capture_output=True, check=False)
-        judge.holds((done.returncode, done.stdout) == (2, b"fault command line\n"), "words", words, done)
-    for one in judge.wrong[:20]:
-        print(one[:600])
-    print(f"{judge.count} looked at, {len(judge.wrong)} differ")
-    return 1 if judge.wrong else 0
+        tally.holds((done.returncode, done.stdout) == (2, b"fault command line\n"), "words", words, done)
+    return tally.told("looked at")
 
 
 if __name__ == "__main__":

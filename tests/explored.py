@@ -25,6 +25,7 @@ import tempfile
 import typing
 
 import played
+from played import Tally
 
 import beside
 import compare
@@ -145,23 +146,6 @@ def differs_when_played(script: str, way: tuple[str, ...], suites: str) -> list[
     return wrong + compare.differences(script)[0]
 
 
-class Tally:
-    """What was compared, and what differs."""
-
-    def __init__(self) -> None:
-        self.count = self.wrong = 0
-
-    def holds(self, is_so: bool, about: str) -> None:
-        self.count += 1
-        if not is_so:
-            self.wrong += 1
-            print(about)
-
-    def told(self) -> int:
-        print(f"{self.count} ways and answers compared, {self.wrong} differ")
-        return 1 if self.wrong else 0
-
-
 def kept() -> typing.Iterator[tuple[str, str, str]]:
     """The scripts with kept ways: name, words and text of each."""
     for folder in (STORIES, KEPT):
@@ -201,7 +185,7 @@ def compare_kept(every: int) -> int:
                     f"{name}: there is a way {missing}")
         status, told = explored(program, text, f"{words} --worlds 10")
         tally.holds(status == 7 and "\nnot all: " in f"\n{told}", f"{name}: 10 worlds are all")
-    return tally.told()
+    return tally.told("ways and answers compared")
 
 
 class Explorable(scenario.Scenario):
@@ -252,7 +236,7 @@ def compare_random(given: argparse.Namespace) -> int:
             about = f"seed {seed - 1}: the ways are told in another order, or with other ends"
             tally.holds(told == wanted.printed(), about)
     print(f"{count} scripts of {seed - given.first}, those with up to {MOST_WORLDS} worlds")
-    return tally.told()
+    return tally.told("ways and answers compared")
 
 
 def write(given: argparse.Namespace) -> int:

@@ -15,11 +15,10 @@ import typing
 
 import played
 
-import fitting
 import forms
 
 # A word that fits in each place, whatever fits in the others.
-SAMPLES = {**fitting.SAMPLES, "OPERATIONS": "read /a"}
+SAMPLES = {**{name: place.sample for name, place in forms.PLACES.items()}, "OPERATIONS": "read /a"}
 LAST = {"servers": int(SAMPLES["SERVERS"]) - 1, "agents": int(SAMPLES["AGENTS"]) - 1}
 
 

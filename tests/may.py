@@ -17,6 +17,7 @@ import sys
 import tempfile
 
 import played
+from played import Tally
 
 import console
 from machine import changes, everybody, lint, lists, mounts, people, program
@@ -58,37 +59,26 @@ ROWS = [
 ]
 
 
-class Tests:
-    def __init__(self) -> None:
-        self.count = self.wrong = 0
-
-    def holds(self, given: object, about: str) -> None:
-        self.count += 1
-        if not given:
-            self.wrong += 1
-            print(about)
-
-
-def plays_rows(tests: Tests) -> None:
+def plays_rows(tally: Tally) -> None:
     for given, status, printed in ROWS:
         done = subprocess.run([program.program()], input=given.encode(), stdout=subprocess.PIPE)
-        tests.holds(
+        tally.holds(
             (done.returncode, done.stdout.decode()) == (status, printed),
             f"{given!r}: {done.returncode} {done.stdout!r}, and not {status} {printed!r}",
         )
     for words, status, printed in ((["--help"], 0, "Answers questions"), (["-x"], 2, "fault command line\n")):
         done = subprocess.run([program.program(), *words], stdin=subprocess.DEVNULL, stdout=subprocess.PIPE)
-        tests.holds(done.returncode == status and done.stdout.decode().startswith(printed), f"{words}: {done}")
+        tally.holds(done.returncode == status and done.stdout.decode().startswith(printed), f"{words}: {done}")
     with open("/dev/full", "wb") as full:
         done = subprocess.run([program.program()], input=f"1 1 1 1 r {LIST}\n".encode(), stdout=full)
-    tests.holds(done.returncode == 6, f"a write that fails: {done.returncode}")
+    tally.holds(done.returncode == 6, f"a write that fails: {done.returncode}")
     done = subprocess.run([program.program()], stdin=os.open("/", os.O_RDONLY), stdout=subprocess.PIPE)
-    tests.holds((done.returncode, done.stdout) == (6, b""), f"a read that fails: {done}")
+    tally.holds((done.returncode, done.stdout) == (6, b""), f"a read that fails: {done}")
     done = subprocess.run([program.program()], input=b"\n" * (MOST + 1), stdout=subprocess.PIPE)
-    tests.holds((done.returncode, done.stdout) == (6, b""), f"an input that is too long: {done}")
+    tally.holds((done.returncode, done.stdout) == (6, b""), f"an input that is too long: {done}")
 
 
-def asks(tests: Tests, words: list[str], status: int, last: str, strict: bool = False) -> None:
+def asks(tally: Tally, words: list[str], status: int, last: str, strict: bool = False) -> None:
     """The command, its status, and what its last line has."""
     env = {**os.environ, **({"PYTHONIOENCODING": "utf-8:strict", "LC_ALL": "C"} if strict else {})}
     command = [sys.executable, os.path.join(played.TOP, "tools", "may.py"), *words]
@@ -97,13 +87,13 @@ def asks(tests: Tests, words: list[str], status: int, last: str, strict: bool = 
     )
     # a checked build says so
     lines = [line for line in (done.stdout + done.stderr).splitlines() if not line.startswith("suites: checked build")]
-    tests.holds(
+    tally.holds(
         done.returncode == status and lines and last in lines[-1],
         f"may {words}: {done.returncode}, and not {status} with {last!r}: {lines}",
     )
 
 
-def asks_of_files(tests: Tests) -> None:
+def asks_of_files(tally: Tally) -> None:
     with tempfile.TemporaryDirectory(prefix="suites-") as room:
         os.chmod(room, 0o755)
         file, folder = os.path.join(room, "f"), os.path.join(room, "d")
@@ -114,18 +104,18 @@ def asks_of_files(tests: Tests) -> None:
         os.symlink("../f", os.path.join(folder, "l"))
         other = ["--groups", "65000", "65000"]
         asks(
-            tests, [*other, "r", file], 1, f"65000 (65000; groups 65000) may not r: {file} wants r--, other grants ---"
+            tally, [*other, "r", file], 1, f"65000 (65000; groups 65000) may not r: {file} wants r--, other grants ---"
         )
-        asks(tests, [*other, "r", os.path.join(folder, "l")], 1, f"{folder} wants --x, other grants ---")
-        asks(tests, ["--groups", str(os.stat(file).st_gid), "65000", "r", file], 0, f"may r: {file}")
+        asks(tally, [*other, "r", os.path.join(folder, "l")], 1, f"{folder} wants --x, other grants ---")
+        asks(tally, ["--groups", str(os.stat(file).st_gid), "65000", "r", file], 0, f"may r: {file}")
         os.chmod(folder, 0o711)
         os.chmod(file, 0o644)
-        asks(tests, [*other, "r", os.path.join(folder, "l")], 0, "may r: ")
-        asks(tests, [*other, "r", file, os.path.join(room, "no")], 3, "No such file or directory")
-        asks(tests, [*other, "r", os.path.join(file, "no")], 3, "Not a directory")
-        asks(tests, ["0", "rw", file], 0, "Linux lets root pass")
-        asks(tests, ["0", "x", file], 1, "Linux lets root execute no file that nobody may execute")
-        asks(tests, ["0", "x", folder, "--under", room], 2, "a user and what it wants are told")
+        asks(tally, [*other, "r", os.path.join(folder, "l")], 0, "may r: ")
+        asks(tally, [*other, "r", file, os.path.join(room, "no")], 3, "No such file or directory")
+        asks(tally, [*other, "r", os.path.join(file, "no")], 3, "Not a directory")
+        asks(tally, ["0", "rw", file], 0, "Linux lets root pass")
+        asks(tally, ["0", "x", file], 1, "Linux lets root execute no file that nobody may execute")
+        asks(tally, ["0", "x", folder, "--under", room], 2, "a user and what it wants are told")
     bad: tuple[list[str], ...] = (
         [],
         ["root", "r"],
@@ -146,10 +136,10 @@ def asks_of_files(tests: Tests) -> None:
         ["--without", "u:no one", "/"],
     )
     for words in bad:
-        asks(tests, list(words), 2, "(./suites may --help)")
+        asks(tally, list(words), 2, "(./suites may --help)")
 
 
-def asks_of_names(tests: Tests) -> None:
+def asks_of_names(tally: Tally) -> None:
     """Names that are no text or that would forge a line, and paths that there cannot be."""
     with tempfile.TemporaryDirectory(prefix="suites-") as room:
         os.chmod(room, 0o755)
@@ -159,22 +149,22 @@ def asks_of_names(tests: Tests) -> None:
             os.chmod(path, 0o600)
         other = ["--groups", "65000", "65000"]
         for strict in (False, True):
-            asks(tests, [*other, "r", os.fsdecode(odd)], 1, f'"{room}/\\377" wants r--', strict)
-            asks(tests, [*other, "r", forged], 1, f'"{room}/a\\n1 (1; groups 1) may r: b" wants r--', strict)
-            asks(tests, [*other, "r", "--under", room], 0, room, strict)
-        asks(tests, ["0", "r", ""], 3, '"": No such file or directory')
-        asks(tests, ["0", "r", "/" + "a/" * 2100], 3, "File name too long")
-        asks(tests, ["0", "w", os.path.join(room, "no")], 3, "whether it may be made: ./suites may 0 create ")
-        asks(tests, ["0", "create", os.path.join(room, "no")], 0, "Linux lets root pass")
-        asks(tests, ["0", "create", forged], 1, "is there already")
-        asks(tests, ["0", "delete", os.path.join(room, "no")], 3, "No such file or directory")
-        asks(tests, [*other, "create", os.path.join(room, "no")], 1, f"{room} wants -wx, other grants r-x")
-        asks(tests, [*other, "delete", forged], 1, f"{room} wants -wx, other grants r-x")
+            asks(tally, [*other, "r", os.fsdecode(odd)], 1, f'"{room}/\\377" wants r--', strict)
+            asks(tally, [*other, "r", forged], 1, f'"{room}/a\\n1 (1; groups 1) may r: b" wants r--', strict)
+            asks(tally, [*other, "r", "--under", room], 0, room, strict)
+        asks(tally, ["0", "r", ""], 3, '"": No such file or directory')
+        asks(tally, ["0", "r", "/" + "a/" * 2100], 3, "File name too long")
+        asks(tally, ["0", "w", os.path.join(room, "no")], 3, "whether it may be made: ./suites may 0 create ")
+        asks(tally, ["0", "create", os.path.join(room, "no")], 0, "Linux lets root pass")
+        asks(tally, ["0", "create", forged], 1, "is there already")
+        asks(tally, ["0", "delete", os.path.join(room, "no")], 3, "No such file or directory")
+        asks(tally, [*other, "create", os.path.join(room, "no")], 1, f"{room} wants -wx, other grants r-x")
+        asks(tally, [*other, "delete", forged], 1, f"{room} wants -wx, other grants r-x")
         os.chmod(room, 0o1777)
-        asks(tests, [*other, "delete", forged], 1, "is sticky")
-        asks(tests, [*other, "r", "/proc/self/status"], 3, "the kernel decides there by other rules")
-        asks(tests, ["0", "w", "/sys/kernel"], 3, "the kernel decides there by other rules")
-        asks(tests, ["0", "x", "/dev/null"], 1, "is a device, and Linux executes files alone")
+        asks(tally, [*other, "delete", forged], 1, "is sticky")
+        asks(tally, [*other, "r", "/proc/self/status"], 3, "the kernel decides there by other rules")
+        asks(tally, ["0", "w", "/sys/kernel"], 3, "the kernel decides there by other rules")
+        asks(tally, ["0", "x", "/dev/null"], 1, "is a device, and Linux executes files alone")
 
 
 def value_of(entries: list[tuple[int, int, int]]) -> bytes:
@@ -191,7 +181,7 @@ def base(perms: int = 0) -> list[tuple[int, int, int]]:
     ]
 
 
-def asks_of_lists(tests: Tests) -> None:
+def asks_of_lists(tally: Tally) -> None:
     """Lists that are not judged here, beside one that is; lists of others that are, by what denies or grants."""
     callers = [
         Caller(f"n{uid}", uid, gid, ()) for uid, gid in ((0, 0), (1001, 300), (1002, 200), (1003, 300), (1004, 200))
@@ -222,36 +212,36 @@ def asks_of_lists(tests: Tests) -> None:
             print("no lists here, so they are not asked of")
             return
         other = ["--groups", "65000", "65000"]
-        asks(tests, [*other, "r", plain_one, many], 3, f"{many}: not judged here: its list has 154 entries")
-        asks(tests, [*other, "r", many, plain_one], 3, f"{many}: not judged here")
+        asks(tally, [*other, "r", plain_one, many], 3, f"{many}: not judged here: its list has 154 entries")
+        asks(tally, [*other, "r", many, plain_one], 3, f"{many}: not judged here")
         told = everybody.tell_who(callers, 4, twice, way(twice, 4))
         wanted = [
             f"{twice}  r--  n0 (Linux lets root pass); n1001 by user:1001; n1002, n1004 by group:200",
             f"  denied at {twice}: n1003 by other::---",
         ]
-        tests.holds(told == wanted, f"who: {told}")
+        tally.holds(told == wanted, f"who: {told}")
         change = changes.Change(changes.read_entry("g:200", False), False, True)
         told = changes.tell_change(callers, change, twice, way(twice, 4))
-        tests.holds(told[1:] == ["  loses r: n1002, n1004", "  loses x: n0"], f"without: {told}")
+        tally.holds(told[1:] == ["  loses r: n1002, n1004", "  loses x: n0"], f"without: {told}")
         change = changes.Change(changes.read_entry("u:1003:w", True), True, True)
         told = changes.tell_change(callers, change, twice, way(twice, 4))
         # root executes what anybody may, and the new mask lets nobody
-        tests.holds(told[1:] == ["  gains w: n1003", "  loses x: n0"], f"with: {told}")
+        tally.holds(told[1:] == ["  gains w: n1003", "  loses x: n0"], f"with: {told}")
         lint.accounts, kept = (lambda: callers), lint.accounts
         found, _ = lint.lint(room)
         os.chmod(room, 0o700)
         stopped, _ = lint.lint(room)
         lint.accounts = kept
-        tests.holds(any(f"{many}: its list has 154 entries" in line for line in found), f"lint: {found[:3]}")
-        tests.holds(any(f"{twice}: user:1001:r-- reaches nobody" in line for line in stopped), f"lint: {stopped[-3:]}")
+        tally.holds(any(f"{many}: its list has 154 entries" in line for line in found), f"lint: {found[:3]}")
+        tally.holds(any(f"{twice}: user:1001:r-- reaches nobody" in line for line in stopped), f"lint: {stopped[-3:]}")
         os.chmod(room, 0o755)
-    tests.holds(
+    tally.holds(
         lists.fault(tuple(lists.Entry(lists.USER, 7, 4) for _ in range(2))) == "its list names user 7 twice",
         "a user twice",
     )
 
 
-def reads_mounts(tests: Tests) -> None:
+def reads_mounts(tally: Tally) -> None:
     """Mounts, as /proc/self/mountinfo tells them."""
     text = "\n".join(
         [
@@ -263,13 +253,13 @@ def reads_mounts(tests: Tests) -> None:
         ]
     )
     found = mounts.read_mounts(text)
-    tests.holds([one.point for one in found] == ["/proc", "/a b", "/f", "/n", "/t"], f"mounts: {found}")
-    tests.holds(
+    tally.holds([one.point for one in found] == ["/proc", "/a b", "/f", "/n", "/t"], f"mounts: {found}")
+    tally.holds(
         [bool(one.unjudged(f"{one.point}/x")) for one in found] == [True, True, True, True, False],
         "mounts that are not judged",
     )
-    tests.holds(found[1].has("noexec") and found[1].has("ro") and found[4].has("nosymfollow"), "flags of mounts")
-    tests.holds(people.caller_of("0", "5,6") == Caller("root", 0, 5, (6,)), "a caller by its number")
+    tally.holds(found[1].has("noexec") and found[1].has("ro") and found[4].has("nosymfollow"), "flags of mounts")
+    tally.holds(people.caller_of("0", "5,6") == Caller("root", 0, 5, (6,)), "a caller by its number")
 
 
 def plain(code: str) -> str:
@@ -277,16 +267,16 @@ def plain(code: str) -> str:
     return re.sub(r"^ +", "", code, flags=re.M)
 
 
-def shown_code_stands(tests: Tests) -> None:
+def shown_code_stands(tally: Tally) -> None:
     with open(os.path.join(played.TOP, "README.md"), encoding="utf-8") as file:
         code = re.findall(r"^```rust\n(.*?)^```", file.read(), re.M | re.S)
     sources = ""
     for name in sorted(os.listdir(os.path.join(played.TOP, "crates", "may", "src"))):
         with open(os.path.join(played.TOP, "crates", "may", "src", name), encoding="utf-8") as file:
             sources += plain(file.read())
-    tests.holds(code, "README shows no code")
+    tally.holds(code, "README shows no code")
     for block in code:
-        tests.holds(plain(block) in sources, f"this code of README stands in no file of crates/may/src:\n{block}")
+        tally.holds(plain(block) in sources, f"this code of README stands in no file of crates/may/src:\n{block}")
 
 
 def main() -> int:
@@ -295,15 +285,14 @@ def main() -> int:
     named = read.parse_args().program
     if named:
         os.environ["MAY"] = os.path.abspath(named)
-    tests = Tests()
-    plays_rows(tests)
-    asks_of_files(tests)
-    asks_of_names(tests)
-    asks_of_lists(tests)
-    reads_mounts(tests)
-    shown_code_stands(tests)
-    print(f"{tests.count} things, {tests.wrong} differ")
-    return 1 if tests.wrong or not tests.count else 0
+    tally = Tally()
+    plays_rows(tally)
+    asks_of_files(tally)
+    asks_of_names(tally)
+    asks_of_lists(tally)
+    reads_mounts(tally)
+    shown_code_stands(tally)
+    return tally.told("things")
 
 
 if __name__ == "__main__":

@@ -1,4 +1,4 @@
-"""The program that a test plays, and the rows of crates/rows/stdin."""
+"""The program that a test plays, the rows of crates/rows/stdin, and what tests count."""
 import os
 import subprocess
 import sys
@@ -29,13 +29,31 @@ def program(named: str | None = None) -> str:
     return path
 
 
+class Tally:
+    """Counts what is looked at, and what of it differs. Prints what is told of this: of the first ones, as many as
+    `most`, and of each so many characters as `width`.
+    """
+
+    def __init__(self, most: int = sys.maxsize, width: int = sys.maxsize) -> None:
+        self.count = self.wrong = 0
+        self.most, self.width = most, width
+
+    def holds(self, is_so: object, *about: object) -> None:
+        self.count += 1
+        if not is_so:
+            self.wrong += 1
+            if self.wrong <= self.most:
+                print(": ".join(map(str, about))[: self.width], flush=True)
+
+    def told(self, what: str) -> int:
+        """The status of a test: 1 where something differs, or nothing was looked at. Prints the counts."""
+        print(f"{self.count} {what}, {self.wrong} differ")
+        return 1 if self.wrong or not self.count else 0
+
+
 def compared(told: typing.Iterable[str], what: str) -> int:
     """The status of a test: 1 where a comparison says what differs, or there was none. Prints that, and the counts."""
-    count = wrong = 0
+    tally = Tally()
     for text in told:
-        count += 1
-        if text:
-            wrong += 1
-            print(text, flush=True)
-    print(f"{count} {what}, {wrong} differ")
-    return 1 if wrong or not count else 0
+        tally.holds(not text, text)
+    return tally.told(what)

@@ -25,6 +25,7 @@ import tempfile
 
 import browser
 import played
+from played import Tally
 
 import scenario
 import show
@@ -80,19 +81,6 @@ last.agents.forEach((agent, number) => {
 });
 console.log(JSON.stringify(wrong));
 """
-
-
-class Judge:
-    """Keeps what differs."""
-
-    def __init__(self) -> None:
-        self.wrong: list[str] = []
-        self.count = 0
-
-    def holds(self, is_so: object, *about: object) -> None:
-        self.count += 1
-        if not is_so:
-            self.wrong.append(": ".join(map(str, about)))
 
 
 class Pages:
@@ -165,7 +153,7 @@ def printed(lines: list[str]) -> list[str]:
     return [line for line in lines if line[:1].isdigit() or line.startswith(("audit ", "t "))]
 
 
-def models(judge: Judge) -> None:
+def models(tally: Tally) -> None:
     node = shutil.which("node")
     if not node:
         return
@@ -174,88 +162,88 @@ def models(judge: Judge) -> None:
         given = json.dumps({"events": show.events_of(script.encode()), "script": script.split("\n")})
         words = [node, "-e", NODE, os.path.join(show.PARTS, "model.js")]
         done = subprocess.run(words, input=given, capture_output=True, text=True, check=False)
-        judge.holds(done.stdout.strip() == "[]", "model", name, done.stdout.strip() or done.stderr[-300:])
+        tally.holds(done.stdout.strip() == "[]", "model", name, done.stdout.strip() or done.stderr[-300:])
 
 
-def whole(judge: Judge, pages: Pages, shots: str | None) -> None:
+def whole(tally: Tally, pages: Pages, shots: str | None) -> None:
     for name, script in stories().items():
         size = pages.open(script)
-        judge.holds(size < MOST_BYTES, name, "bytes of the page", size)
+        tally.holds(size < MOST_BYTES, name, "bytes of the page", size)
         lines = trace.traced(script.encode())
         begun = pages.seen()
-        judge.holds(begun["here"] == 0 and begun["told"] == [], name, "it begins", begun)
+        tally.holds(begun["here"] == 0 and begun["told"] == [], name, "it begins", begun)
         events = [json.loads(line) for line in show.events_of(script.encode())]
         # a third of the way each, then to the end, all by keys: what agents do is looked at where it is stopped
         for place in (begun["last"] // 3, 2 * begun["last"] // 3, begun["last"]):
             pages.driver.press("ArrowRight", place - pages.seen()["here"])
             seen = pages.seen()
-            judge.holds(seen["here"] == place, name, "keys lead to", place, seen["here"])
+            tally.holds(seen["here"] == place, name, "keys lead to", place, seen["here"])
             if shots and name in SHOT:
                 pages.driver.shot(os.path.join(shots, f"{name}-{place}.png"))
             told = agents_at(events, place)
-            judge.holds(seen["agents"] == told, name, "agents", place, seen["agents"], told)
-        judge.holds(seen["servers"] == ended(lines), name, "servers", seen["servers"], ended(lines))
-        judge.holds(seen["told"] == seen["text"] == printed(lines), name, "what play prints", seen["told"])
+            tally.holds(seen["agents"] == told, name, "agents", place, seen["agents"], told)
+        tally.holds(seen["servers"] == ended(lines), name, "servers", seen["servers"], ended(lines))
+        tally.holds(seen["told"] == seen["text"] == printed(lines), name, "what play prints", seen["told"])
         pages.driver.press("ArrowLeft", 2)
-        judge.holds(pages.seen()["here"] == max(0, seen["last"] - 2), name, "keys lead back")
+        tally.holds(pages.seen()["here"] == max(0, seen["last"] - 2), name, "keys lead back")
         pages.driver.press("Home")
-        judge.holds(pages.seen()["servers"] == begun["servers"], name, "Home leads to the beginning")
+        tally.holds(pages.seen()["servers"] == begun["servers"], name, "Home leads to the beginning")
 
 
-def hostile(judge: Judge, pages: Pages) -> None:
+def hostile(tally: Tally, pages: Pages) -> None:
     digits = EVIL.encode().hex()
     asked = f"file /a u::rw,u:{NAMED}:rw,g::r,m::rw,o::- ; write /a {digits}"
     pages.open(script_of(f"user {NAMED} 1001", f"begin 0 1000 100 0 {asked}",
                          "run 0", "begin 0 1000 100 0 read /a", "run 0"))
     pages.driver.press("End")
     driver = pages.driver
-    judge.holds(driver.value("document.images.length") == 0, "an image came of a name or of bytes")
-    judge.holds(driver.value("document.scripts.length") == 4, "a script came of bytes")
+    tally.holds(driver.value("document.images.length") == 0, "an image came of a name or of bytes")
+    tally.holds(driver.value("document.scripts.length") == 4, "a script came of bytes")
     shown = driver.value("document.getElementById('script').textContent")
-    judge.holds(NAMED in shown, "the script is shown as it is", shown)
+    tally.holds(NAMED in shown, "the script is shown as it is", shown)
     world = driver.value("document.getElementById('world').textContent")
-    judge.holds("</script><s…" in world or "</script>" in world, "bytes are shown as a text", world)
+    tally.holds("</script><s…" in world or "</script>" in world, "bytes are shown as a text", world)
     with open(os.path.join(pages.folder, f"{pages.count}.html"), encoding="utf-8") as file:
-        judge.holds(file.read().count("</script>") == 4, "what bytes hold stands in the page")
+        tally.holds(file.read().count("</script>") == 4, "what bytes hold stands in the page")
 
 
-def hands(judge: Judge, pages: Pages) -> None:
+def hands(tally: Tally, pages: Pages) -> None:
     driver = pages.driver
     with open(os.path.join(STORIES, "revocation.script"), encoding="utf-8") as file:
         pages.open(file.read())
     rows = driver.value("document.querySelectorAll('.row').length")
     driver.click("[data-row='1']")
-    judge.holds(driver.value("document.querySelectorAll('.row').length") >= rows, "a folded phase opens")
-    judge.holds(driver.value("Page.at()") == 3, "a click goes there", driver.value("Page.at()"))
+    tally.holds(driver.value("document.querySelectorAll('.row').length") >= rows, "a folded phase opens")
+    tally.holds(driver.value("Page.at()") == 3, "a click goes there", driver.value("Page.at()"))
     driver.click("#fold")
-    judge.holds(driver.value("document.querySelector('[data-row=\"2\"]').dataset.event") == "4", "phases are unfolded")
+    tally.holds(driver.value("document.querySelector('[data-row=\"2\"]').dataset.event") == "4", "phases are unfolded")
     driver.press("End")
     driver.value("document.querySelector('#world [data-hint=stale]').scrollIntoView()")
     driver.point("#world [data-hint=stale]")
     hint = driver.value("document.getElementById('hint').hidden ? '' : document.getElementById('hint').textContent")
-    judge.holds("newer version" in hint, "what is stale is explained", hint)
+    tally.holds("newer version" in hint, "what is stale is explained", hint)
     driver.value("document.querySelector('#script [data-hint=denied]').focus()")
-    judge.holds("Denied" in driver.value("document.getElementById('hint').textContent"), "the keyboard has hints too")
+    tally.holds("Denied" in driver.value("document.getElementById('hint').textContent"), "the keyboard has hints too")
     driver.click("#world [data-suite='1']")
     life = driver.value("[...document.querySelectorAll('dialog[open] tbody tr')].map((row) => row.innerText)")
-    judge.holds(life and len(life) == 4 and "u::rw,g::r,o::-" in life[-1], "a file through time", life)
+    tally.holds(life and len(life) == 4 and "u::rw,g::r,o::-" in life[-1], "a file through time", life)
     driver.press("Escape")
-    judge.holds(driver.value("document.querySelector('dialog[open]') === null"), "Escape closes it")
+    tally.holds(driver.value("document.querySelector('dialog[open]') === null"), "Escape closes it")
     driver.press("Home")
     driver.value("document.activeElement.blur()")
     driver.press(" ")
-    judge.holds("pause" in driver.value("document.getElementById('play').textContent"), "space plays")
+    tally.holds("pause" in driver.value("document.getElementById('play').textContent"), "space plays")
     driver.press(" ")
-    judge.holds("play" in driver.value("document.getElementById('play').textContent"), "space pauses")
+    tally.holds("play" in driver.value("document.getElementById('play').textContent"), "space pauses")
     driver.click("[data-line='17']")
-    judge.holds(driver.value("Page.run.events[Page.at()].line") == 17, "a click on a line goes there")
+    tally.holds(driver.value("Page.run.events[Page.at()].line") == 17, "a click on a line goes there")
     grounds = []
     for scheme in ("dark", "light"):
         driver.scheme(scheme)
         grounds.append(driver.value("getComputedStyle(document.body).backgroundColor"))
-    judge.holds(grounds[0] != grounds[1], "dark and light", grounds)
-    judge.holds(driver.value("document.documentElement.scrollWidth <= innerWidth"), "the page is wider than the window")
-    judge.holds(len(driver.pages_printed()) > 20_000, "it is printed")
+    tally.holds(grounds[0] != grounds[1], "dark and light", grounds)
+    tally.holds(driver.value("document.documentElement.scrollWidth <= innerWidth"), "the page is wider than the window")
+    tally.holds(len(driver.pages_printed()) > 20_000, "it is printed")
 
 
 def large(requests: int) -> str:
@@ -271,17 +259,17 @@ def large(requests: int) -> str:
     return "\n".join([*lines, ""])
 
 
-def many(judge: Judge, pages: Pages, shots: str | None) -> None:
+def many(tally: Tally, pages: Pages, shots: str | None) -> None:
     for count in (300, 2000):
         size = pages.open(large(count))
         last = pages.driver.value("Page.run.last")
-        judge.holds(last >= count, "a large run", count, last)
+        tally.holds(last >= count, "a large run", count, last)
         begun = pages.driver.busy()
         pages.driver.value(f"for (let at = 0; at < {STEPS}; at += 1) Page.go(at * 7 % Page.run.last)")
         took = (pages.driver.busy() - begun) / STEPS
-        judge.holds(took < MOST_STEP, "milliseconds of a step", took)
+        tally.holds(took < MOST_STEP, "milliseconds of a step", took)
         rows = pages.driver.value("document.querySelectorAll('.row').length")
-        judge.holds(rows < 100, "rows that nobody looks at are drawn", rows)
+        tally.holds(rows < 100, "rows that nobody looks at are drawn", rows)
         print(f"{last} events: {size:,} bytes, {took:.1f} ms a step", flush=True)
         for at in (last // 4, last // 2, last) if shots else ():
             pages.driver.value(f"Page.go({at})")
@@ -292,26 +280,24 @@ def main() -> int:
     read = argparse.ArgumentParser()
     read.add_argument("--shots")
     given = read.parse_args()
-    judge, path = Judge(), browser.program()
-    models(judge)
+    tally, path = Tally(most=20, width=600), browser.program()
+    models(tally)
     if path:
         driver = browser.Browser(path)
         try:
             with tempfile.TemporaryDirectory() as folder:
                 pages = Pages(driver, folder)
-                whole(judge, pages, given.shots)
+                whole(tally, pages, given.shots)
                 for part in (hostile, hands):
-                    part(judge, pages)
-                many(judge, pages, given.shots)
-            judge.holds(not driver.faults, "the console has faults", driver.faults[:3])
+                    part(tally, pages)
+                many(tally, pages, given.shots)
+            tally.holds(not driver.faults, "the console has faults", driver.faults[:3])
         finally:
             driver.close()
-    for one in judge.wrong[:20]:
-        print(one[:600])
     if not path:
         print("skipped: no chromium")
-    print(f"{judge.count} looked at, {len(judge.wrong)} differ")
-    return 1 if judge.wrong else 0
+    tally.told("looked at")
+    return 1 if tally.wrong else 0
 
 
 if __name__ == "__main__":

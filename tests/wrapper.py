@@ -18,6 +18,7 @@ import tempfile
 import typing
 
 import played
+from played import Tally
 
 COPIED = ("suites", "crates", "crates.txt", "docs", "help", "tools", "CHANGELOG.md", "README.md")
 LEFT_OUT = ("out", "__pycache__", "specs", "proofs", "must-fail", "wrong")
@@ -73,12 +74,12 @@ SILENT = ("line 3 did nothing: agent 0 has a job (line 2)", "line 4 did nothing:
 KEEP = "import choose, sources; choose.keep_record('checked', sources.Sources(), sources.Kit())"
 
 
-class Copy:
+class Copy(Tally):
     """A copy of the repository, and what differs in it."""
 
     def __init__(self, room: str) -> None:
+        super().__init__()
         self.top, self.bare = os.path.join(room, "copy"), os.path.join(room, "bare")
-        self.played = self.wrong = 0
         os.makedirs(self.top)
         for name in COPIED:
             path = os.path.join(played.TOP, name)
@@ -106,12 +107,6 @@ class Copy:
             stderr=subprocess.PIPE,
             text=True,
         )
-
-    def holds(self, given: object, about: str) -> None:
-        self.played += 1
-        if not given:
-            self.wrong += 1
-            print(about)
 
     def at_once(self, words: list[str]) -> tuple[int, str, str]:
         """An answer, which has to take no build."""
@@ -331,8 +326,7 @@ def main() -> int:
             runs_a_build(copy)
             if os.path.exists("/dev/ptmx"):
                 tells_a_terminal(copy)
-    print(f"{copy.played} answers, {copy.wrong} differ")
-    return 1 if copy.wrong or not copy.played else 0
+    return copy.told("answers")
 
 
 if __name__ == "__main__":

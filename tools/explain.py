@@ -26,10 +26,11 @@ import textwrap
 import typing
 
 import console
-import faulty
+import fitting
 import forms
 import happened
 import in_script
+import laid_out
 import worded
 
 
@@ -218,9 +219,9 @@ def of_file(fault: re.Match[str], path: str, language: str | None) -> str:
     name, given = read_file(path)
     text, code = given.decode("latin1"), fault[2]
     if fault[1]:
-        told, is_found = faulty.of_script(name, text, int(fault[1]), code, language)
+        told, is_found = laid_out.of_script(name, text, int(fault[1]), code, language)
     else:
-        told, is_found = faulty.of_list(name, text, code)
+        told, is_found = laid_out.of_list(name, text, code)
     told = [line if line.startswith("    ") else filled(line) for line in told]
     meant = [meaning(part) for part in CODE.findall(code)]
     more = f"./suites explain {code.split()[0]} tells"
@@ -250,7 +251,7 @@ def of_printed(text: str, path: str, language: str | None) -> str:
     to it.
     """
     name, script = read_file(path)
-    kind = language or faulty.likest(faulty.lines_of(script.decode("latin1")))[0]
+    kind = language or fitting.in_script(script.decode("latin1"), 1)[0].command
     if kind == "play":
         told = happened.of_line(text, script, name)
     else:

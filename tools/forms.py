@@ -11,8 +11,9 @@ SHOWN = {"SERVERS": "N", "AGENTS": "N", "OLD": "S,S,..", "OPERATIONS": "OPERATIO
 
 
 class Place(typing.NamedTuple):
-    """A place in a line: the least and the most number of one that has a number, the code of another number, and what
-    it means. The most may be how many servers or agents there are.
+    """A place in a line: the least and the most number of one that has a number, the code of another number, what it
+    means, and a word that fits in it, in a script with one server and one agent too (tests/form-table.py plays them).
+    The most may be how many servers or agents there are.
     """
 
     name: str
@@ -20,6 +21,7 @@ class Place(typing.NamedTuple):
     most: str
     code: str
     means: str
+    sample: str
 
 
 class Line(typing.NamedTuple):

@@ -11,7 +11,7 @@ import sys
 import typing
 
 import console
-import faulty
+import laid_out
 
 TOOLS = os.path.dirname(os.path.abspath(__file__))
 TOP = os.path.dirname(TOOLS)
@@ -67,7 +67,7 @@ def above(path: str) -> list[str]:
 
 def list_then(script: str, jobs: list[Asked], path: str) -> tuple[str, str, str] | None:
     """The owner, the group and the list of a path after these transactions."""
-    said = [line.split() for line in faulty.lines_of(script) if line.split() and not line.startswith("#")]
+    said = [line.split() for line in laid_out.lines_of(script) if line.split() and not line.startswith("#")]
     root = next(words for words in said if words[0] == "root")
     header = [" ".join(root), *(" ".join(words) for words in said if words[0] in ("user", "group"))]
     lines = [*header, *(job.line() for job in jobs)]

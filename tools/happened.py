@@ -9,9 +9,9 @@ import subprocess
 import typing
 
 import console
-import faulty
 import forms
 import guarded
+import laid_out
 import quoted
 import trace
 
@@ -72,7 +72,7 @@ class Played:
 
     def __init__(self, script: str, lines: list[str]):
         own = forms.lines_of("play", "own")
-        said = [(number, line) for number, line in enumerate(faulty.lines_of(script), 1)]
+        said = [(number, line) for number, line in enumerate(laid_out.lines_of(script), 1)]
         events = iter([(number, line) for number, line in said if line.split()[:1] and line.split()[0] in own])
         self.servers = int(next(line for _, line in said if line.split()[:1] == ["servers"]).split()[1])
         self.jobs: dict[int, Job] = {}
@@ -208,7 +208,7 @@ def lost_votes(run: Played, job: Job, script: str, number: int) -> typing.Iterat
     it."""
     import votes
     found = re.search(r"U1 suite (\d+)", job.ending)
-    part = "".join(f"{line}\n" for line in faulty.lines_of(script)[:number])
+    part = "".join(f"{line}\n" for line in laid_out.lines_of(script)[:number])
     if not found or job.ended is None:
         return
     try:

@@ -5,8 +5,8 @@ import re
 import typing
 
 import console
-import faulty
 import guarded
+import laid_out
 
 OUTCOME = re.compile(r"(\d+) (?:(\d+) )?(answered|denied|refused|undecided|swept)\b ?(.*)")
 DENIED = re.compile(r"op (\d+) suite (\d+) wants (\S+) by (\S+)")
@@ -30,7 +30,7 @@ class Job(typing.NamedTuple):
 def jobs_of(script: str, language: str) -> list[Job]:
     """The transactions and sweeps of a script, in their order."""
     found = []
-    for number, line in enumerate(faulty.lines_of(script), 1):
+    for number, line in enumerate(laid_out.lines_of(script), 1):
         words = line.split()
         if words[:1] == ["do"] or (words[:1] == ["sweep"] and language == "serve"):
             found.append(Job(number, words, " ".join(words[FIRST[language] :]).split(" ; ")))

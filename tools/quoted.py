@@ -22,6 +22,10 @@ def quoted(text: str) -> str:
     return f"'{short(text)}'"
 
 
+def sentence(text: str) -> str:
+    return f"{text[0].upper()}{text[1:]}."
+
+
 def either(words: typing.Iterable[str], link: str = "or") -> str:
     """Words as one speaks of them: 'a', 'b' or 'c'."""
     words = list(words)

@@ -49,8 +49,8 @@ import typing
 
 import console
 import explain
-import faulty
 import looking
+import quoted
 import reasons
 import shapes
 import trace
@@ -438,7 +438,7 @@ def main() -> int:
 def fault_text(word: str, fault: Fault) -> str:
     """What is told of faulty votes: the rule with its numbers, the form, and what the page says of the code."""
     code = str(fault)
-    told = [faulty.sentence(reasons.Of(fault.why, word, "VOTES").text()), "", FORM, ""] if code != "G1" else []
+    told = [quoted.sentence(reasons.Of(fault.why, word, "VOTES").text()), "", FORM, ""] if code != "G1" else []
     return "\n".join([f"fault {code}", "", *told, *([explain.explained(code)] if code != "S1" else [])]).rstrip()
 
 

@@ -26,6 +26,18 @@ impl<'a> Above<'a> {
         }
     }
 
+    /// The line of this number; no bytes where there is none.
+    pub(crate) fn line(self) -> &'a [u8] {
+        let mut number = 0u64;
+        for line in Lines::new(self.script) {
+            number = number.saturating_add(1);
+            if number == self.number {
+                return line;
+            }
+        }
+        b""
+    }
+
     /// The first line that begins with a word, by its number, and the words after it.
     pub(crate) fn line_of(self, word: &[u8]) -> Option<(u64, Words<'a>)> {
         let mut number = 0u64;

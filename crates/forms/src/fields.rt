@@ -75,7 +75,7 @@ fn is_white(byte: u8) -> bool
 }
 
 /// How much white space some bytes begin with.
-fn white_before(bytes: &[u8]) -> usize
+pub(crate) fn white_before(bytes: &[u8]) -> usize
     ensures count { result ≡ prefix_len is_white bytes.now }
     ensures short { result ≤ length bytes.now }
 {

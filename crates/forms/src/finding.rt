@@ -6,6 +6,8 @@ ghost use Rattle.forms.specs.Finding.{BeginsWith, head_of, item_in, item_of_text
 
 use crate::above::Above;
 use crate::first::{FirstReason, misplaced_told, unknown_told};
+use crate::list::item_ends;
+use crate::mend::{Found, Trial, push_mends};
 use crate::old::unheld;
 use crate::places::name;
 use crate::reading::{Reading, Standing};
@@ -18,14 +20,12 @@ use std::alloc::{AllocError, Global};
 use suite_prefix::SettingsFault;
 use suite_script::{Expected, Form, Forms, LineFault, Misfit, push_line_code};
 
-/// The last fields of what is printed.
+/// Where an item of a list begins, and where it does without the white space before it, and where it ends.
 #[derive(Clone, Copy)]
-struct Rest<'a> {
-    expected: &'static [u8],
-    form: Option<Form>,
-    item: Option<usize>,
-    is_shifted: bool,
-    told: Told<'a>,
+pub(crate) struct ItemEnds {
+    place: Option<usize>,
+    begin: u64,
+    end: u64,
 }
 
 /// What is printed of the line of this number.
@@ -55,9 +55,10 @@ pub(crate) fn found_in(
     match reading.due() {
         Some(due) if place.saturating_add(1) == number => {
             let told = Told::of(Reason::LineEnds, b"");
-            of_first(alloc, above, LineFault::Order, Some(due), told)
+            let found = of_whole(1, LineFault::Order, Some(due), told);
+            of_first(alloc, &reading, above, found)
         }
-        _ => nothing(alloc, above),
+        _ => nothing(alloc, &reading, above),
     }
 }
 
@@ -71,16 +72,27 @@ fn of_line(
 ) -> Result<Vec<u8>, AllocError> {
     let Some(first) = first else {
         let told = Told::of(Reason::First(FirstReason::Blank), b"");
-        return of_first(alloc, above, LineFault::Form, reading.due(), told);
+        let found = of_whole(1, LineFault::Form, reading.due(), told);
+        return of_first(alloc, reading, above, found);
     };
     match reading.standing(first) {
         Standing::Misplaced(due) => {
             let told = misplaced_told(above, reading.forms, reading.begun, due, first);
-            of_first(alloc, above, LineFault::Order, due, told)
+            of_first(
+                alloc,
+                reading,
+                above,
+                of_whole(1, LineFault::Order, due, told),
+            )
         }
         Standing::Unknown(due) => {
             let told = unknown_told(above.number, first);
-            of_first(alloc, above, LineFault::Form, due, told)
+            of_first(
+                alloc,
+                reading,
+                above,
+                of_whole(1, LineFault::Form, due, told),
+            )
         }
         Standing::Here(form) => of_standing(alloc, reading, above, form, words),
     }
@@ -98,13 +110,15 @@ fn of_standing(
     if form.word == b"together".as_slice() {
         if let Some((number, _)) = above.line_of(form.word) {
             let told = Told::of(Reason::First(FirstReason::Again(number)), form.word);
-            return of_first(alloc, above, LineFault::Form, None, told);
+            let found = of_whole(1, LineFault::Form, None, told);
+            return of_first(alloc, reading, above, found);
         }
     }
     let text = of_form(alloc, reading, above, form, words)?;
     if form.word == b"old".as_slice() && matches!(text.as_slice(), [b'-', ..]) {
         if let Some(told) = unheld(above, line) {
-            return of_old(alloc, above, told);
+            let fault = LineFault::Settings(SettingsFault::OldTooLarge);
+            return of_first(alloc, reading, above, of_whole(2, fault, None, told));
         }
     }
     Ok(text)
@@ -123,8 +137,7 @@ fn of_form(
     let line = words.rest();
     let misfit = reading.scope.misfit(alloc, form, words)?;
     let mut text = head(alloc, misfit)?;
-    let rest = rest_of_form(reading, above, form, line, misfit);
-    let rest = end(alloc, above, rest)?;
+    let rest = rest_of_form(alloc, reading, above, (form, line), misfit)?;
     text.extend_from_slice(&rest)?;
     Ok(text)
 }
@@ -146,35 +159,54 @@ fn head(alloc: Global, misfit: Option<Misfit>) -> Result<Vec<u8>, AllocError>
 
 /// What is printed then: what was expected, the form that has this place, where the faulty item of a list begins, and
 /// why the word does not fit.
-fn rest_of_form<'a>(
+fn rest_of_form(
+    alloc: Global,
     reading: &Reading,
     above: Above<'_>,
-    form: Form,
-    line: &'a [u8],
+    line: (Form, &[u8]),
     misfit: Option<Misfit>,
-) -> Rest<'a> {
+) -> Result<Vec<u8>, AllocError> {
+    let (form, rest) = line;
     let Some(misfit) = misfit else {
-        return Rest {
-            expected: b"-",
-            form: Some(form),
-            item: None,
-            is_shifted: false,
-            told: Told::of(Reason::Due, b""),
-        };
+        return end(alloc, reading, above, no_ends(), of_none(Some(form)));
     };
-    let spot = spot_of(form, line, misfit);
+    let spot = spot_of(form, rest, misfit);
     let (told, is_shifted) = told_at(&reading.scope, above, spot, misfit);
-    Rest {
-        expected: expected_name(misfit.expected),
+    let found = Found {
+        number: misfit.number,
+        fault: Some(misfit.fault),
+        expected: Some(misfit.expected),
         form: Some(spot.form),
-        item: item_of(spot, misfit.fault),
+        begin: spot.begin,
+        before: spot.before,
         is_shifted,
         told,
+    };
+    end(alloc, reading, above, item_of(spot, misfit.fault), found)
+}
+
+fn item_of(spot: Spot<'_>, fault: LineFault) -> ItemEnds {
+    match spot.word {
+        Some(word) => ends_of(word, item_in(word, fault)),
+        None => no_ends(),
     }
 }
 
-fn item_of(spot: Spot<'_>, fault: LineFault) -> Option<usize> {
-    item_in(spot.word?, fault)
+fn no_ends() -> ItemEnds {
+    ItemEnds {
+        place: None,
+        begin: 0,
+        end: 0,
+    }
+}
+
+/// The ends of an item of a list at a place.
+pub(crate) fn ends_of(list: &[u8], place: Option<usize>) -> ItemEnds {
+    let (begin, end) = match place {
+        Some(place) => item_ends(list, place),
+        None => (0, 0),
+    };
+    ItemEnds { place, begin, end }
 }
 
 /// Where the item of a list begins of which a fault speaks.
@@ -207,72 +239,90 @@ fn expected_name(expected: Expected) -> &'static [u8] {
     }
 }
 
-/// What is printed of a line that may not begin so; perhaps another is due.
+/// What is printed of a line that has a fault as a whole.
 fn of_first(
     alloc: Global,
+    reading: &Reading,
     above: Above<'_>,
-    fault: LineFault,
-    due: Option<Form>,
-    told: Told<'_>,
+    found: Found<'_>,
 ) -> Result<Vec<u8>, AllocError> {
-    let mut text = Vec::from_slice(alloc, b"1\t")?;
-    push_line_code(&mut text, fault)?;
+    let mut text = Vec::new(alloc);
+    push_number(&mut text, found.number)?;
     text.push(b'\t')?;
-    let rest = end(alloc, above, of_whole(due, told))?;
+    if let Some(fault) = found.fault {
+        push_line_code(&mut text, fault)?;
+    }
+    text.push(b'\t')?;
+    let rest = end(alloc, reading, above, no_ends(), found)?;
     text.extend_from_slice(&rest)?;
     Ok(text)
 }
 
-/// What is printed of a line for servers whose root folder has no form 1.
-fn of_old(alloc: Global, above: Above<'_>, told: Told<'_>) -> Result<Vec<u8>, AllocError> {
-    let mut text = Vec::from_slice(alloc, b"2\t")?;
-    push_line_code(&mut text, LineFault::Settings(SettingsFault::OldTooLarge))?;
-    text.push(b'\t')?;
-    let rest = end(alloc, above, of_whole(None, told))?;
-    text.extend_from_slice(&rest)?;
-    Ok(text)
-}
-
-/// The last fields of what is printed of a line as a whole.
-fn of_whole(due: Option<Form>, told: Told<'_>) -> Rest<'_> {
-    Rest {
-        expected: b"LINE",
+/// What is found of a line as a whole.
+fn of_whole(number: u64, fault: LineFault, due: Option<Form>, told: Told<'_>) -> Found<'_> {
+    Found {
+        number,
+        fault: Some(fault),
+        expected: None,
         form: due,
-        item: None,
+        begin: 1,
+        before: b"",
         is_shifted: false,
         told,
     }
 }
 
-/// What is printed of a line that there is not.
-fn nothing(alloc: Global, above: Above<'_>) -> Result<Vec<u8>, AllocError> {
-    let mut text = head(alloc, None)?;
-    let rest = Rest {
-        expected: b"-",
-        form: None,
-        item: None,
+/// Nothing is found.
+fn of_none(form: Option<Form>) -> Found<'static> {
+    Found {
+        number: 0,
+        fault: None,
+        expected: None,
+        form,
+        begin: 1,
+        before: b"",
         is_shifted: false,
         told: Told::of(Reason::Due, b""),
-    };
-    let rest = end(alloc, above, rest)?;
+    }
+}
+
+/// What is printed of a line that there is not.
+fn nothing(alloc: Global, reading: &Reading, above: Above<'_>) -> Result<Vec<u8>, AllocError> {
+    let mut text = head(alloc, None)?;
+    let rest = end(alloc, reading, above, no_ends(), of_none(None))?;
     text.extend_from_slice(&rest)?;
     Ok(text)
 }
 
-/// The last fields: what was expected, a form, the place of an item, whether words may be shifted, and the reason.
-fn end(alloc: Global, above: Above<'_>, rest: Rest<'_>) -> Result<Vec<u8>, AllocError> {
-    let mut text = Vec::from_slice(alloc, rest.expected)?;
+/// The last fields: what was expected, a form, an item, what would mend the line, and the reason.
+fn end(
+    alloc: Global,
+    reading: &Reading,
+    above: Above<'_>,
+    item: ItemEnds,
+    found: Found<'_>,
+) -> Result<Vec<u8>, AllocError> {
+    let expected = match (found.fault, found.expected) {
+        (None, _) => b"-".as_slice(),
+        (_, Some(expected)) => expected_name(expected),
+        (_, None) => b"LINE".as_slice(),
+    };
+    let mut text = Vec::from_slice(alloc, expected)?;
     text.push(b'\t')?;
-    match rest.form {
+    match found.form {
         Some(form) => push_written(&mut text, form)?,
         None => text.push(b'-')?,
     }
     text.push(b'\t')?;
-    push_place(&mut text, rest.item)?;
-    text.push(b'\t')?;
-    text.extend_from_slice(if rest.is_shifted { b"shifted" } else { b"-" })?;
-    text.push(b'\t')?;
-    push_told(&mut text, above, rest.told)?;
+    push_item(&mut text, item)?;
+    let trial = Trial {
+        alloc,
+        reading,
+        above,
+        line: above.line(),
+    };
+    push_mends(&mut text, trial, found)?;
+    push_told(&mut text, above, found.told)?;
     text.push(b'\n')?;
     Ok(text)
 }
@@ -286,8 +336,23 @@ fn push_written(text: &mut Vec<u8>, form: Form) -> Result<(), AllocError> {
     push_places(text, form)
 }
 
+/// `ITEM ENDS`, each with a tab behind it: the place of an item, and where it begins and ends without white space.
+pub(crate) fn push_item(text: &mut Vec<u8>, item: ItemEnds) -> Result<(), AllocError> {
+    push_place(text, item.place)?;
+    text.push(b'\t')?;
+    if item.place.is_some() {
+        push_number(text, item.begin)?;
+        text.push(b' ')?;
+        push_number(text, item.end)?;
+    } else {
+        text.push(b'-')?;
+    }
+    text.push(b'\t')?;
+    Ok(())
+}
+
 /// The place of an item, or a hyphen.
-pub(crate) fn push_place(text: &mut Vec<u8>, item: Option<usize>) -> Result<(), AllocError>
+fn push_place(text: &mut Vec<u8>, item: Option<usize>) -> Result<(), AllocError>
     ensures { OnOk result (text.new.items ≡ text.old.items ++ place_text item) }
 {
     match item {

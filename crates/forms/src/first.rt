@@ -1,7 +1,7 @@
 //! Why a line does not begin as one that is due.
 
 use crate::above::Above;
-use crate::reading::form_of;
+use crate::reading::{form_of, known};
 use crate::reason::{Numbers, Reason, Told};
 use crate::table::lines_of;
 use std::alloc::AllocError;
@@ -55,17 +55,11 @@ impl FirstReason {
     }
 }
 
-const COMMANDS: [&[u8]; 3] = [b"play", b"serve", b"table"];
-
-/// Whether a line of a script begins with a word.
-fn is_known(forms: Forms, word: &[u8]) -> bool {
-    let parts = [forms.header, forms.optional, forms.names, forms.own];
-    parts.iter().any(|part| form_of(part, word).is_some())
-}
+pub(crate) const COMMANDS: [&[u8]; 3] = [b"play", b"serve", b"table"];
 
 fn is_line_of(command: &[u8], word: &[u8]) -> bool {
     match lines_of(command) {
-        Some(forms) => is_known(forms, word),
+        Some(forms) => known(forms, word).is_some(),
         None => false,
     }
 }
@@ -106,7 +100,7 @@ pub(crate) fn unknown_told(number: u64, word: &[u8]) -> Told<'_> {
 }
 
 /// The byte order mark with which a word begins.
-fn mark_of(word: &[u8]) -> Option<&[u8]> {
+pub(crate) fn mark_of(word: &[u8]) -> Option<&[u8]> {
     match word {
         [0xef, 0xbb, 0xbf, ..] => word.get(..3),
         [0xff, 0xfe, ..] | [0xfe, 0xff, ..] => word.get(..2),

@@ -1,7 +1,7 @@
 //! Why words and texts are no lists.
 
 use crate::above::Above;
-use crate::fields::{Kind, Said, Side, entry_in, trimmed, uncommented};
+use crate::fields::{Kind, Said, Side, entry_in, trimmed, uncommented, white_before};
 use crate::item::{form_told, nobody_told, whom_of};
 use crate::number::{NumberReason, is_digits};
 use crate::reason::{Numbers, Reason, Told};
@@ -101,13 +101,24 @@ pub(crate) fn text_told<'a>(above: Above<'_>, text: &'a [u8], fault: TextFault) 
 
 /// The item of a number, without white space at its ends.
 pub(crate) fn item_in(text: &[u8], number: usize) -> &[u8] {
-    let place = item_place(text, number).unwrap_or(0);
+    trimmed(item_at(text, item_place(text, number).unwrap_or(0)))
+}
+
+/// The item that begins at a place.
+fn item_at(text: &[u8], place: usize) -> &[u8] {
     let rest = text.get(place..).unwrap_or(b"");
     let length = rest
         .iter()
         .take_while(|byte| !matches!(**byte, b',' | b'#' | b'\n'))
         .count();
-    trimmed(rest.get(..length).unwrap_or(b""))
+    rest.get(..length).unwrap_or(b"")
+}
+
+/// Where an item begins and ends that is the one at a place, without white space at its ends.
+pub(crate) fn item_ends(text: &[u8], place: usize) -> (u64, u64) {
+    let item = item_at(text, place);
+    let begin = (place as u64).saturating_add(white_before(item) as u64);
+    (begin, begin.saturating_add(trimmed(item).len() as u64))
 }
 
 /// What is told of the entries of one of the two lists.

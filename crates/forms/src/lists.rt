@@ -6,7 +6,7 @@ ghost use Rattle.forms.specs.Finding.{BeginsWith, place_text};
 
 use crate::above::Above;
 use crate::fields::{entry_in, uncommented};
-use crate::finding::{item_of_text, push_place};
+use crate::finding::{ItemEnds, ends_of, item_of_text, push_item};
 use crate::list::{ListReason, count_of_items, item_in, text_told};
 use crate::reason::{Reason, Told, push_told};
 use acl_text::{NameError, Names, TextFault, item_place, push_text_code, read_acl};
@@ -27,17 +27,17 @@ pub(crate) fn found_in_list(
     if number == 0 {
         let fault = fault_of(alloc, list, &names)?;
         let place = fault.and_then(|fault| item_of_text(list, fault));
-        return printed(alloc, place, fault, told_of(list, fault));
+        return printed(alloc, ends_of(list, place), fault, told_of(list, fault));
     }
     let Some(place) = item_place(list, number as usize) else {
         let few = Reason::List(ListReason::Few(count_of_items(list)));
-        return printed(alloc, None, None, Told::of(few, b""));
+        return printed(alloc, ends_of(list, None), None, Told::of(few, b""));
     };
     let item = item_in(list, number as usize);
     let fault = fault_of(alloc, item, &names)?;
     let told = told_of(item, fault);
     let numbered = fault.and_then(|fault| with_number(fault, number as usize));
-    printed(alloc, Some(place), numbered, told)
+    printed(alloc, ends_of(list, Some(place)), numbered, told)
 }
 
 fn told_of(text: &[u8], fault: Option<TextFault>) -> Told<'_> {
@@ -89,16 +89,15 @@ pub(crate) fn is_noted(named: Result<(), NameError>) -> Result<(), AllocError> {
     }
 }
 
-/// `ITEM CODE REASON DATA PART`.
+/// `ITEM ENDS CODE REASON DATA PART`.
 fn printed(
     alloc: Global,
-    place: Option<usize>,
+    item: ItemEnds,
     fault: Option<TextFault>,
     told: Told<'_>,
 ) -> Result<Vec<u8>, AllocError> {
     let mut text = Vec::new(alloc);
-    push_place(&mut text, place)?;
-    text.push(b'\t')?;
+    push_item(&mut text, item)?;
     match fault {
         Some(fault) => push_text_code(&mut text, fault)?,
         None => text.push(b'-')?,

@@ -3,19 +3,28 @@
 //!
 //! Without a word it prints the table of forms, one a line, with tabs between its fields:
 //!
-//! - `place NAME LEAST MOST CODE MEANING`: a word in its place, with the limits of a number and the code of one
-//!   beyond them;
+//! - `place NAME LEAST MOST CODE MEANING SAMPLE`: a word in its place, with the limits of a number and the code of one
+//!   beyond them, and a word that fits in it;
 //! - `line COMMAND PART WORD PLACES DOES`: a line of a command's scripts. Its part is `header`, `option` (a line that
 //!   may be missing), `name` or `own`; the lines of a command come in the order in which they stand;
 //! - `operation WORD PLACES DOES`.
 //!
 //! With the words COMMAND and NUMBER it reads a script, whose lines above that number have no fault. Of that line it
-//! prints `WORD CODE EXPECTED FORM ITEM SHIFT REASON DATA PART`: the number of the first word that does not fit, the
-//! code of the fault, the place where the word stands (or `END`, `OPERATION`, `LINE`), the form that has this place, of
-//! a list's faulty item how many bytes of the word stand before it, `shifted` where the word may well belong to another
-//! place, and why it does not fit: a reason with its data, and the part of the word of which it speaks.
+//! prints `WORD CODE EXPECTED FORM ITEM ENDS INSTEAD BEFORE SHIFT HIDDEN REASON DATA PART`:
 //!
-//! With the words `list` and NUMBER it reads a list, and prints `ITEM CODE REASON DATA PART` of the item of that
+//! - the number of the first word that does not fit, the code of the fault, the place where the word stands (or `END`,
+//!   `OPERATION`, `LINE`), the form that has this place or is due;
+//! - of a list's faulty item how many bytes of the word stand before it, and before its ends without white space;
+//! - the words with which the line has no fault in the place of this one, and those before it; what would explain the
+//!   fault as one of a word too many or too few: `path`, where a path seems to have a space, `missing`, where a word is
+//!   missing before it, or the numbers of words without which the line has no fault; and what cannot be seen of it:
+//!   `no-break`, a no-break space, `bytes` that are no ASCII, or `return`, a carriage return in the line;
+//! - why it does not fit: a reason with its data, and the part of the word of which it speaks.
+//!
+//! With the words `script` and NUMBER it prints this of each command, and before it `COMMAND LIKENESS ABOVE`: how like
+//! the script is to one of this command, and the number of the first line above with a fault, or 0.
+//!
+//! With the words `list` and NUMBER it reads a list, and prints `ITEM ENDS CODE REASON DATA PART` of the item of that
 //! number, or of 0 of the whole list, where each name is taken for one that has a number; with `unnamed`, for one that
 //! has none. A hyphen stands for what there is not.
 //!
@@ -28,8 +37,9 @@
 //! **Definitions** (`specs/`): `Finding`, `Reasons`.
 //!
 //! **Files**: `places` (their names and limits), `table`, `reading` and `above` (the lines of a script), `finding`
-//! (what is printed of one), `lists` (of a list), `spot` (where a word stands, and why it does not fit), `reason`; for
-//! the reasons `first`, `number`, `votes`, `word` (bytes and names), `fields`, `item` and `list`, `old` (form 1).
+//! (what is printed of one), `whose` (of which command a script is), `lists` (of a list), `spot` (where a word stands,
+//! and why it does not fit), `mend` (what would mend the line), `reason`; for the reasons `first`, `number`, `votes`,
+//! `word` (bytes and names), `fields`, `item` and `list`, `old` (form 1).
 #![tactic(auto)]
 
 mod above;
@@ -39,6 +49,7 @@ mod first;
 mod item;
 mod list;
 mod lists;
+mod mend;
 mod number;
 mod old;
 mod places;
@@ -47,6 +58,7 @@ mod reason;
 mod spot;
 mod table;
 mod votes;
+mod whose;
 mod word;
 
 use byte_streams::{
@@ -62,28 +74,34 @@ use std::io;
 use std::process::ExitCode;
 use suite_script::Forms;
 use table::{lines_of, table};
+use whose::found_of_all;
 
 const HELP: &[u8] =
     b"Prints the forms of lines and operations, a line each, with tabs between its fields.
 
   forms                          the table: places, lines of each command, operations
   forms COMMAND NUMBER < SCRIPT  what keeps the line of this number from its form:
-                                 WORD CODE EXPECTED FORM ITEM SHIFT REASON DATA PART, with a
-                                 hyphen for what there is not; ITEM is how many bytes of the
-                                 word stand before the item of a list that has the fault,
-                                 PART the part of the word of which REASON speaks
-  forms list NUMBER < LIST       ITEM CODE REASON DATA PART of the item of this number, of 0
-                                 of the whole list; each name is taken for one with a number
+                                 WORD CODE EXPECTED FORM ITEM ENDS INSTEAD BEFORE SHIFT HIDDEN
+                                 REASON DATA PART, with a hyphen for what there is not; ITEM
+                                 is how many bytes of the word stand before the item of a list
+                                 that has the fault, INSTEAD and BEFORE words that mend the
+                                 line, PART the part of the word of which REASON speaks
+  forms script NUMBER < SCRIPT   the same of each command, behind COMMAND LIKENESS ABOVE: how
+                                 like the script is to one of it, and the first line above
+                                 with a fault, or 0
+  forms list NUMBER < LIST       ITEM ENDS CODE REASON DATA PART of the item of this number, of
+                                 0 of the whole list; each name is taken for one with a number
   forms unnamed NUMBER < LIST    the same where no name has a number
 
 COMMAND is play, serve or table.
 ";
 
-/// What is asked: what keeps a line of a command's script from its form, or what is wrong with a list or an item of it,
-/// where each name has a number or none has.
+/// What is asked: what keeps a line of a command's script from its form, or of each command's; or what is wrong with a
+/// list or an item of it, where each name has a number or none has.
 #[derive(Clone, Copy)]
 enum Question {
     Line(Forms, u64),
+    Script(u64),
     List(bool, u64),
 }
 
@@ -113,6 +131,7 @@ fn asked<R: Env>(rt: &R) -> Option<Question> {
     let mut word = [0; 24];
     let length = rt.arg(1, &mut word).ok()?;
     let command = lines_of(word.get(..length)?);
+    let is_script = word.get(..length)? == b"script".as_slice();
     let are_named = match word.get(..length)? {
         b"list" => Some(true),
         b"unnamed" => Some(false),
@@ -122,6 +141,7 @@ fn asked<R: Env>(rt: &R) -> Option<Question> {
     let number = read_number(word.get(..length)?, u64::MAX)?;
     match command {
         Some(forms) => Some(Question::Line(forms, number)),
+        None if is_script => Some(Question::Script(number)),
         None => Some(Question::List(are_named?, number)),
     }
 }
@@ -140,6 +160,7 @@ fn answer<I: ByteIn, O: ByteOut>(
     };
     let told = match question {
         Question::Line(forms, number) => found_in(alloc, forms, &given, number),
+        Question::Script(number) => found_of_all(alloc, &given, number),
         Question::List(are_named, number) => found_in_list(alloc, are_named, &given, number),
     };
     match told {

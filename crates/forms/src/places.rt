@@ -113,6 +113,21 @@ fn push_range(text: &mut Vec<u8>, least: u64, most: u64, code: &[u8]) -> Result<
     text.extend_from_slice(code)
 }
 
+/// A word that fits in a place, in a script with one server and one agent too.
+pub(crate) fn sample(place: Place) -> &'static [u8] {
+    match place {
+        Place::Servers => b"32",
+        Place::Agents => b"64",
+        Place::Votes | Place::OpeningVotes => b"1/1/1",
+        Place::Init => b"644",
+        Place::UserName | Place::GroupName => b"~",
+        Place::Path => b"/a",
+        Place::Contents => b"00",
+        Place::Lists => b"u::r,g::r,o::r",
+        _ => b"0",
+    }
+}
+
 /// What stands in a place.
 pub(crate) fn meaning(place: Place) -> &'static [u8] {
     match place {

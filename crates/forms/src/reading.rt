@@ -46,6 +46,12 @@ pub(crate) fn form_of(forms: &[Form], word: &[u8]) -> Option<Form> {
     forms.iter().copied().find(|form| word == form.word)
 }
 
+/// The form of a line of a script that begins with a word.
+pub(crate) fn known(forms: Forms, word: &[u8]) -> Option<Form> {
+    let parts = [forms.header, forms.optional, forms.names, forms.own];
+    parts.iter().find_map(|part| form_of(part, word))
+}
+
 impl Reading {
     /// Nothing was read yet.
     pub(crate) fn new(alloc: Global, forms: Forms) -> Reading {
@@ -87,9 +93,7 @@ impl Reading {
 
     /// Where a line stands that is not in its place.
     fn misplaced(&self, word: &[u8], due: Option<Form>) -> Standing {
-        let forms = self.forms;
-        let parts = [forms.header, forms.optional, forms.names, forms.own];
-        if parts.iter().any(|part| form_of(part, word).is_some()) {
+        if known(self.forms, word).is_some() {
             Standing::Misplaced(due)
         } else {
             Standing::Unknown(due)

@@ -13,11 +13,12 @@ use script_text::Words;
 use suite_script::{Ending, Expected, Form, LineFault, Misfit, Place, Scope, VERBS};
 use vote_core::MAX_SERVERS;
 
-/// Where a word stands that does not fit: the form that has its place, the word, where there is one, and the word
-/// before it.
+/// Where a word stands that does not fit: the form that has its place, the number of the form's first word, the word,
+/// where there is one, and the word before it.
 #[derive(Clone, Copy)]
 pub(crate) struct Spot<'a> {
     pub(crate) form: Form,
+    pub(crate) begin: u64,
     pub(crate) word: Option<&'a [u8]>,
     pub(crate) before: &'a [u8],
     /// Whether the place is one of an operation.
@@ -28,7 +29,7 @@ pub(crate) struct Spot<'a> {
 pub(crate) fn spot_of<'a>(form: Form, line: &'a [u8], misfit: Misfit) -> Spot<'a> {
     let mut number = 1u64;
     let mut verb = (form.places.len() as u64).saturating_add(2);
-    let mut found = form;
+    let mut found = (form, 1u64);
     let mut before: &'a [u8] = form.word;
     for word in Words::new(line) {
         number = number.saturating_add(1);
@@ -36,7 +37,7 @@ pub(crate) fn spot_of<'a>(form: Form, line: &'a [u8], misfit: Misfit) -> Spot<'a
             return at(form, found, misfit.expected, Some(word), before);
         }
         if number == verb {
-            found = operation_form(word).unwrap_or(form);
+            found = (operation_form(word).unwrap_or(form), number);
         } else if word == b";".as_slice() {
             verb = number.saturating_add(1);
         }
@@ -45,17 +46,24 @@ pub(crate) fn spot_of<'a>(form: Form, line: &'a [u8], misfit: Misfit) -> Spot<'a
     at(form, found, misfit.expected, None, before)
 }
 
-/// The form that has a place is that of an operation, but where an operation is due, and in lines that have none.
+/// The form that has a place is that of an operation, with the number of its first word, but where an operation is due,
+/// and in lines that have none.
 fn at<'a>(
     line: Form,
-    operation: Form,
+    operation: (Form, u64),
     expected: Expected,
     word: Option<&'a [u8]>,
     before: &'a [u8],
 ) -> Spot<'a> {
     let is_of_operation = line.ending == Ending::Operations && expected != Expected::Operation;
+    let (form, begin) = if is_of_operation {
+        operation
+    } else {
+        (line, 1)
+    };
     Spot {
-        form: if is_of_operation { operation } else { line },
+        form,
+        begin,
         word,
         before,
         is_of_operation,

@@ -1,6 +1,6 @@
 //! The table of forms, as it is printed.
 
-use crate::places::{PLACES, meaning, name, push_limits};
+use crate::places::{PLACES, meaning, name, push_limits, sample};
 use crate::reading::widest;
 use std::alloc::{AllocError, Global};
 use suite_script::{Ending, Form, Forms, PLAY_LINES, SERVE_LINES, TABLE_LINES, VERBS};
@@ -23,7 +23,7 @@ pub(crate) fn table(alloc: Global) -> Result<Vec<u8>, AllocError> {
         push_fields(&mut text, &[b"place", name(*place), b""])?;
         push_limits(&mut text, &scope, *place)?;
         text.push(b'\t')?;
-        text.extend_from_slice(meaning(*place))?;
+        push_fields(&mut text, &[meaning(*place), sample(*place)])?;
         text.push(b'\n')?;
     }
     push_command(&mut text, b"play", PLAY_LINES)?;

@@ -1,0 +1,115 @@
+//! Of which command a script is: how many of its lines begin as those of each, and where each would stop.
+
+use crate::above::Above;
+use crate::finding::found_in;
+use crate::first::COMMANDS;
+use crate::mend::fits;
+use crate::number::is_digits;
+use crate::reading::{Reading, known};
+use crate::table::lines_of;
+use script_text::{Lines, Words, push_number};
+use std::alloc::{AllocError, Global};
+use suite_script::{Forms, Place};
+
+/// So many lines show of which command a script is.
+const MANY: u64 = 1000;
+
+/// What is printed of the line of this number, of each command in a line of its own: `COMMAND LIKENESS ABOVE`, and what
+/// is printed of it where the command is known.
+pub(crate) fn found_of_all(
+    alloc: Global,
+    script: &[u8],
+    number: u64,
+) -> Result<Vec<u8>, AllocError> {
+    let mut text = Vec::new(alloc);
+    for command in COMMANDS {
+        if let Some(forms) = lines_of(command) {
+            text.extend_from_slice(command)?;
+            text.push(b'\t')?;
+            push_number(&mut text, likeness(forms, script))?;
+            text.push(b'\t')?;
+            push_number(&mut text, fault_above(alloc, forms, script, number)?)?;
+            text.push(b'\t')?;
+            let found = found_in(alloc, forms, script, number)?;
+            text.extend_from_slice(&found)?;
+        }
+    }
+    Ok(text)
+}
+
+/// How like a script is to one of these forms: twice the number of lines that begin as its lines do, and one more where
+/// the first is that of the header.
+fn likeness(forms: Forms, script: &[u8]) -> u64 {
+    let mut place = 0u64;
+    let mut like = 0u64;
+    let mut is_begun = false;
+    for line in Lines::new(script) {
+        place = place.saturating_add(1);
+        if place > MANY {
+            return like;
+        }
+        let mut words = Words::new(line);
+        if matches!(line, [b'#', ..]) {
+            continue;
+        }
+        if let Some(first) = words.next() {
+            if !is_begun && is_header(forms, first) {
+                like = like.saturating_add(1);
+            }
+            is_begun = true;
+            if is_of(forms, first, words) {
+                like = like.saturating_add(2);
+            }
+        }
+    }
+    like
+}
+
+fn is_header(forms: Forms, word: &[u8]) -> bool {
+    match forms.header.first() {
+        Some(form) => word == form.word,
+        None => false,
+    }
+}
+
+/// Whether a line begins as one of these forms, and has a number where that has a site: a job and a transaction differ
+/// in it alone.
+fn is_of(forms: Forms, first: &[u8], mut words: Words<'_>) -> bool {
+    let Some(form) = known(forms, first) else {
+        return false;
+    };
+    for place in form.places {
+        let word = words.next().unwrap_or(b"");
+        if matches!(*place, Place::Site) {
+            return is_digits(word);
+        }
+    }
+    true
+}
+
+/// The number of the first line above that of this number which has a fault; 0 where none has.
+fn fault_above(alloc: Global, forms: Forms, script: &[u8], number: u64) -> Result<u64, AllocError> {
+    let mut reading = Reading::new(alloc, forms);
+    let mut place = 0u64;
+    for line in Lines::new(script) {
+        place = place.saturating_add(1);
+        if place >= number {
+            return Ok(0);
+        }
+        if matches!(line, [] | [b'#', ..]) {
+            continue;
+        }
+        let above = Above {
+            script,
+            number: place,
+        };
+        if !fits(alloc, &reading, above, line)? {
+            return Ok(place);
+        }
+        let mut words = Words::new(line);
+        if let Some(first) = words.next() {
+            reading.take(place, first, words)?;
+        }
+    }
+    Ok(0)
+}
