@@ -1,2 +1,4 @@
 pub mod Finding
 pub mod Reasons
+pub mod Mends
+pub mod code

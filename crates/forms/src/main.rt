@@ -32,9 +32,11 @@
 //! definition (`of_form`: `line_misfit` of `suite_script`), and the place is that of the item (`item_in`). A word has a
 //! reason to be no number exactly where it is none within its limits (`number_reason`), and those are the reader's
 //! (`limits`); digits are told to be odd exactly where all are digits (`bytes_reason`), and permissions have a reason
-//! exactly where they are none (`permissions_told`).
+//! exactly where they are none (`permissions_told`). A word that is told to mend a line, in the place of one or before
+//! it, does so, and so does the lack of a word that is told to be too many: the line then has one of the command's
+//! forms. Where a word is told to be missing there is one that does (`push_tried`: `AreMends`).
 //!
-//! **Definitions** (`specs/`): `Finding`, `Reasons`.
+//! **Definitions** (`specs/`): `Finding`, `Mends`, `Reasons`.
 //!
 //! **Files**: `places` (their names and limits), `table`, `reading` and `above` (the lines of a script), `finding`
 //! (what is printed of one), `whose` (of which command a script is), `lists` (of a list), `spot` (where a word stands,

@@ -1,7 +1,12 @@
 //! What would mend a line: other words in the place of one, words before it, a word less. Each is tried.
 
-ghost use Rattle.std.specs.Prelude.{◌≡◌, IfOk, is_some};
+ghost use Rattle.std.specs.Prelude.{◌≡◌, ◌++◌, IfOk, OnOk, is_some};
+ghost use Rattle.std.specs.Bool.{IsTrue};
+ghost use Rattle.std.specs.List.{flat_map};
+ghost use Rattle.script_text.specs.Words.{words};
 ghost use Rattle.suite_script.specs.Misfits.{line_misfit};
+ghost use Rattle.forms.specs.Mends.{AreTold, FitsOne, all_of, changed, field, or_hyphen, placed, put, put_at, spaced};
+ghost use Rattle.forms.specs.code.Trials.{AddsFields, AddsMany, AddsMends, IsMissingIn, IsShiftIn, MendsIn, change_of};
 
 use crate::above::Above;
 use crate::first::{FirstReason, mark_of};
@@ -12,7 +17,7 @@ use crate::reading::{Reading, Standing};
 use crate::reason::{Reason, Told};
 use script_text::{Words, push_number};
 use std::alloc::{AllocError, Global};
-use suite_script::{Ending, Expected, Form, LineFault, Place, VERBS};
+use suite_script::{Ending, Expected, Form, Forms, LineFault, Place, VERBS};
 
 /// A word that does not fit: its number, its fault, what was expected there (of a line as a whole nothing), the form
 /// that has this place or is due, and the number of the form's first word.
@@ -58,12 +63,15 @@ fn is_misfit(
 }
 
 /// Whether a line has no fault where it stands next.
+#[tactic(auto, using(crate::proofs::Mending::fits_one))]
 pub(crate) fn fits(
     alloc: Global,
     reading: &Reading,
     above: Above<'_>,
     line: &[u8],
-) -> Result<bool, AllocError> {
+) -> Result<bool, AllocError>
+    ensures { IfOk result (λ does. IsTrue does → FitsOne reading.now.scope (all_of reading.now.forms) (words line.now)) }
+{
     let mut words = Words::new(line);
     let Some(first) = words.next() else {
         return Ok(false);
@@ -81,28 +89,70 @@ pub(crate) fn fits(
     Ok(first != b"old".as_slice() || unheld(above, rest).is_none())
 }
 
+impl<'a> Change<'a> {
+    /// Another word, in the place of one or before it.
+    fn placed(is_before: bool, other: &'a [u8]) -> Change<'a>
+        ensures { change_of result ≡ placed is_before other.now }
+    {
+        if is_before {
+            Change::Before(other)
+        } else {
+            Change::Instead(other)
+        }
+    }
+
+    /// Adds what a word becomes of which this is the number, counted from the word that is changed.
+    fn push_at(self, text: &mut Vec<u8>, at: u64, word: &[u8]) -> Result<(), AllocError>
+        ensures { OnOk result (text.new.items ≡ text.old.items ++ flat_map spaced (put_at (change_of self.entry) at word.now)) }
+    {
+        if at == 1 {
+            self.push(text, word)
+        } else {
+            push_word(text, word)
+        }
+    }
+
+    /// Adds what a word becomes.
+    fn push(self, text: &mut Vec<u8>, word: &[u8]) -> Result<(), AllocError>
+        ensures { OnOk result (text.new.items ≡ text.old.items ++ flat_map spaced (put (change_of self.entry) word.now)) }
+    {
+        match self {
+            Change::Without => Ok(()),
+            Change::Instead(other) => push_word(text, other),
+            Change::Before(other) => {
+                push_word(text, other)?;
+                push_word(text, word)
+            }
+        }
+    }
+}
+
+/// Adds a word with a space behind it.
+fn push_word(text: &mut Vec<u8>, word: &[u8]) -> Result<(), AllocError>
+    ensures { OnOk result (text.new.items ≡ text.old.items ++ spaced word.now) }
+{
+    text.extend_from_slice(word)?;
+    text.push(b' ')?;
+    Ok(())
+}
+
 /// A line that is changed at the word of this number.
-fn changed(alloc: Global, line: &[u8], at: u64, change: Change<'_>) -> Result<Vec<u8>, AllocError> {
+fn changed(alloc: Global, line: &[u8], at: u64, change: Change<'_>) -> Result<Vec<u8>, AllocError>
+    ensures { IfOk result (λ text. text.items ≡ changed (change_of change.entry) at (words line.now)) }
+{
     let mut text = Vec::new(alloc);
-    let mut number = 0u64;
+    let mut left = at;
     for word in Words::new(line) {
-        number = number.saturating_add(1);
-        let (before, kept) = match change {
-            _ if number != at => (b"".as_slice(), word),
-            Change::Without => (b"".as_slice(), b"".as_slice()),
-            Change::Instead(other) => (b"".as_slice(), other),
-            Change::Before(other) => (other, word),
-        };
-        text.extend_from_slice(before)?;
-        text.push(b' ')?;
-        text.extend_from_slice(kept)?;
-        text.push(b' ')?;
+        change.push_at(&mut text, left, word)?;
+        left = left.saturating_sub(1);
     }
     Ok(text)
 }
 
 impl<'a> Trial<'a> {
-    fn fits(self, at: u64, change: Change<'_>) -> Result<bool, AllocError> {
+    fn fits(self, at: u64, change: Change<'_>) -> Result<bool, AllocError>
+        ensures { IfOk result (λ does. IsTrue does → MendsIn self.entry at (change_of change.entry)) }
+    {
         let line = changed(self.alloc, self.line, at, change)?;
         fits(self.alloc, self.reading, self.above, &line)
     }
@@ -119,40 +169,63 @@ impl<'a> Trial<'a> {
         b""
     }
 
-    /// Adds those of the forms whose first word mends the line, in the place of the word or before it.
+    /// Adds a word, if it mends the line in the place of the word of this number or before it.
+    #[tactic(auto, using(crate::proofs::Mending::adds_none, crate::proofs::Mending::adds_one))]
+    fn push_if(
+        self,
+        text: &mut Vec<u8>,
+        at: u64,
+        word: &[u8],
+        is_before: bool,
+    ) -> Result<(), AllocError>
+        ensures { OnOk result (AddsMends self.entry at is_before text.old.items text.new.items) }
+    {
+        if !self.fits(at, Change::placed(is_before, word))? {
+            return Ok(());
+        }
+        push_word(text, word)
+    }
+
+    /// Adds those of the forms whose first word mends the line.
+    #[tactic(auto, using(crate::proofs::Mending::adds_none, crate::proofs::Mending::adds_more))]
     fn push_firsts(
         self,
         text: &mut Vec<u8>,
+        at: u64,
         forms: &[Form],
         is_before: bool,
-    ) -> Result<(), AllocError> {
+    ) -> Result<(), AllocError>
+        ensures { OnOk result (AddsMends self.entry at is_before text.old.items text.new.items) }
+    {
         for form in forms {
-            let change = if is_before {
-                Change::Before(form.word)
-            } else {
-                Change::Instead(form.word)
-            };
-            if self.fits(1, change)? {
-                text.extend_from_slice(form.word)?;
-                text.push(b' ')?;
-            }
+            self.push_if(text, at, form.word, is_before)?;
         }
         Ok(())
     }
 
-    /// Adds the operations whose word mends the line, in the place of the word of this number or before it.
-    fn push_verbs(self, text: &mut Vec<u8>, at: u64, is_before: bool) -> Result<(), AllocError> {
+    #[tactic(auto, using(crate::proofs::Mending::adds_none, crate::proofs::Mending::adds_more))]
+    fn push_parts(
+        self,
+        text: &mut Vec<u8>,
+        at: u64,
+        parts: &[&[Form]],
+        is_before: bool,
+    ) -> Result<(), AllocError>
+        ensures { OnOk result (AddsMends self.entry at is_before text.old.items text.new.items) }
+    {
+        for part in parts {
+            self.push_firsts(text, at, part, is_before)?;
+        }
+        Ok(())
+    }
+
+    /// Adds the operations whose word mends the line.
+    #[tactic(auto, using(crate::proofs::Mending::adds_none, crate::proofs::Mending::adds_more))]
+    fn push_verbs(self, text: &mut Vec<u8>, at: u64, is_before: bool) -> Result<(), AllocError>
+        ensures { OnOk result (AddsMends self.entry at is_before text.old.items text.new.items) }
+    {
         for verb in VERBS.iter() {
-            let word = verb.form().word;
-            let change = if is_before {
-                Change::Before(word)
-            } else {
-                Change::Instead(word)
-            };
-            if self.fits(at, change)? {
-                text.extend_from_slice(word)?;
-                text.push(b' ')?;
-            }
+            self.push_if(text, at, verb.form().word, is_before)?;
         }
         Ok(())
     }
@@ -162,34 +235,39 @@ impl<'a> Trial<'a> {
     fn push_lines(
         self,
         text: &mut Vec<u8>,
-        due: Option<Form>,
+        found: Found<'_>,
         is_before: bool,
-    ) -> Result<(), AllocError> {
-        let forms = self.reading.forms;
-        if is_before {
-            if let Some(due) = due {
-                return self.push_firsts(text, &[due], true);
+    ) -> Result<(), AllocError>
+        ensures { OnOk result (AddsMends self.entry found.entry.number is_before text.old.items text.new.items) }
+    {
+        let reading = self.reading;
+        let Forms {
+            header,
+            optional,
+            names,
+            own,
+        } = reading.forms;
+        match found.form {
+            Some(due) if is_before => self.push_if(text, found.number, due.word, is_before),
+            None if is_before => self.push_parts(text, found.number, &[names, own], is_before),
+            _ => {
+                let parts = [header, optional, names, own];
+                self.push_parts(text, found.number, &parts, is_before)
             }
-        } else {
-            self.push_firsts(text, forms.header, false)?;
-            self.push_firsts(text, forms.optional, false)?;
         }
-        self.push_firsts(text, forms.names, is_before)?;
-        self.push_firsts(text, forms.own, is_before)
     }
 
-    /// Adds the words that mend the line, in the place of the one that does not fit or before it, each with a space
-    /// behind it.
+    #[tactic(auto, using(crate::proofs::Mending::adds_none))]
     fn push_words(
         self,
         text: &mut Vec<u8>,
         found: Found<'_>,
         is_before: bool,
-    ) -> Result<(), AllocError> {
+    ) -> Result<(), AllocError>
+        ensures { OnOk result (AddsMends self.entry found.entry.number is_before text.old.items text.new.items) }
+    {
         match (found.expected, found.told.reason) {
-            (None, Reason::First(FirstReason::Unknown)) => {
-                self.push_lines(text, found.form, is_before)
-            }
+            (None, Reason::First(FirstReason::Unknown)) => self.push_lines(text, found, is_before),
             (Some(Expected::Operation), Reason::Due) => {
                 self.push_verbs(text, found.number, is_before)
             }
@@ -197,19 +275,47 @@ impl<'a> Trial<'a> {
         }
     }
 
-    /// Adds the numbers of words without which the line has its form.
-    fn push_without(self, text: &mut Vec<u8>, from: u64, below: u64) -> Result<(), AllocError> {
-        for at in from..below {
-            if self.fits(at, Change::Without)? {
-                push_number(text, at)?;
-                text.push(b' ')?;
-            }
+    /// The words that mend the line, in the place of the one that does not fit or before it, each with a space behind
+    /// it.
+    #[tactic(auto, using(crate::proofs::Mending::told_all))]
+    fn words(self, found: Found<'_>, is_before: bool) -> Result<Vec<u8>, AllocError>
+        ensures { IfOk result (λ text. AreTold (λ word. MendsIn self.entry found.entry.number (placed is_before word)) text.items) }
+    {
+        let mut text = Vec::new(self.alloc);
+        self.push_words(&mut text, found, is_before)?;
+        Ok(text)
+    }
+
+    /// Adds the number of a word, if the line has its form without it.
+    #[tactic(auto, using(crate::proofs::Mending::adds_none, crate::proofs::Mending::adds_number))]
+    fn push_without(self, text: &mut Vec<u8>, at: u64) -> Result<(), AllocError>
+        ensures { OnOk result (AddsMany self.entry text.old.items text.new.items) }
+    {
+        if !self.fits(at, Change::Without)? {
+            return Ok(());
         }
+        push_number(text, at)?;
+        text.push(b' ')?;
         Ok(())
     }
 
+    /// The numbers of words without which the line has its form.
+    #[tactic(auto, using(crate::proofs::Mending::adds_none, crate::proofs::Mending::adds_more, crate::proofs::Mending::many_told))]
+    fn without(self, from: u64, below: u64) -> Result<Vec<u8>, AllocError>
+        ensures { IfOk result (λ text. IsShiftIn self.entry text.items) }
+    {
+        let mut text = Vec::new(self.alloc);
+        for at in from..below {
+            self.push_without(&mut text, at)?;
+        }
+        Ok(text)
+    }
+
     /// Whether the line has its form with a word more, which stands in a place of the form up to that of the word.
-    fn is_missing(self, form: Form, found: Found<'_>) -> Result<bool, AllocError> {
+    #[tactic(auto, using(crate::proofs::Mending::is_missing))]
+    fn is_missing(self, form: Form, found: Found<'_>) -> Result<bool, AllocError>
+        ensures { IfOk result (λ does. IsTrue does → IsMissingIn self.entry) }
+    {
         let mut at = found.begin;
         for place in form.places {
             at = at.saturating_add(1);
@@ -229,31 +335,37 @@ impl<'a> Trial<'a> {
         }
     }
 
-    /// Adds what would explain the fault as one of a word too many or too few: `path` where a path seems to have a
-    /// space, `missing` where a word is missing before, or numbers of words that may be too many.
-    fn push_shift(self, text: &mut Vec<u8>, found: Found<'_>) -> Result<(), AllocError> {
-        let Some(form) = found.form else {
-            return Ok(());
-        };
-        if !found.is_shifted {
-            return Ok(());
-        }
+    /// What would explain the fault as one of a word too many or too few: `path` where a path seems to have a space,
+    /// `missing` where a word is missing before, or numbers of words that may be too many.
+    #[tactic(auto, using(crate::proofs::Mending::path_told, crate::proofs::Mending::missing_told, crate::proofs::Mending::none_told))]
+    fn shift(self, found: Found<'_>) -> Result<Vec<u8>, AllocError>
+        ensures { IfOk result (λ text. IsShiftIn self.entry text.items) }
+    {
         let from = found.begin.max(2);
-        if found.expected == Some(Expected::End) {
-            if matches!(form.places.first(), Some(Place::Path)) && !is_verb(found.before) {
-                return text.extend_from_slice(b"path");
-            }
-            return self.push_without(text, from, found.number);
-        }
-        if self.is_missing(form, found)? {
-            return text.extend_from_slice(b"missing");
-        }
         let after = found.number.saturating_add(1);
-        if is_digits(self.word(found.number)) && self.word(after).is_empty() {
-            return Ok(());
+        match found.form {
+            Some(form) if found.is_shifted => {
+                if found.expected == Some(Expected::End) {
+                    if is_of_path(form) && !is_verb(found.before) {
+                        return Vec::from_slice(self.alloc, b"path");
+                    }
+                    return self.without(from, found.number);
+                }
+                if self.is_missing(form, found)? {
+                    return Vec::from_slice(self.alloc, b"missing");
+                }
+                if is_digits(self.word(found.number)) && self.word(after).is_empty() {
+                    return Ok(Vec::new(self.alloc));
+                }
+                self.without(from, after)
+            }
+            _ => Ok(Vec::new(self.alloc)),
         }
-        self.push_without(text, from, after)
     }
+}
+
+fn is_of_path(form: Form) -> bool {
+    matches!(form.places.first(), Some(Place::Path))
 }
 
 fn is_verb(word: &[u8]) -> bool {
@@ -266,30 +378,42 @@ pub(crate) fn push_mends(
     trial: Trial<'_>,
     found: Found<'_>,
 ) -> Result<(), AllocError> {
-    let start = text.len();
-    trial.push_words(text, found, false)?;
-    push_end(text, start)?;
-    let start = text.len();
-    trial.push_words(text, found, true)?;
-    push_end(text, start)?;
-    let start = text.len();
-    trial.push_shift(text, found)?;
-    push_end(text, start)?;
-    text.extend_from_slice(match found.fault {
+    push_tried(text, trial, found)?;
+    let unseen = match found.fault {
         Some(LineFault::Form) => hidden(trial.word(found.number), trial.line),
         _ => b"-",
-    })?;
+    };
+    push_field(text, unseen)
+}
+
+/// Adds the first three of these fields: of each change that they tell it was tried that it mends the line.
+#[tactic(auto, using(crate::proofs::Mending::fields_added))]
+fn push_tried(text: &mut Vec<u8>, trial: Trial<'_>, found: Found<'_>) -> Result<(), AllocError>
+    ensures { OnOk result (AddsFields trial.entry found.entry.number text.old.items text.new.items) }
+{
+    let instead = trial.words(found, false)?;
+    let before = trial.words(found, true)?;
+    let shift = trial.shift(found)?;
+    push_field(text, &instead)?;
+    push_field(text, &before)?;
+    push_field(text, &shift)?;
+    Ok(())
+}
+
+/// Adds a field with a tab behind it.
+fn push_field(text: &mut Vec<u8>, given: &[u8]) -> Result<(), AllocError>
+    ensures { OnOk result (text.new.items ≡ text.old.items ++ field given.now) }
+{
+    text.extend_from_slice(or_hyphen(given))?;
     text.push(b'\t')?;
     Ok(())
 }
 
-/// Ends a field that began at this length: with a hyphen where it is empty.
-fn push_end(text: &mut Vec<u8>, start: usize) -> Result<(), AllocError> {
-    if text.len() == start {
-        text.push(b'-')?;
-    }
-    text.push(b'\t')?;
-    Ok(())
+/// A hyphen, where there is nothing.
+fn or_hyphen(given: &[u8]) -> &[u8]
+    ensures { result.now ≡ or_hyphen given.now }
+{
+    if given.is_empty() { b"-" } else { given }
 }
 
 /// What cannot be seen of a word or its line.

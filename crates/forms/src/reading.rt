@@ -1,5 +1,10 @@
 //! The lines of a script above a line: what they say that matters to it.
 
+ghost use Rattle.std.specs.Prelude.{◌≡◌, Contains, IfSome};
+ghost use Rattle.std.specs.List.{find};
+ghost use Rattle.std.specs.Str.{bytes_eq};
+ghost use Rattle.forms.specs.code.Trials.{StandsIn};
+
 use crate::lists::is_noted;
 use acl_text::Names;
 use script_text::{Words, read_number};
@@ -42,7 +47,9 @@ pub(crate) fn widest(alloc: Global) -> Scope {
 }
 
 /// The form of a line that begins with a word.
-pub(crate) fn form_of(forms: &[Form], word: &[u8]) -> Option<Form> {
+pub(crate) fn form_of(forms: &[Form], word: &[u8]) -> Option<Form>
+    ensures { result ≡ find (λ form. bytes_eq word.now form.word.now) forms.now }
+{
     forms.iter().copied().find(|form| word == form.word)
 }
 
@@ -65,12 +72,16 @@ impl Reading {
     }
 
     /// The line of the header that is due, if one is.
-    pub(crate) fn due(&self) -> Option<Form> {
+    pub(crate) fn due(&self) -> Option<Form>
+        ensures { IfSome result (λ form. Contains self.now.forms.header.now form) }
+    {
         self.forms.header.get(self.header).copied()
     }
 
     /// Where a line stands that begins with this word and comes next.
-    pub(crate) fn standing(&self, word: &[u8]) -> Standing {
+    pub(crate) fn standing(&self, word: &[u8]) -> Standing
+        ensures { StandsIn self.now.forms word.now result }
+    {
         if let Some(due) = self.due() {
             return if word == due.word {
                 Standing::Here(due)
@@ -81,18 +92,23 @@ impl Reading {
         if let Some(form) = form_of(self.forms.own, word) {
             return Standing::Here(form);
         }
-        match (
-            form_of(self.forms.names, word),
-            form_of(self.forms.optional, word),
-        ) {
-            (Some(form), _) if self.begun == 0 => Standing::Here(form),
-            (_, Some(form)) if self.is_open => Standing::Here(form),
-            _ => self.misplaced(word, None),
+        if self.begun == 0 {
+            if let Some(form) = form_of(self.forms.names, word) {
+                return Standing::Here(form);
+            }
         }
+        if self.is_open {
+            if let Some(form) = form_of(self.forms.optional, word) {
+                return Standing::Here(form);
+            }
+        }
+        self.misplaced(word, None)
     }
 
     /// Where a line stands that is not in its place.
-    fn misplaced(&self, word: &[u8], due: Option<Form>) -> Standing {
+    fn misplaced(&self, word: &[u8], due: Option<Form>) -> Standing
+        ensures { StandsIn self.now.forms word.now result }
+    {
         if known(self.forms, word).is_some() {
             Standing::Misplaced(due)
         } else {

@@ -1,0 +1,2 @@
+mod Mending
+mod Standing

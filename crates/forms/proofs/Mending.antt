@@ -1,0 +1,90 @@
+-- Words that are told to mend a line, one after another.
+use Rattle.std.proofs.Common.{◌≡◌, ℕ, true, false, List, [], ◌∷◌, ◌++◌, refl, ◌∙◌, ap, sym, append_assoc, append-nil, subst}
+use Rattle.std.specs.Prelude.{Contains, is_some, None, Some, Option, decimal, codes}
+use Rattle.std.specs.List.{AllByRecursion, flat_map}
+use Rattle.std.proofs.lemmas.Grind.{flat_map-append}
+use Rattle.suite_script.specs.Misfits.{line_misfit}
+use Rattle.suite_script.specs.Words.{Word}
+use Rattle.suite_script.specs.declared.form.Form.{Form}
+use Rattle.suite_script.specs.declared.scope.Scope.{Scope}
+use Rattle.suite_script.specs.declared.form.Forms.{Forms}
+use Rattle.forms.specs.Mends.{AreTold, Before, FitsOne, Instead, IsMissing, IsShift, Path, Missing, Many, IsTooMany, Mends, Without, field, spaced}
+use Rattle.forms.specs.declared.mend.Trial.{Trial}
+use Rattle.forms.specs.code.Trials.{Adds, AddsFields, IsShiftIn, MendsIn}
+
+-- what holds of each of two lists holds of each of both
+both_all : {X : Type 0} (P : X → Type 0) (xs ys : List X) → AllByRecursion P xs → AllByRecursion P ys → AllByRecursion P (xs ++ ys)
+both_all P [] ys first later = later
+both_all P (x ∷ xs) ys first later = (first.0, both_all P xs ys first.1 later)
+
+-- nothing is added
+pub adds_none : (P : Word → Type 0) (old new : List ℕ) → new ≡ old → Adds P old new
+adds_none P old new same = record { added = []; told = record { told = []; all = tt; is = refl }; is = same ∙ sym (append-nil old) }
+
+-- a word with a space behind it is added
+pub adds_one : (P : Word → Type 0) (word : Word) (old new : List ℕ) → P word → new ≡ old ++ spaced word → Adds P old new
+adds_one P word old new holds same =
+    record { added = spaced word; told = record { told = word ∷ []; all = (holds, tt); is = sym (append-nil (spaced word)) }; is = same }
+
+-- words are added, and then others
+pub adds_more : (P : Word → Type 0) (old middle new : List ℕ) → Adds P old middle → Adds P middle new → Adds P old new
+adds_more P old middle new first later =
+    record {
+      added = first.added ++ later.added;
+      told = record {
+        told = first.told.told ++ later.told.told;
+        all = both_all P first.told.told later.told.told first.told.all later.told.all;
+        is = ap (λ text. text ++ later.added) first.told.is ∙ ap (λ text. flat_map spaced first.told.told ++ text) later.told.is
+            ∙ sym (flat_map-append spaced first.told.told later.told.told);
+      };
+      is = later.is ∙ ap (λ text. text ++ later.added) first.is ∙ append_assoc old first.added later.added;
+    }
+
+-- nothing is there, where nothing is told to be
+pub is_none : {A : Type 0} (given : Option A) → is_some given ≡ false → given ≡ None
+is_none None h = refl
+is_none (Some a) h = let no : true ≡ false = h in cc
+
+-- a line whose first word is that of a form, where no other word misfits
+pub fits_one : (scope : Scope) (forms : List Form) (form : Form) (first : Word) (rest left : List Word) → left ≡ first ∷ rest → Contains forms form → form.word.now ≡ first
+    → is_some (line_misfit scope form.places.now form.ending rest) ≡ false → FitsOne scope forms left
+fits_one scope forms form first rest left is there begins fits =
+    subst (FitsOne scope forms) (sym is) (record { form = form; is_one = there; begins = begins; fits = is_none (line_misfit scope form.places.now form.ending rest) fits })
+
+-- all that was added to nothing
+pub told_all : (P : Word → Type 0) (text : List ℕ) → Adds P [] text → AreTold P text
+told_all P text adds = record { told = adds.told.told; all = adds.told.all; is = adds.is ∙ adds.told.is }
+
+-- the number of a word is added, and a space
+pub adds_number : (scope : Scope) (forms : Forms) (line : List ℕ) (at : ℕ) (old new : List ℕ) → Mends scope forms line at Without
+    → new ≡ (old ++ decimal at) ++ codes " " → Adds (IsTooMany scope forms line) old new
+adds_number scope forms line at old new mends is =
+    adds_one (IsTooMany scope forms line) (decimal at) old new (record { at = at; is = refl; mends = mends }) (is ∙ append_assoc old (decimal at) (codes " "))
+
+-- what is told of a word too many or too few
+pub path_told : (scope : Scope) (forms : Forms) (line text : List ℕ) → text ≡ codes "path" → IsShift scope forms line text
+path_told scope forms line text is = subst (IsShift scope forms line) (sym is) Path
+
+pub missing_told : (scope : Scope) (forms : Forms) (line text : List ℕ) → IsMissing scope forms line → text ≡ codes "missing" → IsShift scope forms line text
+missing_told scope forms line text missing is = subst (IsShift scope forms line) (sym is) (Missing missing)
+
+pub none_told : (scope : Scope) (forms : Forms) (line text : List ℕ) → text ≡ [] → IsShift scope forms line text
+none_told scope forms line text is = Many text (record { told = []; all = tt; is = is })
+
+pub many_told : (scope : Scope) (forms : Forms) (line text : List ℕ) → Adds (IsTooMany scope forms line) [] text → IsShift scope forms line text
+many_told scope forms line text adds = Many text (told_all (IsTooMany scope forms line) text adds)
+
+pub is_missing : (scope : Scope) (forms : Forms) (line : List ℕ) (at : ℕ) (word : Word) → Mends scope forms line at (Before word) → IsMissing scope forms line
+is_missing scope forms line at word mends = record { at = at; word = word; mends = mends }
+
+-- three fields, one after another
+pub fields_added : (trial : Trial) (at : ℕ) (old one two new instead before shift : List ℕ)
+    → AreTold (λ word. MendsIn trial at (Instead word)) instead → AreTold (λ word. MendsIn trial at (Before word)) before → IsShiftIn trial shift
+    → one ≡ old ++ field instead → two ≡ one ++ field before → new ≡ two ++ field shift → AddsFields trial at old new
+fields_added trial at old one two new instead before shift each_instead each_before is_shift one_is two_is new_is =
+    record {
+      added = field instead ++ field before ++ field shift;
+      mends = record { instead = instead; before = before; shift = shift; each_instead = each_instead; each_before = each_before; is_shift = is_shift; is = refl };
+      is = new_is ∙ ap (λ text. text ++ field shift) (two_is ∙ ap (λ text. text ++ field before) one_is ∙ append_assoc old (field instead) (field before))
+          ∙ append_assoc old (field instead ++ field before) (field shift);
+    }

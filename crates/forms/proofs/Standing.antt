@@ -1,0 +1,69 @@
+-- Forms that a search finds, by the first word of a line.
+use Rattle.std.proofs.Common.{◌≡◌, Bool, true, cond, List, [], ◌∷◌, ◌++◌, Some, None, refl, ◌∙◌, ap, sym, subst, inl, inr, arith}
+use Rattle.std.specs.Prelude.{Contains}
+use Rattle.std.specs.List.{find}
+use Rattle.std.specs.Str.{bytes_eq}
+use Rattle.std.proofs.lemmas.Slice.Eq.{bytes_eq-Decides}
+use Rattle.std.proofs.lemmas.Bool.{cases_Bool}
+use Rattle.std.proofs.lemmas.List.Elements.{Contains-append_left, Contains-append_right}
+use Rattle.suite_script.specs.Words.{Word}
+use Rattle.suite_script.specs.declared.form.Form.{Form}
+use Rattle.suite_script.specs.declared.form.Forms.{Forms}
+use Rattle.forms.specs.Mends.{all_of}
+
+-- the first of a list is in it
+first_in : {X : Type 0} (x : X) (xs : List X) → Contains (x ∷ xs) x
+first_in x xs = (0, omega arith, refl)
+
+-- what a search finds is in the list, and passes
+pub found_in : {X : Type 0} (p : X → Bool) (xs : List X) (x : X) → find p xs ≡ Some x → Contains xs x × (p x ≡ true)
+found_in p [] x found = let none : None ≡ Some x = found in cc
+found_in p (y ∷ ys) x found =
+    elim (cases_Bool (p y)) [
+      | inl passes ↦
+          let here : Some y ≡ Some x = ap (λ b. cond b (Some y) (find p ys)) (sym passes) ∙ found in
+          let same : y ≡ x = cc in
+          subst (λ z. Contains (y ∷ ys) z × (p z ≡ true)) same (first_in y ys, passes)
+      | inr fails ↦
+          let there : find p ys ≡ Some x = ap (λ b. cond b (Some y) (find p ys)) (sym fails) ∙ found in
+          let rest = found_in p ys x there in
+          (Contains-append_right (y ∷ []) ys x rest.0, rest.1)
+    ]
+
+-- the first form that begins with a word is one of the forms, and begins so
+pub form_found : (forms : List Form) (word : Word) (form : Form) → find (λ form. bytes_eq word form.word.now) forms ≡ Some form → Contains forms form × (form.word.now ≡ word)
+form_found forms word form found =
+    let both = found_in (λ (form : Form). bytes_eq word form.word.now) forms form found in
+    (both.0, sym ((bytes_eq-Decides word form.word.now).0 both.1))
+
+-- lines of each part are lines
+pub of_header : (forms : Forms) (form : Form) → Contains forms.header.now form → Contains (all_of forms) form
+of_header forms form there =
+    Contains-append_left (forms.header.now ++ forms.optional.now ++ forms.names.now) forms.own.now form
+    (Contains-append_left (forms.header.now ++ forms.optional.now) forms.names.now form (Contains-append_left forms.header.now forms.optional.now form there))
+
+pub of_optional : (forms : Forms) (form : Form) → Contains forms.optional.now form → Contains (all_of forms) form
+of_optional forms form there =
+    Contains-append_left (forms.header.now ++ forms.optional.now ++ forms.names.now) forms.own.now form
+    (Contains-append_left (forms.header.now ++ forms.optional.now) forms.names.now form (Contains-append_right forms.header.now forms.optional.now form there))
+
+pub of_names : (forms : Forms) (form : Form) → Contains forms.names.now form → Contains (all_of forms) form
+of_names forms form there =
+    Contains-append_left (forms.header.now ++ forms.optional.now ++ forms.names.now) forms.own.now form
+    (Contains-append_right (forms.header.now ++ forms.optional.now) forms.names.now form there)
+
+pub of_own : (forms : Forms) (form : Form) → Contains forms.own.now form → Contains (all_of forms) form
+of_own forms form there = Contains-append_right (forms.header.now ++ forms.optional.now ++ forms.names.now) forms.own.now form there
+
+-- a line of a part stands there that a search finds
+pub optional_stands : (forms : Forms) (word : Word) (form : Form) → find (λ form. bytes_eq word form.word.now) forms.optional.now ≡ Some form
+    → Contains (all_of forms) form × (form.word.now ≡ word)
+optional_stands forms word form found = let both = form_found forms.optional.now word form found in (of_optional forms form both.0, both.1)
+
+pub names_stand : (forms : Forms) (word : Word) (form : Form) → find (λ form. bytes_eq word form.word.now) forms.names.now ≡ Some form
+    → Contains (all_of forms) form × (form.word.now ≡ word)
+names_stand forms word form found = let both = form_found forms.names.now word form found in (of_names forms form both.0, both.1)
+
+pub own_stands : (forms : Forms) (word : Word) (form : Form) → find (λ form. bytes_eq word form.word.now) forms.own.now ≡ Some form
+    → Contains (all_of forms) form × (form.word.now ≡ word)
+own_stands forms word form found = let both = form_found forms.own.now word form found in (of_own forms form both.0, both.1)
