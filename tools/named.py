@@ -44,7 +44,6 @@ KEPT = {
     "crates/sorted_map/src/lib.rt": ("the page has a line that is too long",),
     "crates/acl_text/src/lib.rt": ("the page has a line that is too long",),
     "crates/rep_core/src/lib.rt": ("the page has a line that is too long", "the page does not name `Again`"),
-    "crates/run_explore/src/lib.rt": ("the page has a line that is too long",),
     "crates/txn_core/src/lib.rt": ("the page does not name `Sameness`",),
 }
 
