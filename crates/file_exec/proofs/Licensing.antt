@@ -218,8 +218,10 @@ module _ (known : Known) (rows : ℕ → Option Row) where
       in_turn {P = MayChange rows caller} _ (parent_of L caller edits path.folders) (λ now parent may.
       ruled (refuse_if (is_some (folders.number_of parent.names path.name)) why.Exists) _ (λ _ _. ruled (refuse_if (nat_le max_names (length parent.names)) why.FolderFull) _ (λ x room.
       record {
-        goes = λ _. (adds_name path.name may (has_room (length parent.names) max_names (not_refused (nat_le max_names (length parent.names)) why.FolderFull x room)),
-            (makes_row path.name kind init may (not_refused (is_misplaced kind (gives_default init)) why.DefaultOnFile y fits) are, tt));
+        goes = λ _. (
+          adds_name path.name may (has_room (length parent.names) max_names (not_refused (nat_le max_names (length parent.names)) why.FolderFull x room)),
+          (makes_row path.name kind init may (not_refused (is_misplaced kind (gives_default init)) why.DefaultOnFile y fits) are, tt),
+        );
       }))))))
   act edits service t at caller names action.Drop =
       let L = Licensed service known rows caller action.Drop (made_number t at) in

@@ -31,13 +31,7 @@ use Rattle.file_exec.specs.Known.{Known, known_of, is_opened, AgreesWith, Done, 
 abbrev pub votes_given : Action → Option Configuration
 votes_given (action.Make kind init votes) = votes
 votes_given (action.SetVotes votes) = Some votes
-votes_given action.Read = None
-votes_given (action.Write bytes) = None
-votes_given action.List = None
-votes_given action.Drop = None
-votes_given action.GetAcl = None
-votes_given (action.SetAcl acl) = None
-votes_given action.GetVotes = None
+votes_given _ = None
 
 -- the content of a suite was set, or it is known
 abbrev pub IsTold : Known → Edits → ℕ → Type 0
