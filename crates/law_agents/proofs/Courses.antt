@@ -12,7 +12,7 @@ use Rattle.file_ops.specs.Rows.{Row}
 use Rattle.file_exec.specs.declared.edit_log.Edit.{Edit}
 use Rattle.file_exec.specs.declared.edit_log.Edit.TheVariants.{SetAcl, SetVotes, SetContent, Make}
 use Rattle.file_exec.specs.Following.{Edits, Ended}
-use Rattle.file_exec.specs.Known.{Known, Done, exec_of}
+use Rattle.file_exec.specs.Known.{Known, known_rows, Done, exec_of}
 use Rattle.file_exec.specs.Licensed.{votes_given, Licensed, writes_bytes, changes_lists, changes_votes, adds_name, makes_row, drops_name, AllLicensed}
 use Rattle.file_exec.proofs.Licensing.{known_licensed}
 
@@ -49,10 +49,10 @@ module _ (W : Configuration → Type 0) (service : Service) (may : (votes : Conf
   sets {action = action} (makes_row {votes = votes} _ _ _ _ _ are) = of_new (votes_given action) votes are
   sets (drops_name _ _) = tt
 
-  all_set : {known : Known} {rows : ℕ → Option Row} {t : ℕ} {caller : Identity} {ops : List Op} (edits : Edits) → AllLicensed service known rows t caller ops edits → AllSet W edits
-  all_set [] all = tt
-  all_set (e ∷ edits) all = (sets all.0.licensed, all_set edits all.1)
+  all_set : (known : Known) (rows : ℕ → Option Row) (t : ℕ) (caller : Identity) (ops : List Op) (edits : Edits) → AllLicensed service known rows t caller ops edits → AllSet W edits
+  all_set known rows t caller ops [] all = tt
+  all_set known rows t caller ops (e ∷ edits) all = (sets all.0.licensed, all_set known rows t caller ops edits all.1)
 
   -- where the executor is done, each edit sets no votes but such
   pub edits_set : (known : Known) (t : ℕ) (caller : Identity) (ops : List Op) (ended : Ended (List Answer)) → exec_of service known t caller ops ≡ Done (Ok ended) → AllSet W ended.edits
-  edits_set known t caller ops ended is = all_set ended.edits (known_licensed service known t caller ops ended is)
+  edits_set known t caller ops ended is = all_set known (known_rows known) t caller ops ended.edits (known_licensed service known t caller ops ended is)
