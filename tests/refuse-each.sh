@@ -44,7 +44,10 @@ import played
 with open(sys.argv[2], "rb") as file:
     given = file.read()
 words = [b"play"] if sys.argv[3:] == ["trace"] else [word.encode() for word in sys.argv[3:]]
-found = [row for row in played.rows() if row["input"] == given and (row["words"] == words or words[:1] == [b"serve"] == row["words"][:1])]
+# of `serve` also a row with another number of agents, if it is not one of words that ask for nothing
+served = words[:1] == [b"serve"]
+same = lambda row: row["words"] == words or served and row["words"][:-1] == words[:-1] and row["status"] != 2
+found = [row for row in played.rows() if row["input"] == given and same(row)]
 found.sort(key=lambda row: row["words"] != words)
 if not found:
     sys.exit(1)
@@ -56,7 +59,7 @@ END
 is_known() {
     case $1 in
     trace) grep -v '^[>= ]' "$work/full" | cmp -s - "$work/row" ;;
-    serve) awk -v agents="$agents" -v sure=1 -f "$here/tests/served.awk" "$2" "$work/row" "$work/full" ;;
+    serve) cmp -s "$work/full" "$work/row" || awk -v agents="$agents" -v sure=1 -f "$here/tests/served.awk" "$2" "$work/row" "$work/full" ;;
     *) cmp -s "$work/full" "$work/row" ;;
     esac
 }
