@@ -3,6 +3,7 @@
 ghost use Rattle.file_exec.specs.Known.{GoesAsOnTheTable, IsTheTransaction, SetsWhatIsHeld, NeedsWhatIsUnmet};
 ghost use Rattle.file_exec.specs.Laws.{DoneIsTheTables, ChangesBySuite, ChangesAreHeld, UnsetVotesStay, ChangesLeadOn, MoreKnownChangesNothing};
 ghost use Rattle.file_exec.specs.Laws.{AMetNeedIsProgress, OpeningMeets};
+ghost use Rattle.file_exec.specs.Licensed.{EditsAreLicensed};
 ghost use Rattle.file_exec.specs.Reaching.{UnbegunIsReached, ReachedStays, TakingTellsMore};
 ghost use Rattle.file_exec.specs.Runs.{ExecRuns};
 
@@ -19,6 +20,12 @@ pub fn is_the_transaction()
 /// A law: where the executor is done, all that is set is held exclusively. It does nothing.
 pub fn sets_what_is_held()
     ensures { SetsWhatIsHeld }
+{}
+
+/// A law: where the executor is done, each edit has its licence: the caller may write the file, owns what
+/// it sets lists or votes of, or may change the folder. It does nothing.
+pub fn edits_are_licensed()
+    ensures { EditsAreLicensed }
 {}
 
 /// A law: what the executor asks for is not known. It does nothing.

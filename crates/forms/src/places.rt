@@ -5,13 +5,8 @@ ghost use Rattle.forms.specs.Reasons.{AreLimitsOf};
 use script_text::push_number;
 use std::alloc::AllocError;
 use suite_prefix::{MAX_AGENTS, MAX_CACHE, MAX_SLOTS};
-use suite_script::{Place, Scope};
+use suite_script::{LAST_SITE, MAX_STEPS, Place, Scope};
 use vote_core::MAX_SERVERS;
-
-/// The last site of an agent, and the most steps of a line.
-const LAST_SITE: u64 = 15;
-
-const MAX_STEPS: u64 = 1_000_000;
 
 /// The places, of those with one name one.
 pub(crate) const PLACES: [Place; 19] = [
@@ -73,7 +68,7 @@ pub(crate) fn limits(scope: &Scope, place: Place) -> Option<(u64, u64)>
         Place::Slots => Some((0, MAX_SLOTS as u64)),
         Place::Agent => Some((0, u64::from(scope.last_agent))),
         Place::Server => Some((0, u64::from(scope.last_server))),
-        Place::Site => Some((0, LAST_SITE)),
+        Place::Site => Some((0, u64::from(LAST_SITE))),
         Place::Steps => Some((0, MAX_STEPS)),
         _ => None,
     }

@@ -52,7 +52,8 @@ use Rattle.txn_core.specs.Doing.{Changes, Granted, home_of, Fixed, Task, Proposa
 use Rattle.txn_core.specs.Transactions.{Step, Gathered, tell_end, give_up, prepare, locked_at, numbers_from, short_cause, gather_by, start_from, widen_by, widen_one, widened, widen_all, to_widen, votes_then, votes_after, opened, or_all, open_needed, open_suite, open_first, opened_with, after_search, free_content, heard_on, raised_or_new, proceed, execute}
 use Rattle.txn_core.proofs.Gathers.{Each, EachBut, each_but, each_with, with_at, self}
 use Rattle.txn_core.proofs.Setting.{known_at}
-use Rattle.law_agents.proofs.Courses.{Sets, AllSet, edits_set, reads_known}
+use Rattle.file_exec.proofs.Licensing.{reads_known}
+use Rattle.law_agents.proofs.Courses.{Sets, AllSet, edits_set}
 use Rattle.law_agents.proofs.Collectors.{IsPlain, none_exclusive, not_current, AllReps, AllTold, AllIn, newest_so, all_append, teller}
 
 -- Votes that may be met, and servers that may be asked: a quorum of such votes is of some votes, and they name no others; nor does the service.
@@ -325,7 +326,7 @@ module _ (fixed : Fixed) (V : Configuration → Type 0) (S : ℕ → Type 0) (go
   read_there : (task : Task) (suites : Suites) (number : ℕ) → heard_on fixed task suites ≡ exec.Need (Know number) → (suite : Suite) × (suite_of suites number ≡ Some suite)
   read_there task suites number is =
       suite_known suites number
-      (reads_known Names fixed.service goes.known (goes.names fixed.service.c0 goes.opening) (known_of suites) task.t task.caller task.ops number
+      (reads_known fixed.service (known_of suites) task.t task.caller task.ops number
       (needed_first (known_of suites) (exec_of fixed.service (known_of suites) task.t task.caller task.ops) (Know number) is))
 
   shared_only : (mode other : LockMode) → serves mode other ≡ false → mode ≡ Shared

@@ -1,6 +1,7 @@
 -- The order of a transaction's requests, said of its exchanges alone: what its next request is, after all that it asked and was told.
 use Rattle.std.specs.Prelude.{◌≡◌, ℕ, ◌+◌, ◌*◌, ◌<◌, ◌≤◌, ◌==◌, Bool, true, false, ◌&&◌, List, [], ◌∷◌, ◌++◌, map, filter, Contains, Some}
 use Rattle.std.specs.List.{list_any}
+use Rattle.suite_prefix.specs.SettingsRules.{max_agents}
 use Rattle.acl_core.specs.Identity.{Identity}
 use Rattle.file_ops.specs.declared.operation.Op.{Op}
 use Rattle.vote_core.specs.Validity.{max_servers}
@@ -68,7 +69,7 @@ sent_to kind past = map (λ one. one.server) (filter (λ one. kind one.request) 
 -- A request is one of a transaction and names this one, and none before it was of a later stage.
 pub record IsInOrder (agent : Agent) (past : List Exchange) (asked : Request) : Type 0 where
   pub own : stage asked < 4
-  pub number : number_of asked ≡ 64 * agent.count + agent.index
+  pub number : number_of asked ≡ max_agents * agent.count + agent.index
   pub none_later : (one : Exchange) → Contains past one → stage one.request ≤ stage asked
 
 abbrev pub StagesRise : Type 0

@@ -64,13 +64,7 @@ valid_action : (one : Action) → action_fits one ≡ true → GivesValidVotes o
 valid_action (action.Make kind init (Some votes)) is = valid_votes votes is
 valid_action (action.Make kind init None) is = tt
 valid_action (action.SetVotes votes) is = valid_votes votes is
-valid_action action.Read is = tt
-valid_action (action.Write bytes) is = tt
-valid_action action.List is = tt
-valid_action action.Drop is = tt
-valid_action action.GetAcl is = tt
-valid_action (action.SetAcl acl) is = tt
-valid_action action.GetVotes is = tt
+valid_action _ is = tt
 
 abbrev event_fits : Event → Bool
 event_fits (Begin number (Transaction caller site ops)) = list_all (λ (op : Op). action_fits op.action) ops

@@ -41,6 +41,7 @@ use Rattle.law_headline.proofs.Editing.{edits_fit}
 use Rattle.law_headline.proofs.Setting.{same_kind}
 use Rattle.law_headline.proofs.Fair.{FromEdits}
 use Rattle.law_run_alone.proofs.FittingLists.{ListsFit, seen_fit, shown_fit}
+use Rattle.file_exec.proofs.Licensing.{agrees_itself}
 use Rattle.law_run_alone.proofs.Courses.{IsNumber, AllNumbered, AreSmall, set_small, edits_well}
 
 -- of a suite that is changed
@@ -49,15 +50,6 @@ pub record IsOwn (t z : ℕ) (suites : Suites) (first : ReadPoint) (change : exe
   pub kept : change.made ≡ false → prefix_kind (kind_of change.row.content) ≡ first.prefix.kind
   pub small : AreSmall (known_rows (known_of suites)) → change.content ≡ true → is_within_limits change.row.content ≡ true
   pub lists : is_valid_prefix first.prefix ≡ true → ListsFit change.row
-
--- ---- what is known agrees with its own rows
-
-pub agrees_itself : (all : Known) → AgreesWith all (known_rows all)
-agrees_itself all n = itself (known.known_of all n)
-  where
-    itself : (it : Option KnownSuite) → IsSoAt it (known.row_in it)
-    itself (Some it) = record { head = refl; content = λ _. refl }
-    itself None = tt
 
 -- the row that was known is known still, but for its content
 head_before : (mode : LockMode) (before : Option KnownSuite) (row : Option Row) → IsSoAt before row → is_held mode before ≡ true → head (known.row_in before) ≡ head row

@@ -1,6 +1,6 @@
 -- The laws of this crate.
 use Rattle.std.specs.Prelude.{◌≡◌, ℕ, ◌≤◌, true, false, List, Some}
-use Rattle.suite_prefix.specs.SettingsRules.{Opening}
+use Rattle.suite_prefix.specs.SettingsRules.{Opening, max_agents}
 use Rattle.vote_core.specs.Validity.{IsValid, max_servers}
 use Rattle.rep_core.specs.Consistency.{IsConsistent}
 use Rattle.txn_core.specs.declared.job.Job.{Job}
@@ -39,7 +39,7 @@ ServersAreConsistent = (given : Opening) (events : List Event) (i : ℕ) → IsC
 -- prepares at a server once, tells servers how its transaction ended and nothing else, and gives up only what was not decided; and its transactions are
 -- numbered apart from all others.
 abbrev pub SidesAreKept : Type 0
-SidesAreKept = (given : Opening) (z : ℕ) (events : List Event) → IsValid given.c0 → given.agents ≤ 64 → given.servers ≤ max_servers → AgentsOwe given z events → AgentsKeepSides given z events
+SidesAreKept = (given : Opening) (z : ℕ) (events : List Event) → IsValid given.c0 → given.agents ≤ max_agents → given.servers ≤ max_servers → AgentsOwe given z events → AgentsKeepSides given z events
 
 -- an agent that began a job when it was idle, and was told this since
 pub record IsOfAJob (fixed : Fixed) (agent : Agent) : Type 0 where

@@ -2,7 +2,7 @@
 use Rattle.std.specs.Prelude.{◌≡◌, ℕ, ◌≤◌, IsTrue, List, Some}
 use Rattle.vote_core.specs.Validity.{IsValid, max_servers}
 use Rattle.suite_content.specs.declared.content.Content.{Content}
-use Rattle.suite_prefix.specs.SettingsRules.{Opening}
+use Rattle.suite_prefix.specs.SettingsRules.{Opening, max_agents}
 use Rattle.file_exec.specs.declared.changes.Change as executor
 use Rattle.suite_collect.specs.Collecting.{all_told}
 use Rattle.txn_core.specs.Suites.{ReadPoint, Suite}
@@ -40,4 +40,6 @@ WritesToQuorums =
 -- In every run in which agents give what they owe: a transaction's collector holds what the machine of its suite told it, server by server: the mode of the lock,
 -- and the prefix and the version of the copy.
 abbrev pub CollectorsAgree : Type 0
-CollectorsAgree = (given : Opening) (z : ℕ) (events : List Event) → IsValid given.c0 → given.agents ≤ 64 → given.servers ≤ max_servers → AgentsOwe given z events → AllAgree z (machine_of given z events) (runs.run given events)
+CollectorsAgree =
+    (given : Opening) (z : ℕ) (events : List Event) → IsValid given.c0 → given.agents ≤ max_agents → given.servers ≤ max_servers → AgentsOwe given z events
+    → AllAgree z (machine_of given z events) (runs.run given events)

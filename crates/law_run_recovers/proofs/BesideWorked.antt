@@ -41,13 +41,7 @@ valid_action : (one : Action) → sets_none one ≡ true → GivesValidVotes one
 valid_action (action.Make kind init None) is = tt
 valid_action (action.Make kind init (Some votes)) is = absurd (false≢true is)
 valid_action (action.SetVotes votes) is = absurd (false≢true is)
-valid_action action.Read is = tt
-valid_action (action.Write bytes) is = tt
-valid_action action.List is = tt
-valid_action action.Drop is = tt
-valid_action action.GetAcl is = tt
-valid_action (action.SetAcl acl) is = tt
-valid_action action.GetVotes is = tt
+valid_action _ is = tt
 
 pub all_by : {X : Type 0} (P : X → Type 0) (p : X → Bool) → ((x : X) → p x ≡ true → P x) → (xs : List X) → list_all p xs ≡ true → AllByRecursion P xs
 all_by P p each [] is = tt

@@ -3,7 +3,7 @@ use Rattle.std.specs.Prelude.{◌≡◌, ◌⊎◌, ℕ, ◌+◌, ◌*◌, ◌<�
 use Rattle.std.specs.List.{list_any}
 use Rattle.acl_core.specs.Identity.{Identity}
 use Rattle.vote_core.specs.Quorums.{Configuration, is_write_quorum}
-use Rattle.suite_prefix.specs.SettingsRules.{Opening}
+use Rattle.suite_prefix.specs.SettingsRules.{Opening, max_agents}
 use Rattle.suite_prefix.specs.declared.copies.Prefix.{Prefix}
 use Rattle.file_ops.specs.declared.operation.Op.{Op}
 use Rattle.file_ops.specs.declared.answer.Answer.{Answer}
@@ -140,10 +140,10 @@ DecidedWhereVotesAre = (given : Opening) (events : List Event) → DecidedWhereV
 pub record HasHome (given : Opening) (agent count server : ℕ) : Type 0 where
   pub more : ℕ
   pub few : more < given.servers
-  pub home : home_of (fixed_of given).service (64 * (count + more) + agent) ≡ server
+  pub home : home_of (fixed_of given).service (max_agents * (count + more) + agent) ≡ server
 
 abbrev pub HomesGoRoundOf : Opening → Type 0
-HomesGoRoundOf given = (agent count server : ℕ) → agent < 64 → server < given.servers → HasHome given agent count server
+HomesGoRoundOf given = (agent count server : ℕ) → agent < max_agents → server < given.servers → HasHome given agent count server
 
 abbrev pub HomesGoRound : Type 0
 HomesGoRound = (given : Opening) → HomesGoRoundOf given
@@ -174,7 +174,7 @@ OneOfThemIsDecidedAt given events =
     let job = Transaction caller site ops in let world = run given events in
     CanBe given (events ++ again agent job tries) → length tries ≡ given.servers
     → actor_at world agent ≡ Some actor → up_free world ≡ true → some_up world ≡ true
-    → ((more : ℕ) → more < given.servers → VotesAreUp (fixed_of given) world (table_of given events) actor.agent.cache (64 * (actor.agent.count + more) + agent) site caller ops)
+    → ((more : ℕ) → more < given.servers → VotesAreUp (fixed_of given) world (table_of given events) actor.agent.cache (max_agents * (actor.agent.count + more) + agent) site caller ops)
     → goes_again given agent job world tries ≡ true
     → OneIsDecided (outcomes (dones (fixed_of given) world (again agent job tries))) agent
 

@@ -1,7 +1,7 @@
 -- The numbers of transactions, and who asks in their names.
 use Rattle.std.specs.Prelude.{◌≡◌, ℕ, ◌+◌, ◌*◌, ◌%◌, ◌/◌, ◌⊎◌, nat_eq, nat_lt, Bool, true, false, ◌&&◌, if◌then◌else◌, List, [], ◌∷◌, Option, Some, None}
 use Rattle.std.specs.List.{IsDistinct, cons_option}
-use Rattle.suite_prefix.specs.SettingsRules.{Opening, IsAccepted}
+use Rattle.suite_prefix.specs.SettingsRules.{Opening, IsAccepted, max_agents}
 use Rattle.rep_core.specs.declared.request.Request.{Request}
 use Rattle.txn_core.specs.declared.job.Job.{Job}
 use Rattle.txn_core.specs.Doing.{Fixed, Task, home_of}
@@ -19,7 +19,7 @@ use Rattle.law_runs.specs.Naming.{names, may_sweep}
 
 -- the number of a job that ended, which is that of its transaction
 abbrev pub number_of : EndedJob → ℕ
-number_of job = 64 * job.count + job.agent
+number_of job = max_agents * job.count + job.agent
 
 -- whether the job of this number was begun: by its agent, the number's rest by 64
 abbrev pub has_begun : Option Actor → ℕ → Bool
@@ -27,12 +27,12 @@ has_begun (Some actor) place = nat_lt place actor.agent.count
 has_begun None place = false
 
 abbrev pub was_begun : World → ℕ → Bool
-was_begun world t = has_begun (actor_at world (t % 64)) (t / 64)
+was_begun world t = has_begun (actor_at world (t % max_agents)) (t / max_agents)
 
 -- the number of the job that an event begins, if it begins one
 abbrev pub begins_now : Fixed → ℕ → Job → Option Actor → Option ℕ
 begins_now fixed number job (Some actor) =
-    if is_idle actor.agent.doing && has_sense fixed job && nat_lt actor.agent.count max_jobs then Some (64 * actor.agent.count + number) else None
+    if is_idle actor.agent.doing && has_sense fixed job && nat_lt actor.agent.count max_jobs then Some (max_agents * actor.agent.count + number) else None
 begins_now fixed number job None = None
 
 abbrev pub begins_at : Opening → World → Event → Option ℕ
@@ -52,7 +52,7 @@ begun given events = begun_from given (opening given) events
 -- Each number is begun once, and by the agent that is its rest by 64.
 pub record IsBegunOnce (given : Opening) (events : List Event) : Type 0 where
   pub once : IsDistinct nat_eq (begun given events)
-  pub by_its_agent : (agent t : ℕ) (job : Job) → begins_at given (run given events) (Begin agent job) ≡ Some t → t % 64 ≡ agent
+  pub by_its_agent : (agent t : ℕ) (job : Job) → begins_at given (run given events) (Begin agent job) ≡ Some t → t % max_agents ≡ agent
 
 abbrev pub EachIsBegunOnce : Type 0
 EachIsBegunOnce = (given : Opening) → IsAccepted given → (events : List Event) → IsBegunOnce given events
@@ -61,7 +61,7 @@ EachIsBegunOnce = (given : Opening) → IsAccepted given → (events : List Even
 pub record AsksForItself (given : Opening) (number : ℕ) (agent : Agent) (server : ℕ) (asked : Request) : Type 0 where
   pub task : Task
   pub running : task_of agent.doing ≡ Some task
-  pub last : task.t + 64 ≡ 64 * agent.count + number
+  pub last : task.t + max_agents ≡ max_agents * agent.count + number
   pub named : names task.t asked ≡ true
   pub at_home : is_decide asked ≡ true → server ≡ home_of (fixed_of given).service task.t
 

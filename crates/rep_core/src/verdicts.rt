@@ -14,6 +14,7 @@ use crate::sameness::same_verdicts;
 use sorted_map::BlockMap;
 use std::alloc::{AllocError, Global};
 use std::marker::Model;
+use suite_prefix::MAX_AGENTS;
 
 /// The verdicts of transactions, seen in the order of their transactions, with the room of each agent. Beside them the
 /// lists that were packed, which a copy does not know.
@@ -102,9 +103,9 @@ impl Verdicts {
 /// The number of the agent that numbered a transaction.
 fn agent_of(t: u64) -> usize
     ensures agent { result ≡ by_agent.agent_of t }
-    ensures few { result < 64 }
+    ensures few { result < MAX_AGENTS }
 {
-    (t % 64) as usize
+    (t % MAX_AGENTS as u64) as usize
 }
 
 /// What the map of its agent has at a transaction.

@@ -1,6 +1,6 @@
 -- What a step decides, as it shows: in what was served, and in the job that its agent began last.
 use Rattle.std.specs.Prelude.{◌≡◌, ℕ, ◌+◌, ◌<◌, ◌%◌, length, List, slice_index_or, slice_set, Option, Some, None, Result}
-use Rattle.suite_prefix.specs.SettingsRules.{Opening}
+use Rattle.suite_prefix.specs.SettingsRules.{Opening, max_agents}
 use Rattle.file_ops.specs.declared.answer.Answer.{Answer}
 use Rattle.file_ops.specs.declared.refusal.Refusal.{Refusal}
 use Rattle.txn_core.specs.Doing.{Task}
@@ -32,7 +32,7 @@ job_of task = Transaction task.caller task.site task.ops
 
 -- a transaction, whose agent is its number's rest by 64, is of the job that this agent began last
 abbrev pub IsOfJob : List (Option Job) → Task → Type 0
-IsOfJob jobs task = job_at jobs (task.t % 64) ≡ Some (job_of task)
+IsOfJob jobs task = job_at jobs (task.t % max_agents) ≡ Some (job_of task)
 
 -- Some events from the opening on made this world, and each transaction in it is of the job that its agent began last.
 pub record IsPlayed (given : Opening) (world : World) (jobs : List (Option Job)) : Type 0 where

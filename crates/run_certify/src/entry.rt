@@ -101,14 +101,6 @@ impl KeptEnd {
         let ended = Box::new(alloc, ended)?;
         Ok(KeptEnd { ended })
     }
-
-    /// How the job ended, by value.
-    pub fn into_ended(self) -> EndedJob
-        ensures { result ≡ self }
-    {
-        let KeptEnd { ended } = self;
-        Box::into_inner(ended)
-    }
 }
 
 /// One thing that an agent did.

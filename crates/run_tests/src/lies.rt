@@ -1,13 +1,14 @@
 //! Lies about a run, which are found out.
 
-use crate::fixtures::{insert, kept_end, kept_job, push, same, settings};
+use crate::fixtures::{had, insert, kept_end, kept_job, push, same, settings};
 use crate::test_cluster::{TestCluster, adds, count, judged, opened, play};
 use rep_core::{Lack, Reply, Request, Stamped};
 use run_certify::Entry;
+use run_core::EndedJob;
 use server_lock::Item;
 use std::process::Abort;
 use suite_prefix::Settings;
-use txn_core::Job;
+use txn_core::{Ending, Job};
 
 /// A list beside a sweep: nine items.
 fn told(rt: &(impl Abort + AllocGlobal), settings: &Settings) -> TestCluster {
@@ -213,11 +214,18 @@ fn a_last_step_was_not_taken(rt: HostRuntime) {
     same(&rt, &verdict, wanted, "a step less");
 }
 
-/// Changes the last entry of an agent, which has to be the end of a job: another number of steps.
+/// Changes the last entry of an agent, which has to be the end of a job that was answered: another number of steps.
 fn miscount(rt: &(impl Abort + AllocGlobal), entries: &mut Vec<Entry>) {
     if let Some(Entry::Ended(kept)) = entries.pop() {
-        let mut outcome = kept.into_ended();
-        outcome.steps = outcome.steps.wrapping_add(1);
+        let Ending::Answered(answers) = &kept.ending else {
+            return;
+        };
+        let outcome = EndedJob {
+            agent: kept.agent,
+            count: kept.count,
+            steps: kept.steps.wrapping_add(1),
+            ending: Ending::Answered(had(rt, answers.clone())),
+        };
         push(rt, entries, Entry::Ended(kept_end(rt, outcome)));
     }
 }

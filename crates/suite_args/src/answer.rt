@@ -25,7 +25,7 @@ fn names_in<'a>(alloc: Global, arguments: &ArgMatches<'a>) -> Result<Names<'a>, 
 }
 
 /// The most agents.
-const MAX_AGENTS: u64 = 64;
+pub const MAX_AGENTS: u64 = 64;
 
 /// The number of agents among the arguments of `serve`.
 fn agents_in<'a>(arguments: &ArgMatches<'a>) -> Result<Request<'a>, ArgsError>

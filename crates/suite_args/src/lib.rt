@@ -20,6 +20,7 @@ mod commands;
 mod request;
 mod script;
 
+pub use answer::MAX_AGENTS;
 pub use request::{ArgsError, HelpText, Names, Request};
 pub use script::Script;
 use std::alloc::Global;

@@ -19,7 +19,8 @@ use Rattle.suite_script.specs.declared.fault.ScriptFault.{ScriptFault}
 use Rattle.run_core.specs.declared.event.Event.TheVariants as event
 use Rattle.txn_core.specs.declared.job.Job.{Job}
 use Rattle.txn_core.specs.declared.job.Job.TheVariants.{Transaction, Sweep}
-use Rattle.suite_play.specs.Commands.{begin_in, last_site, said_after, said_by, server_in, steps_in, transaction_in, verb_in}
+use Rattle.suite_script.specs.Forms.{last_site}
+use Rattle.suite_play.specs.Commands.{begin_in, said_after, said_by, server_in, steps_in, transaction_in, verb_in}
 use Rattle.suite_play.specs.Outputs.{language, places_of}
 use Rattle.suite_play.specs.Playing.{endless}
 use Rattle.suite_play.specs.Promised.{events_in, events_of, steps_of}

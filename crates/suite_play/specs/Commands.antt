@@ -9,6 +9,7 @@ use Rattle.txn_core.specs.declared.job.Job.TheVariants.{Transaction, Sweep}
 use Rattle.run_core.specs.declared.event.Event.TheVariants as event
 use Rattle.suite_script.specs.declared.fault.LineFault.{LineFault}
 use Rattle.suite_script.specs.declared.fault.LineFault.TheVariants.{Form}
+use Rattle.suite_script.specs.Forms.{last_site, max_steps}
 use Rattle.suite_script.specs.Operations.{operations}
 use Rattle.suite_script.specs.Words.{Taken, Word, at_end, caller, number}
 use Rattle.suite_play.specs.declared.command.Command.{Command}
@@ -36,14 +37,6 @@ verb_in text = find (λ verb. bytes_eq text (spelling verb)) verbs
 
 abbrev pub is_command : Word → Bool
 is_command text = is_some (verb_in text)
-
--- the most steps of a line
-abbrev pub max_steps : ℕ
-max_steps = 1000000
-
--- the last site of an agent
-abbrev pub last_site : ℕ
-last_site = 15
 
 -- a transaction, for a caller, at a site
 abbrev pub transaction_in : Tables → List Word → Result Job LineFault

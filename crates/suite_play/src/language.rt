@@ -3,9 +3,10 @@
 ghost use Rattle.std.specs.Prelude.{◌≡◌};
 ghost use Rattle.file_ops.specs.Steps.{found_or, ok_map};
 ghost use Rattle.script_text.specs.Numbers.{number_up_to};
-ghost use Rattle.suite_play.specs.Commands.{audit_in, begin_in, crash_in, forget_in, max_steps, return_in, run_in, said_by, server_in, step_in, sweep_in, transaction_in};
+ghost use Rattle.suite_play.specs.Commands.{audit_in, begin_in, crash_in, forget_in, return_in, run_in, said_by, server_in, step_in, sweep_in, transaction_in};
 ghost use Rattle.suite_play.specs.Headers.{is_header};
 ghost use Rattle.suite_play.specs.code.Kept.{kept_command, kept_job};
+ghost use Rattle.suite_script.specs.Forms.{max_steps};
 ghost use Rattle.suite_script.specs.Readings.{Gives};
 
 use crate::command::Command;
@@ -16,15 +17,14 @@ use run_core::Event;
 use script_text::{Words, read_number};
 use std::alloc::Global;
 use suite_script::{
-    Language, LineError, LineFault, at_end, next_word, read_caller, read_id, read_operations,
+    LAST_SITE, Language, LineError, LineFault, MAX_STEPS, at_end, next_word, read_caller, read_id,
+    read_operations,
 };
 use txn_core::{Job, Ops, SharedCaller};
+use weak_cache::MAX_SITES;
 
-/// The last site of an agent.
-const LAST_SITE: u8 = 15;
-
-/// The most steps of a line.
-const MAX_STEPS: u64 = 1_000_000;
+/// A site is one that an agent keeps something for.
+const _: () = prove!(LAST_SITE + 1 == MAX_SITES);
 
 impl Language for Places {
     ghost use Rattle.suite_play.specs.Commands.{command_in, is_command};

@@ -18,7 +18,7 @@ use Rattle.suite_prefix.specs.declared.faults.DecodeError.TheVariants as errors
 use Rattle.suite_prefix.specs.declared.shapes.EntryShape.{EntryShape}
 use Rattle.suite_prefix.specs.Bytes.{AreBytesOf, bytes_in}
 use Rattle.suite_prefix.specs.Copies.{IsCopy, IsContent}
-use Rattle.suite_prefix.specs.Forms.{CanHold}
+use Rattle.suite_prefix.specs.Forms.{CanHold, HoldsContent}
 use Rattle.suite_prefix.specs.Faults.{SpellsCopy, IsFaultOf, IsFaultIn, IsOfValidCopy, Explains, FaultsTellApart, is_canonical, is_written, numbers_belong, entries_rise, content_rises}
 use Rattle.suite_prefix.specs.code.Judging.{IsWhole, Refuses}
 use Rattle.suite_prefix.specs.Reading.{Shape, copy_of, shape_at}
@@ -50,21 +50,22 @@ canonical_shape form copy valid =
     (and_from (numbers_belong shape.default) (entries_rise shape.default) (numbers_of_entries default) (rise_if_canonical default (default_canonical copy.prefix.acl.default valid.prefix.fits.acl.default))))
     (content_is_canonical copy.content valid.content)
 
-spells_shape : (form : Form) (copy : Replica) → IsCopy copy → CanHold form copy.prefix → SpellsCopy (shape_of form copy)
-spells_shape form copy valid held = record {
+spells_shape : (form : Form) (copy : Replica) → IsCopy copy → CanHold form copy.prefix → HoldsContent form copy.content → SpellsCopy (shape_of form copy)
+spells_shape form copy valid held content_held = record {
   permissions_known = All-map (λ (entry : EntryShape). entry.permissions < 8) entry_shape copy.prefix.acl.access (λ k d in_list. (get_or copy.prefix.acl.access k d).known);
   default_known = All-map (λ (entry : EntryShape). entry.permissions < 8) entry_shape (default_entries copy.prefix.acl.default) (λ k d in_list. (get_or (default_entries copy.prefix.acl.default) k d).known);
   valid = subst IsCopy (sym (copy_back form copy valid.prefix.fits.acl.default)) valid;
   held = subst (λ (made : Replica). CanHold form made.prefix) (sym (copy_back form copy valid.prefix.fits.acl.default)) held;
+  content_held = content_held;
 }
 
 -- the shape of a valid copy with nothing behind it has no fault
-no_fault : (form : Form) (copy : Replica) (fault : CopyFault) → IsCopy copy → CanHold form copy.prefix → IsFaultOf (shape_of form copy) [] fault → ⊥
-no_fault form copy Short valid held h = h
-no_fault form copy BadTag valid held h = h
-no_fault form copy NotCanonical valid held h = let yes = canonical_shape form copy valid in absurd cc
-no_fault form copy Invalid valid held h = h.1 (spells_shape form copy valid held)
-no_fault form copy TrailingBytes valid held h = h.1.1 refl
+no_fault : (form : Form) (copy : Replica) (fault : CopyFault) → IsCopy copy → CanHold form copy.prefix → HoldsContent form copy.content → IsFaultOf (shape_of form copy) [] fault → ⊥
+no_fault form copy Short valid held content_held h = h
+no_fault form copy BadTag valid held content_held h = h
+no_fault form copy NotCanonical valid held content_held h = let yes = canonical_shape form copy valid in absurd cc
+no_fault form copy Invalid valid held content_held h = h.1 (spells_shape form copy valid held content_held)
+no_fault form copy TrailingBytes valid held content_held h = h.1.1 refl
 
 -- the bytes of a valid copy are read as its shape, whatever was read of them
 pub read_whole : (bytes : List ℕ) (copy : Replica) → IsCopy copy → (has : AreBytesOf copy bytes) → shape_at bytes ≡ Ok (shape_of has.form copy, [])
@@ -79,6 +80,7 @@ pub spelled : (bytes : List ℕ) (shape : Shape) (rest : List ℕ) → IsBytes b
 spelled bytes shape rest fits e whole = record {
   form = shape.form;
   held = whole.copy.held;
+  content_held = whole.copy.content_held;
   are =
       (shape_takes bytes (shape, rest) fits e).whole ∙ ap (λ (t : List ℕ). t ++ rest) (same_text shape (canonical_parts shape whole.canonical).belongs (canonical_parts shape whole.canonical).default_belongs whole.copy.permissions_known whole.copy.default_known)
       ∙ ap (λ (t : List ℕ). bytes_in shape.form (copy_of shape) ++ t) whole.ended ∙ append-nil (bytes_in shape.form (copy_of shape));
@@ -102,14 +104,15 @@ pub is_explained : (bytes : List ℕ) (shape : Shape) (rest : List ℕ) (r : Res
 is_explained bytes shape rest (Ok copy) fits e refused = tt
 is_explained bytes shape rest (Err error) fits e refused = explains bytes shape rest error fits e refused
 
-only_memory : (form : Form) (copy : Replica) (error : DecodeError) → IsCopy copy → CanHold form copy.prefix → Refuses (shape_of form copy) [] error → error ≡ errors.Memory
-only_memory form copy (errors.Fault fault) valid held refused = absurd (no_fault form copy fault valid held refused)
-only_memory form copy errors.Memory valid held refused = refl
+only_memory : (form : Form) (copy : Replica) (error : DecodeError) → IsCopy copy → CanHold form copy.prefix → HoldsContent form copy.content → Refuses (shape_of form copy) [] error → error ≡ errors.Memory
+only_memory form copy (errors.Fault fault) valid held content_held refused = absurd (no_fault form copy fault valid held content_held refused)
+only_memory form copy errors.Memory valid held content_held refused = refl
 
-only_this : (form : Form) (copy : Replica) (r : Result Replica DecodeError) → IsCopy copy → CanHold form copy.prefix → IfOk r (λ read. read ≡ copy_of (shape_of form copy)) → IfErr r (Refuses (shape_of form copy) [])
+only_this : (form : Form) (copy : Replica) (r : Result Replica DecodeError) → IsCopy copy → CanHold form copy.prefix → HoldsContent form copy.content
+    → IfOk r (λ read. read ≡ copy_of (shape_of form copy)) → IfErr r (Refuses (shape_of form copy) [])
     → MatchResult r (λ read. read ≡ copy) (λ error. error ≡ errors.Memory)
-only_this form copy (Ok read) valid held value refused = value ∙ copy_back form copy valid.prefix.fits.acl.default
-only_this form copy (Err error) valid held value refused = only_memory form copy error valid held refused
+only_this form copy (Ok read) valid held content_held value refused = value ∙ copy_back form copy valid.prefix.fits.acl.default
+only_this form copy (Err error) valid held content_held value refused = only_memory form copy error valid held content_held refused
 
 abbrev Answered : Replica → Result Replica DecodeError → Shape × List ℕ → Type 0
 Answered copy r read = IfOk r (λ made. made ≡ copy_of read.0) → IfErr r (Refuses read.0 read.1) → MatchResult r (λ made. made ≡ copy) (λ error. error ≡ errors.Memory)
@@ -119,7 +122,7 @@ pub is_only : (bytes : List ℕ) (shape : Shape) (rest : List ℕ) (r : Result R
     → (copy : Replica) → IsCopy copy → AreBytesOf copy bytes → MatchResult r (λ read. read ≡ copy) (λ error. error ≡ errors.Memory)
 is_only bytes shape rest r e value refused copy valid has =
     let same : (shape_of has.form copy, []) ≡ (shape, rest) = ok_is (shape_of has.form copy, []) (shape, rest) (sym (read_whole bytes copy valid has) ∙ e) in
-    subst (Answered copy r) same (only_this has.form copy r valid has.held) value refused
+    subst (Answered copy r) same (only_this has.form copy r valid has.held has.content_held) value refused
 
 -- ---- faults tell apart
 
@@ -177,6 +180,8 @@ one_or_copy bytes (Err first) fits e no_fault no_copy = no_fault first refl
 pub told_apart : FaultsTellApart
 told_apart = record {
   never_neither = λ bytes each no_fault no_copy. one_or_copy bytes (shape_at bytes) (bytes_if_all bytes each) refl no_fault no_copy;
-  never_both = λ bytes fault of_copy h. no_fault of_copy.has_them.form of_copy.copy fault of_copy.valid of_copy.has_them.held (subst (λ (read : Result (Shape × List ℕ) CopyFault). IsFaultIn read fault) (read_whole bytes of_copy.copy of_copy.valid of_copy.has_them) h);
+  never_both = λ bytes fault of_copy h.
+      no_fault of_copy.has_them.form of_copy.copy fault of_copy.valid of_copy.has_them.held of_copy.has_them.content_held
+      (subst (λ (read : Result (Shape × List ℕ) CopyFault). IsFaultIn read fault) (read_whole bytes of_copy.copy of_copy.valid of_copy.has_them) h);
   one_fault = λ bytes fault other h k. one_in (shape_at bytes) fault other h k;
 }

@@ -114,6 +114,7 @@ spells shape fits canonical sound accepted = record {
   held =
       can_hold shape.form (copy_of shape).prefix (λ one. ap (λ entries. default_of (map entry_from entries)) (fits.no_default one))
       (subst (λ n. n ≤ most_entries shape.form) (sym (as_many shape.entries)) sound.few) sound.votes.known;
+  content_held = sound.content_held;
 }
 
 pub is_sound : (shape : Shape) → SpellsCopy shape → IsSound shape
@@ -128,6 +129,7 @@ is_sound shape spelled = record {
     absent_holds_version_0 = spelled.valid.absent_holds_version_0;
     version_0_is_empty = spelled.valid.version_0_is_empty;
   };
+  content_held = spelled.content_held;
   few = subst (λ n. n ≤ most_entries shape.form) (as_many shape.entries) (few_held shape.form (copy_of shape).prefix spelled.valid.prefix.fits spelled.held);
   votes = record { known = known_held shape.form (copy_of shape).prefix spelled.valid.prefix.fits spelled.held; valid = spelled.valid.prefix.fits.votes };
 }

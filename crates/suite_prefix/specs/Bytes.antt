@@ -18,7 +18,7 @@ use Rattle.suite_prefix.specs.declared.copies.Replica.{Replica}
 use Rattle.suite_prefix.specs.declared.forms.Form.{Form}
 use Rattle.suite_prefix.specs.declared.forms.Form.TheVariants.{One, Two}
 use Rattle.suite_prefix.specs.Copies.{IsCopy}
-use Rattle.suite_prefix.specs.Forms.{CanHold, form_code}
+use Rattle.suite_prefix.specs.Forms.{CanHold, HoldsContent, form_code}
 use Rattle.suite_prefix.specs.TwoLists.{default_entries}
 
 -- one byte: the kind
@@ -88,6 +88,7 @@ bytes_of copy = bytes_in Two copy
 pub record AreBytesOf (copy : Replica) (bytes : List ℕ) : Type 0 where
   pub form : Form
   pub held : CanHold form copy.prefix
+  pub content_held : HoldsContent form copy.content
   pub are : bytes ≡ bytes_in form copy
 
 -- what may be read begins nothing else that may be read

@@ -15,7 +15,7 @@ use Rattle.suite_prefix.specs.declared.faults.DecodeError.TheVariants as errors
 use Rattle.suite_prefix.specs.declared.shapes.EntryShape.{EntryShape}
 use Rattle.suite_prefix.specs.Bytes.{AreBytesOf}
 use Rattle.suite_prefix.specs.Copies.{IsCopy}
-use Rattle.suite_prefix.specs.Forms.{CanHold}
+use Rattle.suite_prefix.specs.Forms.{CanHold, HoldsContent}
 use Rattle.suite_prefix.specs.Reading.{Shape, copy_of, shape_at}
 
 -- the number behind a tag is its user or group, and 0 where there is none
@@ -53,6 +53,7 @@ pub record SpellsCopy (shape : Shape) : Type 0 where
   pub default_known : All (λ entry. entry.permissions < 8) shape.default
   pub valid : IsCopy (copy_of shape)
   pub held : CanHold shape.form (copy_of shape).prefix
+  pub content_held : HoldsContent shape.form shape.content
 
 -- the fault of a whole shape with these bytes behind it
 abbrev pub IsFaultOf : Shape → List ℕ → CopyFault → Type 0

@@ -9,6 +9,7 @@ ghost use Rattle.suite_content.specs.Contents.{empty_content, kind_of};
 ghost use Rattle.suite_prefix.specs.Bytes.{AreBytesOf};
 ghost use Rattle.suite_prefix.specs.Copies.{IsCopy, IsNothing};
 ghost use Rattle.suite_prefix.specs.Faults.{Explains, FaultsTellApart, FrontsAreShort, content_rises, entries_rise, is_canonical, is_written, numbers_belong};
+ghost use Rattle.suite_prefix.specs.Forms.{HoldsContent};
 ghost use Rattle.suite_prefix.specs.code.Judging.{FitsForm, IsSound, IsWhole, MakeLists, MakesDefault, IsWithin, KeepsRules, Refuses, content_in};
 ghost use Rattle.suite_prefix.specs.Reading.{copy_of, entry_from};
 ghost use Rattle.suite_prefix.specs.TwoLists.{default_of};
@@ -18,6 +19,7 @@ ghost use Rattle.suite_prefix.specs.declared.faults.DecodeError.TheVariants.{Mem
 
 use crate::copies::{Prefix, PrefixKind, Replica};
 use crate::faults::{CopyFault, DecodeError};
+use crate::forms::Form;
 use crate::reading::shape_at;
 use crate::shapes::{ContentShape, EntryShape, Parts};
 use crate::writing::parts_of_tag;
@@ -116,7 +118,8 @@ fn sound_votes(parts: &Parts) -> Option<Votes>
 {
     let known = permissions_known(parts.entries) && permissions_known(parts.default);
     let few = parts.entries.len() <= parts.form.most_entries();
-    if !(known && few && keeps_rules(parts)) {
+    let held = few && holds_content(parts.form, &parts.content);
+    if !(known && held && keeps_rules(parts)) {
         return None;
     }
     Votes::new(parts.form.most_servers(), parts.reps, parts.r, parts.w).ok()
@@ -234,6 +237,16 @@ fn is_within(content: &ContentShape) -> bool
     match content {
         ContentShape::File(bytes) => bytes.len() <= MAX_CONTENT,
         ContentShape::Folder(names) => names.len() <= MAX_NAMES && names.are_names(),
+    }
+}
+
+/// Whether a form can hold a content.
+fn holds_content(form: Form, content: &ContentShape) -> bool
+    ensures { IsTrue result ↔ HoldsContent form (content_in content.now) }
+{
+    match content {
+        ContentShape::File(bytes) => bytes.len() <= form.most_bytes(),
+        ContentShape::Folder(names) => names.len() <= form.most_names(),
     }
 }
 

@@ -5,6 +5,7 @@ ghost use Rattle.std.specs.List.{list_all};
 ghost use Rattle.suite_prefix.specs.Forms as forms;
 
 use acl_core::{Lists, MAX_ENTRIES};
+use suite_content::{MAX_CONTENT, MAX_NAMES};
 use vote_core::{MAX_SERVERS, Votes};
 
 /// A form of the bytes of a copy. Both are read; the second is what is written.
@@ -21,6 +22,12 @@ const OLD_SERVERS: usize = 16;
 
 /// The most entries that a list had then.
 const OLD_ENTRIES: usize = 64;
+
+/// The most names that a folder had then.
+const OLD_NAMES: usize = 1024;
+
+/// The most bytes that a file had then.
+const OLD_BYTES: usize = 65_536;
 
 impl Form {
     /// Whether a copy with these lists and votes can be held in this form.
@@ -54,6 +61,26 @@ impl Form {
         match self {
             Form::One => OLD_ENTRIES,
             Form::Two => MAX_ENTRIES,
+        }
+    }
+
+    /// How many names a folder may have in this form.
+    pub(crate) fn most_names(self) -> usize
+        ensures { result ≡ forms.most_names self }
+    {
+        match self {
+            Form::One => OLD_NAMES,
+            Form::Two => MAX_NAMES,
+        }
+    }
+
+    /// How many bytes a file may have in this form.
+    pub(crate) fn most_bytes(self) -> usize
+        ensures { result ≡ forms.most_bytes self }
+    {
+        match self {
+            Form::One => OLD_BYTES,
+            Form::Two => MAX_CONTENT,
         }
     }
 

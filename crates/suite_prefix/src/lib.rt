@@ -31,8 +31,8 @@
 //! | content, Absent or File | length 4, then the bytes |
 //! | content, Folder | count 2; each: length 1, the name, number 8; names rising |
 //!
-//! Form 1, which is read for ever, has no default list, at most 64 entries, and no representative above server 15
-//! (`CanHold`). `docs/FORMATS.md` says how forms change.
+//! Form 1, which is read for ever, has no default list, at most 64 entries, 1024 names and 65536 bytes, and no
+//! representative above server 15 (`CanHold`, `HoldsContent`). `docs/FORMATS.md` says how forms change.
 //!
 //! Bytes are read from the left into a shape, which borrows from them; the first fault met there is Short or
 //! BadTag. A whole shape is then judged: NotCanonical, Invalid, TrailingBytes, in this order.

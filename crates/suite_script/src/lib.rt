@@ -69,7 +69,7 @@ pub use operation::read_operations;
 pub use outcome::{push_answered, push_denial, push_refused};
 pub use play_error::PlayError;
 pub use root::Root;
-pub use scope::Scope;
+pub use scope::{LAST_SITE, MAX_STEPS, Scope};
 pub use script::ScriptReader;
 pub use stage::{Stage, play_lines};
 pub use verb::{VERBS, Verb};

@@ -21,11 +21,11 @@ use std::alloc::{AllocError, Global};
 use suite_prefix::{MAX_AGENTS, MAX_CACHE, MAX_SLOTS, SettingsFault};
 use vote_core::MAX_SERVERS;
 
-/// The last site of an agent.
-const LAST_SITE: u64 = 15;
+/// The last site of an agent, which are numbered from 0.
+pub const LAST_SITE: u8 = 15;
 
 /// The most steps of a line.
-const MAX_STEPS: u64 = 1_000_000;
+pub const MAX_STEPS: u64 = 1_000_000;
 
 /// What the lines above a line say: the last server and the last agent, which are numbered from 0, and the names.
 #[derive(Drop)]
@@ -156,7 +156,7 @@ impl Scope {
             Place::GroupName => name_fault(self.names.group_fault(word)),
             Place::Agent => number_fault(word, u64::from(self.last_agent)),
             Place::Server => number_fault(word, u64::from(self.last_server)),
-            Place::Site => number_fault(word, LAST_SITE),
+            Place::Site => number_fault(word, u64::from(LAST_SITE)),
             Place::Steps => number_fault(word, MAX_STEPS),
             Place::Gids => caller_fault(word),
             Place::Path => None,

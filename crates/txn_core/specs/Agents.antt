@@ -1,6 +1,6 @@
 -- The agent function.
 use Rattle.std.specs.Prelude.{ℕ, ◌+◌, ◌*◌, ◌-◌, ◌^◌, nat_lt, Bool, true, false, ◌&&◌, if◌then◌else◌, List, [], ◌∷◌, Option, Some, None}
-use Rattle.suite_prefix.specs.SettingsRules.{Opening}
+use Rattle.suite_prefix.specs.SettingsRules.{Opening, max_agents}
 use Rattle.rep_core.specs.declared.request.Request.{Request}
 use Rattle.weak_cache.specs.Entries.{Cache, forgotten}
 use Rattle.txn_core.specs.declared.response.Response.{Response}
@@ -85,9 +85,13 @@ abbrev pub is_idle : Option Doing → Bool
 is_idle None = true
 is_idle (Some doing) = false
 
+-- the number of its next transaction: those of all agents differ
+abbrev pub next_number : Agent → ℕ
+next_number agent = max_agents * agent.count + agent.index
+
 abbrev pub started : Fixed → Agent → Job → Agent
 started fixed agent (Transaction caller site ops) =
-    let task : Task = record { t = 64 * agent.count + agent.index; caller = caller; site = site; ops = ops } in
+    let task : Task = record { t = next_number agent; caller = caller; site = site; ops = ops } in
     (with_step agent (execute fixed task (record { suites = []; cache = agent.cache }))).agent
 started fixed agent (Sweep server) = record agent { doing = Some (RunningSweep (record { server = server; broken = 0; finished = 0; left = 0; now = Listing })) }
 

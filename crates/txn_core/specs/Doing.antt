@@ -1,5 +1,6 @@
 -- What an agent is doing.
 use Rattle.std.specs.Prelude.{ℕ, ◌+◌, ◌%◌, ◌/◌, List, Result}
+use Rattle.suite_prefix.specs.SettingsRules.{max_agents}
 use Rattle.acl_core.specs.Identity.{Identity}
 use Rattle.file_ops.specs.declared.answer.Answer.{Answer}
 use Rattle.file_ops.specs.declared.operation.Op.{Op}
@@ -26,7 +27,7 @@ pub record Task : Type 0 where
 
 -- the server at which it is decided how a transaction ended
 abbrev pub home_of : Service → ℕ → ℕ
-home_of service t = (t % 64 + t / 64) % service.servers
+home_of service t = (t % max_agents + t / max_agents) % service.servers
 
 -- what is set of each suite, the suites rising
 abbrev pub Changes : Type 0

@@ -33,7 +33,7 @@ use Rattle.txn_core.specs.declared.response.Response.TheVariants.{Replied, Lacke
 use Rattle.txn_core.specs.declared.job.Job.TheVariants.{Transaction, Sweep}
 use Rattle.txn_core.specs.Doing.{Changes, Fixed, Task, Proposal, Deciding, Finishing, TransactionRun, Running}
 use Rattle.txn_core.specs.Transactions.{changes_of, votes_after, verdict_in, said_to, start_from}
-use Rattle.txn_core.specs.Agents.{Agent, Event, Take, Forget, next_of, take, begin, forget, is_idle, after_all}
+use Rattle.txn_core.specs.Agents.{Agent, Event, Take, Forget, next_number, next_of, take, begin, forget, is_idle, after_all}
 
 pub record Exchange : Type 0 where
   pub server : ℕ
@@ -261,7 +261,7 @@ first_busy_in suite (one ∷ later) =
 
 -- the task of a transaction that an agent begins
 abbrev pub task_of : Agent → Identity → ℕ → List Op → Task
-task_of agent caller site ops = record { t = 64 * agent.count + agent.index; caller = caller; site = site; ops = ops }
+task_of agent caller site ops = record { t = next_number agent; caller = caller; site = site; ops = ops }
 
 -- it is for a lock on the suite
 abbrev pub asks_for : ℕ → Option (ℕ × Request) → Bool

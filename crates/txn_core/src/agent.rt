@@ -31,7 +31,7 @@ use file_ops::Service;
 use rep_core::{Lack, Reply, Request};
 use std::alloc::{AllocError, Global};
 use std::marker::Model;
-use suite_prefix::Settings;
+use suite_prefix::{MAX_AGENTS, Settings};
 use vote_core::MAX_SERVERS;
 use weak_cache::{MAX_SITES, WeakCache};
 
@@ -137,7 +137,7 @@ impl Agent {
         match job {
             Job::Transaction { caller, site, ops } => {
                 let task = Task {
-                    t: 64 * self.count + u64::from(self.index),
+                    t: MAX_AGENTS as u64 * self.count + u64::from(self.index),
                     caller: caller.clone()?,
                     site: *site,
                     ops: ops.clone()?,

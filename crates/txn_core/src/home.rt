@@ -4,7 +4,11 @@ ghost use Rattle.std.specs.Prelude.{◌≡◌, ◌<◌, ◌≤◌};
 ghost use Rattle.txn_core.specs.Doing as doing;
 
 use crate::fixed_parts::FixedParts;
+use suite_prefix::MAX_AGENTS;
 use vote_core::MAX_SERVERS;
+
+/// The most agents: the numbers of one agent differ by so much.
+const AGENTS: u64 = MAX_AGENTS as u64;
 
 /// The server at which it is decided how a transaction ended.
 pub(crate) fn home_of(fixed_parts: &FixedParts, t: u64) -> u8
@@ -12,5 +16,5 @@ pub(crate) fn home_of(fixed_parts: &FixedParts, t: u64) -> u8
     ensures value { result ≡ doing.home_of fixed_parts.now t }
     ensures known { result < fixed_parts.now.servers }
 {
-    ((t % 64 + t / 64) % fixed_parts.servers() as u64) as u8
+    ((t % AGENTS + t / AGENTS) % fixed_parts.servers() as u64) as u8
 }

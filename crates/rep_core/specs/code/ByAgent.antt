@@ -1,12 +1,13 @@
 -- A map of transactions that is kept by agent: one map for each agent, of the transactions that it numbered.
 use Rattle.std.specs.Prelude.{◌≡◌, ◌≢◌, ℕ, ◌%◌, List, [], ◌∷◌, map, get_or, None}
 use Rattle.std.specs.Ordering.{nat_cmp}
+use Rattle.suite_prefix.specs.SettingsRules.{max_agents}
 use Rattle.sorted_map.specs.SortedMap.{get, insert}
 use Rattle.sorted_map.specs.Roomy.{Roomy}
 
 -- the agent that numbered a transaction
 abbrev pub agent_of : ℕ → ℕ
-agent_of t = t % 64
+agent_of t = t % max_agents
 
 -- room for a transaction, of the rooms of the agents
 abbrev pub room_for : ℕ → List ℕ → ℕ

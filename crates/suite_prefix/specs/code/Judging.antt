@@ -17,7 +17,7 @@ use Rattle.suite_prefix.specs.declared.faults.DecodeError.TheVariants as errors
 use Rattle.suite_prefix.specs.declared.shapes.ContentShape.{ContentShape}
 use Rattle.suite_prefix.specs.declared.shapes.ContentShape.TheVariants as shapes
 use Rattle.suite_prefix.specs.Copies.{IsNothing, held_by}
-use Rattle.suite_prefix.specs.Forms.{most_entries, most_servers}
+use Rattle.suite_prefix.specs.Forms.{HoldsContent, most_entries, most_servers}
 use Rattle.suite_prefix.specs.Reading.{Shape, copy_of, entry_from}
 use Rattle.suite_prefix.specs.Faults.{SpellsCopy, IsFaultOf, is_canonical}
 
@@ -77,6 +77,7 @@ pub record IsSound (shape : Shape) : Type 0 where
   pub permissions_known : All (λ entry. entry.permissions < 8) shape.entries
   pub default_known : All (λ entry. entry.permissions < 8) shape.default
   pub few : length shape.entries ≤ most_entries shape.form
+  pub content_held : HoldsContent shape.form shape.content
   pub rules : KeepsRules shape
   pub votes : votes.IsAccepted (most_servers shape.form) shape.votes
 

@@ -1,5 +1,6 @@
 -- The fields of `Agent` as contracts see them, and what they keep.
 use Rattle.std.specs.Prelude.{◌<◌, ◌≤◌, Option, Some, None, option_map}
+use Rattle.suite_prefix.specs.SettingsRules.{max_agents}
 use Rattle.file_ops.specs.declared.service.Service.{Service}
 use Rattle.file_exec.specs.Reaching.{Reached}
 use Rattle.txn_core.specs.declared.agent.Agent.TheInside.{Inside}
@@ -29,7 +30,7 @@ Reaches (Some (coded.RunningSweep sweep_run)) service reached = Unit {0}
 Reaches None service reached = Unit {0}
 
 pub record IsStanding (fields : Inside) : Type 0 where
-  pub index : fields.index < 64
+  pub index : fields.index < max_agents
   pub jobs : fields.count ≤ max_jobs
   pub servers : (0 < fields.resources.fixed_parts.servers) × (fields.resources.fixed_parts.servers ≤ MAX_SERVERS)
   pub unused : HasUnused fields.resources.cache.entries
