@@ -5,7 +5,7 @@ pub mod FieldLists
 pub mod ItemCounts
 pub mod ItemPlaces
 pub mod Spelling
-pub mod Taking
+pub mod EntryByEntry
 pub mod Appending
 pub mod CleanText
 pub mod Letters

@@ -4,7 +4,7 @@ use Rattle.std.specs.Prelude.{Contains, slice_get, Option, Some, None}
 use Rattle.std.proofs.lemmas.Option.{same_Some, slice_get-get_or}
 use Rattle.std.proofs.lemmas.List.{length-take, get_or-take}
 use Rattle.std.proofs.lemmas.List.Elements.{Contains-append_left, Contains-append_right}
-use Rattle.agent_pool.specs.declared.work.Done.{Done}
+use Rattle.agent_pool.specs.declared.work.JobDone.{JobDone}
 use Rattle.agent_pool.specs.declared.outcome.JobOutcome.{JobOutcome}
 use Rattle.agent_pool.specs.code.Working.{RiseBetween, RiseInPlace}
 use Rattle.agent_pool.specs.Pools.{AreApart, AreInOrder}
@@ -97,14 +97,14 @@ apart_filled outcomes order i j a b ati atj same count =
 
 -- ---- all that an agent did
 
-open_rise : (low high : ℕ) (d : Done) (ds : List Done) → RiseBetween low (d ∷ ds) high → (low ≤ d.ran.count) × RiseBetween (d.ran.count + 1) ds high
+open_rise : (low high : ℕ) (d : JobDone) (ds : List JobDone) → RiseBetween low (d ∷ ds) high → (low ≤ d.ran.count) × RiseBetween (d.ran.count + 1) ds high
 open_rise low high d ds rise = rise
 
-open_order : (floor roof : ℕ) (d : Done) (ds : List Done) → RiseInPlace floor (d ∷ ds) roof → (floor ≤ d.place) × RiseInPlace (d.place + 1) ds roof
+open_order : (floor roof : ℕ) (d : JobDone) (ds : List JobDone) → RiseInPlace floor (d ∷ ds) roof → (floor ≤ d.place) × RiseInPlace (d.place + 1) ds roof
 open_order floor roof d ds order = order
 
 -- what is so at a place of the list of what was done
-pub record At (agent : ℕ) (numbers : List ℕ) (high roof : ℕ) (left : List Done) (slots : List (Option JobOutcome)) : Type 0 where
+pub record At (agent : ℕ) (numbers : List ℕ) (high roof : ℕ) (left : List JobDone) (slots : List (Option JobOutcome)) : Type 0 where
   pub low : ℕ
   pub floor : ℕ
   pub rise : RiseBetween low left high
@@ -112,7 +112,7 @@ pub record At (agent : ℕ) (numbers : List ℕ) (high roof : ℕ) (left : List 
   pub order : AreInOrderIn slots
   pub below : AreBelow numbers agent low floor slots
 
-pub at_next : (agent : ℕ) (numbers : List ℕ) (high roof : ℕ) (left rest : List Done) (d : Done) (old new : List (Option JobOutcome)) (job : ℕ) → ¬ (Contains numbers agent) → left ≡ d ∷ rest → At agent numbers high roof left old
+pub at_next : (agent : ℕ) (numbers : List ℕ) (high roof : ℕ) (left rest : List JobDone) (d : JobDone) (old new : List (Option JobOutcome)) (job : ℕ) → ¬ (Contains numbers agent) → left ≡ d ∷ rest → At agent numbers high roof left old
     → IsPut old d.place (record { job = job; agent = agent; count = d.ran.count; at = d.ran.at }) new → At agent numbers high roof rest new
 at_next agent numbers high roof left rest d old new job fresh is at put =
     let rise = open_rise at.low high d rest (subst (λ ds. RiseBetween at.low ds high) is at.rise) in

@@ -6,7 +6,7 @@ use Rattle.std.proofs.lemmas.List.Elements.{All-cons, All-head, All-nil, All-tai
 use Rattle.std.specs.List.{AllZip}
 use Rattle.server_lock.specs.Passes.{Held}
 use Rattle.txn_core.specs.Agents.{has_sense}
-use Rattle.agent_pool.specs.declared.work.Done.{Done}
+use Rattle.agent_pool.specs.declared.work.JobDone.{JobDone}
 use Rattle.agent_pool.specs.declared.work.SeatedAgent.{SeatedAgent}
 use Rattle.agent_pool.specs.declared.work.Worked.{Worked}
 use Rattle.agent_pool.specs.declared.pool_context.NamedJob.{NamedJob}
@@ -32,7 +32,7 @@ none_filled was players (j ∷ jobs) [] none long = absurd (omega arith)
 none_filled was players (j ∷ jobs) (s ∷ slots) none long = (subst (λ o. IsFilled was players j o) (sym none.0) tt, none_filled was players jobs slots none.1 (omega arith))
 
 -- a place is filled
-pub place_filled : (was players : List Played) (agent : ℕ) (before player : Played) (jobs : List NamedJob) (slots : List (Option JobOutcome)) (done : Done) (named : NamedJob)
+pub place_filled : (was players : List Played) (agent : ℕ) (before player : Played) (jobs : List NamedJob) (slots : List (Option JobOutcome)) (done : JobDone) (named : NamedJob)
     → slice_get jobs done.place ≡ Some named → IsOf was players agent before player → IsDone jobs (begins before.entries) player done → AllZip (IsFilled was players) jobs slots
     → AllZip (IsFilled was players) jobs (slice_set slots done.place (Some (record { job = named.number; agent = agent; count = done.ran.count; at = done.ran.at })))
 place_filled was players agent before player jobs slots done named at by is all =
@@ -56,7 +56,7 @@ all_filled was players [] (o ∷ outcomes) all = absurd all
 all_filled was players (j ∷ jobs) [] all = absurd all
 all_filled was players (j ∷ jobs) (o ∷ outcomes) all = (all.0, all_filled was players jobs outcomes all.1)
 
-pub done_at : (jobs : List NamedJob) (began : ℕ) (played : Played) (ds : List Done) (i : ℕ) (d : Done) → AllDone jobs began played ds → i < length ds → slice_index_or ds i d ≡ d → IsDone jobs began played d
+pub done_at : (jobs : List NamedJob) (began : ℕ) (played : Played) (ds : List JobDone) (i : ℕ) (d : JobDone) → AllDone jobs began played ds → i < length ds → slice_index_or ds i d ≡ d → IsDone jobs began played d
 done_at jobs began played [] i d all low is = absurd (omega arith)
 done_at jobs began played (x ∷ ds) zero d all low is = subst (λ y. IsDone jobs began played y) is all.0
 done_at jobs began played (x ∷ ds) (suc i) d all low is = done_at jobs began played ds i d all.1 (omega arith) is

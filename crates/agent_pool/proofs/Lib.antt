@@ -10,7 +10,7 @@ pub mod Seating
 pub mod Returning
 pub mod Filling
 pub mod Seen
-pub mod Taking
+pub mod JobsTaken
 pub mod Pooling
 pub mod Firsts
 pub mod Readiness

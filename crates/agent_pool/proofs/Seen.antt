@@ -9,7 +9,7 @@ use Rattle.agent_pool.specs.declared.fault.PoolFault.{PoolFault}
 use Rattle.agent_pool.specs.declared.fault.PoolFault.TheVariants.{Double, Memory, Missing}
 use Rattle.agent_pool.specs.declared.outcome.JobOutcome.{JobOutcome}
 use Rattle.agent_pool.specs.declared.pool.Pool.{Pool}
-use Rattle.agent_pool.specs.declared.work.Done.{Done}
+use Rattle.agent_pool.specs.declared.work.JobDone.{JobDone}
 use Rattle.agent_pool.specs.declared.work.Halt.{Halt}
 use Rattle.agent_pool.specs.declared.work.Halt.TheVariants.{Lacked, Strange, Stuck}
 use Rattle.agent_pool.specs.declared.work.SeatedAgent.{SeatedAgent}
@@ -53,17 +53,17 @@ distinct_push xs p once fresh i j n ati atj =
     (λ (b : (j ≡ length xs) × (n ≡ p)). a.0 ∙ sym b.0) (at_end xs p j n atj))
     (at_end xs p i n ati)
 
-places_suc : (ds : List Done) (i : ℕ) (d : Done) → i < length ds → slice_index_or ds i d ≡ d → places_by (take (suc i) ds) ≡ places_by (take i ds) ++ d.place ∷ []
+places_suc : (ds : List JobDone) (i : ℕ) (d : JobDone) → i < length ds → slice_index_or ds i d ≡ d → places_by (take (suc i) ds) ≡ places_by (take i ds) ++ d.place ∷ []
 places_suc [] i d low is = absurd (omega arith)
-places_suc (x ∷ ds) zero d low is = ap (λ (y : Done). y.place ∷ []) is
+places_suc (x ∷ ds) zero d low is = ap (λ (y : JobDone). y.place ∷ []) is
 places_suc (x ∷ ds) (suc i) d low is = ap (λ ps. x.place ∷ ps) (places_suc ds i d (omega arith) is)
 
-pub places_next : (ds : List Done) (i : ℕ) (d : Done) → i < length ds → slice_index_or ds i d ≡ d → places_by (take (i + 1) ds) ≡ places_by (take i ds) ++ d.place ∷ []
+pub places_next : (ds : List JobDone) (i : ℕ) (d : JobDone) → i < length ds → slice_index_or ds i d ≡ d → places_by (take (i + 1) ds) ≡ places_by (take i ds) ++ d.place ∷ []
 places_next ds i d low is = let e : i + 1 ≡ suc i = omega arith in ap (λ n. places_by (take n ds)) e ∙ places_suc ds i d low is
 
-pub places_split : (ds : List Done) (i : ℕ) (d : Done) → i < length ds → slice_index_or ds i d ≡ d → (rest : List ℕ) × (places_by ds ≡ places_by (take i ds) ++ d.place ∷ rest)
+pub places_split : (ds : List JobDone) (i : ℕ) (d : JobDone) → i < length ds → slice_index_or ds i d ≡ d → (rest : List ℕ) × (places_by ds ≡ places_by (take i ds) ++ d.place ∷ rest)
 places_split [] i d low is = absurd (omega arith)
-places_split (x ∷ ds) zero d low is = (places_by ds, ap (λ (y : Done). y.place ∷ places_by ds) is)
+places_split (x ∷ ds) zero d low is = (places_by ds, ap (λ (y : JobDone). y.place ∷ places_by ds) is)
 places_split (x ∷ ds) (suc i) d low is = let more = places_split ds i d (omega arith) is in (more.0, ap (λ ps. x.place ∷ ps) more.1)
 
 worked_suc : (worked : List Worked) (i : ℕ) (w : Worked) → i < length worked → slice_index_or worked i w ≡ w → places (take (suc i) worked) ≡ places (take i worked) ++ places_by w.done.items
@@ -114,14 +114,14 @@ put_seen seen old new place outcome was put = record {
 }
 
 -- one more of what an agent did
-pub seen_next : (seen : List ℕ) (ds : List Done) (i : ℕ) (d : Done) (old new : List (Option JobOutcome)) (job agent : ℕ) → i < length ds → slice_index_or ds i d ≡ d → AreSeen (seen ++ places_by (take i ds)) old
+pub seen_next : (seen : List ℕ) (ds : List JobDone) (i : ℕ) (d : JobDone) (old new : List (Option JobOutcome)) (job agent : ℕ) → i < length ds → slice_index_or ds i d ≡ d → AreSeen (seen ++ places_by (take i ds)) old
     → IsPut old d.place (record { job = job; agent = agent; count = d.ran.count; at = d.ran.at }) new → AreSeen (seen ++ places_by (take (i + 1) ds)) new
 seen_next seen ds i d old new job agent low is was put =
     let before = places_by (take i ds) in
     subst (λ (ps : List ℕ). AreSeen ps new) (append_assoc seen before (d.place ∷ []) ∙ ap (λ ps. seen ++ ps) (sym (places_next ds i d low is)))
     (put_seen (seen ++ before) old new d.place (record { job = job; agent = agent; count = d.ran.count; at = d.ran.at }) was put)
 
-pub double_here : (jobs : List NamedJob) (slots : List (Option JobOutcome)) (seen rest : List ℕ) (d : Done) (job : ℕ) → AreSeen seen slots → IsTaken jobs slots d job → IsDouble jobs (seen ++ d.place ∷ rest) job
+pub double_here : (jobs : List NamedJob) (slots : List (Option JobOutcome)) (seen rest : List ℕ) (d : JobDone) (job : ℕ) → AreSeen seen slots → IsTaken jobs slots d job → IsDouble jobs (seen ++ d.place ∷ rest) job
 double_here jobs slots seen rest d job was is = record {
   place = d.place;
   named = is.named;
@@ -131,7 +131,7 @@ double_here jobs slots seen rest d job was is = record {
 }
 
 -- a second outcome of what an agent did
-pub double_next : (jobs : List NamedJob) (slots : List (Option JobOutcome)) (seen : List ℕ) (ds : List Done) (i : ℕ) (d : Done) (job : ℕ) → i < length ds → slice_index_or ds i d ≡ d → AreSeen (seen ++ places_by (take i ds)) slots
+pub double_next : (jobs : List NamedJob) (slots : List (Option JobOutcome)) (seen : List ℕ) (ds : List JobDone) (i : ℕ) (d : JobDone) (job : ℕ) → i < length ds → slice_index_or ds i d ≡ d → AreSeen (seen ++ places_by (take i ds)) slots
     → IsTaken jobs slots d job → IsDouble jobs (seen ++ places_by ds) job
 double_next jobs slots seen ds i d job low is was taken =
     let before = places_by (take i ds) in
@@ -190,13 +190,13 @@ taken_same (x ∷ slots) (suc i) (suc k) low = taken_same slots i k (omega arith
 
 -- ---- all that was done is of jobs
 
-pub done_within : (jobs : List NamedJob) (began : ℕ) (played : Played) (ds : List Done) → AllDone jobs began played ds → AreWithin (length jobs) ds
+pub done_within : (jobs : List NamedJob) (began : ℕ) (played : Played) (ds : List JobDone) → AllDone jobs began played ds → AreWithin (length jobs) ds
 done_within jobs began played [] all = tt
 done_within jobs began played (d ∷ ds) all = (record { low = slice_get_within jobs d.place all.0.named all.0.there }, done_within jobs began played ds all.1)
 
-pub within_at : (many : ℕ) (ds : List Done) (i : ℕ) (d : Done) → AreWithin many ds → i < length ds → slice_index_or ds i d ≡ d → IsWithin many d
+pub within_at : (many : ℕ) (ds : List JobDone) (i : ℕ) (d : JobDone) → AreWithin many ds → i < length ds → slice_index_or ds i d ≡ d → IsWithin many d
 within_at many [] i d all low is = absurd (omega arith)
-within_at many (x ∷ ds) zero d all low is = subst (λ (y : Done). IsWithin many y) is all.0
+within_at many (x ∷ ds) zero d all low is = subst (λ (y : JobDone). IsWithin many y) is all.0
 within_at many (x ∷ ds) (suc i) d all low is = within_at many ds i d all.1 (omega arith) is
 
 -- ---- why agents ran no more

@@ -9,7 +9,7 @@ use Rattle.txn_core.specs.declared.job.Job.{Job}
 use Rattle.run_certify.specs.declared.entry.Entry.{Entry}
 use Rattle.run_certify.specs.declared.entry.Entry.TheVariants.{Begun}
 use Rattle.agent_pool.specs.declared.asking.Came.TheVariants as came
-use Rattle.agent_pool.specs.declared.work.Done.{Done}
+use Rattle.agent_pool.specs.declared.work.JobDone.{JobDone}
 use Rattle.agent_pool.specs.declared.work.Halt.{Halt}
 use Rattle.agent_pool.specs.declared.work.Halt.TheVariants.{Lacked}
 use Rattle.agent_pool.specs.declared.work.SeatedAgent.{SeatedAgent}
@@ -47,30 +47,30 @@ told_longer a b job count at longer told =
           (subst (λ (f : Fixed). Leads f (at_rest told.start) (Begun job ∷ (told.asked ++ end ∷ [])) (at_rest told.end)) (sym longer.fixed) told.leads);
     }
 
-done_longer : (jobs : List NamedJob) (began : ℕ) (a b : Played) (ds : List Done) → IsLonger a b → AllDone jobs began a ds → AllDone jobs began b ds
+done_longer : (jobs : List NamedJob) (began : ℕ) (a b : Played) (ds : List JobDone) → IsLonger a b → AllDone jobs began a ds → AllDone jobs began b ds
 done_longer jobs began a b [] longer all = tt
 done_longer jobs began a b (d ∷ ds) longer all =
     let one = all.0 in
     let sense : has_sense b.agent.fixed one.named.job ≡ true = subst (λ (f : Fixed). has_sense f one.named.job ≡ true) (sym longer.fixed) one.sense in
     (record { named = one.named; there = one.there; told = told_longer a b one.named.job d.ran.count d.ran.at longer one.told; since = one.since; sense = sense }, done_longer jobs began a b ds longer all.1)
 
-done_more : (jobs : List NamedJob) (began : ℕ) (a : Played) (ds : List Done) (d : Done) → AllDone jobs began a ds → IsDone jobs began a d → AllDone jobs began a (ds ++ d ∷ [])
+done_more : (jobs : List NamedJob) (began : ℕ) (a : Played) (ds : List JobDone) (d : JobDone) → AllDone jobs began a ds → IsDone jobs began a d → AllDone jobs began a (ds ++ d ∷ [])
 done_more jobs began a [] d all one = (one, tt)
 done_more jobs began a (e ∷ ds) d all one = (all.0, done_more jobs began a ds d all.1 one)
 
-rise_longer : (low high higher : ℕ) (ds : List Done) → RiseBetween low ds high → high ≤ higher → RiseBetween low ds higher
+rise_longer : (low high higher : ℕ) (ds : List JobDone) → RiseBetween low ds high → high ≤ higher → RiseBetween low ds higher
 rise_longer low high higher [] rise more = omega arith
 rise_longer low high higher (d ∷ ds) rise more = (rise.0, rise_longer (d.ran.count + 1) high higher ds rise.1 more)
 
-rise_more : (low high : ℕ) (ds : List Done) (d : Done) → RiseBetween low ds high → high ≤ d.ran.count → RiseBetween low (ds ++ d ∷ []) (d.ran.count + 1)
+rise_more : (low high : ℕ) (ds : List JobDone) (d : JobDone) → RiseBetween low ds high → high ≤ d.ran.count → RiseBetween low (ds ++ d ∷ []) (d.ran.count + 1)
 rise_more low high [] d rise more = (omega arith, omega arith)
 rise_more low high (e ∷ ds) d rise more = (rise.0, rise_more (e.ran.count + 1) high ds d rise.1 more)
 
-pub place_longer : (low high higher : ℕ) (ds : List Done) → RiseInPlace low ds high → high ≤ higher → RiseInPlace low ds higher
+pub place_longer : (low high higher : ℕ) (ds : List JobDone) → RiseInPlace low ds high → high ≤ higher → RiseInPlace low ds higher
 place_longer low high higher [] rise more = omega arith
 place_longer low high higher (d ∷ ds) rise more = (rise.0, place_longer (d.place + 1) high higher ds rise.1 more)
 
-pub place_more : (low high : ℕ) (ds : List Done) (d : Done) → RiseInPlace low ds high → high ≤ d.place → RiseInPlace low (ds ++ d ∷ []) (d.place + 1)
+pub place_more : (low high : ℕ) (ds : List JobDone) (d : JobDone) → RiseInPlace low ds high → high ≤ d.place → RiseInPlace low (ds ++ d ∷ []) (d.place + 1)
 place_more low high [] d rise more = (omega arith, omega arith)
 place_more low high (e ∷ ds) d rise more = (rise.0, place_more (e.place + 1) high ds d rise.1 more)
 
@@ -133,7 +133,7 @@ not_some None none = refl
 not_some (Some why) none = cc
 
 -- and it did this one
-pub works_more : (servers : ℕ) (jobs : List NamedJob) (seat : SeatedAgent) (w v : Worked) (d : Done) (named : NamedJob) → IsWorkOf jobs seat w → DidJob servers named.job w.player v.player w.pass v.pass (came.Ended d.ran) → v.done.items ≡ w.done.items ++ d ∷ []
+pub works_more : (servers : ℕ) (jobs : List NamedJob) (seat : SeatedAgent) (w v : Worked) (d : JobDone) (named : NamedJob) → IsWorkOf jobs seat w → DidJob servers named.job w.player v.player w.pass v.pass (came.Ended d.ran) → v.done.items ≡ w.done.items ++ d ∷ []
     → slice_get jobs d.place ≡ Some named → w.halt ≡ None → v.halt ≡ None → RiseInPlace 0 w.done.items d.place → IsWorkOf jobs seat v
 works_more servers jobs seat w v d named old did same there before ran order =
     let longer = did.longer in

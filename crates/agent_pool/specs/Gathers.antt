@@ -2,7 +2,7 @@
 use Rattle.std.specs.Prelude.{◌≡◌, ◌⊎◌, ℕ, ◌<◌, Bool, true, false, List, [], ◌∷◌, ◌++◌, length, map, Contains, slice_get, Option, Some, None, Result, Ok, Err}
 use Rattle.agent_pool.specs.declared.fault.PoolFault.{PoolFault}
 use Rattle.agent_pool.specs.declared.fault.PoolFault.TheVariants.{Double, Memory, Missing, Stranger}
-use Rattle.agent_pool.specs.declared.work.Done.{Done}
+use Rattle.agent_pool.specs.declared.work.JobDone.{JobDone}
 use Rattle.agent_pool.specs.declared.work.Halt.{Halt}
 use Rattle.agent_pool.specs.declared.work.Halt.TheVariants.{Lacked, Strange, Stuck}
 use Rattle.agent_pool.specs.declared.work.Worked.{Worked}
@@ -40,8 +40,8 @@ first_stuck (one ∷ later) = stuck_or one.halt (first_stuck later)
 
 -- ---- the outcomes that they handed back
 
-abbrev pub places_by : List Done → List ℕ
-places_by dones = map (λ (done : Done). done.place) dones
+abbrev pub places_by : List JobDone → List ℕ
+places_by dones = map (λ (done : JobDone). done.place) dones
 
 -- the places of the jobs of which there is an outcome: agent by agent, and each agent's in its order
 abbrev pub places : List Worked → List ℕ

@@ -20,7 +20,7 @@ use crate::player::Player;
 use crate::pool::Pool;
 use crate::pool_context::NamedJob;
 use crate::slots::Slots;
-use crate::work::{Done, Halt, SeatedAgent, Worked};
+use crate::work::{JobDone, Halt, SeatedAgent, Worked};
 use server_lock::Pass;
 use std::alloc::{AllocError, Global};
 
@@ -159,7 +159,7 @@ fn place_all(
     jobs: &[NamedJob],
     slots: &mut Slots,
     agent: u8,
-    done: &[Done],
+    done: &[JobDone],
 ) -> Result<(), PoolFault>
     requires long { length slots.old ≡ length jobs.now }
     requires within { AreWithin (length jobs.now) done.now }
@@ -179,7 +179,7 @@ fn place_all(
 }
 
 /// What an agent did once is put into its place.
-fn place_one(jobs: &[NamedJob], slots: &mut Slots, agent: u8, done: Done) -> Result<(), PoolFault>
+fn place_one(jobs: &[NamedJob], slots: &mut Slots, agent: u8, done: JobDone) -> Result<(), PoolFault>
     requires long { length slots.old ≡ length jobs.now }
     requires within { IsWithin (length jobs.now) done }
     ensures filled { OnOk result ((was players : List Played) (before player : Played) → IsOf was players agent before player

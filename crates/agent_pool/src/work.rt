@@ -23,7 +23,7 @@ use std::sync::Wait;
 
 /// A job that was done: its place among those that were handed in, and where it ended.
 #[derive(Clone, Copy)]
-pub struct Done {
+pub struct JobDone {
     pub place: usize,
     pub ran: Ran,
 }
@@ -51,7 +51,7 @@ pub struct SeatedAgent {
 pub struct Worked {
     pub player: Player,
     pub pass: Pass,
-    pub done: Vec<Done>,
+    pub done: Vec<JobDone>,
     pub halt: Option<Halt>,
 }
 
@@ -152,7 +152,7 @@ impl Worked {
         let (pass, came) = run(rt, context, &mut player, pass, named);
         let halt = match came {
             Came::Ended(ran) => {
-                done.push_reserved(Done { place, ran });
+                done.push_reserved(JobDone { place, ran });
                 return Worked {
                     player,
                     pass,

@@ -13,7 +13,7 @@ use crate::strings::{push_member, truth};
 use std::alloc::AllocError;
 use suite_collect::ReadPoint;
 use suite_prefix::SharedPrefix;
-use txn_core::{Stage, Suite};
+use txn_core::{Stage, GatheredSuite};
 use weak_cache::{Entries, WeakCache};
 
 /// How far a job is, in a word.
@@ -38,7 +38,7 @@ pub fn stage_word(stage: Stage) -> &'static [u8]
 /// What was gathered of suites, in a service of so many servers.
 pub fn push_gathered(
     text: &mut Vec<u8>,
-    suites: &[(u64, Suite)],
+    suites: &[(u64, GatheredSuite)],
     servers: u8,
 ) -> Result<(), AllocError>
     ensures { OnOk result (text.new.items ≡ text.old.items ++ suites_text servers suites.now) }
@@ -48,7 +48,7 @@ pub fn push_gathered(
     text.extend_from_slice(b"]")
 }
 
-fn push_suites(text: &mut Vec<u8>, suites: &[(u64, Suite)], servers: u8) -> Result<(), AllocError>
+fn push_suites(text: &mut Vec<u8>, suites: &[(u64, GatheredSuite)], servers: u8) -> Result<(), AllocError>
     ensures { OnOk result (text.new.items ≡ text.old.items ++ listed (suite_text servers) suites.now) }
 {
     let [first, more @ ..] = suites else {
@@ -60,7 +60,7 @@ fn push_suites(text: &mut Vec<u8>, suites: &[(u64, Suite)], servers: u8) -> Resu
 
 fn push_more_suites(
     text: &mut Vec<u8>,
-    suites: &[(u64, Suite)],
+    suites: &[(u64, GatheredSuite)],
     servers: u8,
 ) -> Result<(), AllocError>
     ensures { OnOk result (text.new.items ≡ text.old.items ++ flat_map (λ next. codes "," ++ suite_text servers next) suites.now) }
@@ -72,7 +72,7 @@ fn push_more_suites(
     Ok(())
 }
 
-fn push_suite(text: &mut Vec<u8>, suite: &(u64, Suite), servers: u8) -> Result<(), AllocError>
+fn push_suite(text: &mut Vec<u8>, suite: &(u64, GatheredSuite), servers: u8) -> Result<(), AllocError>
     ensures { OnOk result (text.new.items ≡ text.old.items ++ suite_text servers suite.now) }
 {
     push_member(text, b"{\"suite\":", suite.0)?;
@@ -81,7 +81,7 @@ fn push_suite(text: &mut Vec<u8>, suite: &(u64, Suite), servers: u8) -> Result<(
 }
 
 /// What servers told of a suite.
-fn push_told(text: &mut Vec<u8>, suite: &Suite, servers: u8) -> Result<(), AllocError>
+fn push_told(text: &mut Vec<u8>, suite: &GatheredSuite, servers: u8) -> Result<(), AllocError>
     ensures { OnOk result (text.new.items ≡ text.old.items ++ told_text suite.now servers) }
 {
     text.extend_from_slice(mode_word(suite.mode()))?;
@@ -98,7 +98,7 @@ fn push_newest(text: &mut Vec<u8>, prefix: &SharedPrefix) -> Result<(), AllocErr
 }
 
 /// Which locks servers hold.
-fn push_held(text: &mut Vec<u8>, suite: &Suite, servers: u8) -> Result<(), AllocError>
+fn push_held(text: &mut Vec<u8>, suite: &GatheredSuite, servers: u8) -> Result<(), AllocError>
     ensures { OnOk result (text.new.items ≡ text.old.items ++ held_text suite.now servers) }
 {
     text.extend_from_slice(b",\"held\":\"")?;
@@ -106,7 +106,7 @@ fn push_held(text: &mut Vec<u8>, suite: &Suite, servers: u8) -> Result<(), Alloc
     text.extend_from_slice(b"\"")
 }
 
-fn push_letters(text: &mut Vec<u8>, suite: &Suite, servers: u8) -> Result<(), AllocError>
+fn push_letters(text: &mut Vec<u8>, suite: &GatheredSuite, servers: u8) -> Result<(), AllocError>
     ensures { OnOk result (text.new.items ≡ text.old.items ++ held_letters suite.now servers) }
 {
     for server in 0..servers {
@@ -116,7 +116,7 @@ fn push_letters(text: &mut Vec<u8>, suite: &Suite, servers: u8) -> Result<(), Al
 }
 
 /// Which lock a server holds.
-fn held_letter(suite: &Suite, server: u8) -> &'static [u8]
+fn held_letter(suite: &GatheredSuite, server: u8) -> &'static [u8]
     ensures { result.now ≡ held_letter suite.now server }
 {
     if suite.holds_exclusively(server) {
@@ -129,7 +129,7 @@ fn held_letter(suite: &Suite, server: u8) -> &'static [u8]
 }
 
 /// What is known of a suite.
-fn push_known(text: &mut Vec<u8>, suite: &Suite) -> Result<(), AllocError>
+fn push_known(text: &mut Vec<u8>, suite: &GatheredSuite) -> Result<(), AllocError>
     ensures { OnOk result (text.new.items ≡ text.old.items ++ known_text suite.now) }
 {
     push_first(text, suite.first())?;

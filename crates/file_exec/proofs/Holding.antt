@@ -6,7 +6,7 @@ use Rattle.suite_prefix.specs.declared.lock_mode.LockMode.TheVariants.{Exclusive
 use Rattle.file_ops.specs.declared.refusal.Why.{Why}
 use Rattle.file_ops.specs.Operations.{Parent}
 use Rattle.file_ops.specs.Rows.{Row, root}
-use Rattle.file_ops.specs.Walks.{Place, names_in, to_change, permit, owner_only}
+use Rattle.file_ops.specs.Walks.{Object, names_in, to_change, permit, owner_only}
 use Rattle.file_exec.specs.Courses.{Course, Give, ◌>>=◌, ◌>>◌, rule, look}
 use Rattle.file_exec.specs.Operations as asked
 use Rattle.file_exec.specs.declared.need.Need.TheVariants.{Hold}
@@ -27,29 +27,29 @@ parted {A = A} {E = E} {P = P} known edits first next ended is then = of (run kn
     of (Done (Ok middle)) was is = then middle was is
     of (Done (Err why)) was is = cc
 
-placed : (known : Known) (edits : Edits) (suite : ℕ) (row : Option Row) (ended : Ended Place) → run known edits (asked.place_at suite row) ≡ Done (Ok ended) → suite ≡ ended.given.suite
+placed : (known : Known) (edits : Edits) (suite : ℕ) (row : Option Row) (ended : Ended Object) → run known edits (asked.place_at suite row) ≡ Done (Ok ended) → suite ≡ ended.given.suite
 placed known edits suite (Some row) ended is =
-    let same : record { given = record { suite = suite; row = row }; edits = edits } ≡ ended = cc in ap (λ (ended : Ended Place). ended.given.suite) same
+    let same : record { given = record { suite = suite; row = row }; edits = edits } ≡ ended = cc in ap (λ (ended : Ended Object). ended.given.suite) same
 placed known edits suite None ended is = cc
 
-held_holds : (known : Known) (edits : Edits) (suite : ℕ) (mode : LockMode) (ended : Ended Place) → run known edits (asked.held suite mode) ≡ Done (Ok ended) → is_met known (Hold ended.given.suite mode) ≡ true
+held_holds : (known : Known) (edits : Edits) (suite : ℕ) (mode : LockMode) (ended : Ended Object) → run known edits (asked.held suite mode) ≡ Done (Ok ended) → is_met known (Hold ended.given.suite mode) ≡ true
 held_holds known edits suite mode ended is =
     elim (is_met known (Hold suite mode)) as (λ b. is_met known (Hold suite mode) ≡ b → cond b (run known edits (asked.place_at suite (looked (known_rows known) edits suite))) (Needs (Hold suite mode)) ≡ Done (Ok ended) → is_met known (Hold ended.given.suite mode) ≡ true) [
       | true ↦ λ met is. ap (λ suite. is_met known (Hold suite mode)) (sym (placed known edits suite (looked (known_rows known) edits suite) ended is)) ∙ met
       | false ↦ λ _ is. cc
     ] refl is
 
-reach_holds : (known : Known) (edits : Edits) (caller : Identity) (names : List (List ℕ)) (mode : LockMode) (ended : Ended Place) → run known edits (asked.reach caller names mode) ≡ Done (Ok ended) → is_met known (Hold ended.given.suite mode) ≡ true
+reach_holds : (known : Known) (edits : Edits) (caller : Identity) (names : List (List ℕ)) (mode : LockMode) (ended : Ended Object) → run known edits (asked.reach caller names mode) ≡ Done (Ok ended) → is_met known (Hold ended.given.suite mode) ≡ true
 reach_holds known edits caller names mode ended is =
     parted known edits (asked.walk caller root names) (λ suite. asked.held suite mode) ended is (λ middle _ is. held_holds known middle.edits middle.given mode ended is)
 
-owned_holds : (known : Known) (edits : Edits) (caller : Identity) (names : List (List ℕ)) (ended : Ended Place) → run known edits (asked.owned caller names) ≡ Done (Ok ended) → is_met known (Hold ended.given.suite Exclusive) ≡ true
+owned_holds : (known : Known) (edits : Edits) (caller : Identity) (names : List (List ℕ)) (ended : Ended Object) → run known edits (asked.owned caller names) ≡ Done (Ok ended) → is_met known (Hold ended.given.suite Exclusive) ≡ true
 owned_holds known edits caller names ended is =
     parted known edits (asked.reach caller names Exclusive) (λ place. ◌>>◌ (rule (owner_only caller place)) (Give place)) ended is (λ middle was is.
     ap (λ suite. is_met known (Hold suite Exclusive)) (sym (of middle (owner_only caller middle.given) is)) ∙ reach_holds known edits caller names Exclusive middle was)
   where
-    of : (middle : Ended Place) (owner : Result (Unit {0}) Why) → run known middle.edits (◌>>◌ (rule owner) (Give middle.given)) ≡ Done (Ok ended) → middle.given.suite ≡ ended.given.suite
-    of middle (Ok _) is = let same : record { given = middle.given; edits = middle.edits } ≡ ended = cc in ap (λ (ended : Ended Place). ended.given.suite) same
+    of : (middle : Ended Object) (owner : Result (Unit {0}) Why) → run known middle.edits (◌>>◌ (rule owner) (Give middle.given)) ≡ Done (Ok ended) → middle.given.suite ≡ ended.given.suite
+    of middle (Ok _) is = let same : record { given = middle.given; edits = middle.edits } ≡ ended = cc in ap (λ (ended : Ended Object). ended.given.suite) same
     of middle (Err why) is = cc
 
 parent_holds : (known : Known) (edits : Edits) (caller : Identity) (names : List (List ℕ)) (ended : Ended Parent) → run known edits (asked.parent_of caller names) ≡ Done (Ok ended) → is_met known (Hold ended.given.place.suite Exclusive) ≡ true
@@ -57,18 +57,18 @@ parent_holds known edits caller names ended is =
     parted known edits (asked.reach caller names Exclusive) _ ended is (λ middle was is.
     ap (λ suite. is_met known (Hold suite Exclusive)) (sym (folder middle (names_in middle.given.row.content) is)) ∙ reach_holds known edits caller names Exclusive middle was)
   where
-    last : Place → Course Parent Why
+    last : Object → Course Parent Why
     last place = ◌>>=◌ (asked.names_at place.suite) (λ names. Give (record { place = place; names = names }))
 
-    named : (place : Place) (edits : Edits) → run known edits (last place) ≡ Done (Ok ended) → place.suite ≡ ended.given.place.suite
+    named : (place : Object) (edits : Edits) → run known edits (last place) ≡ Done (Ok ended) → place.suite ≡ ended.given.place.suite
     named place edits is = parted known edits (asked.names_at place.suite) (λ names. Give (record { place = place; names = names })) ended is (λ middle _ is.
         let same : record { given = record { place = place; names = middle.given }; edits = middle.edits } ≡ ended = cc in ap (λ (ended : Ended Parent). ended.given.place.suite) same)
 
-    let_in : (middle : Ended Place) (permit : Result (Unit {0}) Why) → run known middle.edits (◌>>◌ (rule permit) (last middle.given)) ≡ Done (Ok ended) → middle.given.suite ≡ ended.given.place.suite
+    let_in : (middle : Ended Object) (permit : Result (Unit {0}) Why) → run known middle.edits (◌>>◌ (rule permit) (last middle.given)) ≡ Done (Ok ended) → middle.given.suite ≡ ended.given.place.suite
     let_in middle (Ok _) is = named middle.given middle.edits is
     let_in middle (Err why) is = cc
 
-    folder : (middle : Ended Place) (names : Result (List (List ℕ × ℕ)) Why) → run known middle.edits (◌>>◌ (rule names) (◌>>◌ (rule (permit caller middle.given to_change)) (last middle.given))) ≡ Done (Ok ended) → middle.given.suite ≡ ended.given.place.suite
+    folder : (middle : Ended Object) (names : Result (List (List ℕ × ℕ)) Why) → run known middle.edits (◌>>◌ (rule names) (◌>>◌ (rule (permit caller middle.given to_change)) (last middle.given))) ≡ Done (Ok ended) → middle.given.suite ≡ ended.given.place.suite
     folder middle (Ok names) is = let_in middle (permit caller middle.given to_change) is
     folder middle (Err why) is = cc
 
@@ -85,10 +85,10 @@ look_holds {E = E} known edits suite mode ended is =
 -- ---- the same of what the code has reached
 
 module _ {A : Type 0} {known : Known} {before after : Edits} {x : A} (caller : Identity) (names : List (List ℕ)) where
-  pub reached : {memory : Heard Place Why → Type 0} {see : A → Place} → RunsOr memory see (Ok x) known before after (asked.reach caller names Exclusive) → HoldsAll known (see x).suite
+  pub reached : {memory : Heard Object Why → Type 0} {see : A → Object} → RunsOr memory see (Ok x) known before after (asked.reach caller names Exclusive) → HoldsAll known (see x).suite
   reached {see = see} gave = record { held = reach_holds known before caller names Exclusive (record { given = see x; edits = after }) gave.told }
 
-  pub owns : {memory : Heard Place Why → Type 0} {see : A → Place} → RunsOr memory see (Ok x) known before after (asked.owned caller names) → HoldsAll known (see x).suite
+  pub owns : {memory : Heard Object Why → Type 0} {see : A → Object} → RunsOr memory see (Ok x) known before after (asked.owned caller names) → HoldsAll known (see x).suite
   owns {see = see} gave = record { held = owned_holds known before caller names (record { given = see x; edits = after }) gave.told }
 
   pub parent_reached : {memory : Heard Parent Why → Type 0} {see : A → Parent} → RunsOr memory see (Ok x) known before after (asked.parent_of caller names) → HoldsAll known (see x).place.suite

@@ -29,7 +29,7 @@ use Rattle.file_ops.specs.Paths.{names_of}
 use Rattle.file_ops.specs.Rows.{Row, root, made_number}
 use Rattle.file_ops.specs.Steps.{found_or}
 use Rattle.file_ops.specs.Transactions.{is_miscounted}
-use Rattle.file_ops.specs.Walks.{Place, bytes_in, names_in, to_read, to_write, to_search, to_change, permit, permit_others, owner_only}
+use Rattle.file_ops.specs.Walks.{Object, bytes_in, names_in, to_read, to_write, to_search, to_change, permit, permit_others, owner_only}
 use Rattle.file_exec.specs.declared.edit_log.Edit.{Edit}
 use Rattle.file_exec.specs.declared.need.Need.{Need}
 use Rattle.file_exec.specs.declared.need.Need.TheVariants.{Hold, Know}
@@ -107,15 +107,15 @@ module _ (known : Known) (rows : ℕ → Option Row) where
 
   module _ (L : Grounds) (caller : Identity) where
     -- a place that was looked at, of a suite that was found
-    abbrev IsPlace : Edits → Place → Type 0
+    abbrev IsPlace : Edits → Object → Type 0
     IsPlace edits place = IsShown rows edits place × Found place.suite
 
-    place : (Q : Edits → Place → Type 0) (edits : Edits) (suite : ℕ) (row : Option Row) → looked rows edits suite ≡ row → ((row : Row) → looked rows edits suite ≡ Some row → Q edits (record { suite = suite; row = row }))
+    place : (Q : Edits → Object → Type 0) (edits : Edits) (suite : ℕ) (row : Option Row) → looked rows edits suite ≡ row → ((row : Row) → looked rows edits suite ≡ Some row → Q edits (record { suite = suite; row = row }))
         → Goes L Q edits (asked.place_at suite row)
     place Q edits suite (Some row) is rest = rest row is
     place Q edits suite None is rest = tt
 
-    held : (Q : Edits → Place → Type 0) (edits : Edits) (suite : ℕ) (mode : LockMode) → (Found suite → (row : Row) → looked rows edits suite ≡ Some row → Q edits (record { suite = suite; row = row }))
+    held : (Q : Edits → Object → Type 0) (edits : Edits) (suite : ℕ) (mode : LockMode) → (Found suite → (row : Row) → looked rows edits suite ≡ Some row → Q edits (record { suite = suite; row = row }))
         → Does L Q edits (asked.held suite mode)
     held Q edits suite mode rest = record { goes = λ met. place Q edits suite (looked rows edits suite) refl (rest (held_known mode (known_of known suite) met)) }
 
@@ -145,7 +145,7 @@ module _ (known : Known) (rows : ℕ → Option Row) where
     shown : (edits : Edits) (names : List (List ℕ)) → Does L Any edits (asked.shown caller names)
     shown edits names = in_turn {P = IsPlace} _ (reach edits names Shared) (λ now place _. ruled (permit_others caller place to_read) _ (λ _ _. record { goes = tt }))
 
-    abbrev IsOwned : Edits → Place → Type 0
+    abbrev IsOwned : Edits → Object → Type 0
     IsOwned edits place = IsPlace edits place × (owner_only caller place ≡ Ok tt)
 
     owned : (edits : Edits) (names : List (List ℕ)) → Does L IsOwned edits (asked.owned caller names)
@@ -158,7 +158,7 @@ module _ (known : Known) (rows : ℕ → Option Row) where
         in_turn {P = λ later names. IsShown rows later place × AreNames place.suite later names} _ (read_shown now place at) (λ later names is.
         record { goes = record { shown = is.0; permitted = may; names = is.1 } }))))
       where
-        read_shown : (edits : Edits) (place : Place) → IsPlace edits place → Does L (λ later names. IsShown rows later place × AreNames place.suite later names) edits (asked.names_at place.suite)
+        read_shown : (edits : Edits) (place : Object) → IsPlace edits place → Does L (λ later names. IsShown rows later place × AreNames place.suite later names) edits (asked.names_at place.suite)
         read_shown edits place at =
             record { goes = (at.1, λ _. (gives {L = L} {Q = λ later names. IsShown rows later place × AreNames place.suite later names} {edits = edits} (names_in (content_read rows edits place.suite)) (λ names is. (at.0, is))).goes) }
 

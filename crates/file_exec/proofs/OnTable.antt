@@ -133,7 +133,7 @@ on_rule rows (Err why) = refl
 
 -- ---- one step of a course and of what it stands for; P compares the ends, and holds of a refusal and itself
 
-abbrev emptied_place : plain.Place → plain.Place
+abbrev emptied_place : plain.Object → plain.Object
 emptied_place place = record { suite = place.suite; row = emptied place.row }
 
 module _ {A Z : Type 0} (rows : Rows) (P : Result (Ended A) Why → Result Z Why → Type 0) (err : (why : Why) → P (Err why) (Err why)) where
@@ -154,7 +154,7 @@ module _ {A Z : Type 0} (rows : Rows) (P : Result (Ended A) Why → Result Z Why
   ruled_out (Ok x) next later same = same
   ruled_out (Err why) next later same = err why
 
-  at_held : (suite : ℕ) (mode : LockMode) (next : plain.Place → Course A Why) (later : plain.Place → Result Z Why)
+  at_held : (suite : ℕ) (mode : LockMode) (next : plain.Object → Course A Why) (later : plain.Object → Result Z Why)
       → ((row : Row) → row_of rows suite ≡ Some row → P (On rows (next (emptied_place (record { suite = suite; row = row })))) (later (record { suite = suite; row = row })))
       → P (On rows (◌>>=◌ (asked.held suite mode) next)) (steps.◌>>=◌ (plain.place_of rows suite) later)
   at_held suite mode next later same =
@@ -225,7 +225,7 @@ on_walk rows caller suite (name ∷ names) =
     (λ next _. on_walk rows caller next names)
 
 -- a place, but for its content
-abbrev GivesPlace : Result (Ended plain.Place) Why → Result plain.Place Why → Type 0
+abbrev GivesPlace : Result (Ended plain.Object) Why → Result plain.Object Why → Type 0
 GivesPlace ended result = ended ≡ unedited (ok_map emptied_place result)
 
 on_reach : (rows : Rows) (caller : Identity) (names : List (List ℕ)) (mode : LockMode) → On rows (asked.reach caller names mode) ≡ unedited (ok_map emptied_place (plain.reach rows caller names))
@@ -239,14 +239,14 @@ on_reach rows caller names mode =
     place suite None = refl
 
 -- the row of a place that was reached is there
-reached_there : (rows : Rows) (caller : Identity) (names : List (List ℕ)) (place : plain.Place) → plain.reach rows caller names ≡ Ok place → row_of rows place.suite ≡ Some place.row
+reached_there : (rows : Rows) (caller : Identity) (names : List (List ℕ)) (place : plain.Object) → plain.reach rows caller names ≡ Ok place → row_of rows place.suite ≡ Some place.row
 reached_there rows caller names place is = walked (plain.walk rows caller root names) is
   where
     found_there : (suite : ℕ) (found : Option Row) → row_of rows suite ≡ found → steps.◌>>=◌ (found_or found why.NoName) (λ row. Ok (record { suite = suite; row = row })) ≡ Ok place → row_of rows place.suite ≡ Some place.row
     found_there suite None there is = cc
     found_there suite (Some row) there is =
         let same : record { suite = suite; row = row } ≡ place = cc in
-        subst (λ (place : plain.Place). row_of rows place.suite ≡ Some place.row) same there
+        subst (λ (place : plain.Object). row_of rows place.suite ≡ Some place.row) same there
 
     walked : (walk : Result ℕ Why) → steps.◌>>=◌ walk (plain.place_of rows) ≡ Ok place → row_of rows place.suite ≡ Some place.row
     walked (Ok suite) is = found_there suite (row_of rows suite) refl is
@@ -255,19 +255,19 @@ reached_there rows caller names place is = walked (plain.walk rows caller root n
 -- ---- operations
 
 -- a reply with the rows after it
-abbrev pub as_pair : plain_ops.Done → Answer × Rows
+abbrev pub as_pair : plain_ops.Performed → Answer × Rows
 as_pair done = (done.answer, done.rows)
 
 module _ (rows : Rows) (caller : Identity) (names : List (List ℕ)) where
   -- the course of an operation does what the operation does
-  abbrev Does : Result (Ended Answer) Why → Result plain_ops.Done Why → Type 0
+  abbrev Does : Result (Ended Answer) Why → Result plain_ops.Performed Why → Type 0
   Does ended result = outcome rows ended ≡ ok_map as_pair result
 
   does_err : (why : Why) → Does (Err why) (Err why)
   does_err why = refl
 
-  at_reach : (mode : LockMode) (next : plain.Place → Course Answer Why) (later : plain.Place → Result plain_ops.Done Why)
-      → ((place : plain.Place) → row_of rows place.suite ≡ Some place.row → Does (On rows (next (emptied_place place))) (later place))
+  at_reach : (mode : LockMode) (next : plain.Object → Course Answer Why) (later : plain.Object → Result plain_ops.Performed Why)
+      → ((place : plain.Object) → row_of rows place.suite ≡ Some place.row → Does (On rows (next (emptied_place place))) (later place))
       → Does (On rows (◌>>=◌ (asked.reach caller names mode) next)) (steps.◌>>=◌ (plain.reach rows caller names) later)
   at_reach mode next later same =
       free rows Does does_err (asked.reach caller names mode) emptied_place (plain.reach rows caller names) next later (on_reach rows caller names mode)
@@ -287,8 +287,8 @@ module _ (rows : Rows) (caller : Identity) (names : List (List ℕ)) where
       at_folder rows Does does_err place.row _ _ (λ entries is.
       ap (outcome rows) (on_names rows place.suite place.row entries (λ entries. Give (answer.List (folders.names_in entries))) there is))))
 
-  at_shown : (next : plain.Place → Course Answer Why) (later : plain.Place → Result plain_ops.Done Why)
-      → ((place : plain.Place) → Does (On rows (next (emptied_place place))) (later place))
+  at_shown : (next : plain.Object → Course Answer Why) (later : plain.Object → Result plain_ops.Performed Why)
+      → ((place : plain.Object) → Does (On rows (next (emptied_place place))) (later place))
       → Does (On rows (◌>>=◌ (asked.shown caller names) next)) (steps.◌>>=◌ (plain.shown rows caller names) later)
   at_shown next later same =
       free rows Does does_err (asked.shown caller names) emptied_place (plain.shown rows caller names) next later
@@ -296,8 +296,8 @@ module _ (rows : Rows) (caller : Identity) (names : List (List ℕ)) where
       (λ place _. ruled_out rows GivesPlace (λ why. refl) (plain.permit_others caller place plain.to_read) _ _ refl))
       (λ place _. same place)
 
-  at_owned : (next : plain.Place → Course Answer Why) (later : plain.Place → Result plain_ops.Done Why)
-      → ((place : plain.Place) → row_of rows place.suite ≡ Some place.row → Does (On rows (next (emptied_place place))) (later place))
+  at_owned : (next : plain.Object → Course Answer Why) (later : plain.Object → Result plain_ops.Performed Why)
+      → ((place : plain.Object) → row_of rows place.suite ≡ Some place.row → Does (On rows (next (emptied_place place))) (later place))
       → Does (On rows (◌>>=◌ (asked.owned caller names) next)) (steps.◌>>=◌ (plain.owned rows caller names) later)
   at_owned next later same =
       free rows Does does_err (asked.owned caller names) emptied_place (plain.owned rows caller names) next later
@@ -305,7 +305,7 @@ module _ (rows : Rows) (caller : Identity) (names : List (List ℕ)) where
       (λ place _. ruled_out rows GivesPlace (λ why. refl) (plain.owner_only caller place) _ _ refl))
       (λ place is. same place (owned_there place (plain.reach rows caller names) refl is))
     where
-      owned_there : (place : plain.Place) (reach : Result plain.Place Why) → plain.reach rows caller names ≡ reach
+      owned_there : (place : plain.Object) (reach : Result plain.Object Why) → plain.reach rows caller names ≡ reach
           → steps.◌>>=◌ reach (λ place. steps.◌>>◌ (plain.owner_only caller place) (Ok place)) ≡ Ok place → row_of rows place.suite ≡ Some place.row
       owned_there place (Err why) was is = cc
       owned_there place (Ok found) was is = let same : found ≡ place = owner (plain.owner_only caller found) is in reached_there rows caller names place (was ∙ ap (λ place. Ok place) same)
@@ -362,22 +362,22 @@ on_parent rows caller names =
 parent_there : (rows : Rows) (caller : Identity) (names : List (List ℕ)) (parent : plain_ops.Parent) → plain_ops.parent_of rows caller names ≡ Ok parent → row_of rows parent.place.suite ≡ Some parent.place.row
 parent_there rows caller names parent is = reached (plain.reach rows caller names) refl is
   where
-    end : (place : plain.Place) (entries : List (List ℕ × ℕ)) (rule : Result (Unit {0}) Why) → steps.◌>>◌ rule (Ok (record { place = place; names = entries })) ≡ Ok parent → place ≡ parent.place
+    end : (place : plain.Object) (entries : List (List ℕ × ℕ)) (rule : Result (Unit {0}) Why) → steps.◌>>◌ rule (Ok (record { place = place; names = entries })) ≡ Ok parent → place ≡ parent.place
     end place entries (Ok x) is = let same : record { place = place; names = entries } ≡ parent = cc in ap (λ (parent : plain_ops.Parent). parent.place) same
     end place entries (Err why) is = cc
 
-    folder : (place : plain.Place) (names : Result (List (List ℕ × ℕ)) Why) → steps.◌>>=◌ names (λ entries. steps.◌>>◌ (plain.permit caller place plain.to_change) (Ok (record { place = place; names = entries }))) ≡ Ok parent → place ≡ parent.place
+    folder : (place : plain.Object) (names : Result (List (List ℕ × ℕ)) Why) → steps.◌>>=◌ names (λ entries. steps.◌>>◌ (plain.permit caller place plain.to_change) (Ok (record { place = place; names = entries }))) ≡ Ok parent → place ≡ parent.place
     folder place (Ok entries) is = end place entries (plain.permit caller place plain.to_change) is
     folder place (Err why) is = cc
 
-    reached : (reach : Result plain.Place Why) → plain.reach rows caller names ≡ reach
+    reached : (reach : Result plain.Object Why) → plain.reach rows caller names ≡ reach
         → steps.◌>>=◌ reach (λ place. steps.◌>>=◌ (plain.names_in place.row.content) (λ entries. steps.◌>>◌ (plain.permit caller place plain.to_change) (Ok (record { place = place; names = entries })))) ≡ Ok parent → row_of rows parent.place.suite ≡ Some parent.place.row
     reached (Err why) was is = cc
     reached (Ok place) was is =
-        subst (λ (place : plain.Place). row_of rows place.suite ≡ Some place.row) (folder place (plain.names_in place.row.content) is) (reached_there rows caller names place was)
+        subst (λ (place : plain.Object). row_of rows place.suite ≡ Some place.row) (folder place (plain.names_in place.row.content) is) (reached_there rows caller names place was)
 
 module _ (rows : Rows) (caller : Identity) where
-  at_parent : (names : List (List ℕ)) (next : plain_ops.Parent → Course Answer Why) (later : plain_ops.Parent → Result plain_ops.Done Why)
+  at_parent : (names : List (List ℕ)) (next : plain_ops.Parent → Course Answer Why) (later : plain_ops.Parent → Result plain_ops.Performed Why)
       → ((parent : plain_ops.Parent) → row_of rows parent.place.suite ≡ Some parent.place.row → Does rows caller names (On rows (next (emptied_parent parent))) (later parent))
       → Does rows caller names (On rows (◌>>=◌ (asked.parent_of caller names) next)) (steps.◌>>=◌ (plain_ops.parent_of rows caller names) later)
   at_parent names next later same =
@@ -395,13 +395,13 @@ module _ (rows : Rows) (caller : Identity) where
       let named : Edit = SetContent (Names (folders.with_name parent.names path.name number)) in
       let new = new_row kind (lists_of kind parent.place.row.acl.default init) votes caller in
       let last : Course Answer Why = ◌>>◌ (look number Exclusive) (◌>>◌ (set parent.place.suite named) (◌>>◌ (set number (Make new)) (Give (answer.Made number)))) in
-      let done : Result plain_ops.Done Why = Ok (record { answer = answer.Made number; rows = plain_ops.with_made rows parent path.name number new }) in
+      let done : Result plain_ops.Performed Why = Ok (record { answer = answer.Made number; rows = plain_ops.with_made rows parent path.name number new }) in
       ruled_out rows (Does rows caller names) (does_err rows caller names) (plain_ops.refuse_if (is_some (folders.number_of parent.names path.name)) why.Exists) (◌>>◌ (rule full) last) (steps.◌>>◌ full done) (
       ruled_out rows (Does rows caller names) (does_err rows caller names) full last done (
       ap (λ found. Ok (answer.Made number, with_row (put parent.place.suite (changed named found) rows) number new)) there))))))
 
   -- a suite that is dropped is used where the table says so
-  at_used : (names : List (List ℕ)) (suite : ℕ) (next : Course Answer Why) (later : Result plain_ops.Done Why) → Does rows caller names (On rows next) later
+  at_used : (names : List (List ℕ)) (suite : ℕ) (next : Course Answer Why) (later : Result plain_ops.Performed Why) → Does rows caller names (On rows next) later
       → Does rows caller names (On rows (◌>>=◌ (look suite Shared) (λ row. ◌>>◌ (asked.refuse_used suite row) next))) (steps.◌>>◌ (plain_ops.refuse_if (plain_ops.has_names (row_of rows suite)) why.NotEmpty) later)
   at_used names suite next later same =
       elim (row_of rows suite) as (λ found. row_of rows suite ≡ found → Does rows caller names (On rows (◌>>◌ (asked.refuse_used suite (head found)) next)) (steps.◌>>◌ (plain_ops.refuse_if (plain_ops.has_names found) why.NotEmpty) later)) [
@@ -472,7 +472,7 @@ on_play service rows answers t at caller (op ∷ ops) =
     later : plain_all.Played → Result plain_all.Played Refusal
     later played = plain_all.play service played t (at + 1) caller ops
 
-    go : (ended : Result (Ended Answer) Why) (result : Result plain_ops.Done Why) → outcome rows ended ≡ ok_map as_pair result
+    go : (ended : Result (Ended Answer) Why) (result : Result plain_ops.Performed Why) → outcome rows ended ≡ ok_map as_pair result
         → ((rows : Rows) (answers : List Answer) → outcome rows (On rows (asked.play service answers t (at + 1) caller ops)) ≡ ok_map as_played (later (record { answers = answers; rows = rows })))
         → outcome rows (go_on (row_of rows) next (named_end at ended)) ≡ ok_map as_played (steps.◌>>=◌ (plain_all.after answers at result) later)
     go (Ok ended) (Ok done) same again =

@@ -21,7 +21,7 @@ use Rattle.file_ops.specs.Limits.{max_operations}
 use Rattle.file_ops.specs.Lists.{gives_default, is_misplaced, lists_of}
 use Rattle.file_ops.specs.Operations.{Parent}
 use Rattle.file_ops.specs.Rows.{Row, made_number, new_row}
-use Rattle.file_ops.specs.Walks.{Place, bytes_in, names_in, to_write, to_change, permit, owner_only}
+use Rattle.file_ops.specs.Walks.{Object, bytes_in, names_in, to_write, to_change, permit, owner_only}
 use Rattle.file_exec.specs.declared.edit_log.Edit.{Edit}
 use Rattle.file_exec.specs.declared.edit_log.Edit.TheVariants.{SetAcl, SetVotes, SetContent, Make}
 use Rattle.file_exec.specs.Following.{Edits, is_set, looked, content_read, Ended}
@@ -38,7 +38,7 @@ abbrev pub IsTold : Known → Edits → ℕ → Type 0
 IsTold known edits suite = (is_set edits suite || is_opened (known_of known suite)) ≡ true
 
 -- a file or a folder as a look showed it
-abbrev pub IsShown : (ℕ → Option Row) → Edits → Place → Type 0
+abbrev pub IsShown : (ℕ → Option Row) → Edits → Object → Type 0
 IsShown rows edits place = looked rows edits place.suite ≡ Some place.row
 
 -- a folder that the caller may change, and whose names were read
@@ -55,15 +55,15 @@ naming parent name number = SetContent (Names (folders.with_name parent.names na
 module _ (service : Service) (known : Known) (rows : ℕ → Option Row) (caller : Identity) (action : Action) (number : ℕ) where
   pub data Licensed : Edits → ℕ → Edit → Type 0 where
     -- bytes in place of a file's, where the caller may write it
-    writes_bytes : {edits : Edits} {place : Place} {before bytes : List ℕ}
+    writes_bytes : {edits : Edits} {place : Object} {before bytes : List ℕ}
         → IsShown rows edits place → permit caller place to_write ≡ Ok tt → bytes_in place.row.content ≡ Ok before → is_within_limits (Bytes bytes) ≡ true
         → Licensed edits place.suite (SetContent (Bytes bytes))
     -- lists that fit its kind, where the caller owns it
-    changes_lists : {edits : Edits} {place : Place} {acl : Lists}
+    changes_lists : {edits : Edits} {place : Object} {acl : Lists}
         → IsShown rows edits place → owner_only caller place ≡ Ok tt → is_misplaced (kind_of place.row.content) (is_some acl.default) ≡ false
         → Licensed edits place.suite (SetAcl acl)
     -- votes of known servers, where the caller owns it; its content was read, since whoever gets a vote gets the whole copy
-    changes_votes : {edits : Edits} {place : Place} {given votes : Configuration}
+    changes_votes : {edits : Edits} {place : Object} {given votes : Configuration}
         → IsShown rows edits place → owner_only caller place ≡ Ok tt → IsTold known edits place.suite → votes_given action ≡ Some given → known_votes service given ≡ Ok votes
         → Licensed edits place.suite (SetVotes votes)
     -- a name more in a folder that has room

@@ -23,7 +23,7 @@ use Rattle.file_ops.specs.Steps.{found_or}
 use Rattle.file_ops.specs.Lists.{gives_default, is_misplaced, lists_of}
 use Rattle.file_ops.specs.Paths.{names_of}
 use Rattle.file_ops.specs.Rows.{Row, root, made_number, new_row}
-use Rattle.file_ops.specs.Walks.{Place, bytes_in, names_in, to_read, to_write, to_search, to_change, permit, permit_others, owner_only}
+use Rattle.file_ops.specs.Walks.{Object, bytes_in, names_in, to_read, to_write, to_search, to_change, permit, permit_others, owner_only}
 use Rattle.file_ops.specs.Operations.{Parent, refuse_if, last_name, is_used}
 use Rattle.file_ops.specs.Transactions.{is_miscounted}
 use Rattle.file_ops.specs.KnownVotes.{known_votes, votes_of_new}
@@ -33,12 +33,12 @@ use Rattle.file_exec.specs.declared.edit_log.Edit.TheVariants.{SetAcl, SetVotes,
 use Rattle.file_exec.specs.Courses.{Course, Give, Refuse, ◌>>=◌, ◌>>◌, rule, look, read, set, at_place}
 
 -- a suite with its row; a name that leads to no row is answered like a name that is not there
-abbrev pub place_at : ℕ → Option Row → Course Place Why
+abbrev pub place_at : ℕ → Option Row → Course Object Why
 place_at suite (Some row) = Give (record { suite = suite; row = row })
 place_at suite None = Refuse why.NoName
 
 -- a suite that is held in this mode before it is looked at
-abbrev pub held : ℕ → LockMode → Course Place Why
+abbrev pub held : ℕ → LockMode → Course Object Why
 held suite mode = do
   row ← look suite mode
   place_at suite row
@@ -70,18 +70,18 @@ walk caller suite (name ∷ names) = do
   walk caller next names
 
 -- the file or folder that names lead to from the root folder, held in this mode
-abbrev pub reach : Identity → List (List ℕ) → LockMode → Course Place Why
+abbrev pub reach : Identity → List (List ℕ) → LockMode → Course Object Why
 reach caller names mode = do
   suite ← walk caller root names
   held suite mode
 
-abbrev pub shown : Identity → List (List ℕ) → Course Place Why
+abbrev pub shown : Identity → List (List ℕ) → Course Object Why
 shown caller names = do
   place ← reach caller names Shared
   rule (permit_others caller place to_read)
   Give place
 
-abbrev pub owned : Identity → List (List ℕ) → Course Place Why
+abbrev pub owned : Identity → List (List ℕ) → Course Object Why
 owned caller names = do
   place ← reach caller names Exclusive
   rule (owner_only caller place)

@@ -34,7 +34,7 @@ pub(crate) struct View<'a, 'k> {
 
 /// A suite with its row.
 #[derive(Clone, Copy)]
-pub(crate) struct Place<'a> {
+pub(crate) struct Object<'a> {
     pub(crate) suite: u64,
     pub(crate) row: Seen<'a>,
 }
@@ -42,11 +42,11 @@ pub(crate) struct Place<'a> {
 /// A folder in which a name is to be put or dropped, with its names.
 #[derive(Clone, Copy)]
 pub(crate) struct Parent<'a> {
-    pub(crate) place: Place<'a>,
+    pub(crate) place: Object<'a>,
     pub(crate) names: &'a FolderNames,
 }
 
-impl<'a> Place<'a> {
+impl<'a> Object<'a> {
     /// What the rules of permission look at.
     fn guarded(self) -> Guarded<'a>
         ensures suite { result.suite ≡ self.entry.suite }
@@ -127,14 +127,14 @@ impl<'a, 'k> View<'a, 'k> {
 
     /// A suite with its row, which is to be held in this mode.
     #[inline(always)]
-    fn held(self, suite: u64, mode: LockMode) -> Result<Place<'a>, Stop>
+    fn held(self, suite: u64, mode: LockMode) -> Result<Object<'a>, Stop>
         ensures place { Sees seen_place result self.entry (held suite mode) }
         ensures suite { IfOk result (λ place. place.suite ≡ suite) }
         ensures seen { IfOk result (λ place. IsSeenAt self.entry suite (Some place.row)) }
     {
         let row = self.look(suite, mode)?;
         match row {
-            Some(row) => Ok(Place { suite, row }),
+            Some(row) => Ok(Object { suite, row }),
             None => Err(Stop::Refused(Why::NoName)),
         }
     }
@@ -209,7 +209,7 @@ impl<'a, 'k> View<'a, 'k> {
         names: &[Name],
         mode: LockMode,
         point: &mut WalkPoint,
-    ) -> Result<Place<'a>, Stop>
+    ) -> Result<Object<'a>, Stop>
         requires { LeadsTo self.known.now.suites self.log.now caller.now names.now point.old }
         ensures place { Sees seen_place result self.entry (reach caller.now names.now mode) }
         ensures seen { IfOk result (λ place. IsSeenAt self.entry place.suite (Some place.row)) }
@@ -225,7 +225,7 @@ impl<'a, 'k> View<'a, 'k> {
         caller: &Caller,
         names: &[Name],
         point: &mut WalkPoint,
-    ) -> Result<Place<'a>, Stop>
+    ) -> Result<Object<'a>, Stop>
         requires { LeadsTo self.known.now.suites self.log.now caller.now names.now point.old }
         ensures place { Sees seen_place result self.entry (shown caller.now names.now) }
         ensures seen { IfOk result (λ place. IsSeenAt self.entry place.suite (Some place.row)) }
@@ -242,7 +242,7 @@ impl<'a, 'k> View<'a, 'k> {
         caller: &Caller,
         names: &[Name],
         point: &mut WalkPoint,
-    ) -> Result<Place<'a>, Stop>
+    ) -> Result<Object<'a>, Stop>
         requires { LeadsTo self.known.now.suites self.log.now caller.now names.now point.old }
         ensures place { Sees seen_place result self.entry (owned caller.now names.now) }
         ensures seen { IfOk result (λ place. IsSeenAt self.entry place.suite (Some place.row)) }

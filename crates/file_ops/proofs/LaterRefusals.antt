@@ -12,9 +12,9 @@ use Rattle.file_ops.specs.declared.refusal.Why.{Why}
 use Rattle.file_ops.specs.declared.service.Service.{Service}
 use Rattle.file_ops.specs.Steps.{◌>>=◌}
 use Rattle.file_ops.specs.Rows.{Rows}
-use Rattle.file_ops.specs.Operations.{Done, operation}
+use Rattle.file_ops.specs.Operations.{Performed, operation}
 use Rattle.file_ops.specs.Transactions.{Played, after, play, transaction, is_miscounted, RefusesFirst}
-use Rattle.file_ops.specs.code.Done.{AnswersFirst}
+use Rattle.file_ops.specs.code.Performed.{AnswersFirst}
 
 abbrev IsAbove : ℕ → Result Played Refusal → Type 0
 IsAbove at outcome = IfErr outcome (λ refusal. at < refusal.op)
@@ -38,7 +38,7 @@ vain result at (Err refusal) above = λ same. absurd (omega arith)
 pub first_done : (result : Result (List Answer) ApplyError) (service : Service) (played : Played) (t at : ℕ) (caller : Identity) (op : Op) (later : List Op) → IsOk (operation service played.rows t at caller op) → AnswersFirst result at (play service played t at caller (op ∷ later))
 first_done result service played t at caller op later ok = cases (operation service played.rows t at caller op) ok
   where
-    cases : (done : Result Done Why) → IsOk done → AnswersFirst result at (◌>>=◌ (after played.answers at done) (λ next. play service next t (at + 1) caller later))
+    cases : (done : Result Performed Why) → IsOk done → AnswersFirst result at (◌>>=◌ (after played.answers at done) (λ next. play service next t (at + 1) caller later))
     cases (Ok done) ok = vain result at _ (refused_later service (record { answers = played.answers ++ done.answer ∷ []; rows = done.rows }) t (at + 1) caller later)
     cases (Err why) ok = absurd (false≢true ok)
 

@@ -11,31 +11,31 @@ use Rattle.file_ops.specs.Rows.{Row, Rows, row_of, root}
 use Rattle.file_ops.specs.Steps.{◌>>=◌, found_or}
 use Rattle.file_ops.specs.code.Stored.{listed_in}
 use Rattle.file_ops.specs.Operations.{names_listed}
-use Rattle.file_ops.specs.Walks.{Place, names_in, permit, place_of, reach, to_read, walk}
+use Rattle.file_ops.specs.Walks.{Object, names_in, permit, place_of, reach, to_read, walk}
 
 -- the names of a folder are those that are listed
 pub listed : (content : Content) (entries : List (List ℕ × ℕ)) → names_in content ≡ Ok entries → listed_in content ≡ folders.names_in entries
 listed (Names names) entries is = ap folders.names_in (cc is)
 listed (Bytes bytes) entries is = absurd (cc is)
 
-placed : (suite : ℕ) (row : Option Row) (place : Place) → ◌>>=◌ (found_or row why.NoName) (λ (r : Row). Ok (record { suite = suite; row = r })) ≡ Ok place → (place.suite ≡ suite) × (row ≡ Some place.row)
+placed : (suite : ℕ) (row : Option Row) (place : Object) → ◌>>=◌ (found_or row why.NoName) (λ (r : Row). Ok (record { suite = suite; row = r })) ≡ Ok place → (place.suite ≡ suite) × (row ≡ Some place.row)
 placed suite None place is = absurd (cc is)
 placed suite (Some row) place is =
     let same : record { suite = suite; row = row } ≡ place = cc is in
-    (ap (λ (p : Place). p.suite) (sym same), ap (λ (p : Place). Some p.row) same)
+    (ap (λ (p : Object). p.suite) (sym same), ap (λ (p : Object). Some p.row) same)
 
-walked : (rows : Rows) (place : Place) (suite : Result ℕ Why) → ◌>>=◌ suite (place_of rows) ≡ Ok place → row_of rows place.suite ≡ Some place.row
+walked : (rows : Rows) (place : Object) (suite : Result ℕ Why) → ◌>>=◌ suite (place_of rows) ≡ Ok place → row_of rows place.suite ≡ Some place.row
 walked rows place (Err why) is = absurd (cc is)
 walked rows place (Ok suite) is =
     let at = placed suite (row_of rows suite) place is in
     ap (row_of rows) at.0 ∙ at.1
 
 -- what is reached is there
-pub reached : (rows : Rows) (caller : Identity) (names : List (List ℕ)) (place : Place) → reach rows caller names ≡ Ok place → row_of rows place.suite ≡ Some place.row
+pub reached : (rows : Rows) (caller : Identity) (names : List (List ℕ)) (place : Object) → reach rows caller names ≡ Ok place → row_of rows place.suite ≡ Some place.row
 reached rows caller names place is = walked rows place (walk rows caller root names) is
 
 -- a listing, step by step
-pub listed_is : (rows : Rows) (caller : Identity) (names : List (List ℕ)) (place : Place) (entries : List (List ℕ × ℕ)) (list : List (List ℕ)) → reach rows caller names ≡ Ok place → permit caller place to_read ≡ Ok tt → names_in place.row.content ≡ Ok entries → list ≡ folders.names_in entries
+pub listed_is : (rows : Rows) (caller : Identity) (names : List (List ℕ)) (place : Object) (entries : List (List ℕ × ℕ)) (list : List (List ℕ)) → reach rows caller names ≡ Ok place → permit caller place to_read ≡ Ok tt → names_in place.row.content ≡ Ok entries → list ≡ folders.names_in entries
     → names_listed rows caller names ≡ Ok (record { answer = answer.List list; rows = rows })
 listed_is rows caller names place entries list there may holds is = rw (there, may, holds, is) refl
 

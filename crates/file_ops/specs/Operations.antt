@@ -23,11 +23,11 @@ use Rattle.suite_content.specs.Contents.{kind_of}
 use Rattle.file_ops.specs.Lists.{gives_default, is_misplaced, lists_of}
 use Rattle.file_ops.specs.Paths.{names_of}
 use Rattle.file_ops.specs.Rows.{Row, Rows, row_of, with_row, with_acl, with_votes, with_content, made_number, new_row}
-use Rattle.file_ops.specs.Walks.{Place, bytes_in, names_in, to_read, to_write, to_change, permit, reach, shown, owned}
+use Rattle.file_ops.specs.Walks.{Object, bytes_in, names_in, to_read, to_write, to_change, permit, reach, shown, owned}
 use Rattle.file_ops.specs.KnownVotes.{known_votes, votes_of_new}
 
 -- a reply with the rows after it
-pub record Done : Type 0 where
+pub record Performed : Type 0 where
   pub answer : Answer
   pub rows : Rows
 
@@ -46,7 +46,7 @@ abbrev pub plain_named : Bor (List ℕ) × Bor (List (List ℕ)) → Named
 plain_named found = record { folders = found.1.now; name = found.0.now }
 
 -- the bytes of a file, answered
-abbrev pub bytes_read : Rows → Identity → List (List ℕ) → Result Done Why
+abbrev pub bytes_read : Rows → Identity → List (List ℕ) → Result Performed Why
 bytes_read rows caller names = do
   place ← reach rows caller names
   permit caller place to_read
@@ -54,7 +54,7 @@ bytes_read rows caller names = do
   Ok (record { answer = answer.Read bytes; rows = rows })
 
 -- the names of a folder, answered
-abbrev pub names_listed : Rows → Identity → List (List ℕ) → Result Done Why
+abbrev pub names_listed : Rows → Identity → List (List ℕ) → Result Performed Why
 names_listed rows caller names = do
   place ← reach rows caller names
   permit caller place to_read
@@ -62,18 +62,18 @@ names_listed rows caller names = do
   Ok (record { answer = answer.List (folders.names_in entries); rows = rows })
 
 -- the lists of a file or folder, answered; its votes, answered
-abbrev pub list_shown : Rows → Identity → List (List ℕ) → Result Done Why
+abbrev pub list_shown : Rows → Identity → List (List ℕ) → Result Performed Why
 list_shown rows caller names = do
   place ← shown rows caller names
   Ok (record { answer = answer.Acl place.row.acl; rows = rows })
 
-abbrev pub votes_shown : Rows → Identity → List (List ℕ) → Result Done Why
+abbrev pub votes_shown : Rows → Identity → List (List ℕ) → Result Performed Why
 votes_shown rows caller names = do
   place ← shown rows caller names
   Ok (record { answer = answer.Votes place.row.votes; rows = rows })
 
 -- other bytes put in a file
-abbrev pub bytes_written : Rows → Identity → List (List ℕ) → List ℕ → Result Done Why
+abbrev pub bytes_written : Rows → Identity → List (List ℕ) → List ℕ → Result Performed Why
 bytes_written rows caller names bytes = do
   refuse_if (nat_lt max_content (length bytes)) why.TooLong
   place ← reach rows caller names
@@ -82,13 +82,13 @@ bytes_written rows caller names bytes = do
   Ok (record { answer = answer.Wrote; rows = with_row rows place.suite (with_content place.row (Bytes bytes)) })
 
 -- other lists set, of which a file has no default list; other votes set
-abbrev pub list_set : Rows → Identity → List (List ℕ) → Lists → Result Done Why
+abbrev pub list_set : Rows → Identity → List (List ℕ) → Lists → Result Performed Why
 list_set rows caller names acl = do
   place ← owned rows caller names
   refuse_if (is_misplaced (kind_of place.row.content) (is_some acl.default)) why.DefaultOnFile
   Ok (record { answer = answer.Set; rows = with_row rows place.suite (with_acl place.row acl) })
 
-abbrev pub votes_set : Service → Rows → Identity → List (List ℕ) → Configuration → Result Done Why
+abbrev pub votes_set : Service → Rows → Identity → List (List ℕ) → Configuration → Result Performed Why
 votes_set service rows caller names given = do
   votes ← known_votes service given
   place ← owned rows caller names
@@ -102,7 +102,7 @@ last_name names = do
 
 -- a folder in which a name is to be put or dropped, with its names
 pub record Parent : Type 0 where
-  pub place : Place
+  pub place : Object
   pub names : List (List ℕ × ℕ)
 
 -- the folder that names lead to, which the caller must be let write and search
@@ -114,7 +114,7 @@ parent_of rows caller folders = do
   Ok (record { place = place; names = names })
 
 -- the rows with other names in a folder
-abbrev pub with_names : Rows → Place → List (List ℕ × ℕ) → Rows
+abbrev pub with_names : Rows → Object → List (List ℕ × ℕ) → Rows
 with_names rows place names = with_row rows place.suite (with_content place.row (Names names))
 
 -- the rows with a new file or folder: first the folder's names are written, then the new row, in place of any row of its number
@@ -123,7 +123,7 @@ with_made rows parent name number row =
     with_row (with_names rows parent.place (folders.with_name parent.names name number)) number row
 
 -- a file or folder of this number, made
-abbrev pub made : Service → Rows → ℕ → Identity → List (List ℕ) → Kind → Init → Option Configuration → Result Done Why
+abbrev pub made : Service → Rows → ℕ → Identity → List (List ℕ) → Kind → Init → Option Configuration → Result Performed Why
 made service rows number caller names kind init given = do
   path ← last_name names
   votes ← votes_of_new service given
@@ -143,7 +143,7 @@ has_names (Some row) = is_used row.content
 has_names None = false
 
 -- a name dropped; what it leads to stays, though no path may lead there any more
-abbrev pub dropped : Rows → Identity → List (List ℕ) → Result Done Why
+abbrev pub dropped : Rows → Identity → List (List ℕ) → Result Performed Why
 dropped rows caller names = do
   path ← last_name names
   parent ← parent_of rows caller path.folders
@@ -152,7 +152,7 @@ dropped rows caller names = do
   Ok (record { answer = answer.Dropped; rows = with_names rows parent.place (folders.without_name parent.names path.name) })
 
 -- an operation of the transaction t, at a place counted from 0, with a path that leads through these names
-abbrev pub act : Service → Rows → ℕ → ℕ → Identity → List (List ℕ) → Action → Result Done Why
+abbrev pub act : Service → Rows → ℕ → ℕ → Identity → List (List ℕ) → Action → Result Performed Why
 act service rows t at caller names action.Read = bytes_read rows caller names
 act service rows t at caller names (action.Write bytes) = bytes_written rows caller names bytes
 act service rows t at caller names action.List = names_listed rows caller names
@@ -164,7 +164,7 @@ act service rows t at caller names action.GetVotes = votes_shown rows caller nam
 act service rows t at caller names (action.SetVotes votes) = votes_set service rows caller names votes
 
 -- an operation of the transaction t, at a place counted from 0
-abbrev pub operation : Service → Rows → ℕ → ℕ → Identity → Op → Result Done Why
+abbrev pub operation : Service → Rows → ℕ → ℕ → Identity → Op → Result Performed Why
 operation service rows t at caller op = do
   names ← found_or (names_of op.path) why.BadPath
   act service rows t at caller names op.action

@@ -13,7 +13,7 @@ use Rattle.file_ops.specs.declared.service.Service.{Service}
 pub use Rattle.file_ops.specs.Limits.{max_operations}
 use Rattle.file_ops.specs.Steps.{◌>>=◌, ◌>>◌}
 use Rattle.file_ops.specs.Rows.{Rows, PlainTable}
-use Rattle.file_ops.specs.Operations.{Done, operation}
+use Rattle.file_ops.specs.Operations.{Performed, operation}
 
 -- the replies so far with the rows after them
 pub record Played : Type 0 where
@@ -21,7 +21,7 @@ pub record Played : Type 0 where
   pub rows : Rows
 
 -- what follows when an operation is done: one more reply, and its rows; a refusal names the operation, counted from 1
-abbrev pub after : List Answer → ℕ → Result Done Why → Result Played Refusal
+abbrev pub after : List Answer → ℕ → Result Performed Why → Result Played Refusal
 after answers at (Ok done) = Ok (record { answers = answers ++ done.answer ∷ []; rows = done.rows })
 after answers at (Err why) = Err (record { op = at + 1; why = why })
 

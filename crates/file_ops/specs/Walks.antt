@@ -16,7 +16,7 @@ use Rattle.file_ops.specs.Steps.{◌>>=◌, ◌>>◌, found_or}
 use Rattle.file_ops.specs.Rows.{Row, Rows, row_of, root}
 
 -- a suite with its row
-pub record Place : Type 0 where
+pub record Object : Type 0 where
   pub suite : ℕ
   pub row : Row
 
@@ -53,22 +53,22 @@ unless_denied suite wanted Granted = Ok tt
 unless_denied suite wanted (Denied decider) = Err (why.Denied (record { suite = suite; wanted = wanted; decider = decider }))
 
 -- whether a caller has what it wants of a file or a folder
-abbrev pub permit : Identity → Place → Perms → Result (Unit {0}) Why
+abbrev pub permit : Identity → Object → Perms → Result (Unit {0}) Why
 permit caller place wanted =
     unless_denied place.suite wanted (check_of place.row.acl.access place.row.owner place.row.group caller wanted)
 
 -- the same, of whoever does not own it; the owner needs no permission
-abbrev pub permit_others : Identity → Place → Perms → Result (Unit {0}) Why
+abbrev pub permit_others : Identity → Object → Perms → Result (Unit {0}) Why
 permit_others caller place wanted = if caller.uid == place.row.owner then Ok tt else permit caller place wanted
 
 -- whether a caller owns a file or a folder: what only the owner may do is decided by no entry, and nothing is wanted
-abbrev pub owner_only : Identity → Place → Result (Unit {0}) Why
+abbrev pub owner_only : Identity → Object → Result (Unit {0}) Why
 owner_only caller place =
     if caller.uid == place.row.owner then Ok tt
     else Err (why.Denied (record { suite = place.suite; wanted = nothing; decider = OwnerRule }))
 
 -- a suite with its row; a name that leads to no row is answered like a name that is not there
-abbrev pub place_of : Rows → ℕ → Result Place Why
+abbrev pub place_of : Rows → ℕ → Result Object Why
 place_of rows suite = do
   row ← found_or (row_of rows suite) why.NoName
   Ok (record { suite = suite; row = row })
@@ -89,20 +89,20 @@ walk rows caller suite (name ∷ names) = do
   walk rows caller next names
 
 -- the file or folder that names lead to from the root folder
-abbrev pub reach : Rows → Identity → List (List ℕ) → Result Place Why
+abbrev pub reach : Rows → Identity → List (List ℕ) → Result Object Why
 reach rows caller names = do
   suite ← walk rows caller root names
   place_of rows suite
 
 -- the file or folder whose list and votes the caller may see
-abbrev pub shown : Rows → Identity → List (List ℕ) → Result Place Why
+abbrev pub shown : Rows → Identity → List (List ℕ) → Result Object Why
 shown rows caller names = do
   place ← reach rows caller names
   permit_others caller place to_read
   Ok place
 
 -- the file or folder whose list and votes the caller may change
-abbrev pub owned : Rows → Identity → List (List ℕ) → Result Place Why
+abbrev pub owned : Rows → Identity → List (List ℕ) → Result Object Why
 owned rows caller names = do
   place ← reach rows caller names
   owner_only caller place

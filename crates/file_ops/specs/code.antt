@@ -5,7 +5,7 @@ pub mod Capacity
 pub mod Restored
 pub mod Undo
 pub mod Found
-pub mod Done
+pub mod Performed
 pub mod AnswerEquality
 pub mod RefusalEquality
 pub mod Acting

@@ -7,7 +7,7 @@ ghost use Rattle.file_ops.specs.Rows.{row_of, new_row};
 ghost use Rattle.file_ops.specs.code.Stored.{plain, plain_row};
 ghost use Rattle.file_ops.specs.Operations.{bytes_read, names_listed, list_shown, votes_shown, bytes_written, list_set, votes_set, dropped, has_names};
 ghost use Rattle.file_ops.specs.code.Restored.{Restores};
-ghost use Rattle.file_ops.specs.code.Done.{Does, Acts};
+ghost use Rattle.file_ops.specs.code.Performed.{Does, Acts};
 ghost use Rattle.file_ops.specs.code.Acting.{made_for, operation_at};
 
 use crate::answer::Answer;
@@ -56,7 +56,7 @@ impl From<AllocError> for OpError {
 }
 
 /// A reply, and how what was changed for it is undone.
-pub(crate) struct Done {
+pub(crate) struct Performed {
     pub(crate) answer: Answer,
     pub(crate) undo: Undo,
 }
@@ -78,7 +78,7 @@ fn list(
     alloc: Global,
     caller: &Caller,
     names: &[Name],
-) -> Result<Done, OpError>
+) -> Result<Performed, OpError>
     ensures acts { Acts result rows.old rows.new (names_listed (plain rows.old) caller.now names.now) }
     ensures err { OnErr result (Restores rows.old rows.new) }
 {
@@ -87,7 +87,7 @@ fn list(
     place.row.content.names()?;
     let folder = place.suite;
     let list = list_names(rows, alloc, folder)?;
-    Ok(Done {
+    Ok(Performed {
         answer: Answer::List(list),
         undo: Undo::Nothing,
     })
@@ -116,7 +116,7 @@ fn write(
     caller: &Caller,
     names: &[Name],
     bytes: &FileBytes,
-) -> Result<Done, OpError>
+) -> Result<Performed, OpError>
     ensures acts { Acts result rows.old rows.new (bytes_written (plain rows.old) caller.now names.now bytes.now) }
     ensures err { OnErr result (Restores rows.old rows.new) }
 {
@@ -129,7 +129,7 @@ fn write(
     let suite = place.suite;
     let bytes = bytes.clone()?;
     let undo = replace_content(rows, suite, StoredContent::Bytes(bytes));
-    Ok(Done {
+    Ok(Performed {
         answer: Answer::Wrote,
         undo,
     })
@@ -141,7 +141,7 @@ fn set_acl(
     caller: &Caller,
     names: &[Name],
     acl: &Lists,
-) -> Result<Done, OpError>
+) -> Result<Performed, OpError>
     ensures acts { Acts result rows.old rows.new (list_set (plain rows.old) caller.now names.now acl.now) }
     ensures err { OnErr result (Restores rows.old rows.new) }
 {
@@ -150,7 +150,7 @@ fn set_acl(
     let suite = place.suite;
     let acl = acl.clone()?;
     let undo = replace_acl(rows, suite, acl);
-    Ok(Done {
+    Ok(Performed {
         answer: Answer::Set,
         undo,
     })
@@ -163,14 +163,14 @@ fn set_votes(
     caller: &Caller,
     names: &[Name],
     given: &Votes,
-) -> Result<Done, OpError>
+) -> Result<Performed, OpError>
     ensures acts { Acts result rows.old rows.new (votes_set service.now (plain rows.old) caller.now names.now given.now) }
     ensures err { OnErr result (Restores rows.old rows.new) }
 {
     let votes = service.known_votes(given)?;
     let suite = owned(rows, caller, names)?.suite;
     let undo = replace_votes(rows, suite, votes);
-    Ok(Done {
+    Ok(Performed {
         answer: Answer::Set,
         undo,
     })
@@ -191,7 +191,7 @@ fn make(
     transaction: Transaction<'_>,
     names: &[Name],
     new: New<'_>,
-) -> Result<Done, OpError>
+) -> Result<Performed, OpError>
     ensures acts { Acts result rows.old rows.new (made_for transaction.entry (plain rows.old) names.now new.entry) }
     ensures err { OnErr result (Restores rows.old rows.new) }
 {
@@ -221,7 +221,7 @@ fn make(
     let lists = init.lists(alloc, kind, &parent.place.row.acl.default)?;
     let row = new_row(alloc, kind, lists, votes, caller);
     let undo = make_row(rows, folder, name, number, row)?;
-    Ok(Done {
+    Ok(Performed {
         answer: Answer::Made(number),
         undo,
     })
@@ -241,7 +241,7 @@ fn new_row(alloc: Global, kind: Kind, acl: Lists, votes: Votes, caller: &Caller)
 }
 
 /// Takes a name out of a folder.
-fn drop(rows: &mut StoredRows, caller: &Caller, names: &[Name]) -> Result<Done, OpError>
+fn drop(rows: &mut StoredRows, caller: &Caller, names: &[Name]) -> Result<Performed, OpError>
     ensures acts { Acts result rows.old rows.new (dropped (plain rows.old) caller.now names.now) }
     ensures err { OnErr result (Restores rows.old rows.new) }
 {
@@ -253,7 +253,7 @@ fn drop(rows: &mut StoredRows, caller: &Caller, names: &[Name]) -> Result<Done, 
     }
     let folder = parent.place.suite;
     let undo = take_out_name(rows, folder, name, number);
-    Ok(Done {
+    Ok(Performed {
         answer: Answer::Dropped,
         undo,
     })
@@ -275,7 +275,7 @@ pub(crate) fn operate(
     transaction: Transaction<'_>,
     at: u8,
     op: &Op,
-) -> Result<Done, OpError>
+) -> Result<Performed, OpError>
     requires { transaction.t < 2 ^ 60 }
     ensures acts { Acts result rows.old rows.new (operation_at transaction.entry (plain rows.old) at op.now) }
     ensures err { OnErr result (Restores rows.old rows.new) }
@@ -306,7 +306,7 @@ pub(crate) fn operate(
             return make(rows, transaction, names, new);
         }
     };
-    Ok(Done {
+    Ok(Performed {
         answer,
         undo: Undo::Nothing,
     })

@@ -5,9 +5,9 @@ ghost use Rattle.file_ops.specs.code.Stored.{plain};
 ghost use Rattle.file_ops.specs.code.Restored.{Restores};
 ghost use Rattle.file_ops.specs.Transactions.{max_operations};
 ghost use Rattle.file_ops.specs.code.Acting.{played_from};
-ghost use Rattle.file_ops.specs.code.Done.{Plays, AnswersFirst};
+ghost use Rattle.file_ops.specs.code.Performed.{Plays, AnswersFirst};
 
-use crate::act::{Done, OpError, Transaction, operate};
+use crate::act::{Performed, OpError, Transaction, operate};
 use crate::answer::{Answers, Replies};
 use crate::operation::Op;
 use crate::refusal::{ApplyError, Refusal};
@@ -32,7 +32,7 @@ pub(crate) fn play(
     let Some((op, later)) = ops.split_first() else {
         return Ok(answers.finish()?);
     };
-    let Done { answer, undo } = match operate(rows, transaction, at, op) {
+    let Performed { answer, undo } = match operate(rows, transaction, at, op) {
         Ok(done) => done,
         Err(OpError::Refused(why)) => {
             return Err(ApplyError::Refused(Refusal { op: at + 1, why }));

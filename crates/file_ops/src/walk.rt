@@ -23,7 +23,7 @@ pub const ROOT: u64 = 0;
 
 /// A suite with its row.
 #[derive(Clone, Copy)]
-pub(crate) struct Place<'a> {
+pub(crate) struct Object<'a> {
     pub(crate) suite: u64,
     pub(crate) row: &'a StoredRow,
 }
@@ -31,7 +31,7 @@ pub(crate) struct Place<'a> {
 /// A folder in which a name is to be put or dropped, with its names.
 #[derive(Clone, Copy)]
 pub(crate) struct Parent<'a> {
-    pub(crate) place: Place<'a>,
+    pub(crate) place: Object<'a>,
     pub(crate) names: &'a RoomyMap<Name, u64>,
 }
 
@@ -47,17 +47,17 @@ fn row_at(rows: &StoredRows, suite: u64) -> Option<&StoredRow>
 }
 
 /// A suite with its row.
-fn place_of(rows: &StoredRows, suite: u64) -> Result<Place<'_>, Why>
+fn place_of(rows: &StoredRows, suite: u64) -> Result<Object<'_>, Why>
     ensures { ok_map plain_place result ≡ place_of (plain rows.now) suite }
 {
     match row_at(rows, suite) {
-        Some(row) => Ok(Place { suite, row }),
+        Some(row) => Ok(Object { suite, row }),
         None => Err(Why::NoName),
     }
 }
 
 /// What the rules of permission look at.
-fn guarded(place: Place<'_>) -> Guarded<'_>
+fn guarded(place: Object<'_>) -> Guarded<'_>
     ensures suite { result.suite ≡ (plain_place place.entry).suite }
     ensures owner { result.owner ≡ (plain_place place.entry).row.owner }
     ensures group { result.group ≡ (plain_place place.entry).row.group }
@@ -72,21 +72,21 @@ fn guarded(place: Place<'_>) -> Guarded<'_>
 }
 
 /// Whether the caller has what it wants of a file or a folder.
-pub(crate) fn permit(caller: &Caller, place: Place<'_>, wanted: Perms) -> Result<(), Why>
+pub(crate) fn permit(caller: &Caller, place: Object<'_>, wanted: Perms) -> Result<(), Why>
     ensures { result ≡ permit caller.now (plain_place place.entry) wanted }
 {
     guarded(place).permit(caller, wanted)
 }
 
 /// The same, of whoever does not own it.
-fn permit_others(caller: &Caller, place: Place<'_>, wanted: Perms) -> Result<(), Why>
+fn permit_others(caller: &Caller, place: Object<'_>, wanted: Perms) -> Result<(), Why>
     ensures { result ≡ permit_others caller.now (plain_place place.entry) wanted }
 {
     guarded(place).permit_others(caller, wanted)
 }
 
 /// Whether the caller owns a file or a folder.
-fn owner_only(caller: &Caller, place: Place<'_>) -> Result<(), Why>
+fn owner_only(caller: &Caller, place: Object<'_>) -> Result<(), Why>
     ensures { result ≡ owner_only caller.now (plain_place place.entry) }
 {
     guarded(place).owner_only(caller)
@@ -118,7 +118,7 @@ pub(crate) fn reach<'a>(
     rows: &'a StoredRows,
     caller: &Caller,
     names: &[Name],
-) -> Result<Place<'a>, Why>
+) -> Result<Object<'a>, Why>
     ensures { ok_map plain_place result ≡ reach (plain rows.now) caller.now names.now }
 {
     let suite = walk(rows, caller, names)?;
@@ -130,7 +130,7 @@ pub(crate) fn shown<'a>(
     rows: &'a StoredRows,
     caller: &Caller,
     names: &[Name],
-) -> Result<Place<'a>, Why>
+) -> Result<Object<'a>, Why>
     ensures { ok_map plain_place result ≡ shown (plain rows.now) caller.now names.now }
 {
     let place = reach(rows, caller, names)?;
@@ -143,7 +143,7 @@ pub(crate) fn owned<'a>(
     rows: &'a StoredRows,
     caller: &Caller,
     names: &[Name],
-) -> Result<Place<'a>, Why>
+) -> Result<Object<'a>, Why>
     ensures { ok_map plain_place result ≡ owned (plain rows.now) caller.now names.now }
 {
     let place = reach(rows, caller, names)?;

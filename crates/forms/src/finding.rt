@@ -11,7 +11,7 @@ use crate::mend::{Found, Trial, push_mends};
 use crate::old::unheld;
 use crate::places::name;
 use crate::reading::{Reading, Standing};
-use crate::reason::{Reason, Told, push_told};
+use crate::reason::{Reason, Reasoned, push_told};
 use crate::spot::{Spot, spot_of, told_at};
 use crate::table::push_places;
 use acl_text::{TextFault, item_place};
@@ -54,7 +54,7 @@ pub(crate) fn found_in(
     }
     match reading.due() {
         Some(due) if place.saturating_add(1) == number => {
-            let told = Told::of(Reason::LineEnds, b"");
+            let told = Reasoned::of(Reason::LineEnds, b"");
             let found = of_whole(1, LineFault::Order, Some(due), told);
             of_first(alloc, &reading, above, found)
         }
@@ -71,7 +71,7 @@ fn of_line(
     words: Words<'_>,
 ) -> Result<Vec<u8>, AllocError> {
     let Some(first) = first else {
-        let told = Told::of(Reason::First(FirstReason::Blank), b"");
+        let told = Reasoned::of(Reason::First(FirstReason::Blank), b"");
         let found = of_whole(1, LineFault::Form, reading.due(), told);
         return of_first(alloc, reading, above, found);
     };
@@ -109,7 +109,7 @@ fn of_standing(
     let line = words.rest();
     if form.word == b"together".as_slice() {
         if let Some((number, _)) = above.line_of(form.word) {
-            let told = Told::of(Reason::First(FirstReason::Again(number)), form.word);
+            let told = Reasoned::of(Reason::First(FirstReason::Again(number)), form.word);
             let found = of_whole(1, LineFault::Form, None, told);
             return of_first(alloc, reading, above, found);
         }
@@ -259,7 +259,7 @@ fn of_first(
 }
 
 /// What is found of a line as a whole.
-fn of_whole(number: u64, fault: LineFault, due: Option<Form>, told: Told<'_>) -> Found<'_> {
+fn of_whole(number: u64, fault: LineFault, due: Option<Form>, told: Reasoned<'_>) -> Found<'_> {
     Found {
         number,
         fault: Some(fault),
@@ -282,7 +282,7 @@ fn of_none(form: Option<Form>) -> Found<'static> {
         begin: 1,
         before: b"",
         is_shifted: false,
-        told: Told::of(Reason::Due, b""),
+        told: Reasoned::of(Reason::Due, b""),
     }
 }
 

@@ -2,7 +2,7 @@
 
 use crate::above::Above;
 use crate::reading::{form_of, known};
-use crate::reason::{Numbers, Reason, Told};
+use crate::reason::{Numbers, Reason, Reasoned};
 use crate::table::lines_of;
 use std::alloc::AllocError;
 use suite_script::{Form, Forms, VERBS};
@@ -78,10 +78,10 @@ pub(crate) fn push_commands(text: &mut Vec<u8>, word: &[u8]) -> Result<(), Alloc
 }
 
 /// What is told of a first word that begins no line of the command.
-pub(crate) fn unknown_told(number: u64, word: &[u8]) -> Told<'_> {
+pub(crate) fn unknown_told(number: u64, word: &[u8]) -> Reasoned<'_> {
     if number == 1 {
         if let Some(part) = mark_of(word) {
-            return Told {
+            return Reasoned {
                 reason: Reason::First(FirstReason::Mark),
                 word,
                 part,
@@ -96,7 +96,7 @@ pub(crate) fn unknown_told(number: u64, word: &[u8]) -> Told<'_> {
         _ if is_of_the_second(word) => Reason::First(FirstReason::WordMissing),
         _ => Reason::First(FirstReason::Unknown),
     };
-    Told::of(reason, word)
+    Reasoned::of(reason, word)
 }
 
 /// The byte order mark with which a word begins.
@@ -124,7 +124,7 @@ pub(crate) fn misplaced_told<'a>(
     begun: u64,
     due: Option<Form>,
     word: &'a [u8],
-) -> Told<'a> {
+) -> Reasoned<'a> {
     let of_header = [forms.header, forms.optional];
     let is_of_header = of_header.iter().any(|part| form_of(part, word).is_some());
     let reason = match above.line_of(word) {
@@ -133,5 +133,5 @@ pub(crate) fn misplaced_told<'a>(
         _ if is_of_header => Reason::First(FirstReason::BehindHeader),
         _ => Reason::First(FirstReason::NamesBelow(begun)),
     };
-    Told::of(reason, word)
+    Reasoned::of(reason, word)
 }

@@ -6,7 +6,7 @@ ghost use Rattle.acl_text.specs.Grammar.{are_permissions, is_permission_byte, pe
 
 use crate::above::Above;
 use crate::fields::{Fields, Kind, fields_of, no_name_byte};
-use crate::reason::{Numbers, Reason, Told};
+use crate::reason::{Numbers, Reason, Reasoned};
 use crate::word::WordReason;
 use std::slice::from_ref;
 
@@ -78,10 +78,10 @@ impl ItemReason {
     }
 }
 
-fn told<'a>(reason: ItemReason, item: &'a [u8], part: &'a [u8]) -> Told<'a>
+fn told<'a>(reason: ItemReason, item: &'a [u8], part: &'a [u8]) -> Reasoned<'a>
     ensures { result.reason ≡ Reason.Item reason }
 {
-    Told {
+    Reasoned {
         reason: Reason::Item(reason),
         word: item,
         part,
@@ -89,7 +89,7 @@ fn told<'a>(reason: ItemReason, item: &'a [u8], part: &'a [u8]) -> Told<'a>
 }
 
 /// Why an item has not the form of an entry.
-pub(crate) fn form_told(item: &[u8]) -> Told<'_> {
+pub(crate) fn form_told(item: &[u8]) -> Reasoned<'_> {
     let fields = fields_of(item);
     match (fields.marker, Kind::of(fields.keyword)) {
         (_, Some(kind)) => kind_told(item, fields, kind),
@@ -102,7 +102,7 @@ pub(crate) fn form_told(item: &[u8]) -> Told<'_> {
 }
 
 /// The same of an item with a keyword.
-fn kind_told<'a>(item: &'a [u8], fields: Fields<'a>, kind: Kind) -> Told<'a> {
+fn kind_told<'a>(item: &'a [u8], fields: Fields<'a>, kind: Kind) -> Reasoned<'a> {
     let has_whom = matches!(kind, Kind::User | Kind::Group);
     let Some(second) = fields.second else {
         return told(ItemReason::NoColon, item, fields.keyword);
@@ -123,7 +123,7 @@ fn kind_told<'a>(item: &'a [u8], fields: Fields<'a>, kind: Kind) -> Told<'a> {
     }
     let permissions = permissions_told(item, third);
     match no_name_byte(second) {
-        Some(part) if permissions.reason == Reason::Due => Told {
+        Some(part) if permissions.reason == Reason::Due => Reasoned {
             reason: Reason::Word(WordReason::NoNameByte),
             word: item,
             part,
@@ -185,7 +185,7 @@ fn doubled_letter(field: &[u8]) -> Option<u8>
 }
 
 /// Why a field is no permissions, if it is none; and the part of it that is wrong.
-fn permissions_told<'a>(item: &'a [u8], field: &'a [u8]) -> Told<'a>
+fn permissions_told<'a>(item: &'a [u8], field: &'a [u8]) -> Reasoned<'a>
     ensures { (result.reason ≡ Reason.Due) ↔ (are_permissions field.now ≡ true) }
 {
     if matches!(field, [b'0'..=b'7']) {
@@ -200,14 +200,14 @@ fn permissions_told<'a>(item: &'a [u8], field: &'a [u8]) -> Told<'a>
     if count_of(field, b'-') > 3 {
         return told(ItemReason::Hyphens, item, field);
     }
-    Told::of(Reason::Due, item)
+    Reasoned::of(Reason::Due, item)
 }
 
 /// What is told of an item that names somebody who has no number.
-pub(crate) fn nobody_told<'a>(above: Above<'_>, item: &'a [u8]) -> Told<'a> {
+pub(crate) fn nobody_told<'a>(above: Above<'_>, item: &'a [u8]) -> Reasoned<'a> {
     let fields = fields_of(item);
     let (Some(kind), Some(whom)) = (Kind::of(fields.keyword), fields.second) else {
-        return Told::of(Reason::Due, item);
+        return Reasoned::of(Reason::Due, item);
     };
     let other = match kind {
         Kind::User => Kind::Group,

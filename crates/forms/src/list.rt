@@ -4,7 +4,7 @@ use crate::above::Above;
 use crate::fields::{Kind, Said, Side, entry_in, trimmed, uncommented, white_before};
 use crate::item::{form_told, nobody_told, whom_of};
 use crate::number::{NumberReason, is_digits};
-use crate::reason::{Numbers, Reason, Told};
+use crate::reason::{Numbers, Reason, Reasoned};
 use acl_core::{AclFault, MAX_ENTRIES};
 use acl_text::{TextFault, item_place};
 use script_text::{Parts, push_number};
@@ -63,11 +63,11 @@ pub(crate) fn word_told<'a>(
     may_be_mode: bool,
     word: &'a [u8],
     fault: Option<TextFault>,
-) -> Told<'a> {
+) -> Reasoned<'a> {
     if word.contains(&b':') {
         return match fault {
             Some(fault) => text_told(above, word, fault),
-            None => Told::of(Reason::List(ListReason::CarriageReturn), word),
+            None => Reasoned::of(Reason::List(ListReason::CarriageReturn), word),
         };
     }
     let reason = if !may_be_mode {
@@ -77,17 +77,17 @@ pub(crate) fn word_told<'a>(
     } else {
         Reason::Due
     };
-    Told::of(reason, word)
+    Reasoned::of(reason, word)
 }
 
 /// What is told of a text with a fault.
-pub(crate) fn text_told<'a>(above: Above<'_>, text: &'a [u8], fault: TextFault) -> Told<'a> {
+pub(crate) fn text_told<'a>(above: Above<'_>, text: &'a [u8], fault: TextFault) -> Reasoned<'a> {
     match fault {
         TextFault::Syntax(number) => form_told(item_in(text, number)),
         TextFault::UnknownName(number) => nobody_told(above, item_in(text, number)),
         TextFault::NumberTooBig(number) => {
             let item = item_in(text, number);
-            Told {
+            Reasoned {
                 reason: Reason::Number(NumberReason::Above(u64::from(u32::MAX))),
                 word: item,
                 part: whom_of(item),
@@ -95,7 +95,7 @@ pub(crate) fn text_told<'a>(above: Above<'_>, text: &'a [u8], fault: TextFault) 
         }
         TextFault::Invalid(fault) => entries_told(above, text, Side::Access, fault),
         TextFault::DefaultInvalid(fault) => entries_told(above, text, Side::Default, fault),
-        TextFault::Memory => Told::of(Reason::Due, text),
+        TextFault::Memory => Reasoned::of(Reason::Due, text),
     }
 }
 
@@ -122,7 +122,7 @@ pub(crate) fn item_ends(text: &[u8], place: usize) -> (u64, u64) {
 }
 
 /// What is told of the entries of one of the two lists.
-fn entries_told<'a>(above: Above<'_>, text: &'a [u8], side: Side, fault: AclFault) -> Told<'a> {
+fn entries_told<'a>(above: Above<'_>, text: &'a [u8], side: Side, fault: AclFault) -> Reasoned<'a> {
     let reason = match fault {
         AclFault::NoUserObj => ListReason::Lacks(Kind::User),
         AclFault::NoGroupObj => ListReason::Lacks(Kind::Group),
@@ -133,10 +133,10 @@ fn entries_told<'a>(above: Above<'_>, text: &'a [u8], side: Side, fault: AclFaul
         AclFault::MaskMissing => ListReason::Unmasked(first_named(text, side)),
         AclFault::TooMany => {
             let many = NumberReason::Many(count_of(text, side), MAX_ENTRIES as u64);
-            return Told::of(Reason::Number(many), text);
+            return Reasoned::of(Reason::Number(many), text);
         }
     };
-    Told::of(Reason::List(reason), text)
+    Reasoned::of(Reason::List(reason), text)
 }
 
 /// How many items are entries of one of the two lists.
@@ -176,7 +176,7 @@ fn first_named(text: &[u8], side: Side) -> u64 {
 }
 
 /// What is told of entries of which two are of one: of one kind that names somebody, or of those that name nobody.
-fn doubled_told<'a>(above: Above<'_>, text: &'a [u8], side: Side, kind: Option<Kind>) -> Told<'a> {
+fn doubled_told<'a>(above: Above<'_>, text: &'a [u8], side: Side, kind: Option<Kind>) -> Reasoned<'a> {
     for line in Parts::new(text, b'\n') {
         for item in Parts::new(uncommented(line), b',') {
             if let Some(said) = entry_in(item) {
@@ -184,7 +184,7 @@ fn doubled_told<'a>(above: Above<'_>, text: &'a [u8], side: Side, kind: Option<K
                     && may_double(said, kind)
                     && count_same(above, text, said) > 1
                 {
-                    return Told {
+                    return Reasoned {
                         reason: Reason::List(ListReason::Doubled(said.kind, side)),
                         word: text,
                         part: said.whom,
@@ -193,7 +193,7 @@ fn doubled_told<'a>(above: Above<'_>, text: &'a [u8], side: Side, kind: Option<K
             }
         }
     }
-    Told::of(Reason::Due, text)
+    Reasoned::of(Reason::Due, text)
 }
 
 fn may_double(said: Said<'_>, kind: Option<Kind>) -> bool {

@@ -8,7 +8,7 @@ use crate::above::Above;
 use crate::fields::{entry_in, uncommented};
 use crate::finding::{ItemEnds, ends_of, item_of_text, push_item};
 use crate::list::{ListReason, count_of_items, item_in, text_told};
-use crate::reason::{Reason, Told, push_told};
+use crate::reason::{Reason, Reasoned, push_told};
 use acl_text::{NameError, Names, TextFault, item_place, push_text_code, read_acl};
 use script_text::Parts;
 use std::alloc::{AllocError, Global};
@@ -31,7 +31,7 @@ pub(crate) fn found_in_list(
     }
     let Some(place) = item_place(list, number as usize) else {
         let few = Reason::List(ListReason::Few(count_of_items(list)));
-        return printed(alloc, ends_of(list, None), None, Told::of(few, b""));
+        return printed(alloc, ends_of(list, None), None, Reasoned::of(few, b""));
     };
     let item = item_in(list, number as usize);
     let fault = fault_of(alloc, item, &names)?;
@@ -40,10 +40,10 @@ pub(crate) fn found_in_list(
     printed(alloc, ends_of(list, Some(place)), numbered, told)
 }
 
-fn told_of(text: &[u8], fault: Option<TextFault>) -> Told<'_> {
+fn told_of(text: &[u8], fault: Option<TextFault>) -> Reasoned<'_> {
     match fault {
         Some(fault) => text_told(Above::nothing(), text, fault),
-        None => Told::of(Reason::Due, b""),
+        None => Reasoned::of(Reason::Due, b""),
     }
 }
 
@@ -94,7 +94,7 @@ fn printed(
     alloc: Global,
     item: ItemEnds,
     fault: Option<TextFault>,
-    told: Told<'_>,
+    told: Reasoned<'_>,
 ) -> Result<Vec<u8>, AllocError> {
     let mut text = Vec::new(alloc);
     push_item(&mut text, item)?;

@@ -14,7 +14,7 @@ use crate::number::is_digits;
 use crate::old::unheld;
 use crate::places::sample;
 use crate::reading::{Reading, Standing};
-use crate::reason::{Reason, Told};
+use crate::reason::{Reason, Reasoned};
 use script_text::{Words, push_number};
 use std::alloc::{AllocError, Global};
 use suite_script::{Ending, Expected, Form, Forms, LineFault, Place, VERBS};
@@ -30,7 +30,7 @@ pub(crate) struct Found<'a> {
     pub(crate) begin: u64,
     pub(crate) before: &'a [u8],
     pub(crate) is_shifted: bool,
-    pub(crate) told: Told<'a>,
+    pub(crate) told: Reasoned<'a>,
 }
 
 /// A change of a line at a word of it.

@@ -6,7 +6,7 @@ ghost use Rattle.std.specs.List.{list_all};
 ghost use Rattle.forms.specs.Reasons.{number_reason, number_told};
 ghost use Rattle.script_text.specs.Numbers.{is_number};
 
-use crate::reason::{Numbers, Reason, Told};
+use crate::reason::{Numbers, Reason, Reasoned};
 use script_text::{Parts, read_number};
 
 /// The most numbers of groups, a user's own and the others, as `acl_text` has it.
@@ -79,13 +79,13 @@ pub(crate) fn number_reason(word: &[u8], least: u64, most: u64) -> Option<Number
 }
 
 /// What is told of a number.
-pub(crate) fn number_told(word: &[u8], least: u64, most: u64) -> Told<'_>
+pub(crate) fn number_told(word: &[u8], least: u64, most: u64) -> Reasoned<'_>
     ensures reason { result.reason ≡ number_told (number_reason least most word.now) }
     ensures part { result.part.now ≡ word.now }
 {
     match number_reason(word, least, most) {
-        Some(reason) => Told::of(Reason::Number(reason), word),
-        None => Told::of(Reason::Due, word),
+        Some(reason) => Reasoned::of(Reason::Number(reason), word),
+        None => Reasoned::of(Reason::Due, word),
     }
 }
 
@@ -106,12 +106,12 @@ fn has_gap(word: &[u8]) -> bool {
 }
 
 /// What is told of numbers of groups.
-pub(crate) fn groups_told(word: &[u8]) -> Told<'_> {
+pub(crate) fn groups_told(word: &[u8]) -> Reasoned<'_> {
     if !is_list(word) {
-        return Told::of(Reason::Number(NumberReason::NoNumber), word);
+        return Reasoned::of(Reason::Number(NumberReason::NoNumber), word);
     }
     if has_gap(word) {
-        return Told::of(Reason::Number(NumberReason::Gap), word);
+        return Reasoned::of(Reason::Number(NumberReason::Gap), word);
     }
     let mut count = 0u64;
     for part in Parts::new(word, b',') {
@@ -120,12 +120,12 @@ pub(crate) fn groups_told(word: &[u8]) -> Told<'_> {
             return part_told(word, part, u64::from(u32::MAX));
         }
     }
-    Told::of(Reason::Number(NumberReason::Many(count, MAX_NUMBERS)), word)
+    Reasoned::of(Reason::Number(NumberReason::Many(count, MAX_NUMBERS)), word)
 }
 
 /// What is told of a part that is a number above the most.
-fn part_told<'a>(word: &'a [u8], part: &'a [u8], most: u64) -> Told<'a> {
-    Told {
+fn part_told<'a>(word: &'a [u8], part: &'a [u8], most: u64) -> Reasoned<'a> {
+    Reasoned {
         reason: Reason::Number(NumberReason::Above(most)),
         word,
         part,
@@ -133,14 +133,14 @@ fn part_told<'a>(word: &'a [u8], part: &'a [u8], most: u64) -> Told<'a> {
 }
 
 /// What is told of numbers of servers.
-pub(crate) fn servers_told(word: &[u8], last: u64) -> Told<'_> {
+pub(crate) fn servers_told(word: &[u8], last: u64) -> Reasoned<'_> {
     if !is_list(word) || has_gap(word) {
-        return Told::of(Reason::Number(NumberReason::NoNumber), word);
+        return Reasoned::of(Reason::Number(NumberReason::NoNumber), word);
     }
     for part in Parts::new(word, b',') {
         if number_reason(part, 0, last).is_some() {
             return part_told(word, part, last);
         }
     }
-    Told::of(Reason::Due, word)
+    Reasoned::of(Reason::Due, word)
 }

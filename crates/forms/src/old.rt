@@ -2,7 +2,7 @@
 
 use crate::above::Above;
 use crate::fields::{fields_of, trimmed, uncommented};
-use crate::reason::{Numbers, Reason, Told};
+use crate::reason::{Numbers, Reason, Reasoned};
 use crate::votes::last_listed;
 use script_text::Parts;
 
@@ -41,12 +41,12 @@ impl OldReason {
 }
 
 /// Why the root folder of the lines above has no form 1, if it has none.
-pub(crate) fn unheld<'a>(above: Above<'a>, word: &'a [u8]) -> Option<Told<'a>> {
+pub(crate) fn unheld<'a>(above: Above<'a>, word: &'a [u8]) -> Option<Reasoned<'a>> {
     let reason = match list_unheld(above) {
         Some(reason) => reason,
         None => votes_unheld(above)?,
     };
-    Some(Told::of(Reason::Old(reason), word))
+    Some(Reasoned::of(Reason::Old(reason), word))
 }
 
 fn list_unheld(above: Above<'_>) -> Option<OldReason> {

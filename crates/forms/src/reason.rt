@@ -38,7 +38,7 @@ pub(crate) enum Reason {
 
 /// A reason, with the word and the part of it of which it speaks.
 #[derive(Clone, Copy)]
-pub(crate) struct Told<'a> {
+pub(crate) struct Reasoned<'a> {
     pub(crate) reason: Reason,
     pub(crate) word: &'a [u8],
     pub(crate) part: &'a [u8],
@@ -47,13 +47,13 @@ pub(crate) struct Told<'a> {
 /// The numbers of a reason.
 pub(crate) type Numbers = [Option<u64>; 2];
 
-impl<'a> Told<'a> {
+impl<'a> Reasoned<'a> {
     /// A reason that speaks of a whole word.
-    pub(crate) fn of(reason: Reason, word: &'a [u8]) -> Told<'a>
+    pub(crate) fn of(reason: Reason, word: &'a [u8]) -> Reasoned<'a>
         ensures reason { result.reason ≡ reason }
         ensures part { result.part.now ≡ word.now }
     {
-        Told {
+        Reasoned {
             reason,
             word,
             part: word,
@@ -107,7 +107,7 @@ impl Reason {
 pub(crate) fn push_told(
     text: &mut Vec<u8>,
     above: Above<'_>,
-    told: Told<'_>,
+    told: Reasoned<'_>,
 ) -> Result<(), AllocError> {
     text.extend_from_slice(told.reason.name())?;
     text.push(b'\t')?;
@@ -117,7 +117,7 @@ pub(crate) fn push_told(
 }
 
 /// Adds the data of a reason with spaces between them: a kind of entry, numbers, commands; a hyphen where there are none.
-fn push_data(text: &mut Vec<u8>, above: Above<'_>, told: Told<'_>) -> Result<(), AllocError> {
+fn push_data(text: &mut Vec<u8>, above: Above<'_>, told: Reasoned<'_>) -> Result<(), AllocError> {
     let mut gap: &[u8] = b"";
     if let Some(kind) = told.reason.kind() {
         text.extend_from_slice(kind.word())?;

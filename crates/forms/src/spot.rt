@@ -5,7 +5,7 @@ use crate::fields::Kind;
 use crate::list::word_told;
 use crate::number::{NumberReason, groups_told, number_told, servers_told};
 use crate::places::limits;
-use crate::reason::{Reason, Told};
+use crate::reason::{Reason, Reasoned};
 use crate::votes::{begins_as_votes, form_told, valid_told};
 use crate::word::{WordReason, bytes_told, name_told};
 use acl_text::TextFault;
@@ -84,19 +84,19 @@ pub(crate) fn told_at<'a>(
     above: Above<'_>,
     spot: Spot<'a>,
     misfit: Misfit,
-) -> (Told<'a>, bool) {
+) -> (Reasoned<'a>, bool) {
     let is_form = misfit.fault == LineFault::Form;
     let word = spot.word.unwrap_or(b"");
     if is_form && (matches!(word, [b'#', ..]) || spot.before == b"#".as_slice()) {
-        return (Told::of(Reason::Comment, word), false);
+        return (Reasoned::of(Reason::Comment, word), false);
     }
     let told = match spot.word {
         Some(word) => told_of(scope, above, spot, word, misfit),
-        None => Told::of(Reason::LineEnds, b""),
+        None => Reasoned::of(Reason::LineEnds, b""),
     };
     let is_shifted = may_be_shifted(misfit, told);
     match glued(spot) {
-        Some(part) if is_form && is_shifted => (Told::of(Reason::Semicolon, part), false),
+        Some(part) if is_form && is_shifted => (Reasoned::of(Reason::Semicolon, part), false),
         _ => (told, is_shifted),
     }
 }
@@ -123,15 +123,15 @@ fn told_of<'a>(
     spot: Spot<'a>,
     word: &'a [u8],
     misfit: Misfit,
-) -> Told<'a> {
+) -> Reasoned<'a> {
     let is_semicolon = word == b";".as_slice();
     match misfit.expected {
-        Expected::Operation if is_semicolon => Told::of(Reason::OperationEnds, word),
+        Expected::Operation if is_semicolon => Reasoned::of(Reason::OperationEnds, word),
         Expected::Place(_) if is_semicolon && spot.is_of_operation => {
-            Told::of(Reason::OperationEnds, word)
+            Reasoned::of(Reason::OperationEnds, word)
         }
         Expected::Place(place) => told_in(scope, above, place, word, misfit.fault),
-        Expected::Operation | Expected::End => Told::of(Reason::Due, word),
+        Expected::Operation | Expected::End => Reasoned::of(Reason::Due, word),
     }
 }
 
@@ -142,7 +142,7 @@ fn told_in<'a>(
     place: Place,
     word: &'a [u8],
     fault: LineFault,
-) -> Told<'a> {
+) -> Reasoned<'a> {
     match place {
         Place::Votes => votes_told(word, MAX_SERVERS as u64, fault),
         Place::OpeningVotes => votes_told(
@@ -157,17 +157,17 @@ fn told_in<'a>(
         Place::GroupName => name_told(above, Kind::Group, word, fault),
         Place::Init => word_told(above, true, word, text_fault(fault)),
         Place::Lists => word_told(above, false, word, text_fault(fault)),
-        Place::Path => Told::of(Reason::Due, word),
+        Place::Path => Reasoned::of(Reason::Due, word),
         Place::Uid => id_told(above, Kind::User, word),
         Place::Gid => id_told(above, Kind::Group, word),
         _ => match limits(scope, place) {
             Some((least, most)) => number_told(word, least, most),
-            None => Told::of(Reason::Due, word),
+            None => Reasoned::of(Reason::Due, word),
         },
     }
 }
 
-fn votes_told(word: &[u8], servers: u64, fault: LineFault) -> Told<'_> {
+fn votes_told(word: &[u8], servers: u64, fault: LineFault) -> Reasoned<'_> {
     match fault {
         LineFault::Votes(fault) => valid_told(word, servers, fault),
         _ => form_told(word),
@@ -182,19 +182,19 @@ fn text_fault(fault: LineFault) -> Option<TextFault> {
 }
 
 /// What is told of the number of a user or a group: it may be a name that has one.
-fn id_told<'a>(above: Above<'_>, kind: Kind, word: &'a [u8]) -> Told<'a> {
+fn id_told<'a>(above: Above<'_>, kind: Kind, word: &'a [u8]) -> Reasoned<'a> {
     let told = number_told(word, 0, u64::from(u32::MAX));
     if told.reason != Reason::Number(NumberReason::NoNumber) {
         return told;
     }
     match above.named(kind, word) {
-        Some(named) => Told::of(Reason::Number(NumberReason::Named(named.number)), word),
+        Some(named) => Reasoned::of(Reason::Number(NumberReason::Named(named.number)), word),
         None => told,
     }
 }
 
 /// Whether a word may well belong to another place.
-fn may_be_shifted(misfit: Misfit, told: Told<'_>) -> bool {
+fn may_be_shifted(misfit: Misfit, told: Reasoned<'_>) -> bool {
     match misfit.fault {
         LineFault::List(fault) => matches!(fault, TextFault::Syntax(_)),
         LineFault::BadName => !matches!(told.reason, Reason::Word(WordReason::Length(_, _))),
@@ -204,7 +204,7 @@ fn may_be_shifted(misfit: Misfit, told: Told<'_>) -> bool {
     }
 }
 
-fn is_shifted_form(expected: Expected, told: Told<'_>) -> bool {
+fn is_shifted_form(expected: Expected, told: Reasoned<'_>) -> bool {
     match told.reason {
         Reason::LineEnds
         | Reason::OperationEnds

@@ -1,7 +1,7 @@
 //! Why words are no votes, or votes that are not valid.
 
 use crate::number::{NumberReason, number_reason};
-use crate::reason::{Numbers, Reason, Told};
+use crate::reason::{Numbers, Reason, Reasoned};
 use script_text::{Parts, read_number};
 use vote_core::{MAX_SERVERS, VotesFault};
 
@@ -96,46 +96,46 @@ pub(crate) fn begins_as_votes(word: &[u8]) -> bool {
 }
 
 /// Why a word is no votes, whichever they are.
-pub(crate) fn form_told(word: &[u8]) -> Told<'_> {
+pub(crate) fn form_told(word: &[u8]) -> Reasoned<'_> {
     match parts_of(word) {
         Some(cut) => cut_told(word, cut),
-        None if begins_as_votes(word) => Told::of(Reason::Votes(VotesReason::NoVotes), word),
-        None => Told::of(Reason::Due, word),
+        None if begins_as_votes(word) => Reasoned::of(Reason::Votes(VotesReason::NoVotes), word),
+        None => Reasoned::of(Reason::Due, word),
     }
 }
 
-fn cut_told<'a>(word: &'a [u8], cut: Cut<'a>) -> Told<'a> {
+fn cut_told<'a>(word: &'a [u8], cut: Cut<'a>) -> Reasoned<'a> {
     let mut count = 0u64;
     for part in Parts::new(cut.shares, b',') {
         count = count.saturating_add(1);
         if count <= MAX_SERVERS as u64 && part != b"-".as_slice() {
             if let Some(reason) = counted(part, MAX_VOTES, VotesReason::NoShare) {
-                return Told { reason, word, part };
+                return Reasoned { reason, word, part };
             }
         }
     }
     if count > MAX_SERVERS as u64 {
         let many = NumberReason::Many(count, MAX_SERVERS as u64);
-        return Told::of(Reason::Number(many), word);
+        return Reasoned::of(Reason::Number(many), word);
     }
     collected_told(word, cut)
 }
 
-fn collected_told<'a>(word: &'a [u8], cut: Cut<'a>) -> Told<'a> {
+fn collected_told<'a>(word: &'a [u8], cut: Cut<'a>) -> Reasoned<'a> {
     if let Some(reason) = counted(cut.read, MAX_COLLECTED, VotesReason::NoCollected) {
-        return Told {
+        return Reasoned {
             reason,
             word,
             part: cut.read,
         };
     }
     match counted(cut.write, MAX_COLLECTED, VotesReason::NoCollected) {
-        Some(reason) => Told {
+        Some(reason) => Reasoned {
             reason,
             word,
             part: cut.write,
         },
-        None => Told::of(Reason::Due, word),
+        None => Reasoned::of(Reason::Due, word),
     }
 }
 
@@ -148,9 +148,9 @@ fn counted(part: &[u8], most: u64, none: VotesReason) -> Option<Reason> {
 }
 
 /// Why votes are not valid where there are so many servers.
-pub(crate) fn valid_told(word: &[u8], servers: u64, fault: VotesFault) -> Told<'_> {
+pub(crate) fn valid_told(word: &[u8], servers: u64, fault: VotesFault) -> Reasoned<'_> {
     let Some(cut) = parts_of(word) else {
-        return Told::of(Reason::Due, word);
+        return Reasoned::of(Reason::Due, word);
     };
     let total = total_of(cut.shares);
     let read = read_number(cut.read, MAX_COLLECTED).unwrap_or(0);
@@ -172,9 +172,9 @@ pub(crate) fn valid_told(word: &[u8], servers: u64, fault: VotesFault) -> Told<'
         VotesFault::WritesDisjoint => {
             VotesReason::WritesDisjoint(write.saturating_add(write), total)
         }
-        VotesFault::ListedTwice => return Told::of(Reason::Due, word),
+        VotesFault::ListedTwice => return Reasoned::of(Reason::Due, word),
     };
-    Told::of(Reason::Votes(reason), word)
+    Reasoned::of(Reason::Votes(reason), word)
 }
 
 /// All votes together.

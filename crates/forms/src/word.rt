@@ -8,7 +8,7 @@ ghost use Rattle.forms.specs.Reasons.{bytes_reason};
 use crate::above::Above;
 use crate::fields::{Kind, no_name_byte};
 use crate::number::is_digits;
-use crate::reason::{Numbers, Reason, Told};
+use crate::reason::{Numbers, Reason, Reasoned};
 use acl_text::MAX_NAME;
 use suite_script::LineFault;
 
@@ -69,11 +69,11 @@ fn bytes_reason(word: &[u8]) -> WordReason
 }
 
 /// What is told of bytes in hexadecimal digits.
-pub(crate) fn bytes_told(word: &[u8]) -> Told<'_>
+pub(crate) fn bytes_told(word: &[u8]) -> Reasoned<'_>
     ensures reason { result.reason ≡ Reason.Word (bytes_reason word.now) }
     ensures part { result.part.now ≡ word.now }
 {
-    Told::of(Reason::Word(bytes_reason(word)), word)
+    Reasoned::of(Reason::Word(bytes_reason(word)), word)
 }
 
 /// What is told of a name.
@@ -82,24 +82,24 @@ pub(crate) fn name_told<'a>(
     kind: Kind,
     word: &'a [u8],
     fault: LineFault,
-) -> Told<'a> {
+) -> Reasoned<'a> {
     if fault == LineFault::NameTwice {
         return match above.named(kind, word) {
-            Some(named) => Told::of(Reason::Word(WordReason::Taken(named.line)), word),
-            None => Told::of(Reason::Due, word),
+            Some(named) => Reasoned::of(Reason::Word(WordReason::Taken(named.line)), word),
+            None => Reasoned::of(Reason::Due, word),
         };
     }
     if word.is_empty() || word.len() > MAX_NAME {
         let length = WordReason::Length(word.len() as u64, MAX_NAME as u64);
-        return Told::of(Reason::Word(length), word);
+        return Reasoned::of(Reason::Word(length), word);
     }
     match no_name_byte(word) {
-        Some(part) => Told {
+        Some(part) => Reasoned {
             reason: Reason::Word(WordReason::NoNameByte),
             word,
             part,
         },
-        None if is_digits(word) => Told::of(Reason::Word(WordReason::AllDigits), word),
-        None => Told::of(Reason::Due, word),
+        None if is_digits(word) => Reasoned::of(Reason::Word(WordReason::AllDigits), word),
+        None => Reasoned::of(Reason::Due, word),
     }
 }

@@ -32,7 +32,7 @@ use Rattle.law_agents.specs.Steps.{agent_after, VotesAreValid, AsksUntilItEnds, 
 use Rattle.law_agents.proofs.Collectors.{AllReps}
 use Rattle.law_agents.proofs.Walk.{Goes, CacheFine}
 use Rattle.law_agents.proofs.Words.{ResponseSo, AsksSo}
-use Rattle.law_agents.proofs.Told.{AllSo, AllAsk, Kept, Went, went, begin_kept, asks_now, whom_now, length_append, busy_before}
+use Rattle.law_agents.proofs.AllResponses.{AllSo, AllAsk, Kept, Went, went, begin_kept, asks_now, whom_now, length_append, busy_before}
 
 or_left : (a b : Bool) → a ≡ true → (a || b) ≡ true
 or_left true b is = refl

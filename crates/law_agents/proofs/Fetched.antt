@@ -5,7 +5,7 @@ use Rattle.std.proofs.lemmas.Bool.{eqb-true, false≢true}
 use Rattle.std.proofs.lemmas.Option.{same_Some}
 use Rattle.rep_core.specs.declared.request.Request.{Request}
 use Rattle.rep_core.specs.declared.request.Request.TheVariants as request
-use Rattle.txn_core.specs.Suites.{ReadPoint, Suite, Suites, suite_of}
+use Rattle.txn_core.specs.Suites.{ReadPoint, GatheredSuite, Suites, suite_of}
 use Rattle.txn_core.specs.Writing.{parts_at}
 use Rattle.txn_core.specs.declared.job.Job.{Job}
 use Rattle.txn_core.specs.Doing.{home_of, Fixed, Task, Phase, Gathering, Fetching, Widening, Preparing, Deciding, Finishing, Sweeping, Listing, Resolving, Telling, Breaking, SweepRun, Doing, Running, RunningSweep}
@@ -31,7 +31,7 @@ module _ (fixed : Fixed) (agent : Agent) (job : Job) (events : List Event) where
   other_asked : {P : Type 0} (a b : ℕ) (suite : ℕ) (asked other : Request) → fetches suite asked ≡ false → ◌≡◌ {A = Option (ℕ × Request)} (Some (a, asked)) (Some (b, other)) → fetches suite other ≡ true → P
   other_asked a b suite asked other none is kind = absurd (false≢true (sym none ∙ ap (fetches suite) (asks_same a b asked other is) ∙ kind))
 
-  by_first : (task : Task) (number suite server : ℕ) (asked : Request) (it : Suite) → Kept fixed task (Base_of fixed agent job events events task.site) past number it → (first : Option ReadPoint) → it.first ≡ first
+  by_first : (task : Task) (number suite server : ℕ) (asked : Request) (it : GatheredSuite) → Kept fixed task (Base_of fixed agent job events events task.site) past number it → (first : Option ReadPoint) → it.first ≡ first
       → fetched_at task number first ≡ Some (server, asked) → fetches suite asked ≡ true → IsFetching fixed agent job events server suite
   by_first task number suite server asked it kept None was is kind = cc
   by_first task number suite server asked it kept (Some first) was is kind =
@@ -46,7 +46,7 @@ module _ (fixed : Fixed) (agent : Agent) (job : Job) (events : List Event) where
         at = sym who ∙ ap (λ (first : ReadPoint). first.source) (sym own);
       })
 
-  by_suite : (task : Task) (number suite server : ℕ) (asked : Request) (found : Option Suite) → ((it : Suite) → found ≡ Some it → Kept fixed task (Base_of fixed agent job events events task.site) past number it)
+  by_suite : (task : Task) (number suite server : ℕ) (asked : Request) (found : Option GatheredSuite) → ((it : GatheredSuite) → found ≡ Some it → Kept fixed task (Base_of fixed agent job events events task.site) past number it)
       → fetched_for task number found ≡ Some (server, asked) → fetches suite asked ≡ true → IsFetching fixed agent job events server suite
   by_suite task number suite server asked None kept is kind = cc
   by_suite task number suite server asked (Some it) kept is kind = by_first task number suite server asked it (kept it refl) it.first refl is kind

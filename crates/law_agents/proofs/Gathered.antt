@@ -13,7 +13,7 @@ use Rattle.suite_collect.specs.declared.told.Said.{Said}
 use Rattle.suite_collect.specs.Telling.{newest, has_told}
 use Rattle.suite_collect.specs.Collecting.{Collector, told_since, votes_or, mode_or, all_told, counted, wanted, needed, got, is_member, is_left, asked_of, ask_or_short, version, members_of, request_for, Asked, Poll, Upgrade, Next, Ask, Current, Short, next}
 use Rattle.suite_collect.specs.Collecting as collecting
-use Rattle.txn_core.specs.Suites.{Suite, Suites, suite_of, told_in}
+use Rattle.txn_core.specs.Suites.{GatheredSuite, Suites, suite_of, told_in}
 use Rattle.txn_core.specs.Writing.{parts_at}
 use Rattle.txn_core.specs.declared.job.Job.{Job}
 use Rattle.txn_core.specs.Doing.{home_of, Fixed, Task, Phase, Gathering, Fetching, Widening, Preparing, Deciding, Finishing, Sweeping, Listing, Resolving, Telling, Breaking, SweepRun, Doing, Running, RunningSweep}
@@ -112,7 +112,7 @@ module _ (fixed : Fixed) (agent : Agent) (job : Job) (events : List Event) where
 
   -- ---- a transaction that asks for a lock
 
-  by_suite : (task : Task) → IsOf fixed agent job events task → (number suite server : ℕ) (asked : Request) (found : Option Suite) → ((it : Suite) → found ≡ Some it → Collects task number it.collector)
+  by_suite : (task : Task) → IsOf fixed agent job events task → (number suite server : ℕ) (asked : Request) (found : Option GatheredSuite) → ((it : GatheredSuite) → found ≡ Some it → Collects task number it.collector)
       → asked_for task number found ≡ Some (server, asked) → locks suite asked ≡ true → IsGathering fixed agent job events server suite asked
   by_suite task own number suite server asked None collects is lock = cc
   by_suite task own number suite server asked (Some it) collects is lock = of (next it.collector) refl is
@@ -128,7 +128,7 @@ module _ (fixed : Fixed) (agent : Agent) (job : Job) (events : List Event) where
           (subst (λ (pair : ℕ × Request). IsGathering fixed agent job events pair.0 number pair.1) (same_Some (who, request_for task.t number question) (server, asked) is)
           (gathering task own number who it.collector (collects it refl) task.t question was))
 
-  told_there : (suites : Suites) (number : ℕ) (it : Suite) → suite_of suites number ≡ Some it → Are (λ number. told_of number [] past) suites → all_told it.collector ≡ told_of number [] past
+  told_there : (suites : Suites) (number : ℕ) (it : GatheredSuite) → suite_of suites number ≡ Some it → Are (λ number. told_of number [] past) suites → all_told it.collector ≡ told_of number [] past
   told_there suites number it there are = ap told_in (sym there) ∙ are.1 number
 
   no_lock : {P : Type 0} (a b : ℕ) (suite : ℕ) (asked other : Request) → locks suite asked ≡ false → ◌≡◌ {A = Option (ℕ × Request)} (Some (a, asked)) (Some (b, other)) → locks suite other ≡ true → P

@@ -12,7 +12,7 @@ use Rattle.suite_collect.specs.declared.told.Said.{Said}
 use Rattle.suite_collect.specs.declared.told.Told.{Told}
 use Rattle.suite_collect.specs.Collecting.{all_told, tell, mode_of, Next, Ask, Current, Short, next}
 use Rattle.weak_cache.specs.Entries.{Cache}
-use Rattle.txn_core.specs.Suites.{ReadPoint, Suite, Suites, suite_of, with_suite, told_in, settled}
+use Rattle.txn_core.specs.Suites.{ReadPoint, GatheredSuite, Suites, suite_of, with_suite, told_in, settled}
 use Rattle.txn_core.specs.declared.response.Response.{Response}
 use Rattle.txn_core.specs.declared.response.Response.TheVariants.{Replied, Lacked}
 use Rattle.txn_core.specs.declared.ending.Cause.{Cause}
@@ -59,7 +59,7 @@ are_unsaid : (past : List Exchange) (suites : Suites) (server : ℕ) (asked : Re
 are_unsaid past suites server asked said none are = are_silent past suites server asked (Replied said) (λ number. ap (more_told (tells past number) server asked) none) are
 
 -- one more is told of a suite
-are_told : (past : List Exchange) (suites : Suites) (number server : ℕ) (asked : Request) (said : Reply) (heard : Said) (now : Suite) → ((other : ℕ) → locks other asked ≡ (number == other)) → said_to asked said ≡ Some heard
+are_told : (past : List Exchange) (suites : Suites) (number server : ℕ) (asked : Request) (said : Reply) (heard : Said) (now : GatheredSuite) → ((other : ℕ) → locks other asked ≡ (number == other)) → said_to asked said ≡ Some heard
     → all_told now.collector ≡ record { server = server; mode = mode_of asked; said = heard } ∷ tells past number → Are (tells past) suites → Are (tells (push past server asked (Replied said))) (with_suite number now suites)
 are_told past suites number server asked said heard now lock was same are =
     let with' = are_with (tells past) suites number now are in
@@ -97,7 +97,7 @@ module _ (task : Task) (past : List Exchange) (Left : After TransactionRun → T
   goes_widen_by cache suites left granted number (Ask server asked) go_on are more = early suites (Widening left granted) tt are
   goes_widen_by cache suites left granted number (Short got needed busy) go_on are more = given_up cache suites (short_cause number got needed busy) are
 
-  goes_widen_one : (cache : Cache) (suites : Suites) (left : List ℕ) (granted : Granted) (number : ℕ) (found : Option Suite) (go_on : Suites → Step) → suite_of suites number ≡ found → Are (tells past) suites
+  goes_widen_one : (cache : Cache) (suites : Suites) (left : List ℕ) (granted : Granted) (number : ℕ) (found : Option GatheredSuite) (go_on : Suites → Step) → suite_of suites number ≡ found → Are (tells past) suites
       → ((suites : Suites) → Are (tells past) suites → Left (go_on suites).after)
       → Left (widen_one task cache suites (Widening left granted) granted.changes number found go_on).after
   goes_widen_one cache suites left granted number (Some suite) go_on is are more =
@@ -123,7 +123,7 @@ module _ (task : Task) (past : List Exchange) (Left : After TransactionRun → T
       let open' = opened (length all.suites) fixed task all in
       goes_proceed fixed open'.cache open'.suites (heard_on fixed task open'.suites) (are_opened (tells past) (length all.suites) fixed task all are)
 
-  goes_fetched : (fixed : Fixed) (cache : Cache) (suites : Suites) (number : ℕ) (found : Option Suite) (server : ℕ) (given : Option Content) → suite_of suites number ≡ found → Are (tells past) suites
+  goes_fetched : (fixed : Fixed) (cache : Cache) (suites : Suites) (number : ℕ) (found : Option GatheredSuite) (server : ℕ) (given : Option Content) → suite_of suites number ≡ found → Are (tells past) suites
       → Left (fetched fixed task cache suites number found server given).after
   goes_fetched fixed cache suites number None server (Some content) there are = given_up cache suites (Lost server) are
   goes_fetched fixed cache suites number None server None there are = given_up cache suites (Lost server) are
@@ -134,8 +134,8 @@ module _ (task : Task) (past : List Exchange) (Left : After TransactionRun → T
       of None = given_up cache suites (Lost server) are
       of (Some first) = goes_execute fixed _ (are_same (tells past) suites number (record suite { content = Some content }) are (sym (ap told_in there)))
 
-  goes_collected : (cache : Cache) (suites : Suites) (phase : Phase) (number : ℕ) (suite : Suite) (next : Next) (go_on : Suites → Step) → IsEarly phase
-      → ((it : Suite) → it.collector ≡ suite.collector → Are (tells past) (with_suite number it suites)) → ((suites : Suites) → Are (tells past) suites → Left (go_on suites).after)
+  goes_collected : (cache : Cache) (suites : Suites) (phase : Phase) (number : ℕ) (suite : GatheredSuite) (next : Next) (go_on : Suites → Step) → IsEarly phase
+      → ((it : GatheredSuite) → it.collector ≡ suite.collector → Are (tells past) (with_suite number it suites)) → ((suites : Suites) → Are (tells past) suites → Left (go_on suites).after)
       → Left (collected task cache suites phase number suite next (λ suite. go_on (with_suite number suite suites))).after
   goes_collected cache suites phase number suite (Ask server asked) go_on is are more = early (with_suite number suite suites) phase is (are suite refl)
   goes_collected cache suites phase number suite (Short got needed busy) go_on is are more = given_up cache (with_suite number suite suites) (short_cause number got needed busy) (are suite refl)
@@ -145,7 +145,7 @@ module _ (task : Task) (past : List Exchange) (server : ℕ) (asked : Request) (
     (early : (suites : Suites) (phase : Phase) → IsEarly phase → Are (tells (push past server asked heard)) suites → Left (GoesOn (record { task = task; suites = suites; phase = phase })))
     (given_up : (cache : Cache) (suites : Suites) (cause : Cause) → Are (tells (push past server asked heard)) suites → Left (give_up task cache suites cause).after)
     (prepares : (cache : Cache) (suites : Suites) (outcome : Proposal) → Are (tells (push past server asked heard)) suites → Left (prepare task cache suites outcome (locked_at suites)).after) where
-  goes_heard : (cache : Cache) (suites : Suites) (phase : Phase) (number : ℕ) (found : Option Suite) (said : Reply) (go_on : Suites → Step) → heard ≡ Replied said → IsEarly phase → Are (tells past) suites → suite_of suites number ≡ found
+  goes_heard : (cache : Cache) (suites : Suites) (phase : Phase) (number : ℕ) (found : Option GatheredSuite) (said : Reply) (go_on : Suites → Step) → heard ≡ Replied said → IsEarly phase → Are (tells past) suites → suite_of suites number ≡ found
       → asked_for task number found ≡ Some (server, asked) → ((suites : Suites) → Are (tells (push past server asked heard)) suites → Left (go_on suites).after)
       → Left (heard_of task cache suites phase number found server asked said go_on).after
   goes_heard cache suites phase number None said go_on so is are there asks more = cc
@@ -155,7 +155,7 @@ module _ (task : Task) (past : List Exchange) (server : ℕ) (asked : Request) (
       of None was = given_up cache suites (Lost server) (subst (λ heard. Are (tells (push past server asked heard)) suites) (sym so) (are_unsaid past suites server asked said was are))
       of (Some what) was =
           let one : Told = record { server = server; mode = mode_of asked; said = what } in
-          let now : Suite = record suite { collector = tell one suite.collector } in
+          let now : GatheredSuite = record suite { collector = tell one suite.collector } in
           let same : all_told now.collector ≡ one ∷ tells past number = all_told-tell one suite.collector ∙ ap (λ told. one ∷ told) (ap told_in (sym there) ∙ are.1 number) in
           goes_collected task (push past server asked heard) Left early given_up prepares cache suites phase number now (next now.collector) go_on is
           (λ it at. subst (λ heard. Are (tells (push past server asked heard)) (with_suite number it suites)) (sym so)

@@ -11,7 +11,7 @@ use Rattle.rep_core.specs.declared.reply.Reply.TheVariants as reply
 use Rattle.rep_core.specs.declared.reply.Verdict.{Verdict}
 use Rattle.rep_core.specs.declared.reply.Verdict.TheVariants as verdict
 use Rattle.weak_cache.specs.Entries.{Cache}
-use Rattle.txn_core.specs.Suites.{Suite, Suites, suite_of, told_in}
+use Rattle.txn_core.specs.Suites.{GatheredSuite, Suites, suite_of, told_in}
 use Rattle.txn_core.specs.Writing.{parts_at}
 use Rattle.txn_core.specs.declared.response.Response.{Response}
 use Rattle.txn_core.specs.declared.response.Response.TheVariants.{Replied, Lacked}
@@ -193,7 +193,7 @@ module _ (fixed : Fixed) (agent : Agent) (job : Job) (events : List Event) (idle
   abbrev now : Agent
   now = after_all fixed (begin fixed agent job) events
 
-  ready_then : (task : Task) (suites : Suites) (outcome : Proposal) (server : ℕ) (left : List ℕ) → now.doing ≡ prepares_yet task suites outcome (server ∷ left) → (number : ℕ) (suite : Suite) → suite_of suites number ≡ Some suite → IsReady suite number (changes_of outcome)
+  ready_then : (task : Task) (suites : Suites) (outcome : Proposal) (server : ℕ) (left : List ℕ) → now.doing ≡ prepares_yet task suites outcome (server ∷ left) → (number : ℕ) (suite : GatheredSuite) → suite_of suites number ≡ Some suite → IsReady suite number (changes_of outcome)
   ready_then task suites outcome server left was number suite there =
       let then' = if_all fixed task suites outcome server left now was in
       decides_on_quorums fixed agent job (events ++ then'.0) (record { task = task; suites = suites; phase = Deciding outcome }) outcome number suite idle

@@ -33,7 +33,7 @@ use Rattle.run_core.proofs.Appending as going
 use Rattle.law_agents.specs.Steps.{agent_after, VotesAreValid, is_known}
 use Rattle.law_agents.specs.RunBounds.{told_at, told_in, EndsInItsTime}
 use Rattle.law_agents.proofs.Ends.{asked_are_known}
-use Rattle.law_agents.proofs.Told.{length_append}
+use Rattle.law_agents.proofs.AllResponses.{length_append}
 
 -- ---- an agent that has a job, with the steps that it took
 

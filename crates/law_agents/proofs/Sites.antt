@@ -23,7 +23,7 @@ use Rattle.run_core.specs.Runs.{after}
 use Rattle.run_core.proofs.EachAgent.{OfEach, after_event as each_after}
 use Rattle.law_agents.specs.Steps.{agent_after}
 use Rattle.law_agents.specs.Sites.{KeepsToSites, AgentsStaySo, RunsKeepTo}
-use Rattle.law_agents.proofs.Told.{busy_before}
+use Rattle.law_agents.proofs.AllResponses.{busy_before}
 
 -- ---- an agent by itself
 

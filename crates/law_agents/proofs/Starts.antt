@@ -20,7 +20,7 @@ use Rattle.suite_collect.specs.Collecting.{Collector, next, Current}
 use Rattle.suite_collect.proofs.Sources.{some_needed}
 use Rattle.weak_cache.specs.Cache.{hint}
 use Rattle.weak_cache.proofs.Origins.{hint_has, has_to}
-use Rattle.txn_core.specs.Suites.{Suite, known_of}
+use Rattle.txn_core.specs.Suites.{GatheredSuite, known_of}
 use Rattle.txn_core.specs.Writing.{change_of}
 use Rattle.txn_core.specs.declared.job.Job.{Job}
 use Rattle.txn_core.specs.Doing.{Fixed}
@@ -103,12 +103,12 @@ module _ (fixed : Fixed) (agent : Agent) (job : Job) (events : List Event) (idle
 
   -- ---- a suite that was gathered
 
-  gathered_told : (number : ℕ) (suite : Suite) → WasGathered fixed agent job events number suite → told_of number [] past ≡ [] → ⊥
+  gathered_told : (number : ℕ) (suite : GatheredSuite) → WasGathered fixed agent job events number suite → told_of number [] past ≡ [] → ⊥
   gathered_told number suite was none =
       untold_short was.start was.gave.mode (told_of number [] was.gave.before) was.first.prefix was.first.dver was.gave.members (start_valid number was.start was.gathered)
       (untold_before number past was.gave.before was.gave.later none was.gave.parts) was.gave.gave
 
-  gathered_asked : (number : ℕ) (suite : Suite) (was : WasGathered fixed agent job events number suite) → IsAsked fixed agent job events number was.start was.gathered
+  gathered_asked : (number : ℕ) (suite : GatheredSuite) (was : WasGathered fixed agent job events number suite) → IsAsked fixed agent job events number was.start was.gathered
   gathered_asked number suite was = elim was.gathered.moment [
     | inl asked ↦ asked
     | inr none ↦ absurd (gathered_told number suite was none)
@@ -116,7 +116,7 @@ module _ (fixed : Fixed) (agent : Agent) (job : Job) (events : List Event) (idle
 
   -- ---- a suite of which too few votes were to be had
 
-  set_there : (suite : ℕ) (votes : Configuration) (sets : SetsVotes fixed agent job events suite votes) → (found : Suite) × WasGathered fixed agent job events suite found
+  set_there : (suite : ℕ) (votes : Configuration) (sets : SetsVotes fixed agent job events suite votes) → (found : GatheredSuite) × WasGathered fixed agent job events suite found
   set_there suite votes sets =
       let task = task_of agent sets.caller sets.site sets.ops in
       let held = changes_are_held fixed.service (known_of sets.suites) task.t task.caller task.ops sets.answers sets.changes suite sets.done (changed (change_of sets.changes suite) sets.are) in

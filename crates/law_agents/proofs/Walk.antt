@@ -43,7 +43,7 @@ use Rattle.weak_cache.specs.Entries.{Entry, Cache}
 use Rattle.weak_cache.specs.Cache.{hint, put}
 use Rattle.weak_cache.proofs.Origins.{put_has, searched_has, hint_has}
 use Rattle.weak_cache.proofs.Origins as origins
-use Rattle.txn_core.specs.Suites.{ReadPoint, Suite, Suites, suite_of, with_suite, row_with, known_row, known_if, known_of, holds_lock, has_locks}
+use Rattle.txn_core.specs.Suites.{ReadPoint, GatheredSuite, Suites, suite_of, with_suite, row_with, known_row, known_if, known_of, holds_lock, has_locks}
 use Rattle.txn_core.specs.Writing.{change_of}
 use Rattle.txn_core.specs.declared.ending.Cause.{Cause}
 use Rattle.txn_core.specs.declared.ending.Ending.{Ending}
@@ -66,12 +66,12 @@ pub record Goes (fixed : Fixed) (V : Configuration → Type 0) (S : ℕ → Type
   pub known : (votes : Configuration) → lists_unknown fixed.service votes ≡ false → AllReps V S votes.reps
 
 -- a suite of which something is known was asked for
-pub suite_known : (suites : Suites) (number : ℕ) → is_some (known.known_of (known_of suites) number) ≡ true → (suite : Suite) × (suite_of suites number ≡ Some suite)
+pub suite_known : (suites : Suites) (number : ℕ) → is_some (known.known_of (known_of suites) number) ≡ true → (suite : GatheredSuite) × (suite_of suites number ≡ Some suite)
 suite_known [] number is = cc
 suite_known (e ∷ suites) number is = of e.1.first (is_at (nat_cmp number) e.0) refl is (suite_known suites number)
   where
     of : (first : Option ReadPoint) (b : Bool) → is_at (nat_cmp number) e.0 ≡ b → is_some (known.known_of (known_if e.0 e.1 first (known_of suites)) number) ≡ true
-        → (is_some (known.known_of (known_of suites) number) ≡ true → (suite : Suite) × (suite_of suites number ≡ Some suite)) → (suite : Suite) × (suite_of (e ∷ suites) number ≡ Some suite)
+        → (is_some (known.known_of (known_of suites) number) ≡ true → (suite : GatheredSuite) × (suite_of suites number ≡ Some suite)) → (suite : GatheredSuite) × (suite_of (e ∷ suites) number ≡ Some suite)
     of first true at is rest = (e.1, ap (λ b. cond b (Some e.1) (suite_of suites number)) at)
     of None false at is rest = let found = rest is in (found.0, ap (λ b. cond b (Some e.1) (suite_of suites number)) at ∙ found.1)
     of (Some first) false at is rest =
@@ -84,7 +84,7 @@ module _ (fixed : Fixed) (V : Configuration → Type 0) (S : ℕ → Type 0) (go
 
   -- ---- suites
 
-  pub record Fine (suite : Suite) : Type 0 where
+  pub record Fine (suite : GatheredSuite) : Type 0 where
     pub start : V suite.collector.start.votes
     pub told : AllTold V S suite.collector.told
     pub since : AllTold V S (told_since suite.collector.widening)
@@ -96,19 +96,19 @@ module _ (fixed : Fixed) (V : Configuration → Type 0) (S : ℕ → Type 0) (go
   AllFine (one ∷ suites) = Fine one.1 × AllFine suites
 
   -- a suite that had a quorum, and no more was asked of it since
-  pub record Full (suite : Suite) : Type 0 where
+  pub record Full (suite : GatheredSuite) : Type 0 where
     pub first : ReadPoint
     pub was : suite.first ≡ Some first
     pub narrow : suite.collector.widening ≡ None
     pub mode : suite.mode ≡ suite.collector.mode
     pub plain : IsPlain suite.collector
 
-  abbrev IsFull : ℕ → Suite → Type 0
+  abbrev IsFull : ℕ → GatheredSuite → Type 0
   IsFull number suite = Full suite
 
   -- a suite whose collector asks
   pub record Asking (suites : Suites) (number : ℕ) : Type 0 where
-    pub suite : Suite
+    pub suite : GatheredSuite
     pub there : suite_of suites number ≡ Some suite
     pub server : ℕ
     pub asked : Asked
@@ -125,7 +125,7 @@ module _ (fixed : Fixed) (V : Configuration → Type 0) (S : ℕ → Type 0) (go
 
   abbrev pub InPhase : Suites → Phase → Type 0
   InPhase suites (Gathering number) = AllFine suites × EachBut IsFull number suites × Gathers suites number
-  InPhase suites (Fetching number) = AllFine suites × Each IsFull suites × ((suite : Suite) × (suite_of suites number ≡ Some suite))
+  InPhase suites (Fetching number) = AllFine suites × Each IsFull suites × ((suite : GatheredSuite) × (suite_of suites number ≡ Some suite))
   InPhase suites (Widens [] granted) = ⊥
   InPhase suites (Widens (number ∷ left) granted) = AllFine suites × Asking suites number × ChangesName granted.changes
   InPhase suites (Preparing [] outcome) = ⊥
@@ -146,7 +146,7 @@ module _ (fixed : Fixed) (V : Configuration → Type 0) (S : ℕ → Type 0) (go
 
   -- ---- suites by their numbers
 
-  pub fine_at : (suites : Suites) (number : ℕ) (suite : Suite) → AllFine suites → suite_of suites number ≡ Some suite → Fine suite
+  pub fine_at : (suites : Suites) (number : ℕ) (suite : GatheredSuite) → AllFine suites → suite_of suites number ≡ Some suite → Fine suite
   fine_at [] number suite all is = cc
   fine_at (e ∷ suites) number suite all is = of (is_at (nat_cmp number) e.0) is (fine_at suites number suite all.1)
     where
@@ -154,7 +154,7 @@ module _ (fixed : Fixed) (V : Configuration → Type 0) (S : ℕ → Type 0) (go
       of true is rest = subst Fine (same_Some e.1 suite is) all.0
       of false is rest = rest is
 
-  pub fine_with : (suites : Suites) (number : ℕ) (new : Suite) → AllFine suites → Fine new → AllFine (with_suite number new suites)
+  pub fine_with : (suites : Suites) (number : ℕ) (new : GatheredSuite) → AllFine suites → Fine new → AllFine (with_suite number new suites)
   fine_with [] number new all fine = (fine, tt)
   fine_with (e ∷ suites) number new all fine =
       subst AllFine (sym (insert_step nat_cmp e suites number new (nat_cmp number e.0) refl)) (of (nat_cmp number e.0) (fine_with suites number new all.1 fine))
@@ -164,12 +164,12 @@ module _ (fixed : Fixed) (V : Configuration → Type 0) (S : ℕ → Type 0) (go
       of Equal rest = (fine, all.1)
       of Greater rest = (all.0, rest)
 
-  pub there_with : (suites : Suites) (number : ℕ) (suite : Suite) → suite_of (with_suite number suite suites) number ≡ Some suite
+  pub there_with : (suites : Suites) (number : ℕ) (suite : GatheredSuite) → suite_of (with_suite number suite suites) number ≡ Some suite
   there_with suites number suite = with_at number suite suites number ∙ ap (λ b. cond b (Some suite) (suite_of suites number)) (self number)
 
   -- ---- servers that hold locks
 
-  fine_told : (suite : Suite) → Fine suite → AllTold V S (all_told suite.collector)
+  fine_told : (suite : GatheredSuite) → Fine suite → AllTold V S (all_told suite.collector)
   fine_told suite fine = all_append V S (told_since suite.collector.widening) suite.collector.told fine.since fine.told
 
   locking : (suites : Suites) (server : ℕ) → AllFine suites → has_locks suites server ≡ true → S server
@@ -206,7 +206,7 @@ module _ (fixed : Fixed) (V : Configuration → Type 0) (S : ℕ → Type 0) (go
 
   -- ---- widenings
 
-  after_votes : (changes : Changes) (number : ℕ) (suite : Suite) → ChangesName changes → Fine suite → Names (votes_after changes number suite)
+  after_votes : (changes : Changes) (number : ℕ) (suite : GatheredSuite) → ChangesName changes → Fine suite → Names (votes_after changes number suite)
   after_votes changes number suite sets fine = of (change_of changes number) refl
     where
       first' : (first : Option ReadPoint) → suite.first ≡ first → Names (votes_then None first suite.collector.start.votes)
@@ -217,7 +217,7 @@ module _ (fixed : Fixed) (V : Configuration → Type 0) (S : ℕ → Type 0) (go
       of (Some change) is = sets number change is
       of None is = first' suite.first refl
 
-  fine_widened : (changes : Changes) (number : ℕ) (suite : Suite) → ChangesName changes → Fine suite → Fine (widened changes number suite)
+  fine_widened : (changes : Changes) (number : ℕ) (suite : GatheredSuite) → ChangesName changes → Fine suite → Fine (widened changes number suite)
   fine_widened changes number suite sets fine = record {
     start = fine.start;
     told = fine.told;
@@ -226,7 +226,7 @@ module _ (fixed : Fixed) (V : Configuration → Type 0) (S : ℕ → Type 0) (go
     first = fine.first;
   }
 
-  l_widen_by : (task : Task) (cache : Cache) (suites : Suites) (number : ℕ) (left : List ℕ) (granted : Granted) (suite : Suite) (after : Next) (go_on : Suites → Step) → next suite.collector ≡ after
+  l_widen_by : (task : Task) (cache : Cache) (suites : Suites) (number : ℕ) (left : List ℕ) (granted : Granted) (suite : GatheredSuite) (after : Next) (go_on : Suites → Step) → next suite.collector ≡ after
       → CacheFine cache → AllFine (with_suite number suite suites) → ChangesName granted.changes → ((suites : Suites) → AllFine suites → Leaves (go_on suites))
       → Leaves (widen_by task cache (with_suite number suite suites) (Widens (number ∷ left) granted) number after go_on)
   l_widen_by task cache suites number left granted suite (Current prefix dver members) go_on is cached fine sets more = more (with_suite number suite suites) fine
@@ -234,7 +234,7 @@ module _ (fixed : Fixed) (V : Configuration → Type 0) (S : ℕ → Type 0) (go
       (cached, (fine, record { suite = suite; there = there_with suites number suite; server = server; asked = asked; asks = is }, sets))
   l_widen_by task cache suites number left granted suite (Short had wanting busy) go_on is cached fine sets more = l_give_up task cache (with_suite number suite suites) (short_cause number had wanting busy) cached fine
 
-  l_widen_one : (task : Task) (cache : Cache) (suites : Suites) (number : ℕ) (left : List ℕ) (granted : Granted) (found : Option Suite) (go_on : Suites → Step) → suite_of suites number ≡ found
+  l_widen_one : (task : Task) (cache : Cache) (suites : Suites) (number : ℕ) (left : List ℕ) (granted : Granted) (found : Option GatheredSuite) (go_on : Suites → Step) → suite_of suites number ≡ found
       → CacheFine cache → AllFine suites → ChangesName granted.changes → ((suites : Suites) → AllFine suites → Leaves (go_on suites))
       → Leaves (widen_one task cache suites (Widens (number ∷ left) granted) granted.changes number found go_on)
   l_widen_one task cache suites number left granted None go_on there cached fine sets more = more suites fine
@@ -323,7 +323,7 @@ module _ (fixed : Fixed) (V : Configuration → Type 0) (S : ℕ → Type 0) (go
   needed_first known' (Done (Ok ended)) need is = cc
   needed_first known' (Done (Err refusal)) need is = cc
 
-  read_there : (task : Task) (suites : Suites) (number : ℕ) → heard_on fixed task suites ≡ exec.Need (Know number) → (suite : Suite) × (suite_of suites number ≡ Some suite)
+  read_there : (task : Task) (suites : Suites) (number : ℕ) → heard_on fixed task suites ≡ exec.Need (Know number) → (suite : GatheredSuite) × (suite_of suites number ≡ Some suite)
   read_there task suites number is =
       suite_known suites number
       (reads_known fixed.service (known_of suites) task.t task.caller task.ops number
@@ -335,7 +335,7 @@ module _ (fixed : Fixed) (V : Configuration → Type 0) (S : ℕ → Type 0) (go
   shared_only Exclusive Exclusive is = cc
 
   -- a suite of which a lock is needed is held in the other mode
-  was_shared : (task : Task) (suites : Suites) (number : ℕ) (mode : LockMode) (suite : Suite) → heard_on fixed task suites ≡ exec.Need (Hold number mode) → suite_of suites number ≡ Some suite → Full suite → suite.mode ≡ Shared
+  was_shared : (task : Task) (suites : Suites) (number : ℕ) (mode : LockMode) (suite : GatheredSuite) → heard_on fixed task suites ≡ exec.Need (Hold number mode) → suite_of suites number ≡ Some suite → Full suite → suite.mode ≡ Shared
   was_shared task suites number mode suite is there full =
       shared_only suite.mode mode
       (sym (ap (known.is_held mode) (known_at suites number suite full.first there full.was))
@@ -359,7 +359,7 @@ module _ (fixed : Fixed) (V : Configuration → Type 0) (S : ℕ → Type 0) (go
       of (Some prefix) is = let came = hint_has cache task.site number prefix is in subst (λ (prefix : Prefix). V prefix.votes) came.3 (cached came.0 came.1)
 
   -- what begins to be gathered, and is not gathered at once
-  record Begins (suite : Suite) : Type 0 where
+  record Begins (suite : GatheredSuite) : Type 0 where
     fine : Fine suite
     narrow : suite.collector.widening ≡ None
     plain : IsPlain suite.collector
@@ -375,7 +375,7 @@ module _ (fixed : Fixed) (V : Configuration → Type 0) (S : ℕ → Type 0) (go
         asks = λ prefix dver members is. not_current (collect mode start) prefix dver members (needs_some (collect mode start) refl (hinted task cache number cached)) (λ server. refl) is;
       }
 
-  begins_raised : (suite : Suite) → Fine suite → Full suite → suite.mode ≡ Shared → Begins (record suite { collector = raise suite.collector })
+  begins_raised : (suite : GatheredSuite) → Fine suite → Full suite → suite.mode ≡ Shared → Begins (record suite { collector = raise suite.collector })
   begins_raised suite fine full shared =
       let c = raise suite.collector in
       let exclusive : c.mode ≡ Exclusive = ap (λ w. Rattle.suite_collect.specs.Collecting.raised w suite.collector.mode) full.narrow in
@@ -395,13 +395,13 @@ module _ (fixed : Fixed) (V : Configuration → Type 0) (S : ℕ → Type 0) (go
       apart Shared is other = cc
       apart Exclusive is other = cc
 
-  begins_on : (task : Task) (cache : Cache) (suites : Suites) (number : ℕ) (mode : LockMode) (found : Option Suite) → suite_of suites number ≡ found → heard_on fixed task suites ≡ exec.Need (Hold number mode)
+  begins_on : (task : Task) (cache : Cache) (suites : Suites) (number : ℕ) (mode : LockMode) (found : Option GatheredSuite) → suite_of suites number ≡ found → heard_on fixed task suites ≡ exec.Need (Hold number mode)
       → CacheFine cache → AllFine suites → Each IsFull suites → Begins (raised_or_new fixed task cache number mode found)
   begins_on task cache suites number mode None there is cached fine full = begins_new task cache number mode cached
   begins_on task cache suites number mode (Some suite) there is cached fine full =
       let own = full number suite there in begins_raised suite (fine_at suites number suite fine there) own (was_shared task suites number mode suite is there own)
 
-  l_gather : (task : Task) (cache : Cache) (suites : Suites) (number : ℕ) (suite : Suite) (after : Next) → next suite.collector ≡ after → CacheFine cache → AllFine suites → EachBut IsFull number suites → Begins suite
+  l_gather : (task : Task) (cache : Cache) (suites : Suites) (number : ℕ) (suite : GatheredSuite) (after : Next) → next suite.collector ≡ after → CacheFine cache → AllFine suites → EachBut IsFull number suites → Begins suite
       → Leaves (gather_by task cache (with_suite number suite suites) number after)
   l_gather task cache suites number suite (Short had wanting busy) is cached fine others begins =
       l_give_up task cache (with_suite number suite suites) (short_cause number had wanting busy) cached (fine_with suites number suite fine begins.fine)
@@ -421,10 +421,10 @@ module _ (fixed : Fixed) (V : Configuration → Type 0) (S : ℕ → Type 0) (go
 
   -- ---- the executor
 
-  fine_content : (suite : Suite) (content : Option Content) → Fine suite → Fine (record suite { content = content })
+  fine_content : (suite : GatheredSuite) (content : Option Content) → Fine suite → Fine (record suite { content = content })
   fine_content suite content fine = record { start = fine.start; told = fine.told; since = fine.since; wide = fine.wide; first = fine.first }
 
-  full_content : (suite : Suite) (content : Option Content) → Full suite → Full (record suite { content = content })
+  full_content : (suite : GatheredSuite) (content : Option Content) → Full suite → Full (record suite { content = content })
   full_content suite content full = record { first = full.first; was = full.was; narrow = full.narrow; mode = full.mode; plain = full.plain }
 
   pub record Whole (all : Gathered) : Type 0 where
@@ -432,7 +432,7 @@ module _ (fixed : Fixed) (V : Configuration → Type 0) (S : ℕ → Type 0) (go
     pub full : Each IsFull all.suites
     pub cached : CacheFine all.cache
 
-  pub whole_content : (suites : Suites) (number : ℕ) (suite : Suite) (content : Content) (cache : Cache) → AllFine suites → Each IsFull suites → CacheFine cache → suite_of suites number ≡ Some suite
+  pub whole_content : (suites : Suites) (number : ℕ) (suite : GatheredSuite) (content : Content) (cache : Cache) → AllFine suites → Each IsFull suites → CacheFine cache → suite_of suites number ≡ Some suite
       → Whole (record { suites = with_suite number (record suite { content = Some content }) suites; cache = cache })
   whole_content suites number suite content cache fine full cached there = record {
     fine = fine_with suites number (record suite { content = Some content }) fine (fine_content suite (Some content) (fine_at suites number suite fine there));
@@ -455,17 +455,17 @@ module _ (fixed : Fixed) (V : Configuration → Type 0) (S : ℕ → Type 0) (go
       or' (Some more) found_are later = later more (found_are more refl)
       or' None found_are later = whole
 
-      with_content : (number : ℕ) (suite : Suite) (first : ReadPoint) (content : Option Content) (more : Gathered) → suite_of all.suites number ≡ Some suite → opened_with task all number suite first content ≡ Some more → Whole more
+      with_content : (number : ℕ) (suite : GatheredSuite) (first : ReadPoint) (content : Option Content) (more : Gathered) → suite_of all.suites number ≡ Some suite → opened_with task all number suite first content ≡ Some more → Whole more
       with_content number suite first (Some content) more there is =
           subst Whole (same_Some _ more is)
           (whole_content all.suites number suite content (after_search task all.cache number first) whole.fine whole.full (searched_fine task all.cache number first whole.cached) there)
       with_content number suite first None more there is = cc
 
-      at_first : (number : ℕ) (suite : Suite) (first : Option ReadPoint) (more : Gathered) → suite_of all.suites number ≡ Some suite → open_first task all number suite first ≡ Some more → Whole more
+      at_first : (number : ℕ) (suite : GatheredSuite) (first : Option ReadPoint) (more : Gathered) → suite_of all.suites number ≡ Some suite → open_first task all number suite first ≡ Some more → Whole more
       at_first number suite (Some first) more there is = with_content number suite first (free_content task all.cache number first) more there is
       at_first number suite None more there is = cc
 
-      at_suite : (number : ℕ) (found : Option Suite) (more : Gathered) → suite_of all.suites number ≡ found → open_suite task all number found ≡ Some more → Whole more
+      at_suite : (number : ℕ) (found : Option GatheredSuite) (more : Gathered) → suite_of all.suites number ≡ found → open_suite task all number found ≡ Some more → Whole more
       at_suite number (Some suite) more there is = at_first number suite suite.first more there is
       at_suite number None more there is = cc
 

@@ -16,7 +16,7 @@ use Rattle.suite_collect.specs.Collecting.{Widening, Collector, told_since, coun
 use Rattle.weak_cache.specs.Entries.{Entry, Cache}
 use Rattle.weak_cache.specs.Cache.{put}
 use Rattle.weak_cache.proofs.Origins.{put_has}
-use Rattle.txn_core.specs.Suites.{ReadPoint, Suite, Suites, suite_of, with_suite, source_of, first_or, settled}
+use Rattle.txn_core.specs.Suites.{ReadPoint, GatheredSuite, Suites, suite_of, with_suite, source_of, first_or, settled}
 use Rattle.txn_core.specs.declared.response.Response.{Response}
 use Rattle.txn_core.specs.declared.response.Response.TheVariants.{Replied, Lacked}
 use Rattle.txn_core.specs.declared.ending.Cause.TheVariants.{Lost}
@@ -32,13 +32,13 @@ module _ (fixed : Fixed) (V : Configuration → Type 0) (S : ℕ → Type 0) (go
   abbrev Names : Configuration → Type 0
   Names votes = AllReps V S votes.reps
 
-  abbrev Fine' : Suite → Type 0
+  abbrev Fine' : GatheredSuite → Type 0
   Fine' suite = Fine fixed V S goes suite
 
   abbrev AllFine' : Suites → Type 0
   AllFine' suites = AllFine fixed V S goes suites
 
-  abbrev IsFull : ℕ → Suite → Type 0
+  abbrev IsFull : ℕ → GatheredSuite → Type 0
   IsFull number suite = Full fixed V S goes suite
 
   abbrev Cached : Cache → Type 0
@@ -70,13 +70,13 @@ module _ (fixed : Fixed) (V : Configuration → Type 0) (S : ℕ → Type 0) (go
 
   -- ---- a suite that was told more
 
-  fine_tell : (suite : Suite) (one : Told) → S one.server → SaysSo V S one.said → Fine' suite → Fine' (record suite { collector = tell one suite.collector })
+  fine_tell : (suite : GatheredSuite) (one : Told) → S one.server → SaysSo V S one.said → Fine' suite → Fine' (record suite { collector = tell one suite.collector })
   fine_tell suite one server says fine = of suite.collector.widening refl
     where
       c : Collector
       c = suite.collector
 
-      new : Option Widening → Suite
+      new : Option Widening → GatheredSuite
       new w = record suite { collector = tell_at w one c }
 
       of : (w : Option Widening) → c.widening ≡ w → Fine' (new w)
@@ -95,7 +95,7 @@ module _ (fixed : Fixed) (V : Configuration → Type 0) (S : ℕ → Type 0) (go
         first = fine.first;
       }
 
-  counted_so : (suite : Suite) → Fine' suite → Names (counted suite.collector)
+  counted_so : (suite : GatheredSuite) → Fine' suite → Names (counted suite.collector)
   counted_so suite fine = of suite.collector.widening refl
     where
       of : (w : Option Widening) → suite.collector.widening ≡ w → Names (votes_or w (newest suite.collector.start suite.collector.told))
@@ -103,7 +103,7 @@ module _ (fixed : Fixed) (V : Configuration → Type 0) (S : ℕ → Type 0) (go
       of (Some w) was = fine.wide w was
 
   -- it was Current
-  fine_settled : (suite : Suite) (prefix : Prefix) (dver : ℕ) (members : List ℕ) → Fine' suite → next suite.collector ≡ Current prefix dver members → Fine' (settled prefix dver members suite)
+  fine_settled : (suite : GatheredSuite) (prefix : Prefix) (dver : ℕ) (members : List ℕ) → Fine' suite → next suite.collector ≡ Current prefix dver members → Fine' (settled prefix dver members suite)
   fine_settled suite prefix dver members fine is = record { start = fine.start; told = fine.told; since = fine.since; wide = fine.wide; first = of suite.first refl }
     where
       new : ReadPoint
@@ -118,7 +118,7 @@ module _ (fixed : Fixed) (V : Configuration → Type 0) (S : ℕ → Type 0) (go
             given_so V S suite.collector prefix dver members goes.first (counted_so suite fine) is,
           )
 
-  full_settled : (suite : Suite) (prefix : Prefix) (dver : ℕ) (members : List ℕ) → suite.collector.widening ≡ None → IsPlain suite.collector → Full fixed V S goes (settled prefix dver members suite)
+  full_settled : (suite : GatheredSuite) (prefix : Prefix) (dver : ℕ) (members : List ℕ) → suite.collector.widening ≡ None → IsPlain suite.collector → Full fixed V S goes (settled prefix dver members suite)
   full_settled suite prefix dver members narrow plain = of suite.first refl
     where
       new : ReadPoint
@@ -160,7 +160,7 @@ module _ (fixed : Fixed) (V : Configuration → Type 0) (S : ℕ → Type 0) (go
   narrow_tell : (one : Told) (c : Collector) → c.widening ≡ None → (tell one c).widening ≡ None
   narrow_tell one c narrow = ap (λ w. (tell_at w one c).widening) narrow ∙ narrow
 
-  found_is : (suites : Suites) (number : ℕ) (a b : Suite) → suite_of suites number ≡ Some a → suite_of suites number ≡ Some b → a ≡ b
+  found_is : (suites : Suites) (number : ℕ) (a b : GatheredSuite) → suite_of suites number ≡ Some a → suite_of suites number ≡ Some b → a ≡ b
   found_is suites number a b x y = same_Some a b (sym x ∙ y)
 
   -- ---- a response to a collector
@@ -168,7 +168,7 @@ module _ (fixed : Fixed) (V : Configuration → Type 0) (S : ℕ → Type 0) (go
   abbrev Phase' : Suites → Phase → Type 0
   Phase' suites phase = InPhase fixed V S goes suites phase
 
-  l_gathered : (task : Task) (cache : Cache) (suites : Suites) (number : ℕ) (found : Option Suite) (server : ℕ) (asked : Request) (reply' : Reply) → suite_of suites number ≡ found → Cached cache → Phase' suites (Gathering number)
+  l_gathered : (task : Task) (cache : Cache) (suites : Suites) (number : ℕ) (found : Option GatheredSuite) (server : ℕ) (asked : Request) (reply' : Reply) → suite_of suites number ≡ found → Cached cache → Phase' suites (Gathering number)
       → asked_for task number found ≡ Some (server, asked) → ResponseSo (Replied reply')
       → Left (heard_of task cache suites (Gathering number) number found server asked reply' (λ suites. execute fixed task (record { suites = suites; cache = cache })))
   l_gathered task cache suites number None server asked reply' there cached in' is so = absurd (none-some (server, asked) is)
@@ -178,10 +178,10 @@ module _ (fixed : Fixed) (V : Configuration → Type 0) (S : ℕ → Type 0) (go
       same = found_is suites number in'.2.asking.suite suite in'.2.asking.there there
 
       narrow : suite.collector.widening ≡ None
-      narrow = subst (λ (suite : Suite). suite.collector.widening ≡ None) same in'.2.narrow
+      narrow = subst (λ (suite : GatheredSuite). suite.collector.widening ≡ None) same in'.2.narrow
 
       plain : IsPlain suite.collector
-      plain = subst (λ (suite : Suite). IsPlain suite.collector) same in'.2.plain
+      plain = subst (λ (suite : GatheredSuite). IsPlain suite.collector) same in'.2.plain
 
       fine : Fine' suite
       fine = walk.fine_at fixed V S goes suites number suite in'.0 there
@@ -192,7 +192,7 @@ module _ (fixed : Fixed) (V : Configuration → Type 0) (S : ℕ → Type 0) (go
       server_so : S server
       server_so = asked_so V S suite.collector server question.question (counted_so suite fine) question.asks
 
-      by : (now : Suite) → Fine' now → now.collector.widening ≡ None → IsPlain now.collector → (after : Next) → next now.collector ≡ after
+      by : (now : GatheredSuite) → Fine' now → now.collector.widening ≡ None → IsPlain now.collector → (after : Next) → next now.collector ≡ after
           → Left (collected task cache suites (Gathering number) number now after (λ suite. execute fixed task (record { suites = with_suite number suite suites; cache = cache })))
       by now fine narrow plain (Ask who what) is = (
         cached,
@@ -220,7 +220,7 @@ module _ (fixed : Fixed) (V : Configuration → Type 0) (S : ℕ → Type 0) (go
           by (record suite { collector = tell one suite.collector }) (fine_tell suite one server_so (said_so asked reply' heard so heard_is) fine)
           (narrow_tell one suite.collector narrow) (plain_tell suite.collector server asked heard narrow plain question) (next (tell one suite.collector)) refl
 
-  l_widened : (task : Task) (cache : Cache) (suites : Suites) (number : ℕ) (left : List ℕ) (granted : Granted) (found : Option Suite) (server : ℕ) (asked : Request) (reply' : Reply) → suite_of suites number ≡ found → Cached cache
+  l_widened : (task : Task) (cache : Cache) (suites : Suites) (number : ℕ) (left : List ℕ) (granted : Granted) (found : Option GatheredSuite) (server : ℕ) (asked : Request) (reply' : Reply) → suite_of suites number ≡ found → Cached cache
       → Phase' suites (Widens (number ∷ left) granted) → asked_for task number found ≡ Some (server, asked) → ResponseSo (Replied reply')
       → Left (heard_of task cache suites (Widens (number ∷ left) granted) number found server asked reply' (λ suites. widen_all task cache suites granted left))
   l_widened task cache suites number left granted None server asked reply' there cached in' is so = absurd (none-some (server, asked) is)
@@ -235,7 +235,7 @@ module _ (fixed : Fixed) (V : Configuration → Type 0) (S : ℕ → Type 0) (go
       server_so : S server
       server_so = asked_so V S suite.collector server question.question (counted_so suite fine) question.asks
 
-      by : (now : Suite) → Fine' now → (after : Next) → next now.collector ≡ after
+      by : (now : GatheredSuite) → Fine' now → (after : Next) → next now.collector ≡ after
           → Left (collected task cache suites (Widens (number ∷ left) granted) number now after (λ suite. widen_all task cache (with_suite number suite suites) granted left))
       by now fine (Ask who what) is = (
         cached,
@@ -267,7 +267,7 @@ module _ (fixed : Fixed) (V : Configuration → Type 0) (S : ℕ → Type 0) (go
       let new : Entry = record { site = task.site; suite = number; prefix = first.prefix; dver = first.dver; content = content } in
       ⊎_elim (λ same. subst (λ (entry : Entry). V entry.prefix.votes) (sym same) votes) (λ old. cached entry old) (put_has fixed.limits new cache entry has)
 
-  l_fetched : (task : Task) (cache : Cache) (suites : Suites) (number : ℕ) (found : Option Suite) (server : ℕ) (given : Option Content) → suite_of suites number ≡ found → Cached cache → AllFine' suites → Each IsFull suites
+  l_fetched : (task : Task) (cache : Cache) (suites : Suites) (number : ℕ) (found : Option GatheredSuite) (server : ℕ) (given : Option Content) → suite_of suites number ≡ found → Cached cache → AllFine' suites → Each IsFull suites
       → Left (fetched fixed task cache suites number found server given)
   l_fetched task cache suites number None server (Some content) there cached fine full = walk.l_give_up fixed V S goes task cache suites (Lost server) cached fine
   l_fetched task cache suites number None server None there cached fine full = walk.l_give_up fixed V S goes task cache suites (Lost server) cached fine
@@ -323,7 +323,7 @@ module _ (fixed : Fixed) (V : Configuration → Type 0) (S : ℕ → Type 0) (go
       (subst (λ after. AsksSo (asked_by task number after)) (sym asking.asks)
       (asked_so V S asking.suite.collector asking.server asking.asked (counted_so asking.suite (walk.fine_at fixed V S goes suites number asking.suite fine asking.there)) asking.asks))
 
-  fetch_asks : (task : Task) (suites : Suites) (number : ℕ) → AllFine' suites → Each IsFull suites → (suite : Suite) → suite_of suites number ≡ Some suite → AsksSo (request_in fixed task suites (Fetching number))
+  fetch_asks : (task : Task) (suites : Suites) (number : ℕ) → AllFine' suites → Each IsFull suites → (suite : GatheredSuite) → suite_of suites number ≡ Some suite → AsksSo (request_in fixed task suites (Fetching number))
   fetch_asks task suites number fine full suite there =
       let own = full number suite there in
       let has = walk.fine_at fixed V S goes suites number suite fine there in

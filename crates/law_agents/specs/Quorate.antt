@@ -3,7 +3,7 @@ use Rattle.std.specs.Prelude.{◌≡◌, ℕ, true, List, [], Some}
 use Rattle.rep_core.specs.declared.request.Request.TheVariants as request
 use Rattle.rep_core.specs.declared.request.Part.{Part}
 use Rattle.suite_collect.specs.Collecting.{all_told}
-use Rattle.txn_core.specs.Suites.{Suite, Suites, suite_of}
+use Rattle.txn_core.specs.Suites.{GatheredSuite, Suites, suite_of}
 use Rattle.txn_core.specs.Writing.{parts_at}
 use Rattle.txn_core.specs.declared.job.Job.{Job}
 use Rattle.txn_core.specs.Doing.{Changes, Fixed}
@@ -18,8 +18,8 @@ pub record IsWritten (past : List Exchange) (server : ℕ) (parts : List Part) :
   pub suites : Suites
   pub changes : Changes
   pub parts_are : parts ≡ parts_at suites changes server
-  pub told : (number : ℕ) (suite : Suite) → suite_of suites number ≡ Some suite → all_told suite.collector ≡ told_of number [] past
-  pub ready : (number : ℕ) (suite : Suite) → suite_of suites number ≡ Some suite → IsReady suite number changes
+  pub told : (number : ℕ) (suite : GatheredSuite) → suite_of suites number ≡ Some suite → all_told suite.collector ≡ told_of number [] past
+  pub ready : (number : ℕ) (suite : GatheredSuite) → suite_of suites number ≡ Some suite → IsReady suite number changes
 
 abbrev pub PreparesOnQuorums : Type 0
 PreparesOnQuorums =

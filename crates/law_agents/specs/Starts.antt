@@ -2,7 +2,7 @@
 use Rattle.std.specs.Prelude.{◌≡◌, ℕ, true, List, Option}
 use Rattle.suite_prefix.specs.declared.copies.Prefix.{Prefix}
 use Rattle.txn_core.specs.declared.job.Job.{Job}
-use Rattle.txn_core.specs.Suites.{Suite}
+use Rattle.txn_core.specs.Suites.{GatheredSuite}
 use Rattle.txn_core.specs.Doing.{Fixed}
 use Rattle.txn_core.specs.Agents.{Agent, Event, next_of, is_idle}
 use Rattle.txn_core.specs.Laws.{of_job, asks_for, IsStart}
@@ -23,7 +23,7 @@ ShortsWereAsked =
 -- and of each suite on which the operations were executed.
 abbrev pub GatheredWereAsked : Type 0
 GatheredWereAsked =
-    (fixed : Fixed) (agent : Agent) (job : Job) (events : List Event) (number : ℕ) (suite : Suite) → is_idle agent.doing ≡ true
+    (fixed : Fixed) (agent : Agent) (job : Job) (events : List Event) (number : ℕ) (suite : GatheredSuite) → is_idle agent.doing ≡ true
     → VotesAreValid fixed agent (of_job fixed agent job events)
     → (was : WasGathered fixed agent job events number suite) → IsAsked fixed agent job events number was.start was.gathered
 

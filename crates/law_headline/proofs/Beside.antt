@@ -13,7 +13,7 @@ use Rattle.suite_prefix.specs.declared.copies.Prefix.{Prefix}
 use Rattle.suite_prefix.specs.declared.copies.Replica.{Replica}
 use Rattle.rep_core.specs.Store.{root_copy}
 use Rattle.file_exec.specs.declared.changes.Change as executor
-use Rattle.txn_core.specs.Suites.{ReadPoint, Suite, suite_of}
+use Rattle.txn_core.specs.Suites.{ReadPoint, GatheredSuite, suite_of}
 use Rattle.txn_core.specs.Writing.{change_of, new_prefix}
 use Rattle.txn_core.specs.Doing.{Proposal, Deciding, Phase, Gathering, Fetching, Widening, Preparing, Finishing, TransactionRun, Doing, Running, RunningSweep}
 use Rattle.txn_core.specs.Transactions.{changes_of}
@@ -56,7 +56,7 @@ opens_kind given (suc z) = subst (λ b. HoldsItsKind (cond b (root_copy given) (
 
 -- ---- a decision
 
-module _ (start : Beginning) (w : World) (inv : Inv start w) (kind : HoldsItsKind (row start w.log)) (first : ReadPoint) (suite : Suite) (knows : IsKnown (row start w.log) (known_by first suite)) where
+module _ (start : Beginning) (w : World) (inv : Inv start w) (kind : HoldsItsKind (row start w.log)) (first : ReadPoint) (suite : GatheredSuite) (knows : IsKnown (row start w.log) (known_by first suite)) where
   pub known_fits : (c : Content) → suite.content ≡ Some c → FitsAs first.prefix.kind c
   known_fits c is =
       subst (λ (prefix : Prefix). FitsAs prefix.kind c) (sym knows.prefix) (subst (FitsAs (row start w.log).prefix.kind) (sym (knows.content c is)) kind)
@@ -73,7 +73,7 @@ module _ (start : Beginning) (w : World) (inv : Inv start w) (kind : HoldsItsKin
       subst (λ k. FitsAs k (row start w.log).content) (sym (leaves.kind c)) (subst (λ (prefix : Prefix). FitsAs prefix.kind (row start w.log).content) (sym knows.prefix) kind)
 
 -- a decision leaves such a row, where what was known was what the register held
-with_change : (start : Beginning) (w : World) (t : ℕ) (suite : Suite) (first : ReadPoint) (outcome : Proposal) (change : Option executor.Change) → HoldsItsKind (row start w.log)
+with_change : (start : Beginning) (w : World) (t : ℕ) (suite : GatheredSuite) (first : ReadPoint) (outcome : Proposal) (change : Option executor.Change) → HoldsItsKind (row start w.log)
     → ((one : executor.Change) → change ≡ Some one → IsKnown (row start w.log) (known_by first suite) → HoldsItsKind (changed (change_to first one) (row start w.log)))
     → IsPlain start (happens start w (decides_with w t (known_by first suite) outcome (written_from (Some first) change))).log
     → HoldsItsKind (row start (happens start w (decides_with w t (known_by first suite) outcome (written_from (Some first) change))).log)
@@ -90,11 +90,11 @@ module _ (given : Opening) (z : ℕ) (w : World) (inv : Inv (beginning z given) 
   start = beginning z given
 
   module _ (txn_run : TransactionRun) (outcome : Proposal) (well : CameWell (fixed_of given) txn_run outcome) where
-    pub leaves : (suite : Suite) (first : ReadPoint) (change : executor.Change) → suite_of txn_run.suites z ≡ Some suite → suite.first ≡ Some first → change_of (changes_of outcome) z ≡ Some change → IsKnown (row start w.log) (known_by first suite) → Leaves suite first change
+    pub leaves : (suite : GatheredSuite) (first : ReadPoint) (change : executor.Change) → suite_of txn_run.suites z ≡ Some suite → suite.first ≡ Some first → change_of (changes_of outcome) z ≡ Some change → IsKnown (row start w.log) (known_by first suite) → Leaves suite first change
     leaves suite first change found had set knows =
         came_fair (fixed_of given) txn_run.task txn_run.suites outcome z suite first change found had set c0 well.valid (known_fits start w inv kind first suite knows) (known_valid start w inv kind first suite knows) well.came
 
-    on_first : (suite : Suite) → suite_of txn_run.suites z ≡ Some suite → (o : Option ReadPoint) → suite.first ≡ o
+    on_first : (suite : GatheredSuite) → suite_of txn_run.suites z ≡ Some suite → (o : Option ReadPoint) → suite.first ≡ o
         → IsPlain start (happens start w (decides_first w txn_run.task.t outcome (written_from o (change_of (changes_of outcome) z)) suite o)).log
         → HoldsItsKind (row start (happens start w (decides_first w txn_run.task.t outcome (written_from o (change_of (changes_of outcome) z)) suite o)).log)
     on_first suite found None had plain = without start w txn_run.task.t outcome kind
@@ -103,7 +103,7 @@ module _ (given : Opening) (z : ℕ) (w : World) (inv : Inv (beginning z given) 
         (λ one set knows. written_kind start w inv kind first suite knows one (leaves suite first one found had set knows) one.content one.votes refl refl)
         plain
 
-    on_suite : (o : Option Suite) → suite_of txn_run.suites z ≡ o
+    on_suite : (o : Option GatheredSuite) → suite_of txn_run.suites z ≡ o
         → IsPlain start (happens start w (decides_on w txn_run.task.t outcome (written_from (first_of o) (change_of (changes_of outcome) z)) o)).log
         → HoldsItsKind (row start (happens start w (decides_on w txn_run.task.t outcome (written_from (first_of o) (change_of (changes_of outcome) z)) o)).log)
     on_suite None found plain = without start w txn_run.task.t outcome kind
@@ -195,5 +195,5 @@ module _ (given : Opening) (z : ℕ) (w : World) (world : worlds.World) (now : T
         prepared = λ i told is. some_of (w.ready i txn_run.task.t) (ready i (now.readied.below i txn_run.task.t (ap is_some is)) (sym (in'.told i) ∙ ap is_some is));
       }
 
-  pub row_known : (suite : Suite) (first : ReadPoint) → OwesKnown (beginning z given) w txn_run.task.t (known_by first suite) → IsKnown (row (beginning z given) w.log) (known_by first suite)
+  pub row_known : (suite : GatheredSuite) (first : ReadPoint) → OwesKnown (beginning z given) w txn_run.task.t (known_by first suite) → IsKnown (row (beginning z given) w.log) (known_by first suite)
   row_known suite first owes = all_known (beginning z given) w now.inv txn_run.task.t (showed_to w txn_run.task.t (known_by first suite)) (known_by first suite) is_ready_now (knows_from (beginning z given) w txn_run.task.t (known_by first suite) owes)

@@ -17,7 +17,7 @@ use Rattle.file_ops.specs.declared.service.Service.{Service}
 use Rattle.file_ops.specs.KnownVotes.{lists_unknown, known_votes, votes_of_new}
 use Rattle.file_ops.specs.Operations.{Parent}
 use Rattle.file_ops.specs.Rows.{Row}
-use Rattle.file_ops.specs.Walks.{Place, bytes_in, names_in}
+use Rattle.file_ops.specs.Walks.{Object, bytes_in, names_in}
 use Rattle.file_exec.specs.declared.edit_log.Edit.{Edit}
 use Rattle.file_exec.specs.declared.edit_log.Edit.TheVariants.{SetAcl, SetVotes, SetContent, Make}
 use Rattle.file_exec.specs.Following.{Edits, seen, emptied, head, content_in, Ended}
@@ -70,7 +70,7 @@ valid_given _ valid = tt
 -- ---- what is licensed
 
 module _ (service : Service) (known : Known) (rows : ℕ → Option Row) (caller : Identity) where
-  file_there : (edits : Edits) (place : Place) (bytes : List ℕ) → IsShown rows edits place → bytes_in place.row.content ≡ Ok bytes → (r : Row) → seen edits place.suite (rows place.suite) ≡ Some r → kind_of r.content ≡ holds.File
+  file_there : (edits : Edits) (place : Object) (bytes : List ℕ) → IsShown rows edits place → bytes_in place.row.content ≡ Ok bytes → (r : Row) → seen edits place.suite (rows place.suite) ≡ Some r → kind_of r.content ≡ holds.File
   file_there edits place bytes shown is r there =
       let same : emptied r ≡ place.row = same_Some (emptied r) place.row (sym (ap head there) ∙ shown) in
       sym (kind_empty (kind_of r.content)) ∙ ap (λ (row : Row). kind_of row.content) same ∙ of_bytes place.row.content bytes is

@@ -27,7 +27,7 @@ use Rattle.file_exec.specs.Known.{IsSo, IsSoAt, AgreesWith, is_held, is_opened, 
 use Rattle.file_exec.proofs.Leading.{changes_by_suite}
 use Rattle.file_exec.proofs.Unset.{changes_are_held}
 use Rattle.file_exec.proofs.VotesRead.{knows_whose_votes}
-use Rattle.txn_core.specs.Suites.{ReadPoint, Suite, Suites, suite_of, row_with, known_row, known_of}
+use Rattle.txn_core.specs.Suites.{ReadPoint, GatheredSuite, Suites, suite_of, row_with, known_row, known_of}
 use Rattle.txn_core.specs.Writing.{change_of, prefix_kind}
 use Rattle.txn_core.specs.Doing.{Fixed, Task, Proposal}
 use Rattle.txn_core.specs.Transactions.{changes_of}
@@ -44,7 +44,7 @@ self n = grind (arith, nat_tests)
 
 -- ---- what was known when the executor was done
 
-module _ (suites : Suites) (z : ℕ) (suite : Suite) (first : ReadPoint) (there : suite_of suites z ≡ Some suite) (was : suite.first ≡ Some first) where
+module _ (suites : Suites) (z : ℕ) (suite : GatheredSuite) (first : ReadPoint) (there : suite_of suites z ≡ Some suite) (was : suite.first ≡ Some first) where
   -- rows that are as they are known, but for one suite
   abbrev rows_with : Option Row → ℕ → Option Row
   rows_with row n = cond (n == z) row (known_rows (known_of suites) n)
@@ -67,10 +67,10 @@ module _ (suites : Suites) (z : ℕ) (suite : Suite) (first : ReadPoint) (there 
   earlier : (before : known.Known) → ((rows : ℕ → Option Row) → AgreesWith (known_of suites) rows → AgreesWith before rows) → IsEarlier (known.known_of before z)
   earlier before agrees row so = subst (λ b. IsSoAt (known.known_of before z) (cond b row (known_rows (known_of suites) z))) (self z) (agrees (rows_with row) (agrees_but row so) z)
 
-abbrev shown : Suite → ReadPoint → Option Row
+abbrev shown : GatheredSuite → ReadPoint → Option Row
 shown suite first = row_with first.prefix.kind first.prefix suite.content
 
-head_before : (suite : Suite) (first : ReadPoint) (before : Option KnownSuite) → is_held Exclusive before ≡ true → ((row : Option Row) → IsSo (known_row suite first) row → IsSoAt before row) → head (known.row_in before) ≡ head (shown suite first)
+head_before : (suite : GatheredSuite) (first : ReadPoint) (before : Option KnownSuite) → is_held Exclusive before ≡ true → ((row : Option Row) → IsSo (known_row suite first) row → IsSoAt before row) → head (known.row_in before) ≡ head (shown suite first)
 head_before suite first None held goes = absurd (false≢true held)
 head_before suite first (Some it) held goes = (goes (shown suite first) (record { head = refl; content = λ _. refl })).head
 
@@ -107,11 +107,11 @@ apart kind.File prefix row there same = files_apart (ap content_in same)
 apart kind.Folder prefix row there same = folders_apart (ap content_in same)
 
 -- what would be known with a content, of the row with another
-abbrev SoWith : Suite → ReadPoint → Option Content → Content → Type 0
+abbrev SoWith : GatheredSuite → ReadPoint → Option Content → Content → Type 0
 SoWith suite first found c = IsSo (record { mode = suite.mode; row = row_with first.prefix.kind first.prefix found; opened = is_some found }) (row_with first.prefix.kind first.prefix (Some c))
 
 -- where the content was known, it is known now
-known_content : (suite : Suite) (first : ReadPoint) (before : Option KnownSuite) (row : Row) → ((row : Option Row) → IsSo (known_row suite first) row → IsSoAt before row) → is_opened before ≡ true → known.row_in before ≡ Some row
+known_content : (suite : GatheredSuite) (first : ReadPoint) (before : Option KnownSuite) (row : Row) → ((row : Option Row) → IsSo (known_row suite first) row → IsSoAt before row) → is_opened before ≡ true → known.row_in before ≡ Some row
     → (c : Content) × (suite.content ≡ Some c) × (known.row_in before ≡ row_with first.prefix.kind first.prefix (Some c))
 known_content suite first None row goes opened there = absurd (false≢true opened)
 known_content suite first (Some it) row goes opened there = of suite.content refl
@@ -143,11 +143,11 @@ from_edits before edits z change told = if_touched (touches edits z) (sym (chang
     if_touched false told = absurd (none-some change told)
 
 -- of a suite that is changed: what is not set stays, and so its kind where no content is set
-pub record Leaves (suite : Suite) (first : ReadPoint) (change : executor.Change) : Type 0 where
+pub record Leaves (suite : GatheredSuite) (first : ReadPoint) (change : executor.Change) : Type 0 where
   pub fair : IsFair suite first change
   pub kind : change.content ≡ false → prefix_kind (kind_of change.row.content) ≡ first.prefix.kind
 
-module _ (fixed : Fixed) (task : Task) (suites : Suites) (outcome : Proposal) (z : ℕ) (suite : Suite) (first : ReadPoint) (change : executor.Change)
+module _ (fixed : Fixed) (task : Task) (suites : Suites) (outcome : Proposal) (z : ℕ) (suite : GatheredSuite) (first : ReadPoint) (change : executor.Change)
     (there : suite_of suites z ≡ Some suite) (was : suite.first ≡ Some first) (set : change_of (changes_of outcome) z ≡ Some change) (c0 : IsValid fixed.service.c0) (valid : AllGiveValidVotes task.ops)
     (fits : (c : Content) → suite.content ≡ Some c → FitsAs first.prefix.kind c) (votes : IsValid first.prefix.votes) where
   by_edits : (before : known.Known) → ((rows : ℕ → Option Row) → AgreesWith (known_of suites) rows → AgreesWith before rows) → (ended : Ended (List Answer)) → exec_of fixed.service before task.t task.caller task.ops ≡ Done (Ok ended)

@@ -20,7 +20,7 @@ use Rattle.suite_collect.specs.declared.told.Said.{Said}
 use Rattle.suite_collect.specs.declared.told.Told as collect
 use Rattle.suite_collect.specs.Collecting.{Collector, Widening as Wider, all_told, told_since, tell_at, tell, mode_of, Next, Ask, Current, Short, next}
 use Rattle.weak_cache.specs.Entries.{Cache}
-use Rattle.txn_core.specs.Suites.{ReadPoint, Suite, Suites, suite_of, with_suite, first_or, settled, source_of}
+use Rattle.txn_core.specs.Suites.{ReadPoint, GatheredSuite, Suites, suite_of, with_suite, first_or, settled, source_of}
 use Rattle.txn_core.specs.declared.response.Response.{Response}
 use Rattle.txn_core.specs.declared.response.Response.TheVariants.{Replied, Lacked}
 use Rattle.txn_core.specs.declared.ending.Cause.{Cause}
@@ -40,7 +40,7 @@ use Rattle.law_run_knowledge.proofs.Walk.{IsNarrow}
 use Rattle.law_run_knowledge.proofs.Events.{Hears, narrow_of}
 use Rattle.law_run_quorums.specs.Firsts.{FirstFrom, early_collector}
 
-abbrev pub FirstIs : Suite → Type 0
+abbrev pub FirstIs : GatheredSuite → Type 0
 FirstIs suite = (first : ReadPoint) → suite.first ≡ Some first → FirstFrom suite first
 
 abbrev pub AllFirst : Suites → Type 0
@@ -56,7 +56,7 @@ Firsts step = AfterFirst step.after
 tell_narrow : (one : collect.Told) (c : Collector) → c.widening ≡ None → (tell one c).widening ≡ None
 tell_narrow one c narrow = ap (λ w. (tell_at w one c).widening) narrow ∙ narrow
 
-with_first : (number : ℕ) (suite : Suite) (suites : Suites) → AllFirst suites → FirstIs suite → AllFirst (with_suite number suite suites)
+with_first : (number : ℕ) (suite : GatheredSuite) (suites : Suites) → AllFirst suites → FirstIs suite → AllFirst (with_suite number suite suites)
 with_first number suite suites all own = each_with (λ number suite. FirstIs suite) number suites suite (each_but (λ number suite. FirstIs suite) number suites all) own
 
 tell_all : (one : collect.Told) (c : Collector) → all_told (tell one c) ≡ one ∷ all_told c
@@ -67,7 +67,7 @@ tell_all one c = of c.widening refl
         ap (λ w. all_told (tell_at w one c)) is ∙ ap (λ w. told_since w ++ (one ∷ c.told)) is ∙ ap (λ w. one ∷ (told_since w ++ c.told)) (sym is)
     of (Some w) is = ap (λ w. all_told (tell_at w one c)) is ∙ ap (λ w. one ∷ (told_since w ++ c.told)) (sym is)
 
-told_first : (one : collect.Told) (suite : Suite) → FirstIs suite → FirstIs (record suite { collector = tell one suite.collector })
+told_first : (one : collect.Told) (suite : GatheredSuite) → FirstIs suite → FirstIs (record suite { collector = tell one suite.collector })
 told_first one suite was first is =
     let from = was first is in
     record {
@@ -79,13 +79,13 @@ told_first one suite was first is =
       gave = subst (λ start. next (early_collector start from.mode from.earlier) ≡ Current first.prefix first.dver from.members) (sym (tell_start one suite.collector)) from.gave;
     }
 
-widened_first : (changes : Changes) (number : ℕ) (suite : Suite) → FirstIs suite → FirstIs (widened changes number suite)
+widened_first : (changes : Changes) (number : ℕ) (suite : GatheredSuite) → FirstIs suite → FirstIs (widened changes number suite)
 widened_first changes number suite was first is = let from = was first is in record { mode = from.mode; members = from.members; earlier = from.earlier; later = from.later; parts = from.parts; gave = from.gave }
 
-content_first : (suite : Suite) (content : Option Content) → FirstIs suite → FirstIs (record suite { content = content })
+content_first : (suite : GatheredSuite) (content : Option Content) → FirstIs suite → FirstIs (record suite { content = content })
 content_first suite content was first is = let from = was first is in record { mode = from.mode; members = from.members; earlier = from.earlier; later = from.later; parts = from.parts; gave = from.gave }
 
-settled_first : (prefix : Prefix) (dver : ℕ) (members : List ℕ) (suite : Suite) → IsNarrow suite → next suite.collector ≡ Current prefix dver members → FirstIs suite → FirstIs (settled prefix dver members suite)
+settled_first : (prefix : Prefix) (dver : ℕ) (members : List ℕ) (suite : GatheredSuite) → IsNarrow suite → next suite.collector ≡ Current prefix dver members → FirstIs suite → FirstIs (settled prefix dver members suite)
 settled_first prefix dver members suite narrow is was = of suite.first refl
   where
     new : ReadPoint
@@ -131,7 +131,7 @@ module _ (fixed : Fixed) (task : Task) where
   first_widen_by cache suites left granted number (Ask server asked) go_on all more = all
   first_widen_by cache suites left granted number (Short got needed busy) go_on all more = first_give_up cache suites (short_cause number got needed busy) all
 
-  first_widen_one : (cache : Cache) (suites : Suites) (left : List ℕ) (granted : Granted) (number : ℕ) (found : Option Suite) (go_on : Suites → Step) → suite_of suites number ≡ found → AllFirst suites → ((suites : Suites) → AllFirst suites → Firsts (go_on suites))
+  first_widen_one : (cache : Cache) (suites : Suites) (left : List ℕ) (granted : Granted) (number : ℕ) (found : Option GatheredSuite) (go_on : Suites → Step) → suite_of suites number ≡ found → AllFirst suites → ((suites : Suites) → AllFirst suites → Firsts (go_on suites))
       → Firsts (widen_one task cache suites (Widening left granted) granted.changes number found go_on)
   first_widen_one cache suites left granted number (Some suite) go_on there all more =
       let now = widened granted.changes number suite in
@@ -143,7 +143,7 @@ module _ (fixed : Fixed) (task : Task) where
   first_widen cache suites granted (number ∷ left) all =
       first_widen_one cache suites (number ∷ left) granted number (suite_of suites number) _ refl all (λ suites all. first_widen cache suites granted left all)
 
-  first_raised : (cache : Cache) (number : ℕ) (mode : LockMode) (found : Option Suite) → ((suite : Suite) → found ≡ Some suite → FirstIs suite) → FirstIs (raised_or_new fixed task cache number mode found)
+  first_raised : (cache : Cache) (number : ℕ) (mode : LockMode) (found : Option GatheredSuite) → ((suite : GatheredSuite) → found ≡ Some suite → FirstIs suite) → FirstIs (raised_or_new fixed task cache number mode found)
   first_raised cache number mode (Some suite) each first is = let from = each suite refl first is in record { mode = from.mode; members = from.members; earlier = from.earlier; later = from.later; parts = from.parts; gave = from.gave }
   first_raised cache number mode None each first is = absurd cc
 
@@ -156,16 +156,16 @@ module _ (fixed : Fixed) (task : Task) where
   first_proceed cache suites (exec.Refused refusal) all = first_prepare cache suites (Err refusal) (locked_at suites) all
 
   module _ (all : Gathered) (firsts : AllFirst all.suites) where
-    with_content : (number : ℕ) (suite : Suite) (first : ReadPoint) (content : Option Content) (more : Gathered) → suite_of all.suites number ≡ Some suite → opened_with task all number suite first content ≡ Some more → AllFirst more.suites
+    with_content : (number : ℕ) (suite : GatheredSuite) (first : ReadPoint) (content : Option Content) (more : Gathered) → suite_of all.suites number ≡ Some suite → opened_with task all number suite first content ≡ Some more → AllFirst more.suites
     with_content number suite first (Some content) more there is =
         subst (λ (all : Gathered). AllFirst all.suites) (same_Some _ more is) (with_first number (record suite { content = Some content }) all.suites firsts (content_first suite (Some content) (firsts number suite there)))
     with_content number suite first None more there is = cc
 
-    at_first : (number : ℕ) (suite : Suite) (first : Option ReadPoint) (more : Gathered) → suite_of all.suites number ≡ Some suite → open_first task all number suite first ≡ Some more → AllFirst more.suites
+    at_first : (number : ℕ) (suite : GatheredSuite) (first : Option ReadPoint) (more : Gathered) → suite_of all.suites number ≡ Some suite → open_first task all number suite first ≡ Some more → AllFirst more.suites
     at_first number suite (Some first) more there is = with_content number suite first (free_content task all.cache number first) more there is
     at_first number suite None more there is = cc
 
-    at_suite : (number : ℕ) (found : Option Suite) (more : Gathered) → suite_of all.suites number ≡ found → open_suite task all number found ≡ Some more → AllFirst more.suites
+    at_suite : (number : ℕ) (found : Option GatheredSuite) (more : Gathered) → suite_of all.suites number ≡ found → open_suite task all number found ≡ Some more → AllFirst more.suites
     at_suite number (Some suite) more there is = at_first number suite suite.first more there is
     at_suite number None more there is = cc
 
@@ -190,12 +190,12 @@ module _ (fixed : Fixed) (task : Task) where
 
   -- ---- replies
 
-  first_heard : (cache : Cache) (suites : Suites) (phase : Phase) (number : ℕ) (found : Option Suite) (server : ℕ) (asked : Request) (said : Reply) (go_on : Suites → Step) → suite_of suites number ≡ found
-      → ((suite : Suite) → suite_of suites number ≡ Some suite → IsNarrow suite) → AllFirst suites → ((suites : Suites) → AllFirst suites → Firsts (go_on suites)) → Firsts (heard_of task cache suites phase number found server asked said go_on)
+  first_heard : (cache : Cache) (suites : Suites) (phase : Phase) (number : ℕ) (found : Option GatheredSuite) (server : ℕ) (asked : Request) (said : Reply) (go_on : Suites → Step) → suite_of suites number ≡ found
+      → ((suite : GatheredSuite) → suite_of suites number ≡ Some suite → IsNarrow suite) → AllFirst suites → ((suites : Suites) → AllFirst suites → Firsts (go_on suites)) → Firsts (heard_of task cache suites phase number found server asked said go_on)
   first_heard cache suites phase number None server asked said go_on there narrow all more = first_give_up cache suites (Lost server) all
   first_heard cache suites phase number (Some suite) server asked said go_on there narrow all more = of (said_to asked said)
     where
-      at : (now : Suite) (after : Next) → FirstIs now → IsNarrow now → next now.collector ≡ after → Firsts (collected task cache suites phase number now after (λ suite. go_on (with_suite number suite suites)))
+      at : (now : GatheredSuite) (after : Next) → FirstIs now → IsNarrow now → next now.collector ≡ after → Firsts (collected task cache suites phase number now after (λ suite. go_on (with_suite number suite suites)))
       at now (Ask who what) own narrow_now is = with_first number now suites all own
       at now (Short got needed busy) own narrow_now is = first_give_up cache (with_suite number now suites) (short_cause number got needed busy) (with_first number now suites all own)
       at now (Current prefix dver members) own narrow_now is =
@@ -205,10 +205,10 @@ module _ (fixed : Fixed) (task : Task) where
       of None = first_give_up cache suites (Lost server) all
       of (Some heard) =
           let one : collect.Told = record { server = server; mode = mode_of asked; said = heard } in
-          let now : Suite = record suite { collector = tell one suite.collector } in
+          let now : GatheredSuite = record suite { collector = tell one suite.collector } in
           at now (next now.collector) (told_first one suite (all number suite there)) (λ none. tell_narrow one suite.collector (narrow suite there none)) refl
 
-  first_fetched : (cache : Cache) (suites : Suites) (number : ℕ) (server : ℕ) (found : Option Suite) (content : Option Content) → suite_of suites number ≡ found → AllFirst suites → Firsts (fetched fixed task cache suites number found server content)
+  first_fetched : (cache : Cache) (suites : Suites) (number : ℕ) (server : ℕ) (found : Option GatheredSuite) (content : Option Content) → suite_of suites number ≡ found → AllFirst suites → Firsts (fetched fixed task cache suites number found server content)
   first_fetched cache suites number server (Some suite) (Some content) there all = keeps suite.first
     where
       keeps : (first : Option ReadPoint) → Firsts (keep_content fixed task cache suites number suite content first server)
@@ -227,7 +227,7 @@ module _ (fixed : Fixed) (task : Task) where
   first_lack cache suites (Finishing [] v ending) server lacked all = tt
   first_lack cache suites (Finishing (now ∷ left) v ending) server lacked all = first_end cache suites v ending left all
 
-  first_word : (cache : Cache) (suites : Suites) (phase : Phase) (server : ℕ) (asked : Request) (response : Response) → ((number : ℕ) → Hears phase number → (suite : Suite) → suite_of suites number ≡ Some suite → IsNarrow suite) → AllFirst suites
+  first_word : (cache : Cache) (suites : Suites) (phase : Phase) (server : ℕ) (asked : Request) (response : Response) → ((number : ℕ) → Hears phase number → (suite : GatheredSuite) → suite_of suites number ≡ Some suite → IsNarrow suite) → AllFirst suites
       → Firsts (after_response fixed (record { task = task; suites = suites; phase = phase }) cache server asked response)
   first_word cache suites phase server asked (Lacked lacked) narrow all = first_lack cache suites phase server lacked all
   first_word cache suites (Gathering number) server asked (Replied said) narrow all =

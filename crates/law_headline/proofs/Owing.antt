@@ -4,7 +4,7 @@ use Rattle.std.proofs.lemmas.Bool.{false≢true}
 use Rattle.suite_prefix.specs.SettingsRules.{Opening}
 use Rattle.file_exec.specs.declared.changes.Change as executor
 use Rattle.suite_collect.specs.Collecting.{all_told}
-use Rattle.txn_core.specs.Suites.{ReadPoint, Suite, suite_of, told_in}
+use Rattle.txn_core.specs.Suites.{ReadPoint, GatheredSuite, suite_of, told_in}
 use Rattle.txn_core.specs.Writing.{change_of, part_of}
 use Rattle.txn_core.specs.Doing.{Fixed, Proposal, Deciding, TransactionRun, Running}
 use Rattle.txn_core.specs.Transactions.{changes_of}
@@ -30,24 +30,24 @@ use Rattle.law_headline.proofs.Firsts.{firsts_given}
 use Rattle.law_headline.proofs.Together.{Together}
 
 -- of a transaction that decides, for a suite of which it had a Current
-pub record LeftOf (z : ℕ) (w : World) (txn_run : TransactionRun) (outcome : Proposal) (suite : Suite) (first : ReadPoint) : Type 0 where
+pub record LeftOf (z : ℕ) (w : World) (txn_run : TransactionRun) (outcome : Proposal) (suite : GatheredSuite) (first : ReadPoint) : Type 0 where
   pub fair : (change : executor.Change) → change_of (changes_of outcome) z ≡ Some change → IsFair suite first change  -- its operations leave what they do not set
   pub prepared : (i : ℕ) → IsTrue (holds_exclusively w txn_run.task.t i) → PreparedPart w txn_run.task.t i (part_of (changes_of outcome) i (z, suite))  -- and it prepared what it is to write
 
 -- in one world
 abbrev pub Left : ℕ → World → worlds.World → Type 0
 Left z w world =
-    (number : ℕ) (actor : Actor) (txn_run : TransactionRun) (outcome : Proposal) (suite : Suite) (first : ReadPoint) → actor_at world number ≡ Some actor → actor.agent.doing ≡ Some (Running txn_run) → txn_run.phase ≡ Deciding outcome
+    (number : ℕ) (actor : Actor) (txn_run : TransactionRun) (outcome : Proposal) (suite : GatheredSuite) (first : ReadPoint) → actor_at world number ≡ Some actor → actor.agent.doing ≡ Some (Running txn_run) → txn_run.phase ≡ Deciding outcome
     → w.verdict txn_run.task.t ≡ None → suite_of txn_run.suites z ≡ Some suite → suite.first ≡ Some first → LeftOf z w txn_run outcome suite first
 
 -- ready to be decided, as every agent of a job
-is_ready : (fixed : Fixed) (agent : Agent) (z : ℕ) → IdleOr fixed agent → (txn_run : TransactionRun) (outcome : Proposal) → agent.doing ≡ Some (Running txn_run) → txn_run.phase ≡ Deciding outcome → (suite : Suite) → suite_of txn_run.suites z ≡ Some suite → IsReady suite z (changes_of outcome)
+is_ready : (fixed : Fixed) (agent : Agent) (z : ℕ) → IdleOr fixed agent → (txn_run : TransactionRun) (outcome : Proposal) → agent.doing ≡ Some (Running txn_run) → txn_run.phase ≡ Deciding outcome → (suite : GatheredSuite) → suite_of txn_run.suites z ≡ Some suite → IsReady suite z (changes_of outcome)
 is_ready fixed agent z (inl idle) txn_run outcome running phase suite there = absurd (false≢true (ap is_idle (sym running) ∙ idle))
 is_ready fixed agent z (inr is) txn_run outcome running phase suite there =
     decides_on_quorums fixed is.before is.job is.told txn_run outcome z suite is.idle (ap (λ (agent : Agent). agent.doing) (sym is.is) ∙ running) phase there
 
 -- what is known is owed, and where something is written that
-with_change : (start : Beginning) (w : World) (t : ℕ) (suite : Suite) (first : ReadPoint) (outcome : Proposal) (change : Option executor.Change) → OwesKnown start w t (known_by first suite)
+with_change : (start : Beginning) (w : World) (t : ℕ) (suite : GatheredSuite) (first : ReadPoint) (outcome : Proposal) (change : Option executor.Change) → OwesKnown start w t (known_by first suite)
     → ((one : executor.Change) → change ≡ Some one → OwesWritten start w t (known_by first suite) (change_to first one)) → OwesWith start w t (known_by first suite) outcome (written_from (Some first) change)
 with_change start w t suite first (Err refusal) change known written = known
 with_change start w t suite first (Ok granted) None known written = known
@@ -61,29 +61,29 @@ module _ (given : Opening) (z : ℕ) (w : World) (world : worlds.World) (now : T
     abbrev t : ℕ
     t = txn_run.task.t
 
-    agrees_on : (suite : Suite) → suite_of txn_run.suites z ≡ Some suite → Agrees (told_to w t) (all_told suite.collector)
+    agrees_on : (suite : GatheredSuite) → suite_of txn_run.suites z ≡ Some suite → Agrees (told_to w t) (all_told suite.collector)
     agrees_on suite found =
         let here : DoingAgrees z w (Some (Running txn_run)) = subst (DoingAgrees z w) running (now.agrees number actor there) in
         subst (λ o. Agrees (told_to w t) (told_in o)) found here
 
-    pub owes_known : (suite : Suite) → suite_of txn_run.suites z ≡ Some suite → (first : ReadPoint) → suite.first ≡ Some first → OwesKnown start w t (known_by first suite)
+    pub owes_known : (suite : GatheredSuite) → suite_of txn_run.suites z ≡ Some suite → (first : ReadPoint) → suite.first ≡ Some first → OwesKnown start w t (known_by first suite)
     owes_known suite found first had =
         let was = suite_was z start w actor.agent txn_run suite (now.fits number actor there) running found in
         let prefix = known_prefix z start w t suite was first had in
         knows_from_a_quorum start w t suite first (valid_was start w first.prefix now.inv prefix) (firsts_given (fixed_of given) actor.agent (now.jobs number actor there) txn_run running z suite found first had) (agrees_on suite found) prefix (known_content z start w t suite was first had)
 
-    owes_written : Left z w world → w.verdict t ≡ None → (suite : Suite) → suite_of txn_run.suites z ≡ Some suite → (first : ReadPoint) → suite.first ≡ Some first → (change : executor.Change) → change_of (changes_of outcome) z ≡ Some change → OwesWritten start w t (known_by first suite) (change_to first change)
+    owes_written : Left z w world → w.verdict t ≡ None → (suite : GatheredSuite) → suite_of txn_run.suites z ≡ Some suite → (first : ReadPoint) → suite.first ≡ Some first → (change : executor.Change) → change_of (changes_of outcome) z ≡ Some change → OwesWritten start w t (known_by first suite) (change_to first change)
     owes_written left undecided suite found first had change changed =
         let was = suite_was z start w actor.agent txn_run suite (now.fits number actor there) running found in
         let more = left number actor txn_run outcome suite first there running phase undecided found had in
         writes_to_quorums start w t z suite (changes_of outcome) change first (agrees_on suite found) had changed (more.fair change changed) more.prepared (owes_known suite found first had)
         (is_ready (fixed_of given) actor.agent z (now.jobs number actor there) txn_run outcome running phase suite found) (newest_prefix z start w t suite was now.inv)
 
-    on_first : Left z w world → w.verdict t ≡ None → (suite : Suite) → suite_of txn_run.suites z ≡ Some suite → (o : Option ReadPoint) → suite.first ≡ o → OwesFirst start w t outcome (written_from o (change_of (changes_of outcome) z)) suite o
+    on_first : Left z w world → w.verdict t ≡ None → (suite : GatheredSuite) → suite_of txn_run.suites z ≡ Some suite → (o : Option ReadPoint) → suite.first ≡ o → OwesFirst start w t outcome (written_from o (change_of (changes_of outcome) z)) suite o
     on_first left undecided suite found None had = tt
     on_first left undecided suite found (Some first) had = with_change start w t suite first outcome (change_of (changes_of outcome) z) (owes_known suite found first had) (owes_written left undecided suite found first had)
 
-    on_suite : Left z w world → w.verdict t ≡ None → (o : Option Suite) → suite_of txn_run.suites z ≡ o → Owes start w t outcome (written_from (first_of o) (change_of (changes_of outcome) z)) o
+    on_suite : Left z w world → w.verdict t ≡ None → (o : Option GatheredSuite) → suite_of txn_run.suites z ≡ o → Owes start w t outcome (written_from (first_of o) (change_of (changes_of outcome) z)) o
     on_suite left undecided None found = tt
     on_suite left undecided (Some suite) found = on_first left undecided suite found suite.first refl
 

@@ -19,7 +19,7 @@ use Rattle.rep_core.specs.Fits.{is_prepared}
 use Rattle.rep_core.proofs.Members.{Has}
 use Rattle.suite_collect.specs.Telling.{holds}
 use Rattle.weak_cache.specs.Entries.{Cache}
-use Rattle.txn_core.specs.Suites.{Suite, Suites, suite_of, holds_lock, told_in, told_at}
+use Rattle.txn_core.specs.Suites.{GatheredSuite, Suites, suite_of, holds_lock, told_in, told_at}
 use Rattle.txn_core.specs.Writing.{part_of, parts_at}
 use Rattle.txn_core.specs.declared.response.Response.{Response}
 use Rattle.txn_core.specs.declared.response.Response.TheVariants.{Replied, Lacked}
@@ -40,7 +40,7 @@ use Rattle.law_run_quorums.specs.Fairness.{PreparedPart}
 
 -- at a server the transaction has prepared its part of the suite
 abbrev pub IsPrepared : ℕ → World → ℕ → Suites → Proposal → ℕ → Type 0
-IsPrepared z w t suites outcome i = (suite : Suite) → suite_of suites z ≡ Some suite → PreparedPart w t i (part_of (changes_of outcome) i (z, suite))
+IsPrepared z w t suites outcome i = (suite : GatheredSuite) → suite_of suites z ≡ Some suite → PreparedPart w t i (part_of (changes_of outcome) i (z, suite))
 
 -- each server that holds a lock on the suite is still to prepare, or has prepared its part
 abbrev pub PartsIn : ℕ → World → ℕ → Suites → Phase → Type 0
@@ -87,11 +87,11 @@ module _ (changes : Changes) (z i : ℕ) where
   off_key a b e = grind (arith, nat_tests)
 
   -- what a server prepares of the suites that it holds
-  abbrev parts_kept : Bool → ℕ × Suite → Suites → List Part
+  abbrev parts_kept : Bool → ℕ × GatheredSuite → Suites → List Part
   parts_kept b e es = map (part_of changes i) (cond b (e ∷ filter (λ one. holds_lock one.1 i) es) (filter (λ one. holds_lock one.1 i) es))
 
   -- it is found by the suite's number
-  pub part_found : (suites : Suites) (suite : Suite) → suite_of suites z ≡ Some suite → holds_lock suite i ≡ true → preparing.part_of z (parts_at suites changes i) ≡ Some (part_of changes i (z, suite))
+  pub part_found : (suites : Suites) (suite : GatheredSuite) → suite_of suites z ≡ Some suite → holds_lock suite i ≡ true → preparing.part_of z (parts_at suites changes i) ≡ Some (part_of changes i (z, suite))
   part_found [] suite is held = cc
   part_found (e ∷ es) suite is held =
       elim (is_at (nat_cmp z) e.0) as (λ b. is_at (nat_cmp z) e.0 ≡ b → cond b (Some e.1) (get nat_cmp es z) ≡ Some suite → preparing.part_of z (parts_kept (holds_lock e.1 i) e es) ≡ Some (part_of changes i (z, suite))) [
@@ -114,7 +114,7 @@ module _ (changes : Changes) (z i : ℕ) where
           ]
 
 -- where a collector holds a lock
-pub lock_held : (suites : Suites) (z i : ℕ) (suite : Suite) → suite_of suites z ≡ Some suite → holds Shared (told_at suites z) i ≡ true → holds_lock suite i ≡ true
+pub lock_held : (suites : Suites) (z i : ℕ) (suite : GatheredSuite) → suite_of suites z ≡ Some suite → holds Shared (told_at suites z) i ≡ true → holds_lock suite i ≡ true
 lock_held suites z i suite found held = ap (λ o. holds Shared (told_in o) i) (sym found) ∙ held
 
 -- ---- an agent's own step

@@ -17,7 +17,7 @@ use Rattle.rep_core.specs.Service.{reply_of}
 use Rattle.rep_core.specs.Serving.{answer_of, is_full}
 use Rattle.suite_collect.specs.Telling.{holds}
 use Rattle.suite_prefix.specs.declared.lock_mode.LockMode.TheVariants.{Shared}
-use Rattle.txn_core.specs.Suites.{ReadPoint, Suite, suite_of, told_at}
+use Rattle.txn_core.specs.Suites.{ReadPoint, GatheredSuite, suite_of, told_at}
 use Rattle.txn_core.specs.Writing.{part_of, parts_at}
 use Rattle.txn_core.specs.declared.response.Response.{Response}
 use Rattle.txn_core.specs.declared.response.Response.TheVariants.{Replied, Lacked}
@@ -68,11 +68,11 @@ by_without : (start : Beginning) (w : World) (t : ℕ) (outcome : Proposal) → 
 by_without start w t (Ok granted) = refl
 by_without start w t (Err refusal) = refl
 
-by_first : (start : Beginning) (w v : World) (t : ℕ) (outcome : Proposal) (new : Option Change) (suite : Suite) (first : Option ReadPoint) → (happens start w (decides_first v t outcome new suite first)).ready ≡ w.ready
+by_first : (start : Beginning) (w v : World) (t : ℕ) (outcome : Proposal) (new : Option Change) (suite : GatheredSuite) (first : Option ReadPoint) → (happens start w (decides_first v t outcome new suite first)).ready ≡ w.ready
 by_first start w v t outcome new suite (Some first) = by_with start w v t (known_by first suite) outcome new
 by_first start w v t outcome new suite None = by_without start w t outcome
 
-by_on : (start : Beginning) (w v : World) (t : ℕ) (outcome : Proposal) (new : Option Change) (found : Option Suite) → (happens start w (decides_on v t outcome new found)).ready ≡ w.ready
+by_on : (start : Beginning) (w v : World) (t : ℕ) (outcome : Proposal) (new : Option Change) (found : Option GatheredSuite) → (happens start w (decides_on v t outcome new found)).ready ≡ w.ready
 by_on start w v t outcome new (Some suite) = by_first start w v t outcome new suite suite.first
 by_on start w v t outcome new None = by_without start w t outcome
 
@@ -346,7 +346,7 @@ opens_prepared given z n actor there =
 
 -- each server that holds an exclusive lock has prepared its part
 prepared_at : (z : ℕ) (w : World) (world : worlds.World) → AllAgree z w world → ToldBelow w → AllPrepared z w world
-    → (number : ℕ) (actor : Actor) (txn_run : TransactionRun) (outcome : Proposal) (suite : Suite) → actor_at world number ≡ Some actor → actor.agent.doing ≡ Some (Running txn_run) → txn_run.phase ≡ Deciding outcome
+    → (number : ℕ) (actor : Actor) (txn_run : TransactionRun) (outcome : Proposal) (suite : GatheredSuite) → actor_at world number ≡ Some actor → actor.agent.doing ≡ Some (Running txn_run) → txn_run.phase ≡ Deciding outcome
     → suite_of txn_run.suites z ≡ Some suite → (i : ℕ) → IsTrue (holds_exclusively w txn_run.task.t i) → PreparedPart w txn_run.task.t i (part_of (changes_of outcome) i (z, suite))
 prepared_at z w world agree below all number actor txn_run outcome suite there running phase found i held =
     let agrees : DoingAgrees z w (Some (Running txn_run)) = subst (DoingAgrees z w) running (agree number actor there) in
@@ -363,6 +363,6 @@ prepared_at z w world agree below all number actor txn_run outcome suite there r
 
 -- with all that holds together
 pub prepared_left : (given : Opening) (z : ℕ) (w : World) (world : worlds.World) → Together given z w world → AllPrepared z w world
-    → (number : ℕ) (actor : Actor) (txn_run : TransactionRun) (outcome : Proposal) (suite : Suite) → actor_at world number ≡ Some actor → actor.agent.doing ≡ Some (Running txn_run) → txn_run.phase ≡ Deciding outcome
+    → (number : ℕ) (actor : Actor) (txn_run : TransactionRun) (outcome : Proposal) (suite : GatheredSuite) → actor_at world number ≡ Some actor → actor.agent.doing ≡ Some (Running txn_run) → txn_run.phase ≡ Deciding outcome
     → suite_of txn_run.suites z ≡ Some suite → (i : ℕ) → IsTrue (holds_exclusively w txn_run.task.t i) → PreparedPart w txn_run.task.t i (part_of (changes_of outcome) i (z, suite))
 prepared_left given z w world now all = prepared_at z w world now.agrees now.readied.below all

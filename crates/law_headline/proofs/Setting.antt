@@ -20,7 +20,7 @@ use Rattle.file_exec.specs.declared.edit_log.Edit.TheVariants.{SetAcl, SetVotes,
 use Rattle.file_exec.specs.Changes.{makes, sets_acl, sets_votes, some}
 use Rattle.file_exec.specs.Following.{Edits, changed, seen, sets_content, emptied, head}
 use Rattle.file_exec.proofs.Leading.{neither, part_stays, keeps_acl, keeps_votes}
-use Rattle.txn_core.specs.Suites.{ReadPoint, Suite, row_with}
+use Rattle.txn_core.specs.Suites.{ReadPoint, GatheredSuite, row_with}
 use Rattle.txn_core.specs.Writing.{sets_prefix, new_prefix, prefix_kind, one_if}
 use Rattle.law_run_quorums.specs.Fairness.{IsFair}
 use Rattle.law_one_table.proofs.Shown.{FitsAs, told_as, kind_empty}
@@ -174,7 +174,7 @@ same_prefix p v k o g a c v_is k_is o_is g_is a_is c_is =
 plus : (n : ℕ) → n + 0 ≡ n
 plus n = omega arith
 
-module _ (suite : Suite) (first : ReadPoint) (rows : ℕ → Option Row) (z : ℕ) (edits : Edits) (row : Row) (fit : AllFit rows edits) (is : seen edits z (rows z) ≡ Some row) (fits : (c : Content) → suite.content ≡ Some c → FitsAs first.prefix.kind c)
+module _ (suite : GatheredSuite) (first : ReadPoint) (rows : ℕ → Option Row) (z : ℕ) (edits : Edits) (row : Row) (fit : AllFit rows edits) (is : seen edits z (rows z) ≡ Some row) (fits : (c : Content) → suite.content ≡ Some c → FitsAs first.prefix.kind c)
     (heads : head (rows z) ≡ head (row_with first.prefix.kind first.prefix suite.content)) where
   abbrev change : executor.Change
   change = told_as edits z row

@@ -12,7 +12,7 @@ use Rattle.rep_core.specs.declared.reply.Reply.TheVariants.{Held}
 use Rattle.rep_core.specs.Locks.{is_own}
 use Rattle.file_ops.specs.Rows as rows
 use Rattle.file_ops.specs.Rows.{row_of}
-use Rattle.txn_core.specs.Suites.{ReadPoint, Suite, suite_of}
+use Rattle.txn_core.specs.Suites.{ReadPoint, GatheredSuite, suite_of}
 use Rattle.txn_core.specs.declared.ending.Cause.{Cause}
 use Rattle.txn_core.specs.declared.ending.Ending.TheVariants.{Undecided}
 use Rattle.txn_core.specs.declared.job.Job.{Job}
@@ -139,4 +139,4 @@ AgentsKeepSides = (given : Opening) (events : List Event) → CanBe given events
 abbrev pub FirstsAreGiven : Type 0
 FirstsAreGiven =
     (fixed : Fixed) (agent : Agent) (job : Job) (told : List agents.Event) (txn_run : TransactionRun) → is_idle agent.doing ≡ true → (after_all fixed (begin fixed agent job) told).doing ≡ Some (Running txn_run)
-    → (number : ℕ) (suite : Suite) (first : ReadPoint) → suite_of txn_run.suites number ≡ Some suite → suite.first ≡ Some first → FirstFrom suite first
+    → (number : ℕ) (suite : GatheredSuite) (first : ReadPoint) → suite_of txn_run.suites number ≡ Some suite → suite.first ≡ Some first → FirstFrom suite first

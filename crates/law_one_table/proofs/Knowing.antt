@@ -9,7 +9,7 @@ use Rattle.file_ops.specs.Rows.{Row, Rows, row_of}
 use Rattle.file_exec.specs.KnownSuites.{KnownSuite}
 use Rattle.file_exec.specs.Known as known
 use Rattle.file_exec.specs.Known.{IsSo, IsSoAt, AgreesWith}
-use Rattle.txn_core.specs.Suites.{ReadPoint, Suite, Suites, suite_of, row_with, known_row, known_of}
+use Rattle.txn_core.specs.Suites.{ReadPoint, GatheredSuite, Suites, suite_of, row_with, known_row, known_of}
 use Rattle.txn_core.specs.Doing.{Task, Proposal}
 use Rattle.txn_core.proofs.Growing.{known_from}
 use Rattle.law_suite_machine.specs.Registers.{Beginning, Known, Change, IsKnown, IsPlain, row}
@@ -27,21 +27,21 @@ known_by_plain start w t known (Ok granted) None plain = plain.0
 known_by_plain start w t known (Ok granted) (Some new) plain = plain.0
 
 -- a decision on a suite that had a first Current
-pub decision_is : (z : ℕ) (w : World) (task : Task) (suites : Suites) (outcome : Proposal) (suite : Suite) (first : ReadPoint) → suite_of suites z ≡ Some suite → suite.first ≡ Some first
+pub decision_is : (z : ℕ) (w : World) (task : Task) (suites : Suites) (outcome : Proposal) (suite : GatheredSuite) (first : ReadPoint) → suite_of suites z ≡ Some suite → suite.first ≡ Some first
     → decision_with z w task suites outcome ≡ decides_with w task.t (known_by first suite) outcome (to_write z suites outcome)
 decision_is z w task suites outcome suite first there was =
     ap (decides_on w task.t outcome (to_write z suites outcome)) there ∙ ap (decides_first w task.t outcome (to_write z suites outcome) suite) was
 
 -- ---- what is known agrees with the rows
 
-so_at : (suite : Suite) (first : ReadPoint) (held : Replica) (row : Option Row) → IsShown held row → IsKnown held (known_by first suite) → IsSo (known_row suite first) row
+so_at : (suite : GatheredSuite) (first : ReadPoint) (held : Replica) (row : Option Row) → IsShown held row → IsKnown held (known_by first suite) → IsSo (known_row suite first) row
 so_at suite first held row shown knows =
     subst (IsSo (known_row suite first)) shown.shows
     (subst (λ (prefix : Prefix). IsSo (record { mode = suite.mode; row = row_with prefix.kind prefix suite.content; opened = is_some suite.content }) (row_shown held)) (sym knows.prefix)
     (is_so suite.mode held.prefix.kind held.prefix suite.content held.content shown.fits knows.content))
 
 pub agrees : (suites : Suites) (rows : Rows) (held : ℕ → Replica) → IsOrdered nat_cmp suites → ((z : ℕ) → IsShown (held z) (row_of rows z))
-    → ((z : ℕ) (suite : Suite) (first : ReadPoint) → suite_of suites z ≡ Some suite → suite.first ≡ Some first → IsKnown (held z) (known_by first suite)) → AgreesWith (known_of suites) (row_of rows)
+    → ((z : ℕ) (suite : GatheredSuite) (first : ReadPoint) → suite_of suites z ≡ Some suite → suite.first ≡ Some first → IsKnown (held z) (known_by first suite)) → AgreesWith (known_of suites) (row_of rows)
 agrees suites rows held ordered shown knows z = of (known.known_of (known_of suites) z) refl
   where
     of : (it : Option KnownSuite) → known.known_of (known_of suites) z ≡ it → IsSoAt it (row_of rows z)

@@ -17,7 +17,7 @@ use Rattle.file_ops.specs.Transactions.{transaction, replies, table_after}
 use Rattle.file_exec.specs.Following.{Ended}
 use Rattle.file_exec.specs.Known.{AgreesWith, on_table}
 use Rattle.file_exec.proofs.More.{done_is_the_tables}
-use Rattle.txn_core.specs.Suites.{ReadPoint, Suite, suite_of, known_of}
+use Rattle.txn_core.specs.Suites.{ReadPoint, GatheredSuite, suite_of, known_of}
 use Rattle.txn_core.specs.Doing.{TransactionRun, Doing, Running}
 use Rattle.txn_core.specs.Agents.{fixed_of}
 use Rattle.run_core.specs.declared.event.Event as happening
@@ -127,7 +127,7 @@ module _ (given : Opening) (events : List happening.Event) (event : happening.Ev
     log_with : (z : ℕ) → (machine_of given z (events ++ event ∷ [])).log ≡ (happens (beginning z given) (machine z) (decision_with z (machine z) so.txn_run.task so.txn_run.suites so.outcome)).log
     log_with z = log_decided z one is ∙ ap (λ decision. (happens (beginning z given) (machine z) decision).log) (decides_so z)
 
-    knows : (z : ℕ) (suite : Suite) (first : ReadPoint) → suite_of so.txn_run.suites z ≡ Some suite → suite.first ≡ Some first → IsKnown (register given z events) (known_by first suite)
+    knows : (z : ℕ) (suite : GatheredSuite) (first : ReadPoint) → suite_of so.txn_run.suites z ≡ Some suite → suite.first ≡ Some first → IsKnown (register given z events) (known_by first suite)
     knows z suite first there was =
         known_by_plain (beginning z given) (machine z) so.txn_run.task.t (known_by first suite) so.outcome (to_write z so.txn_run.suites so.outcome)
         (subst (λ log. IsPlain (beginning z given) log)

@@ -17,7 +17,7 @@ use Rattle.file_exec.specs.Known.{AgreesWith, is_held, Done, exec_of}
 use Rattle.file_exec.specs.Laws.{TellsAt}
 use Rattle.file_exec.proofs.Leading.{changes_lead_on}
 use Rattle.file_exec.proofs.Unset.{changes_are_held}
-use Rattle.txn_core.specs.Suites.{ReadPoint, Suite, Suites, suite_of, known_of}
+use Rattle.txn_core.specs.Suites.{ReadPoint, GatheredSuite, Suites, suite_of, known_of}
 use Rattle.txn_core.specs.Writing.{change_of}
 use Rattle.txn_core.specs.Doing.{Granted, Fixed, Task, Proposal}
 use Rattle.txn_core.proofs.Growing.{known_from, IsOfSuite}
@@ -37,19 +37,19 @@ rows_after rows (Err refusal) = rows
 -- ---- decisions that write nothing
 
 module _ (start : Beginning) (w : World) (t : ℕ) where
-  refused_first : (refusal : Refusal) (new : Option Change) (suite : Suite) (first : Option ReadPoint) → row start (happens start w (decides_first w t (Err refusal) new suite first)).log ≡ row start w.log
+  refused_first : (refusal : Refusal) (new : Option Change) (suite : GatheredSuite) (first : Option ReadPoint) → row start (happens start w (decides_first w t (Err refusal) new suite first)).log ≡ row start w.log
   refused_first refusal new suite (Some first) = refl
   refused_first refusal new suite None = refl
 
-  pub refused_keeps : (refusal : Refusal) (new : Option Change) (found : Option Suite) → row start (happens start w (decides_on w t (Err refusal) new found)).log ≡ row start w.log
+  pub refused_keeps : (refusal : Refusal) (new : Option Change) (found : Option GatheredSuite) → row start (happens start w (decides_on w t (Err refusal) new found)).log ≡ row start w.log
   refused_keeps refusal new (Some suite) = refused_first refusal new suite suite.first
   refused_keeps refusal new None = refl
 
-  read_first : (granted : Granted) (suite : Suite) (first : Option ReadPoint) → row start (happens start w (decides_first w t (Ok granted) None suite first)).log ≡ row start w.log
+  read_first : (granted : Granted) (suite : GatheredSuite) (first : Option ReadPoint) → row start (happens start w (decides_first w t (Ok granted) None suite first)).log ≡ row start w.log
   read_first granted suite (Some first) = refl
   read_first granted suite None = refl
 
-  pub read_keeps : (granted : Granted) (found : Option Suite) → row start (happens start w (decides_on w t (Ok granted) None found)).log ≡ row start w.log
+  pub read_keeps : (granted : Granted) (found : Option GatheredSuite) → row start (happens start w (decides_on w t (Ok granted) None found)).log ≡ row start w.log
   read_keeps granted (Some suite) = read_first granted suite suite.first
   read_keeps granted None = refl
 
@@ -61,7 +61,7 @@ nothing_written (Some first) = refl
 
 -- a suite that was gathered had a first Current
 record HadFirst (suites : Suites) (z : ℕ) : Type 0 where
-  pub suite : Suite
+  pub suite : GatheredSuite
   pub first : ReadPoint
   pub there : suite_of suites z ≡ Some suite
   pub was : suite.first ≡ Some first

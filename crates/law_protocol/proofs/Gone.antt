@@ -9,7 +9,7 @@ use Rattle.file_exec.specs.declared.executor.Outcome.{Outcome as Executed}
 use Rattle.file_exec.specs.declared.executor.Outcome.TheVariants as exec
 use Rattle.suite_collect.specs.Collecting.{Next, Ask, Current, Short, next}
 use Rattle.weak_cache.specs.Entries.{Cache}
-use Rattle.txn_core.specs.Suites.{Suite, Suites, suite_of, with_suite}
+use Rattle.txn_core.specs.Suites.{GatheredSuite, Suites, suite_of, with_suite}
 use Rattle.txn_core.specs.Doing.{Granted, Fixed, Task, Gathering, Fetching, Widening}
 use Rattle.txn_core.specs.Transactions.{Step, Gathered, on_with, gather, gather_by, widen_by, widen_one, widened, widen_all, open_needed, open_suite, or_all, opened, heard_on, raised_or_new, proceed, execute}
 use Rattle.txn_core.specs.Moves.{Stage, Executes, Widens, Asks, Prepares, PreparesAt, GivesUp, Tells, TellsAt, Point, point, EndsIn, is_short, Move, opens, fetches, gathers, lacks_lock, refuses, grants, prepares, passes, widens, widens_by, lacks_wide, Moves, stays, goes}
@@ -44,7 +44,7 @@ module _ (fixed : Fixed) (task : Task) where
   gathers_on cache suites number (Ask server asked) more = refl
   gathers_on cache suites number (Current prefix dver members) more = refl
 
-  widens_on : (cache : Cache) (suites : Suites) (number : ℕ) (left : List ℕ) (granted : Granted) (suite : Suite) (coming : Next) → suite_of suites number ≡ Some suite → next (widened granted.changes number suite).collector ≡ coming
+  widens_on : (cache : Cache) (suites : Suites) (number : ℕ) (left : List ℕ) (granted : Granted) (suite : GatheredSuite) (coming : Next) → suite_of suites number ≡ Some suite → next (widened granted.changes number suite).collector ≡ coming
       → widen_all task cache suites granted (number ∷ left)
       ≡ widen_by task cache (with_suite number (widened granted.changes number suite) suites) (Widening (number ∷ left) granted) number coming (λ suites. widen_all task cache suites granted left)
   widens_on cache suites number left granted suite coming there is =
@@ -116,7 +116,7 @@ module _ (fixed : Fixed) (task : Task) where
   goes_wide cache suites granted [] = ends_with _ prepares refl (λ number is. cc)
   goes_wide cache suites granted (number ∷ left) = of (suite_of suites number) refl (λ suites. goes_wide cache suites granted left)
     where
-      by : (suite : Suite) → suite_of suites number ≡ Some suite → (coming : Next) → next (widened granted.changes number suite).collector ≡ coming
+      by : (suite : GatheredSuite) → suite_of suites number ≡ Some suite → (coming : Next) → next (widened granted.changes number suite).collector ≡ coming
           → ((suites : Suites) → GoesTo fixed task (point (Widens left granted) cache suites) (widen_all task cache suites granted left))
           → GoesTo fixed task (point (Widens (number ∷ left) granted) cache suites)
           (widen_by task cache (with_suite number (widened granted.changes number suite) suites) (Widening (number ∷ left) granted) number coming (λ suites. widen_all task cache suites granted left))
@@ -124,13 +124,13 @@ module _ (fixed : Fixed) (task : Task) where
       by suite there (Ask server asked) is rest = ends_with _ (widens_by there is) refl (λ number is. cc)
       by suite there (Short got wanting busy) is rest = ends_with _ (lacks_wide there is) refl (λ number is. cc)
 
-      of : (found : Option Suite) → suite_of suites number ≡ found → ((suites : Suites) → GoesTo fixed task (point (Widens left granted) cache suites) (widen_all task cache suites granted left))
+      of : (found : Option GatheredSuite) → suite_of suites number ≡ found → ((suites : Suites) → GoesTo fixed task (point (Widens left granted) cache suites) (widen_all task cache suites granted left))
           → GoesTo fixed task (point (Widens (number ∷ left) granted) cache suites)
           (widen_one task cache suites (Widening (number ∷ left) granted) granted.changes number found (λ suites. widen_all task cache suites granted left))
       of (Some suite) there rest = by suite there (next (widened granted.changes number suite).collector) refl rest
       of None there rest = in_front (passes there) (rest suites)
 
-  goes_gather : (cache : Cache) (suites : Suites) (number : ℕ) (mode : LockMode) (suite : Suite) → heard_on fixed task suites ≡ exec.Need (Hold number mode) → raised_or_new fixed task cache number mode (suite_of suites number) ≡ suite
+  goes_gather : (cache : Cache) (suites : Suites) (number : ℕ) (mode : LockMode) (suite : GatheredSuite) → heard_on fixed task suites ≡ exec.Need (Hold number mode) → raised_or_new fixed task cache number mode (suite_of suites number) ≡ suite
       → (coming : Next) → next suite.collector ≡ coming → GoesTo fixed task (point Executes cache suites) (gather_by task cache (with_suite number suite suites) number coming)
   goes_gather cache suites number mode suite needs new (Short got wanting busy) is = ends_with _ (lacks_lock needs new is) refl (λ number is. cc)
   goes_gather cache suites number mode suite needs new (Ask server asked) is = ends_with _ (gathers needs new (ap is_short is)) refl (λ number is. cc)

@@ -1,3 +1,3 @@
 mod Opened
 mod Gone
-mod Taken
+mod WordsAreMoves

@@ -21,7 +21,7 @@ use Rattle.file_exec.specs.Changes.{answered}
 use Rattle.file_exec.specs.Known as known
 use Rattle.file_exec.specs.Known.{Known, Heard, Needs, Done}
 use Rattle.file_exec.proofs.Unmet.{needs_what_is_unmet}
-use Rattle.txn_core.specs.Suites.{ReadPoint, Suite, Suites, suite_of, with_suite, known_of}
+use Rattle.txn_core.specs.Suites.{ReadPoint, GatheredSuite, Suites, suite_of, with_suite, known_of}
 use Rattle.txn_core.specs.Doing.{Fixed, Task}
 use Rattle.txn_core.specs.Transactions.{Gathered, free_content, after_search, opened_with, open_first, open_suite, open_needed, or_all, opened, heard_on}
 use Rattle.txn_core.proofs.Setting.{known_at}
@@ -45,24 +45,24 @@ missing_few (one ∷ suites) = of one.1.content (missing_few suites)
     of (Some content) rest = omega (arith, rest)
     of None rest = omega (arith, rest)
 
-missing_set : (number : ℕ) (suites : Suites) (suite : Suite) (content : Content) → suite_of suites number ≡ Some suite → suite.content ≡ None
+missing_set : (number : ℕ) (suites : Suites) (suite : GatheredSuite) (content : Content) → suite_of suites number ≡ Some suite → suite.content ≡ None
     → suc (missing (replace nat_cmp suites number (record suite { content = Some content }))) ≡ missing suites
 missing_set number [] suite content there none = cc
 missing_set number (one ∷ suites) suite content there none = of (is_at (nat_cmp number) one.0) there (λ there. missing_set number suites suite content there none)
   where
-    new : Suite
+    new : GatheredSuite
     new = record suite { content = Some content }
 
     of : (b : Bool) → cond b (Some one.1) (suite_of suites number) ≡ Some suite → (suite_of suites number ≡ Some suite → suc (missing (replace nat_cmp suites number new)) ≡ missing suites)
         → suc (missing (cond b ((one.0, new) ∷ suites) (one ∷ replace nat_cmp suites number new))) ≡ lacking one.1.content + missing suites
     of true there rest =
         let one_less : lacking one.1.content + missing suites ≡ 1 + missing suites =
-        ap (λ (suite : Suite). lacking suite.content + missing suites) (same_Some one.1 suite there) ∙ ap (λ content. lacking content + missing suites) none in
+        ap (λ (suite : GatheredSuite). lacking suite.content + missing suites) (same_Some one.1 suite there) ∙ ap (λ content. lacking content + missing suites) none in
         omega (arith, one_less)
     of false there rest = let less = rest there in omega (arith, less)
 
 -- with a content more
-abbrev pub with_content : Task → Gathered → ℕ → Suite → ReadPoint → Content → Gathered
+abbrev pub with_content : Task → Gathered → ℕ → GatheredSuite → ReadPoint → Content → Gathered
 with_content task all number suite first content = record {
   suites = with_suite number (record suite { content = Some content }) all.suites;
   cache = after_search task all.cache number first;
@@ -86,7 +86,7 @@ module _ (fixed : Fixed) (task : Task) where
   none_there (Some content) is = cc
   none_there None is = refl
 
-  away : (suites : Suites) (number : ℕ) (suite : Suite) (first : ReadPoint) → heard_on fixed task suites ≡ exec.Need (Know number) → suite_of suites number ≡ Some suite → suite.first ≡ Some first → suite.content ≡ None
+  away : (suites : Suites) (number : ℕ) (suite : GatheredSuite) (first : ReadPoint) → heard_on fixed task suites ≡ exec.Need (Know number) → suite_of suites number ≡ Some suite → suite.first ≡ Some first → suite.content ≡ None
   away suites number suite first is there was =
       none_there suite.content (sym (ap known.is_opened (known_at suites number suite first there was))
       ∙ needs_what_is_unmet fixed.service (known_of suites) task.t task.caller task.ops (Know number)
@@ -97,7 +97,7 @@ module _ (fixed : Fixed) (task : Task) where
   -- what a round opens
   pub record Opens (all more : Gathered) : Type 0 where
     pub number : ℕ
-    pub suite : Suite
+    pub suite : GatheredSuite
     pub first : ReadPoint
     pub content : Content
     pub needs : heard_on fixed task all.suites ≡ exec.Need (Know number)
@@ -112,17 +112,17 @@ module _ (fixed : Fixed) (task : Task) where
   pub opens_by : (all more : Gathered) → next_round all ≡ Some more → Opens all more
   opens_by all more is = of (heard_on fixed task all.suites) refl is
     where
-      by_content : (number : ℕ) (suite : Suite) (first : ReadPoint) (content : Option Content) → heard_on fixed task all.suites ≡ exec.Need (Know number) → suite_of all.suites number ≡ Some suite → suite.first ≡ Some first
+      by_content : (number : ℕ) (suite : GatheredSuite) (first : ReadPoint) (content : Option Content) → heard_on fixed task all.suites ≡ exec.Need (Know number) → suite_of all.suites number ≡ Some suite → suite.first ≡ Some first
           → free_content task all.cache number first ≡ content → opened_with task all number suite first content ≡ Some more → Opens all more
       by_content number suite first (Some content) needs there was free is = record { number = number; suite = suite; first = first; content = content; needs = needs; there = there; was = was; free = free; is = same_Some _ more is }
       by_content number suite first None needs there was free is = cc
 
-      by_first : (number : ℕ) (suite : Suite) (first : Option ReadPoint) → heard_on fixed task all.suites ≡ exec.Need (Know number) → suite_of all.suites number ≡ Some suite → suite.first ≡ first
+      by_first : (number : ℕ) (suite : GatheredSuite) (first : Option ReadPoint) → heard_on fixed task all.suites ≡ exec.Need (Know number) → suite_of all.suites number ≡ Some suite → suite.first ≡ first
           → open_first task all number suite first ≡ Some more → Opens all more
       by_first number suite (Some first) needs there was is = by_content number suite first (free_content task all.cache number first) needs there was refl is
       by_first number suite None needs there was is = cc
 
-      by_suite : (number : ℕ) (found : Option Suite) → heard_on fixed task all.suites ≡ exec.Need (Know number) → suite_of all.suites number ≡ found → open_suite task all number found ≡ Some more → Opens all more
+      by_suite : (number : ℕ) (found : Option GatheredSuite) → heard_on fixed task all.suites ≡ exec.Need (Know number) → suite_of all.suites number ≡ found → open_suite task all number found ≡ Some more → Opens all more
       by_suite number (Some suite) needs there is = by_first number suite suite.first needs there refl is
       by_suite number None needs there is = cc
 
@@ -132,7 +132,7 @@ module _ (fixed : Fixed) (task : Task) where
       of (exec.Done answers changes) needs is = cc
       of (exec.Refused refusal) needs is = cc
 
-  pub round_opens : (all : Gathered) (number : ℕ) (suite : Suite) (first : ReadPoint) (content : Content) → heard_on fixed task all.suites ≡ exec.Need (Know number) → suite_of all.suites number ≡ Some suite → suite.first ≡ Some first
+  pub round_opens : (all : Gathered) (number : ℕ) (suite : GatheredSuite) (first : ReadPoint) (content : Content) → heard_on fixed task all.suites ≡ exec.Need (Know number) → suite_of all.suites number ≡ Some suite → suite.first ≡ Some first
       → free_content task all.cache number first ≡ Some content → next_round all ≡ Some (with_content task all number suite first content)
   round_opens all number suite first content needs there was free =
       ap (open_needed task all) needs ∙ ap (open_suite task all number) there ∙ ap (open_first task all number suite) was ∙ ap (opened_with task all number suite first) free
@@ -146,7 +146,7 @@ module _ (fixed : Fixed) (task : Task) where
   pub grows : (all more : Gathered) → Rises all.suites → next_round all ≡ Some more → Grows all more
   grows all more rises is =
       let opens = opens_by all more is in
-      let new : Suite = record opens.suite { content = Some opens.content } in
+      let new : GatheredSuite = record opens.suite { content = Some opens.content } in
       let set : with_suite opens.number new all.suites ≡ replace nat_cmp all.suites opens.number new = insert_present nat_cmp_total all.suites opens.number new rises (ap is_some opens.there) in
       subst (Grows all) opens.is (record {
         rises = IsOrdered-insert nat_cmp_total all.suites opens.number new rises;

@@ -23,7 +23,7 @@ use Rattle.rep_core.proofs.Members.{Has}
 use Rattle.file_ops.specs.Lists.{is_misplaced}
 use Rattle.file_exec.specs.declared.changes.Change as executor
 use Rattle.file_exec.specs.Known.{known_rows}
-use Rattle.txn_core.specs.Suites.{ReadPoint, Suite, Suites, holds_exclusively, lock_mode, known_of}
+use Rattle.txn_core.specs.Suites.{ReadPoint, GatheredSuite, Suites, holds_exclusively, lock_mode, known_of}
 use Rattle.txn_core.specs.Writing.{prefix_kind, sets_prefix, one_if, new_prefix, new_copy, has_vote, takes_whole, take_of_changed, take_from}
 use Rattle.law_suite_machine.specs.Registers.{Beginning, Entry, transaction, IsKnown, row, WasPrefix, GoesWith}
 use Rattle.law_run_machine.specs.Deciding.{known_by}
@@ -74,7 +74,7 @@ above_some n m some = grind (arith, nat_tests)
 
 -- ---- a change
 
-module _ (start : Beginning) (log : List Entry) (t z : ℕ) (suites : Suites) (suite : Suite) (first : ReadPoint) (change : executor.Change) (knows : IsKnown (row start log) (known_by first suite)) (leaves : Leaves suite first change)
+module _ (start : Beginning) (log : List Entry) (t z : ℕ) (suites : Suites) (suite : GatheredSuite) (first : ReadPoint) (change : executor.Change) (knows : IsKnown (row start log) (known_by first suite)) (leaves : Leaves suite first change)
     (own : IsOwn t z suites first change) (grown : Grown z start log) (valid : IsOfValid (row start log)) (unlogged : Has (map transaction log) t → ⊥) (small : AreSmall (known_rows (known_of suites)))
     (goes : (c : Content) → suite.content ≡ Some c → GoesWith start log first.prefix first.dver c) where
   -- ---- a prefix
@@ -160,7 +160,7 @@ either true b is = is
 either false b is = is
 
 -- what a server that holds the suite is to take fits, where what it takes of a change fits
-pub part_fits : (suite : Suite) (server : ℕ) (copy : Replica) (first : Option ReadPoint) (change : Option executor.Change)
+pub part_fits : (suite : GatheredSuite) (server : ℕ) (copy : Replica) (first : Option ReadPoint) (change : Option executor.Change)
     → ((one : ReadPoint) (change' : executor.Change) → first ≡ Some one → change ≡ Some change' → goes_with (take_of_changed one change' server) copy ≡ true)
     → ((is_keep (take_from suite server first change) || is_exclusive (lock_mode suite server)) && goes_with (take_from suite server first change) copy) ≡ true
 part_fits suite server copy None change goes = refl

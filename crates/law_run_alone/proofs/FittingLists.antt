@@ -20,7 +20,7 @@ use Rattle.file_ops.specs.Rows.{Row, new_row}
 use Rattle.file_exec.specs.declared.edit_log.Edit.{Edit}
 use Rattle.file_exec.specs.declared.edit_log.Edit.TheVariants.{SetAcl, SetVotes, SetContent, Make}
 use Rattle.file_exec.specs.Following.{Edits, changed, seen, emptied, head, looked}
-use Rattle.txn_core.specs.Suites.{ReadPoint, Suite, row_with}
+use Rattle.txn_core.specs.Suites.{ReadPoint, GatheredSuite, row_with}
 use Rattle.txn_core.specs.Writing.{prefix_kind}
 use Rattle.law_one_table.proofs.Shown.{FitsAs}
 use Rattle.law_headline.proofs.Editing.{FitsRow, AllFit}
@@ -99,7 +99,7 @@ valid_fits : (kind : Kind) (prefix : Prefix) → prefix_kind kind ≡ prefix.kin
 valid_fits holds.File prefix same valid = none_given (is_some prefix.acl.default) (and_parts (nat_lt 0 prefix.pver) (not (is_some prefix.acl.default)) (ap (λ kind. keeps_rules kind prefix) same ∙ valid)).1
 valid_fits holds.Folder prefix same valid = refl
 
-pub shown_fit : (suite : Suite) (first : ReadPoint) (row : Option Row) → ((c : Content) → suite.content ≡ Some c → FitsAs first.prefix.kind c) → head row ≡ head (row_with first.prefix.kind first.prefix suite.content)
+pub shown_fit : (suite : GatheredSuite) (first : ReadPoint) (row : Option Row) → ((c : Content) → suite.content ≡ Some c → FitsAs first.prefix.kind c) → head row ≡ head (row_with first.prefix.kind first.prefix suite.content)
     → is_valid_prefix first.prefix ≡ true → ListsFitIn row
 shown_fit suite first row fits heads valid r at =
     let of = head_of first.prefix.kind first.prefix suite.content r fits (sym (ap head at) ∙ heads) in

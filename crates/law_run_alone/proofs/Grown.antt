@@ -16,7 +16,7 @@ use Rattle.rep_core.proofs.Members.{Has}
 use Rattle.file_ops.specs.Limits.{max_operations}
 use Rattle.file_ops.specs.Rows.{made_number}
 use Rattle.file_exec.specs.declared.changes.Change as executor
-use Rattle.txn_core.specs.Suites.{ReadPoint, Suite, suite_of}
+use Rattle.txn_core.specs.Suites.{ReadPoint, GatheredSuite, suite_of}
 use Rattle.txn_core.specs.Writing.{change_of, prefix_kind}
 use Rattle.txn_core.specs.Doing.{Proposal, Deciding, Phase, Gathering, Fetching, Widening, Preparing, Finishing, TransactionRun, Doing, Running, RunningSweep}
 use Rattle.txn_core.specs.Transactions.{changes_of}
@@ -151,7 +151,7 @@ new_in_log entry log distinct = not_among (transaction entry) (map transaction l
 
 -- what is written there
 module _ (start : Beginning) (z : ℕ) (w : World) (grown : Grown z start w.log) where
-  with_change : (t : ℕ) (suite : Suite) (first : ReadPoint) (outcome : Proposal) (change : Option executor.Change)
+  with_change : (t : ℕ) (suite : GatheredSuite) (first : ReadPoint) (outcome : Proposal) (change : Option executor.Change)
       → ((one : executor.Change) → change ≡ Some one → IsKnown (row start w.log) (known_by first suite) → (one.made ≡ true → IsNumber t z) × (one.made ≡ false → prefix_kind (kind_of one.row.content) ≡ first.prefix.kind))
       → IsPlain start (happens start w (decides_with w t (known_by first suite) outcome (written_from (Some first) change))).log
       → IsDistinct nat_eq (map transaction (happens start w (decides_with w t (known_by first suite) outcome (written_from (Some first) change))).log)
@@ -178,7 +178,7 @@ module _ (given : Opening) (z : ℕ) (w : World) (inv : Inv (beginning z given) 
 
   module _ (txn_run : TransactionRun) (outcome : Proposal) (well : CameWell (fixed_of given) txn_run outcome) where
     -- what it sets of the suite
-    pub own_of : (suite : Suite) (first : ReadPoint) (change : executor.Change) → suite_of txn_run.suites z ≡ Some suite → suite.first ≡ Some first → change_of (changes_of outcome) z ≡ Some change → IsKnown (row start w.log) (known_by first suite)
+    pub own_of : (suite : GatheredSuite) (first : ReadPoint) (change : executor.Change) → suite_of txn_run.suites z ≡ Some suite → suite.first ≡ Some first → change_of (changes_of outcome) z ≡ Some change → IsKnown (row start w.log) (known_by first suite)
         → IsOwn txn_run.task.t z txn_run.suites first change
     own_of suite first change found had set knows =
         came_own (fixed_of given) txn_run.task txn_run.suites outcome z suite first change found had set c0 well.valid (known_fits start w inv kind first suite knows) well.came
@@ -186,13 +186,13 @@ module _ (given : Opening) (z : ℕ) (w : World) (inv : Inv (beginning z given) 
     abbrev Decides : Event → Type 0
     Decides decision = IsPlain start (happens start w decision).log → IsDistinct nat_eq (map transaction (happens start w decision).log) → Grown z start (happens start w decision).log
 
-    on_first : (suite : Suite) → suite_of txn_run.suites z ≡ Some suite → (o : Option ReadPoint) → suite.first ≡ o → Decides (decides_first w txn_run.task.t outcome (written_from o (change_of (changes_of outcome) z)) suite o)
+    on_first : (suite : GatheredSuite) → suite_of txn_run.suites z ≡ Some suite → (o : Option ReadPoint) → suite.first ≡ o → Decides (decides_first w txn_run.task.t outcome (written_from o (change_of (changes_of outcome) z)) suite o)
     on_first suite found None had = λ plain distinct. without start z w grown txn_run.task.t outcome
     on_first suite found (Some first) had =
         with_change start z w grown txn_run.task.t suite first outcome (change_of (changes_of outcome) z)
         (λ one set knows. let own = own_of suite first one found had set knows in (own.made, own.kept))
 
-    on_suite : (o : Option Suite) → suite_of txn_run.suites z ≡ o → Decides (decides_on w txn_run.task.t outcome (written_from (first_of o) (change_of (changes_of outcome) z)) o)
+    on_suite : (o : Option GatheredSuite) → suite_of txn_run.suites z ≡ o → Decides (decides_on w txn_run.task.t outcome (written_from (first_of o) (change_of (changes_of outcome) z)) o)
     on_suite None found = λ plain distinct. without start z w grown txn_run.task.t outcome
     on_suite (Some suite) found = on_first suite found suite.first refl
 

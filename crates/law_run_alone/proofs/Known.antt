@@ -15,7 +15,7 @@ use Rattle.suite_prefix.specs.declared.copies.Replica.{Replica}
 use Rattle.rep_core.specs.Intentions as server
 use Rattle.rep_core.specs.Store.{Store, IsSound, is_sound, is_used_up, copy_of, left_by}
 use Rattle.suite_collect.specs.Collecting.{all_told}
-use Rattle.txn_core.specs.Suites.{ReadPoint, Suite, suite_of, told_in}
+use Rattle.txn_core.specs.Suites.{ReadPoint, GatheredSuite, suite_of, told_in}
 use Rattle.txn_core.specs.Doing.{TransactionRun, Running}
 use Rattle.txn_core.specs.Agents.{fixed_of}
 use Rattle.run_core.specs.Worlds as worlds
@@ -104,7 +104,7 @@ module _ (start : Beginning) (w : World) (inv : Inv start w) (t : ℕ) (stands :
 
 -- what a transaction knows of a suite that had a quorum
 pub known_owed : (given : Opening) (z : ℕ) (w : World) (world : worlds.World) → Together given z w world → (number : ℕ) (actor : Actor) (txn_run : TransactionRun) → actor_at world number ≡ Some actor → actor.agent.doing ≡ Some (Running txn_run)
-    → (suite : Suite) (first : ReadPoint) → suite_of txn_run.suites z ≡ Some suite → suite.first ≡ Some first → OwesKnown (beginning z given) w txn_run.task.t (known_by first suite)
+    → (suite : GatheredSuite) (first : ReadPoint) → suite_of txn_run.suites z ≡ Some suite → suite.first ≡ Some first → OwesKnown (beginning z given) w txn_run.task.t (known_by first suite)
 known_owed given z w world now number actor txn_run there running suite first found had =
     let was = suite_was z (beginning z given) w actor.agent txn_run suite (now.fits number actor there) running found in
     let prefix = known_prefix z (beginning z given) w txn_run.task.t suite was first had in

@@ -29,7 +29,7 @@ use Rattle.rep_core.proofs.Finding.{find_some}
 use Rattle.rep_core.proofs.IntentionLookups.{get_has}
 use Rattle.suite_collect.specs.Telling.{holds}
 use Rattle.suite_collect.specs.Collecting.{Poll, Upgrade, Next, Ask, Current, Short, next}
-use Rattle.txn_core.specs.Suites.{ReadPoint, Suite, suite_of, has_locks, holds_lock, holds_exclusively, lock_mode, known_of, told_in, told_at}
+use Rattle.txn_core.specs.Suites.{ReadPoint, GatheredSuite, suite_of, has_locks, holds_lock, holds_exclusively, lock_mode, known_of, told_in, told_at}
 use Rattle.txn_core.specs.Writing.{change_of, take_of_changed, part_of, parts_at}
 use Rattle.txn_core.specs.Doing.{Fixed, home_of, Proposal, Phase, Gathering, Fetching, Widening, Preparing, Deciding, Finishing, TransactionRun, Running}
 use Rattle.txn_core.specs.Transactions.{asked_by, asked_for, fetched_at, fetched_for, request_in, changes_of, decision_of}
@@ -171,13 +171,13 @@ module _ (given : Opening) (c0 : IsValid given.c0) (world : worlds.World) (event
       by (Current prefix dver members) same = cc
       by (Short had wanting busy) same = cc
 
-      of : (found : Option Suite) → asked_for txn_run.task suite found ≡ Some asked → Goal asked
+      of : (found : Option GatheredSuite) → asked_for txn_run.task suite found ≡ Some asked → Goal asked
       of (Some found) same = by (next found.collector) same
       of None same = cc
 
   -- ---- fetching
 
-  fetches : (suite : ℕ) (asked : ℕ × Request) → txn_run.phase ≡ Fetching suite → ((z : ℕ) → Stands (machines z) t) → (found : Option Suite) → suite_of txn_run.suites suite ≡ found → fetched_for txn_run.task suite found ≡ Some asked → Goal asked
+  fetches : (suite : ℕ) (asked : ℕ × Request) → txn_run.phase ≡ Fetching suite → ((z : ℕ) → Stands (machines z) t) → (found : Option GatheredSuite) → suite_of txn_run.suites suite ≡ found → fetched_for txn_run.task suite found ≡ Some asked → Goal asked
   fetches suite asked phase stands None is same = cc
   fetches suite asked phase stands (Some found) is same = of found.first refl same
     where
@@ -200,10 +200,10 @@ module _ (given : Opening) (c0 : IsValid given.c0) (world : worlds.World) (event
     going : (z : ℕ) → Going (machines z) t
     going z = let stage : Stage z (machines z) t txn_run.suites (Preparing (server ∷ left) outcome) = subst (Stage z (machines z) t txn_run.suites) phase (in_course z).stage in stage.0
 
-    owed : (z : ℕ) (suite : Suite) (first : ReadPoint) → suite_of txn_run.suites z ≡ Some suite → suite.first ≡ Some first → OwesKnown (beginning z given) (machines z) t (known_by first suite)
+    owed : (z : ℕ) (suite : GatheredSuite) (first : ReadPoint) → suite_of txn_run.suites z ≡ Some suite → suite.first ≡ Some first → OwesKnown (beginning z given) (machines z) t (known_by first suite)
     owed z suite first found had = known_owed given z (machines z) world (now.whole z).together number actor txn_run there running suite first found had
 
-    knows : (z : ℕ) (suite : Suite) (first : ReadPoint) → suite_of txn_run.suites z ≡ Some suite → suite.first ≡ Some first → IsKnown (row (beginning z given) (machines z).log) (known_by first suite)
+    knows : (z : ℕ) (suite : GatheredSuite) (first : ReadPoint) → suite_of txn_run.suites z ≡ Some suite → suite.first ≡ Some first → IsKnown (row (beginning z given) (machines z).log) (known_by first suite)
     knows z suite first found had =
         is_known (beginning z given) (machines z) (now.whole z).together.inv t (stood z) (unanswered (machines z) t (going z)) (known_by first suite) (owed z suite first found had)
 
@@ -212,7 +212,7 @@ module _ (given : Opening) (c0 : IsValid given.c0) (world : worlds.World) (event
         ap is_within_limits ((knows z suite first found had).content c is) ∙ (row_valid given z (machines z) world (now.whole z).together).content)
 
     -- what it takes of a change fits the copy there
-    change_fits : (z : ℕ) (suite : Suite) → suite_of txn_run.suites z ≡ Some suite → (first : ReadPoint) (change : executor.Change) → suite.first ≡ Some first → change_of (changes_of outcome) z ≡ Some change
+    change_fits : (z : ℕ) (suite : GatheredSuite) → suite_of txn_run.suites z ≡ Some suite → (first : ReadPoint) (change : executor.Change) → suite.first ≡ Some first → change_of (changes_of outcome) z ≡ Some change
         → goes_with (take_of_changed first change server) (copy_of st.store z) ≡ true
     change_fits z suite found first change had set =
         let whole = now.whole z in
@@ -226,7 +226,7 @@ module _ (given : Opening) (c0 : IsValid given.c0) (world : worlds.World) (event
         (copy_of st.store z) (subst (λ (copy : Replica). WasPrefix (beginning z given) (machines z).log copy.prefix) copy_is (inv.stored server).0) server
 
     -- each part: of a suite that the server was heard to hold
-    module _ (z : ℕ) (suite : Suite) (found : suite_of txn_run.suites z ≡ Some suite) (held : holds_lock suite server ≡ true) where
+    module _ (z : ℕ) (suite : GatheredSuite) (found : suite_of txn_run.suites z ≡ Some suite) (held : holds_lock suite server ≡ true) where
       abbrev part : Part
       part = part_of (changes_of outcome) server (z, suite)
 
@@ -249,7 +249,7 @@ module _ (given : Opening) (c0 : IsValid given.c0) (world : worlds.World) (event
     parts = parts_at txn_run.suites (changes_of outcome) server
 
     -- of each part
-    each : (P : Part → Type 0) → ((z : ℕ) (suite : Suite) → suite_of txn_run.suites z ≡ Some suite → holds_lock suite server ≡ true → P (part_of (changes_of outcome) server (z, suite))) → (part : Part) → Has parts part → P part
+    each : (P : Part → Type 0) → ((z : ℕ) (suite : GatheredSuite) → suite_of txn_run.suites z ≡ Some suite → holds_lock suite server ≡ true → P (part_of (changes_of outcome) server (z, suite))) → (part : Part) → Has parts part → P part
     each P holds part has =
         let one = has_map (part_of (changes_of outcome) server) (filter (λ one. holds_lock one.1 server) txn_run.suites) part has in
         let kept = has_filter (λ one. holds_lock one.1 server) txn_run.suites one.0 one.1 in
@@ -303,7 +303,7 @@ module _ (given : Opening) (c0 : IsValid given.c0) (world : worlds.World) (event
   -- a Prepare is sent where it was told of a lock
   held_at : (server : ℕ) (st : State) → ((z : ℕ) → Stands (machines z) t) → server_at world server ≡ Some st → has_locks txn_run.suites server ≡ true → HasSome t st
   held_at server st stood at held =
-      let one = any_has (λ (one : ℕ × Suite). holds_lock one.1 server) txn_run.suites held in
+      let one = any_has (λ (one : ℕ × GatheredSuite). holds_lock one.1 server) txn_run.suites held in
       let z = one.0.0 in
       let found : suite_of txn_run.suites z ≡ Some one.0.1 = get_has txn_run.suites z one.0.1 (in_course 0).ordered one.1 in
       let lock = lock_there z server st (stood z) at ((agreed z).held server ∙ ap (λ o. holds Shared (told_in o) server) found ∙ one.2) in

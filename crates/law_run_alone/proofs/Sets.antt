@@ -28,7 +28,7 @@ use Rattle.file_exec.specs.Known as known
 use Rattle.file_exec.specs.Known.{Known, IsSoAt, AgreesWith, is_held, known_rows, Done, exec_of}
 use Rattle.file_exec.proofs.Leading.{changes_by_suite}
 use Rattle.file_exec.proofs.Unset.{changes_are_held}
-use Rattle.txn_core.specs.Suites.{ReadPoint, Suite, Suites, suite_of, row_with, known_of}
+use Rattle.txn_core.specs.Suites.{ReadPoint, GatheredSuite, Suites, suite_of, row_with, known_of}
 use Rattle.txn_core.specs.Writing.{change_of, prefix_kind}
 use Rattle.txn_core.specs.Doing.{Fixed, Task, Proposal}
 use Rattle.txn_core.specs.Transactions.{changes_of}
@@ -82,7 +82,7 @@ number_of_made t (e ∷ edits) z numbered is =
     of true makes is rest = numbered.0 makes
     of false makes is rest = rest is
 
-module _ (fixed : Fixed) (task : Task) (suites : Suites) (outcome : Proposal) (z : ℕ) (suite : Suite) (first : ReadPoint) (change : executor.Change)
+module _ (fixed : Fixed) (task : Task) (suites : Suites) (outcome : Proposal) (z : ℕ) (suite : GatheredSuite) (first : ReadPoint) (change : executor.Change)
     (there : suite_of suites z ≡ Some suite) (was : suite.first ≡ Some first) (set : change_of (changes_of outcome) z ≡ Some change) (c0 : IsValid fixed.service.c0) (valid : AllGiveValidVotes task.ops)
     (fits : (c : Content) → suite.content ≡ Some c → FitsAs first.prefix.kind c) where
   by_edits : (before : Known) → ((rows : ℕ → Option Row) → AgreesWith (known_of suites) rows → AgreesWith before rows) → (ended : Ended (List Answer)) → exec_of fixed.service before task.t task.caller task.ops ≡ Done (Ok ended)
@@ -128,7 +128,7 @@ row_small kind.Folder prefix content small r is = subst (λ (r : Row). is_within
     of None small = refl
 
 -- where each content is, so is each row that is known
-pub known_small : (suites : Suites) → IsOrdered nat_cmp suites → ((n : ℕ) (suite : Suite) (first : ReadPoint) (c : Content) → suite_of suites n ≡ Some suite → suite.first ≡ Some first → suite.content ≡ Some c → is_within_limits c ≡ true)
+pub known_small : (suites : Suites) → IsOrdered nat_cmp suites → ((n : ℕ) (suite : GatheredSuite) (first : ReadPoint) (c : Content) → suite_of suites n ≡ Some suite → suite.first ≡ Some first → suite.content ≡ Some c → is_within_limits c ≡ true)
     → AreSmall (known_rows (known_of suites))
 known_small suites ordered small n r = of (known.known_of (known_of suites) n) refl
   where

@@ -8,7 +8,7 @@ use Rattle.rep_core.specs.declared.request.Request.{Request}
 use Rattle.rep_core.specs.declared.request.Request.TheVariants as request
 use Rattle.rep_core.specs.declared.reply.Reply.{Reply}
 use Rattle.rep_core.specs.declared.reply.Reply.TheVariants as reply
-use Rattle.txn_core.specs.Suites.{ReadPoint, Suite, Suites, suite_of}
+use Rattle.txn_core.specs.Suites.{ReadPoint, GatheredSuite, Suites, suite_of}
 use Rattle.txn_core.specs.Doing.{Task, Proposal, Phase, Gathering, Fetching, Widening, Preparing, Deciding, Finishing, Doing, Running, RunningSweep}
 use Rattle.txn_core.specs.Agents.{Taken}
 use Rattle.law_suite_machine.specs.Registers.{Beginning, Change}
@@ -136,13 +136,13 @@ spare_without : (t : ℕ) (outcome : Proposal) → Spares (decides_without t out
 spare_without t (Ok granted) = tt
 spare_without t (Err refusal) = tt
 
-spare_first : (w : World) (t : ℕ) (outcome : Proposal) (new : Option Change) (suite : Suite) (first : Option ReadPoint) → Spares (decides_first w t outcome new suite first)
+spare_first : (w : World) (t : ℕ) (outcome : Proposal) (new : Option Change) (suite : GatheredSuite) (first : Option ReadPoint) → Spares (decides_first w t outcome new suite first)
 spare_first w t outcome new suite None = spare_without t outcome
 spare_first w t (Err refusal) new suite (Some first) = tt
 spare_first w t (Ok granted) None suite (Some first) = tt
 spare_first w t (Ok granted) (Some new) suite (Some first) = tt
 
-spare_on : (w : World) (t : ℕ) (outcome : Proposal) (new : Option Change) (found : Option Suite) → Spares (decides_on w t outcome new found)
+spare_on : (w : World) (t : ℕ) (outcome : Proposal) (new : Option Change) (found : Option GatheredSuite) → Spares (decides_on w t outcome new found)
 spare_on w t outcome new (Some suite) = spare_first w t outcome new suite suite.first
 spare_on w t outcome new None = spare_without t outcome
 

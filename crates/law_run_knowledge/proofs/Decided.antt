@@ -3,7 +3,7 @@ use Rattle.std.proofs.Common.{◌≡◌, ℕ, Some, refl, sym, subst, ◌∙◌}
 use Rattle.std.proofs.lemmas.Option.{same_Some}
 use Rattle.suite_content.specs.declared.content.Content.{Content}
 use Rattle.suite_collect.specs.Telling.{newest}
-use Rattle.txn_core.specs.Suites.{ReadPoint, Suite, suite_of}
+use Rattle.txn_core.specs.Suites.{ReadPoint, GatheredSuite, suite_of}
 use Rattle.txn_core.specs.Doing.{TransactionRun, Running}
 use Rattle.txn_core.specs.Agents.{Agent}
 use Rattle.law_suite_machine.specs.Registers.{Beginning, WasPrefix, GoesWith}
@@ -16,12 +16,12 @@ use Rattle.law_run_knowledge.proofs.Lasting.{DoingFits, AgentFits}
 
 module _ (z : ℕ) (start : Beginning) (w : World) where
   -- what its agent holds of the suite
-  pub suite_was : (agent : Agent) (txn_run : TransactionRun) (suite : Suite) → AgentFits z start w agent → agent.doing ≡ Some (Running txn_run) → suite_of txn_run.suites z ≡ Some suite → SuiteWas start w txn_run.task.t suite
+  pub suite_was : (agent : Agent) (txn_run : TransactionRun) (suite : GatheredSuite) → AgentFits z start w agent → agent.doing ≡ Some (Running txn_run) → suite_of txn_run.suites z ≡ Some suite → SuiteWas start w txn_run.task.t suite
   suite_was agent txn_run suite fits running found =
       let doing : DoingFits z start w (Some (Running txn_run)) = subst (DoingFits z start w) running fits.doing in
       doing.0.1 z suite found refl
 
-  module _ (t : ℕ) (suite : Suite) (was : SuiteWas start w t suite) where
+  module _ (t : ℕ) (suite : GatheredSuite) (was : SuiteWas start w t suite) where
     -- the prefix that it knows was the suite's
     pub known_prefix : (first : ReadPoint) → suite.first ≡ Some first → WasPrefix start w.log first.prefix
     known_prefix first had = (was.first first had).prefix

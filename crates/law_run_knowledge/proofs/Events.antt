@@ -21,7 +21,7 @@ use Rattle.rep_core.specs.Serving.{answer_of, is_full, served}
 use Rattle.rep_core.specs.Serving as serving
 use Rattle.weak_cache.specs.Entries.{Entry}
 use Rattle.weak_cache.proofs.Origins.{entries_come_from_puts, has_from}
-use Rattle.txn_core.specs.Suites.{ReadPoint, Suite, Suites, suite_of}
+use Rattle.txn_core.specs.Suites.{ReadPoint, GatheredSuite, Suites, suite_of}
 use Rattle.txn_core.specs.declared.response.Response.{Response}
 use Rattle.txn_core.specs.declared.response.Response.TheVariants.{Replied, Lacked}
 use Rattle.txn_core.specs.declared.job.Job.{Job}
@@ -66,7 +66,7 @@ use Rattle.law_run_knowledge.specs.Knowledge.{ToldVersion, SuiteWas, DoingWas, A
 use Rattle.law_run_knowledge.specs.Laws.{KnowledgeWas, KnownWas}
 use Rattle.law_run_knowledge.proofs.Walk.{IsNarrow, Says, Fits, AfterFits, fits_response, fits_execute}
 use Rattle.law_run_knowledge.proofs.Lasting.{Lasts, lasts, FitIn, DoingFits, AgentFits, said_later, agent_later}
-use Rattle.law_run_knowledge.proofs.Told.{says_so, gives_so}
+use Rattle.law_run_knowledge.proofs.RepliesAreTheMachines.{says_so, gives_so}
 
 -- ---- a suite that had no Current was not widened
 
@@ -77,7 +77,7 @@ Hears phase number = (phase ≡ Gathering number) ⊎ ((left : List ℕ) × (gra
 had_none : (first : ReadPoint) (o : Option ReadPoint) → o ≡ Some first → o ≡ None → ⊥
 had_none first o is none = none-some first (sym none ∙ is)
 
-stands_narrow : (fixed : Fixed) (task : Task) (Old Now Loose : ℕ → Prefix → Type 0) (past : List Exchange) (suites : Suites) (phase : Phase) (number : ℕ) → Hears phase number → Stands fixed task Old Now Loose past suites phase → (suite : Suite) → suite_of suites number ≡ Some suite → IsNarrow suite
+stands_narrow : (fixed : Fixed) (task : Task) (Old Now Loose : ℕ → Prefix → Type 0) (past : List Exchange) (suites : Suites) (phase : Phase) (number : ℕ) → Hears phase number → Stands fixed task Old Now Loose past suites phase → (suite : GatheredSuite) → suite_of suites number ≡ Some suite → IsNarrow suite
 stands_narrow fixed task Old Now Loose past suites (Gathering n) number (inl same) stands suite there none =
     let e : n ≡ number = cc in
     elim ((stands.2 suite (ap (suite_of suites) e ∙ there)).first) [ inl kept ↦ absurd (had_none kept.first suite.first kept.was none) | inr asks ↦ asks.1 ]
@@ -93,7 +93,7 @@ stands_narrow fixed task Old Now Loose past suites (Deciding outcome) number (in
 stands_narrow fixed task Old Now Loose past suites (Finishing servers v ending) number (inl same) stands suite there none = absurd cc
 stands_narrow fixed task Old Now Loose past suites (Finishing servers v ending) number (inr widens) stands suite there none = absurd (let same = widens.2 in cc)
 
-pub narrow_of : (fixed : Fixed) (agent : Agent) → IdleOr fixed agent → (txn_run : TransactionRun) → agent.doing ≡ Some (Running txn_run) → (asked : ℕ × Request) → request_of fixed txn_run ≡ Some asked → (number : ℕ) → Hears txn_run.phase number → (suite : Suite)
+pub narrow_of : (fixed : Fixed) (agent : Agent) → IdleOr fixed agent → (txn_run : TransactionRun) → agent.doing ≡ Some (Running txn_run) → (asked : ℕ × Request) → request_of fixed txn_run ≡ Some asked → (number : ℕ) → Hears txn_run.phase number → (suite : GatheredSuite)
     → suite_of txn_run.suites number ≡ Some suite → IsNarrow suite
 narrow_of fixed agent (inl idle) txn_run running asked is number hears suite there none = absurd (let busy : is_idle (Some (Running txn_run)) ≡ true = ap is_idle (sym running) ∙ idle in cc)
 narrow_of fixed agent (inr job) txn_run running asked is number hears suite there none =
@@ -103,7 +103,7 @@ narrow_of fixed agent (inr job) txn_run running asked is number hears suite ther
 
 -- ---- a response
 
-no_suites : IsOrdered {V = Suite} nat_cmp []
+no_suites : IsOrdered {V = GatheredSuite} nat_cmp []
 unfolding IsStrictlySortedBy
 no_suites = tt
 

@@ -10,7 +10,7 @@ use Rattle.suite_collect.specs.declared.told.Said.{Said}
 use Rattle.suite_collect.specs.declared.told.Said.TheVariants as said
 use Rattle.suite_collect.specs.declared.told.Told as collect
 use Rattle.weak_cache.specs.Entries.{Cache}
-use Rattle.txn_core.specs.Suites.{Suite, Suites}
+use Rattle.txn_core.specs.Suites.{GatheredSuite, Suites}
 use Rattle.txn_core.specs.Doing.{Doing, Running, RunningSweep}
 use Rattle.txn_core.specs.Agents.{Agent}
 use Rattle.txn_core.proofs.Gathers.{Each}
@@ -106,7 +106,7 @@ module _ (z : ℕ) (start : Beginning) (w later : World) (l : Lasts start w late
   goes_later prefix dver content (inl was) = inl (l.stays.contents dver content was)
   goes_later prefix dver content (inr none) = inr none
 
-  suite_later : (t : ℕ) (suite : Suite) → SuiteWas start w t suite → SuiteWas start later t suite
+  suite_later : (t : ℕ) (suite : GatheredSuite) → SuiteWas start w t suite → SuiteWas start later t suite
   suite_later t suite was = record {
     from = l.stays.prefixes suite.collector.start was.from;
     told = are_later t _ was.told;

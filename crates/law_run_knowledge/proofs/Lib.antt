@@ -2,6 +2,6 @@ pub mod Opened
 pub mod Showed
 pub mod Walk
 pub mod Lasting
-pub mod Told
+pub mod RepliesAreTheMachines
 pub mod Decided
 pub mod Events

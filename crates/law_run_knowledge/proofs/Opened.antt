@@ -23,7 +23,7 @@ use Rattle.file_exec.specs.declared.need.Need.TheVariants.{Hold, Know}
 use Rattle.file_exec.specs.Known as known
 use Rattle.file_exec.specs.Known.{Done}
 use Rattle.file_exec.proofs.Unmet.{needs_what_is_unmet}
-use Rattle.txn_core.specs.Suites.{ReadPoint, Suite, Suites, suite_of, with_suite, known_of}
+use Rattle.txn_core.specs.Suites.{ReadPoint, GatheredSuite, Suites, suite_of, with_suite, known_of}
 use Rattle.txn_core.specs.Doing.{Fixed, Task}
 use Rattle.txn_core.specs.Transactions.{Gathered, opened, or_all, open_needed, open_suite, open_first, opened_with, free_content, heard_on}
 use Rattle.txn_core.proofs.Setting.{known_at}
@@ -41,28 +41,28 @@ few_closed (one ∷ suites) =
     let rest = few_closed suites in
     elim (is_some one.1.content) as (λ b. cond b 0 1 + closed suites ≤ length (one ∷ suites)) [ true ↦ omega (arith, rest) | false ↦ omega (arith, rest) ]
 
-one_closed : (suite : Suite) → is_some suite.content ≡ false → ◌≡◌ {A = ℕ} (cond (is_some suite.content) 0 1) 1
+one_closed : (suite : GatheredSuite) → is_some suite.content ≡ false → ◌≡◌ {A = ℕ} (cond (is_some suite.content) 0 1) 1
 one_closed suite none = ap (λ b. cond b 0 1) none
 
-some_closed : (suites : Suites) (number : ℕ) (suite : Suite) → suite_of suites number ≡ Some suite → is_some suite.content ≡ false → 1 ≤ closed suites
+some_closed : (suites : Suites) (number : ℕ) (suite : GatheredSuite) → suite_of suites number ≡ Some suite → is_some suite.content ≡ false → 1 ≤ closed suites
 some_closed [] number suite there none = cc
 some_closed (e ∷ es) number suite there none =
     elim (is_at (nat_cmp number) e.0) as (λ b. cond b (Some e.1) (suite_of es number) ≡ Some suite → 1 ≤ closed (e ∷ es)) [
-      | true ↦ λ same. let one = one_closed e.1 (ap (λ (suite : Suite). is_some suite.content) (same_Some e.1 suite same) ∙ none) in omega (arith, one)
+      | true ↦ λ same. let one = one_closed e.1 (ap (λ (suite : GatheredSuite). is_some suite.content) (same_Some e.1 suite same) ∙ none) in omega (arith, one)
       | false ↦ λ rest. let more = some_closed es number suite rest none in omega (arith, more)
     ] there
 
 -- one of them is opened
-opens_one : (suites : Suites) (number : ℕ) (suite : Suite) (content : Content) → IsOrdered nat_cmp suites → suite_of suites number ≡ Some suite → is_some suite.content ≡ false
+opens_one : (suites : Suites) (number : ℕ) (suite : GatheredSuite) (content : Content) → IsOrdered nat_cmp suites → suite_of suites number ≡ Some suite → is_some suite.content ≡ false
     → closed (with_suite number (record suite { content = Some content }) suites) + 1 ≡ closed suites
 opens_one [] number suite content ordered there none = cc
 opens_one (e ∷ es) number suite content ordered there none =
-    let new : Suite = record suite { content = Some content } in
+    let new : GatheredSuite = record suite { content = Some content } in
     by_answer (nat_cmp number e.0)
     (λ less. absurd (none-some suite (sym (get_below nat_cmp_total number e es ordered less) ∙ there)))
     (λ equal.
     let same : e.1 ≡ suite = same_Some e.1 suite (sym (lookup_head (is_at (nat_cmp number)) e es (ap is_eq equal)) ∙ there) in
-    let one = one_closed e.1 (ap (λ (suite : Suite). is_some suite.content) same ∙ none) in
+    let one = one_closed e.1 (ap (λ (suite : GatheredSuite). is_some suite.content) same ∙ none) in
     ap (λ suites. closed suites + 1) (insert_step nat_cmp e es number new Equal equal) ∙ (let sum : closed ((e.0, new) ∷ es) + 1 ≡ closed (e ∷ es) = omega (arith, one) in sum))
     (λ greater.
     let rest = opens_one es number suite content (sorted_tail nat_cmp e.0 (keys_of es) ordered) (sym (lookup_tail (is_at (nat_cmp number)) e es (ap is_eq greater)) ∙ there) none in
@@ -70,7 +70,7 @@ opens_one (e ∷ es) number suite content ordered there none =
 
 -- ---- what the executor needs is not there
 
-away : (fixed : Fixed) (task : Task) (suites : Suites) (number : ℕ) → heard_on fixed task suites ≡ exec.Need (Know number) → (suite : Suite) (first : ReadPoint) → suite_of suites number ≡ Some suite → suite.first ≡ Some first → is_some suite.content ≡ false
+away : (fixed : Fixed) (task : Task) (suites : Suites) (number : ℕ) → heard_on fixed task suites ≡ exec.Need (Know number) → (suite : GatheredSuite) (first : ReadPoint) → suite_of suites number ≡ Some suite → suite.first ≡ Some first → is_some suite.content ≡ false
 away fixed task suites number is suite first there was =
     sym (ap known.is_opened (known_at suites number suite first there was))
     ∙ needs_what_is_unmet fixed.service (known_of suites) task.t task.caller task.ops (Know number)
@@ -88,17 +88,17 @@ record OneMore (all more : Gathered) : Type 0 where
   fewer : closed more.suites + 1 ≡ closed all.suites
 
 module _ (fixed : Fixed) (task : Task) (all : Gathered) (ordered : IsOrdered nat_cmp all.suites) where
-  with_content : (number : ℕ) (suite : Suite) (first : ReadPoint) (content : Option Content) (more : Gathered) → suite_of all.suites number ≡ Some suite → is_some suite.content ≡ false → opened_with task all number suite first content ≡ Some more → OneMore all more
+  with_content : (number : ℕ) (suite : GatheredSuite) (first : ReadPoint) (content : Option Content) (more : Gathered) → suite_of all.suites number ≡ Some suite → is_some suite.content ≡ false → opened_with task all number suite first content ≡ Some more → OneMore all more
   with_content number suite first (Some content) more there none is =
       subst (λ (more : Gathered). OneMore all more) (same_Some _ more is)
       (record { ordered = IsOrdered-insert nat_cmp_total all.suites number (record suite { content = Some content }) ordered; fewer = opens_one all.suites number suite content ordered there none })
   with_content number suite first None more there none is = cc
 
-  at_first : (number : ℕ) (suite : Suite) (first : Option ReadPoint) (more : Gathered) → heard_on fixed task all.suites ≡ exec.Need (Know number) → suite_of all.suites number ≡ Some suite → suite.first ≡ first → open_first task all number suite first ≡ Some more → OneMore all more
+  at_first : (number : ℕ) (suite : GatheredSuite) (first : Option ReadPoint) (more : Gathered) → heard_on fixed task all.suites ≡ exec.Need (Know number) → suite_of all.suites number ≡ Some suite → suite.first ≡ first → open_first task all number suite first ≡ Some more → OneMore all more
   at_first number suite (Some first) more needs there was is = with_content number suite first (free_content task all.cache number first) more there (away fixed task all.suites number needs suite first there was) is
   at_first number suite None more needs there was is = cc
 
-  at_suite : (number : ℕ) (found : Option Suite) (more : Gathered) → heard_on fixed task all.suites ≡ exec.Need (Know number) → suite_of all.suites number ≡ found → open_suite task all number found ≡ Some more → OneMore all more
+  at_suite : (number : ℕ) (found : Option GatheredSuite) (more : Gathered) → heard_on fixed task all.suites ≡ exec.Need (Know number) → suite_of all.suites number ≡ found → open_suite task all number found ≡ Some more → OneMore all more
   at_suite number (Some suite) more needs there is = at_first number suite suite.first more needs there refl is
   at_suite number None more needs there is = cc
 
@@ -112,11 +112,11 @@ module _ (fixed : Fixed) (task : Task) (all : Gathered) (ordered : IsOrdered nat
   none_left : closed all.suites ≤ 0 → IsAsked fixed task all
   none_left few number needs = of (suite_of all.suites number) refl
     where
-      first_of : (suite : Suite) (first : Option ReadPoint) → suite_of all.suites number ≡ Some suite → suite.first ≡ first → open_first task all number suite first ≡ None
+      first_of : (suite : GatheredSuite) (first : Option ReadPoint) → suite_of all.suites number ≡ Some suite → suite.first ≡ first → open_first task all number suite first ≡ None
       first_of suite None there was = refl
       first_of suite (Some first) there was = absurd (let some = some_closed all.suites number suite there (away fixed task all.suites number needs suite first there was) in omega (arith, some, few))
 
-      of : (found : Option Suite) → suite_of all.suites number ≡ found → open_suite task all number found ≡ None
+      of : (found : Option GatheredSuite) → suite_of all.suites number ≡ found → open_suite task all number found ≡ None
       of None there = refl
       of (Some suite) there = first_of suite suite.first there refl
 
@@ -134,7 +134,7 @@ above_zero : (n : ℕ) → (n == 0) ≡ false → 0 < n
 above_zero zero is = absurd (false≢true (sym is ∙ eq-eqb 0 0 refl))
 above_zero (suc n) is = omega arith
 
-not_free : (task : Task) (all : Gathered) (number : ℕ) (suite : Suite) (first : ReadPoint) → open_first task all number suite (Some first) ≡ None → 0 < first.dver
+not_free : (task : Task) (all : Gathered) (number : ℕ) (suite : GatheredSuite) (first : ReadPoint) → open_first task all number suite (Some first) ≡ None → 0 < first.dver
 not_free task all number suite first is = above_zero first.dver (of (first.dver == 0) is)
   where
     of : (b : Bool) → opened_with task all number suite first (cond b (Some (empty_content (held_by first.prefix.kind))) (content_at all.cache task.site number first.dver)) ≡ None → b ≡ false
@@ -143,7 +143,7 @@ not_free task all number suite first is = above_zero first.dver (of (first.dver 
 
 -- a suite whose content is fetched has one of a version above 0
 pub fetched_above : (fixed : Fixed) (task : Task) (all : Gathered) → IsOrdered nat_cmp all.suites → let open' = opened (length all.suites) fixed task all in
-    (number : ℕ) → heard_on fixed task open'.suites ≡ exec.Need (Know number) → (suite : Suite) (first : ReadPoint) → suite_of open'.suites number ≡ Some suite → suite.first ≡ Some first → 0 < first.dver
+    (number : ℕ) → heard_on fixed task open'.suites ≡ exec.Need (Know number) → (suite : GatheredSuite) (first : ReadPoint) → suite_of open'.suites number ≡ Some suite → suite.first ≡ Some first → 0 < first.dver
 fetched_above fixed task all ordered number needs suite first there was =
     let open' = opened (length all.suites) fixed task all in
     not_free task open' number suite first

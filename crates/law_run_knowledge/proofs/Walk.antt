@@ -32,7 +32,7 @@ use Rattle.weak_cache.specs.Entries.{Entry, Cache, is_of, entry_of}
 use Rattle.weak_cache.specs.Cache.{hint, content_at, at_version, put, searched}
 use Rattle.weak_cache.proofs.Origins.{entries_come_from_puts, Has, has_to}
 use Rattle.weak_cache.proofs.Found.{find_passes}
-use Rattle.txn_core.specs.Suites.{ReadPoint, Suite, Suites, suite_of, with_suite, first_or, settled, source_of}
+use Rattle.txn_core.specs.Suites.{ReadPoint, GatheredSuite, Suites, suite_of, with_suite, first_or, settled, source_of}
 use Rattle.txn_core.specs.declared.response.Response.{Response}
 use Rattle.txn_core.specs.declared.response.Response.TheVariants.{Replied, Lacked}
 use Rattle.txn_core.specs.declared.ending.Cause.{Cause}
@@ -53,11 +53,11 @@ use Rattle.law_run_knowledge.proofs.Showed.{newest_was, showed, sourced, narrow_
 
 -- a suite whose content is fetched has one of a version above 0
 abbrev pub InPhase : Suites → Phase → Type 0
-InPhase suites (Fetching number) = (suite : Suite) (first : ReadPoint) → suite_of suites number ≡ Some suite → suite.first ≡ Some first → 0 < first.dver
+InPhase suites (Fetching number) = (suite : GatheredSuite) (first : ReadPoint) → suite_of suites number ≡ Some suite → suite.first ≡ Some first → 0 < first.dver
 InPhase suites _ = Unit {0}
 
 -- before a suite had a Current it was not widened
-abbrev pub IsNarrow : Suite → Type 0
+abbrev pub IsNarrow : GatheredSuite → Type 0
 IsNarrow suite = suite.first ≡ None → suite.collector.widening ≡ None
 
 tell_narrow : (one : collect.Told) (c : Collector) → c.widening ≡ None → (tell one c).widening ≡ None
@@ -75,7 +75,7 @@ entry_suite : (site suite : ℕ) (entry : Entry) → is_of site suite entry ≡ 
 entry_suite site suite entry is = eqb-true entry.suite suite (and_parts (entry.site == site) (entry.suite == suite) is).1
 
 module _ (start : Beginning) (z : ℕ) (w : World) (copies : CopiesWere start w) (fixed : Fixed) (never : WasPrefix start w.log (absent_prefix fixed.service.c0)) (task : Task) where
-  abbrev pub K : ℕ → Suite → Type 0
+  abbrev pub K : ℕ → GatheredSuite → Type 0
   K number suite = number ≡ z → SuiteWas start w task.t suite
 
   abbrev pub Fit : Suites → Type 0
@@ -91,7 +91,7 @@ module _ (start : Beginning) (z : ℕ) (w : World) (copies : CopiesWere start w)
   abbrev pub Fits : Step → Type 0
   Fits step = Kept step.cache × AfterFits step.after
 
-  with_fit : (number : ℕ) (suite : Suite) (suites : Suites) → Fit suites → K number suite → Fit (with_suite number suite suites)
+  with_fit : (number : ℕ) (suite : GatheredSuite) (suites : Suites) → Fit suites → K number suite → Fit (with_suite number suite suites)
   with_fit number suite suites fit own = (IsOrdered-insert nat_cmp_total suites number suite fit.0, each_with K number suites suite (each_but K number suites fit.1) own)
 
   -- ---- caches
@@ -156,7 +156,7 @@ module _ (start : Beginning) (z : ℕ) (w : World) (copies : CopiesWere start w)
   fits_widen_by cache suites left granted number (Ask server asked) go_on kept fit more = (kept, (refl, fit, tt))
   fits_widen_by cache suites left granted number (Short got needed busy) go_on kept fit more = fits_give_up cache suites (short_cause number got needed busy) kept fit
 
-  fits_widen_one : (cache : Cache) (suites : Suites) (left : List ℕ) (granted : Granted) (number : ℕ) (found : Option Suite) (go_on : Suites → Step) → suite_of suites number ≡ found → Kept cache → Fit suites → ((suites : Suites) → Fit suites → Fits (go_on suites))
+  fits_widen_one : (cache : Cache) (suites : Suites) (left : List ℕ) (granted : Granted) (number : ℕ) (found : Option GatheredSuite) (go_on : Suites → Step) → suite_of suites number ≡ found → Kept cache → Fit suites → ((suites : Suites) → Fit suites → Fits (go_on suites))
       → Fits (widen_one task cache suites (Widening left granted) granted.changes number found go_on)
   fits_widen_one cache suites left granted number (Some suite) go_on there kept fit more =
       let now = widened granted.changes number suite in
@@ -169,7 +169,7 @@ module _ (start : Beginning) (z : ℕ) (w : World) (copies : CopiesWere start w)
   fits_widen cache suites granted (number ∷ left) kept fit =
       fits_widen_one cache suites (number ∷ left) granted number (suite_of suites number) _ refl kept fit (λ suites fit. fits_widen cache suites granted left kept fit)
 
-  fits_raised : (cache : Cache) (number : ℕ) (mode : LockMode) (found : Option Suite) → Kept cache → ((suite : Suite) → found ≡ Some suite → K number suite) → K number (raised_or_new fixed task cache number mode found)
+  fits_raised : (cache : Cache) (number : ℕ) (mode : LockMode) (found : Option GatheredSuite) → Kept cache → ((suite : GatheredSuite) → found ≡ Some suite → K number suite) → K number (raised_or_new fixed task cache number mode found)
   fits_raised cache number mode (Some suite) kept each is = let was = each suite refl is in record { from = was.from; told = was.told; since = was.since; first = was.first; content = was.content }
   fits_raised cache number mode None kept each is = record { from = started_was cache number kept is; told = tt; since = tt; first = λ first same. cc; content = λ content same. cc }
 
@@ -201,9 +201,9 @@ module _ (start : Beginning) (z : ℕ) (w : World) (copies : CopiesWere start w)
   AllFit all = Kept all.cache × Fit all.suites
 
   module _ (all : Gathered) (fits : AllFit all) where
-    with_content : (number : ℕ) (suite : Suite) (first : ReadPoint) (content : Option Content) (more : Gathered) → suite_of all.suites number ≡ Some suite → suite.first ≡ Some first → free_content task all.cache number first ≡ content → opened_with task all number suite first content ≡ Some more → AllFit more
+    with_content : (number : ℕ) (suite : GatheredSuite) (first : ReadPoint) (content : Option Content) (more : Gathered) → suite_of all.suites number ≡ Some suite → suite.first ≡ Some first → free_content task all.cache number first ≡ content → opened_with task all number suite first content ≡ Some more → AllFit more
     with_content number suite first (Some content) more there was free is =
-        let new : Suite = record suite { content = Some content } in
+        let new : GatheredSuite = record suite { content = Some content } in
         let own : K number new = λ is.
         let old = fits.1.1 number suite there is in
         record {
@@ -216,11 +216,11 @@ module _ (start : Beginning) (z : ℕ) (w : World) (copies : CopiesWere start w)
         subst AllFit (same_Some _ more is) (after_kept all.cache number first fits.0, with_fit number new all.suites fits.1 own)
     with_content number suite first None more there was free is = cc
 
-    at_first : (number : ℕ) (suite : Suite) (first : Option ReadPoint) (more : Gathered) → suite_of all.suites number ≡ Some suite → suite.first ≡ first → open_first task all number suite first ≡ Some more → AllFit more
+    at_first : (number : ℕ) (suite : GatheredSuite) (first : Option ReadPoint) (more : Gathered) → suite_of all.suites number ≡ Some suite → suite.first ≡ first → open_first task all number suite first ≡ Some more → AllFit more
     at_first number suite (Some first) more there was is = with_content number suite first (free_content task all.cache number first) more there was refl is
     at_first number suite None more there was is = cc
 
-    at_suite : (number : ℕ) (found : Option Suite) (more : Gathered) → suite_of all.suites number ≡ found → open_suite task all number found ≡ Some more → AllFit more
+    at_suite : (number : ℕ) (found : Option GatheredSuite) (more : Gathered) → suite_of all.suites number ≡ found → open_suite task all number found ≡ Some more → AllFit more
     at_suite number (Some suite) more there is = at_first number suite suite.first more there refl is
     at_suite number None more there is = cc
 
@@ -246,7 +246,7 @@ module _ (start : Beginning) (z : ℕ) (w : World) (copies : CopiesWere start w)
 
   -- ---- replies
 
-  settled_was : (prefix : Prefix) (dver : ℕ) (members : List ℕ) (suite : Suite) → IsNarrow suite → next suite.collector ≡ Current prefix dver members → SuiteWas start w task.t suite → SuiteWas start w task.t (settled prefix dver members suite)
+  settled_was : (prefix : Prefix) (dver : ℕ) (members : List ℕ) (suite : GatheredSuite) → IsNarrow suite → next suite.collector ≡ Current prefix dver members → SuiteWas start w task.t suite → SuiteWas start w task.t (settled prefix dver members suite)
   settled_was prefix dver members suite narrow is was = of suite.first refl
     where
       new : ReadPoint
@@ -277,7 +277,7 @@ module _ (start : Beginning) (z : ℕ) (w : World) (copies : CopiesWere start w)
         content = λ content there. absurd (no_first content there had);
       }
 
-  told_was : (one : collect.Told) (suite : Suite) → SaidIs (w.told one.server task.t) one.said → SuiteWas start w task.t suite → SuiteWas start w task.t (record suite { collector = tell one suite.collector })
+  told_was : (one : collect.Told) (suite : GatheredSuite) → SaidIs (w.told one.server task.t) one.said → SuiteWas start w task.t suite → SuiteWas start w task.t (record suite { collector = tell one suite.collector })
   told_was one suite said was =
       let both = told_one w task.t one suite.collector said was.told was.since in
       record { from = subst (WasPrefix start w.log) (sym (tell_start one suite.collector)) was.from; told = both.0; since = both.1; first = was.first; content = was.content }
@@ -286,13 +286,13 @@ module _ (start : Beginning) (z : ℕ) (w : World) (copies : CopiesWere start w)
   abbrev pub SaysTo : ℕ → Request → Reply → Type 0
   SaysTo server asked said = (heard : Said) → said_to asked said ≡ Some heard → SaidIs (w.told server task.t) heard
 
-  fits_heard : (cache : Cache) (suites : Suites) (phase : Phase) (number : ℕ) (found : Option Suite) (server : ℕ) (asked : Request) (said : Reply) (go_on : Suites → Step) → ((suites : Suites) → InPhase suites phase) → suite_of suites number ≡ found
-      → (number ≡ z → (suite : Suite) → suite_of suites number ≡ Some suite → IsNarrow suite) → (number ≡ z → SaysTo server asked said) → Kept cache → Fit suites → ((suites : Suites) → Fit suites → Fits (go_on suites))
+  fits_heard : (cache : Cache) (suites : Suites) (phase : Phase) (number : ℕ) (found : Option GatheredSuite) (server : ℕ) (asked : Request) (said : Reply) (go_on : Suites → Step) → ((suites : Suites) → InPhase suites phase) → suite_of suites number ≡ found
+      → (number ≡ z → (suite : GatheredSuite) → suite_of suites number ≡ Some suite → IsNarrow suite) → (number ≡ z → SaysTo server asked said) → Kept cache → Fit suites → ((suites : Suites) → Fit suites → Fits (go_on suites))
       → Fits (heard_of task cache suites phase number found server asked said go_on)
   fits_heard cache suites phase number None server asked said go_on any there narrow says kept fit more = fits_give_up cache suites (Lost server) kept fit
   fits_heard cache suites phase number (Some suite) server asked said go_on any there narrow says kept fit more = of (said_to asked said) refl
     where
-      at : (now : Suite) (after : Next) → K number now → (number ≡ z → IsNarrow now) → next now.collector ≡ after → Fits (collected task cache suites phase number now after (λ suite. go_on (with_suite number suite suites)))
+      at : (now : GatheredSuite) (after : Next) → K number now → (number ≡ z → IsNarrow now) → next now.collector ≡ after → Fits (collected task cache suites phase number now after (λ suite. go_on (with_suite number suite suites)))
       at now (Ask who what) own narrow_now is = (kept, (refl, with_fit number now suites fit own, any (with_suite number now suites)))
       at now (Short got needed busy) own narrow_now is = fits_give_up cache (with_suite number now suites) (short_cause number got needed busy) kept (with_fit number now suites fit own)
       at now (Current prefix dver members) own narrow_now is =
@@ -302,7 +302,7 @@ module _ (start : Beginning) (z : ℕ) (w : World) (copies : CopiesWere start w)
       of None is = fits_give_up cache suites (Lost server) kept fit
       of (Some heard) is =
           let one : collect.Told = record { server = server; mode = mode_of asked; said = heard } in
-          let now : Suite = record suite { collector = tell one suite.collector } in
+          let now : GatheredSuite = record suite { collector = tell one suite.collector } in
           at now (next now.collector) (λ here. told_was one suite (says here heard is) (fit.1 number suite there here)) (λ here none. tell_narrow one suite.collector (narrow here suite there none)) refl
 
   -- what it gives of the suite's content to a transaction that was told there of a version above 0
@@ -313,10 +313,10 @@ module _ (start : Beginning) (z : ℕ) (w : World) (copies : CopiesWere start w)
       → Fits (fetched fixed task cache suites number (suite_of suites number) server (given_in said))
   fits_fetched cache suites number server asked said is above gives kept fit = of (suite_of suites number) refl is (given_in said) refl
     where
-      keeps : (suite : Suite) (content : Content) (first : Option ReadPoint) → suite_of suites number ≡ Some suite → suite.first ≡ first → fetched_at task number first ≡ Some (server, asked) → given_in said ≡ Some content → Fits (keep_content fixed task cache suites number suite content first server)
+      keeps : (suite : GatheredSuite) (content : Content) (first : Option ReadPoint) → suite_of suites number ≡ Some suite → suite.first ≡ first → fetched_at task number first ≡ Some (server, asked) → given_in said ≡ Some content → Fits (keep_content fixed task cache suites number suite content first server)
       keeps suite content None there was is told = fits_give_up cache suites (Lost server) kept fit
       keeps suite content (Some first) there was is told =
-          let new : Suite = record suite { content = Some content } in
+          let new : GatheredSuite = record suite { content = Some content } in
           let given = given_is said content told in
           let at : first.source ≡ server = ap (λ (pair : ℕ × Request). pair.0) (same_Some (first.source, request.Fetch task.t number) (server, asked) is) in
           let what : request.Fetch task.t number ≡ asked = asks_same first.source server (request.Fetch task.t number) asked is in
@@ -334,7 +334,7 @@ module _ (start : Beginning) (z : ℕ) (w : World) (copies : CopiesWere start w)
           } in
           fits_execute _ (put_kept number first content cache (λ here. ((fit.1 number suite there here).first first was, λ _. had here)) kept) (with_fit number new suites fit own)
 
-      of : (found : Option Suite) → suite_of suites number ≡ found → fetched_for task number found ≡ Some (server, asked) → (content : Option Content) → given_in said ≡ content → Fits (fetched fixed task cache suites number found server content)
+      of : (found : Option GatheredSuite) → suite_of suites number ≡ found → fetched_for task number found ≡ Some (server, asked) → (content : Option Content) → given_in said ≡ content → Fits (fetched fixed task cache suites number found server content)
       of (Some suite) there is (Some content) told = keeps suite content suite.first there refl is told
       of (Some suite) there is None told = fits_give_up cache suites (Lost server) kept fit
       of None there is (Some content) told = fits_give_up cache suites (Lost server) kept fit
@@ -351,7 +351,7 @@ module _ (start : Beginning) (z : ℕ) (w : World) (copies : CopiesWere start w)
 
   -- what a response is to the suite: a request of it is answered so
   pub record Says (suites : Suites) (phase : Phase) (server : ℕ) (asked : Request) (response : Response) : Type 0 where
-    pub narrow : (number : ℕ) → (phase ≡ Gathering number) ⊎ ((left : List ℕ) × (granted : Granted) × (phase ≡ Widening (number ∷ left) granted)) → number ≡ z → (suite : Suite) → suite_of suites number ≡ Some suite → IsNarrow suite
+    pub narrow : (number : ℕ) → (phase ≡ Gathering number) ⊎ ((left : List ℕ) × (granted : Granted) × (phase ≡ Widening (number ∷ left) granted)) → number ≡ z → (suite : GatheredSuite) → suite_of suites number ≡ Some suite → IsNarrow suite
     pub says : (number : ℕ) → (phase ≡ Gathering number) ⊎ ((left : List ℕ) × (granted : Granted) × (phase ≡ Widening (number ∷ left) granted)) → number ≡ z → (said : Reply) → response ≡ Replied said → SaysTo server asked said
     pub gives : (said : Reply) → response ≡ Replied said → Gives server asked said
 

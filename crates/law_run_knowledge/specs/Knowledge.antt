@@ -4,7 +4,7 @@ use Rattle.suite_content.specs.declared.content.Content.{Content}
 use Rattle.suite_collect.specs.Collecting.{told_since}
 use Rattle.weak_cache.specs.Entries as weak
 use Rattle.weak_cache.specs.Entries.{Cache}
-use Rattle.txn_core.specs.Suites.{ReadPoint, Suite, suite_of}
+use Rattle.txn_core.specs.Suites.{ReadPoint, GatheredSuite, suite_of}
 use Rattle.txn_core.specs.Doing.{Doing, Running, RunningSweep}
 use Rattle.txn_core.specs.Agents.{Agent}
 use Rattle.run_core.specs.Worlds as worlds
@@ -39,7 +39,7 @@ pub record FirstWas (start : Beginning) (w : World) (t : ℕ) (first : ReadPoint
 
 -- a suite that was asked for: the prefix from which it was gathered was the register's; what it was told the machine told it; and the content, once it is
 -- there, goes with what the first Current gave
-pub record SuiteWas (start : Beginning) (w : World) (t : ℕ) (suite : Suite) : Type 0 where
+pub record SuiteWas (start : Beginning) (w : World) (t : ℕ) (suite : GatheredSuite) : Type 0 where
   pub from : WasPrefix start w.log suite.collector.start
   pub told : AreTold (told_to w t) suite.collector.told
   pub since : AreTold (told_to w t) (told_since suite.collector.widening)
@@ -49,7 +49,7 @@ pub record SuiteWas (start : Beginning) (w : World) (t : ℕ) (suite : Suite) : 
 -- ---- agents
 
 abbrev pub DoingWas : ℕ → Beginning → World → Option Doing → Type 0
-DoingWas z start w (Some (Running txn_run)) = (suite : Suite) → suite_of txn_run.suites z ≡ Some suite → SuiteWas start w txn_run.task.t suite
+DoingWas z start w (Some (Running txn_run)) = (suite : GatheredSuite) → suite_of txn_run.suites z ≡ Some suite → SuiteWas start w txn_run.task.t suite
 DoingWas z start w (Some (RunningSweep sweep_run)) = Unit {0}
 DoingWas z start w None = Unit {0}
 

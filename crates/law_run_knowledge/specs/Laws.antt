@@ -3,7 +3,7 @@ use Rattle.std.specs.Prelude.{◌≡◌, ℕ, List, Some}
 use Rattle.vote_core.specs.Validity.{IsValid}
 use Rattle.suite_content.specs.declared.content.Content.{Content}
 use Rattle.suite_prefix.specs.SettingsRules.{Opening}
-use Rattle.txn_core.specs.Suites.{ReadPoint, Suite, suite_of}
+use Rattle.txn_core.specs.Suites.{ReadPoint, GatheredSuite, suite_of}
 use Rattle.txn_core.specs.Doing.{TransactionRun, Running}
 use Rattle.run_core.specs.declared.event.Event.{Event}
 use Rattle.run_core.specs.Worlds.{Actor, actor_at}
@@ -21,7 +21,7 @@ KnowledgeWas = (given : Opening) (z : ℕ) (events : List Event) → IsValid giv
 -- So what a transaction knows of a suite that had a Current: its prefix was the register's, and its content, where it knows that, goes with it.
 abbrev pub KnownWas : Type 0
 KnownWas =
-    (given : Opening) (z : ℕ) (events : List Event) (number : ℕ) (actor : Actor) (txn_run : TransactionRun) (suite : Suite) (first : ReadPoint) → IsValid given.c0 → AgentsKeepSides given z events
+    (given : Opening) (z : ℕ) (events : List Event) (number : ℕ) (actor : Actor) (txn_run : TransactionRun) (suite : GatheredSuite) (first : ReadPoint) → IsValid given.c0 → AgentsKeepSides given z events
     → actor_at (runs.run given events) number ≡ Some actor → actor.agent.doing ≡ Some (Running txn_run) → suite_of txn_run.suites z ≡ Some suite → suite.first ≡ Some first
     → WasPrefix (beginning z given) (machine_of given z events).log first.prefix
     × ((content : Content) → suite.content ≡ Some content → GoesWith (beginning z given) (machine_of given z events).log first.prefix first.dver content)

@@ -6,7 +6,7 @@ use Rattle.std.proofs.lemmas.Option.{same_Some, none-some}
 use Rattle.rep_core.specs.declared.request.Request.{Request}
 use Rattle.txn_core.specs.declared.response.Response.{Response}
 use Rattle.txn_core.specs.declared.job.Job.{Job}
-use Rattle.txn_core.specs.Suites.{ReadPoint, Suite, suite_of}
+use Rattle.txn_core.specs.Suites.{ReadPoint, GatheredSuite, suite_of}
 use Rattle.txn_core.specs.Doing.{Fixed, Proposal, Deciding, TransactionRun, Doing, Running}
 use Rattle.txn_core.proofs.Quorums.{decides_on_quorums}
 use Rattle.txn_core.specs.Agents as agents
@@ -84,7 +84,7 @@ agents_are_of_jobs given events number actor there busy =
 none_first : (first : ReadPoint) (o : Option ReadPoint) → o ≡ Some first → o ≡ None → ⊥
 none_first first o is none = none-some first (sym none ∙ is)
 
-pub firsts : (fixed : Fixed) (agent : Agent) (z : ℕ) → IdleOr fixed agent → (txn_run : TransactionRun) (outcome : Proposal) → agent.doing ≡ Some (Running txn_run) → txn_run.phase ≡ Deciding outcome → (suite : Suite) → suite_of txn_run.suites z ≡ Some suite → suite.first ≡ None → ⊥
+pub firsts : (fixed : Fixed) (agent : Agent) (z : ℕ) → IdleOr fixed agent → (txn_run : TransactionRun) (outcome : Proposal) → agent.doing ≡ Some (Running txn_run) → txn_run.phase ≡ Deciding outcome → (suite : GatheredSuite) → suite_of txn_run.suites z ≡ Some suite → suite.first ≡ None → ⊥
 firsts fixed agent z (inl idle) txn_run outcome running phase suite there none = absurd (false≢true (ap is_idle (sym running) ∙ idle))
 firsts fixed agent z (inr is) txn_run outcome running phase suite there none =
     let ready = decides_on_quorums fixed is.before is.job is.told txn_run outcome z suite is.idle (ap (λ (agent : Agent). agent.doing) (sym is.is) ∙ running) phase there in

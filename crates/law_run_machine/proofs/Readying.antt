@@ -19,7 +19,7 @@ use Rattle.rep_core.proofs.Members.{Has, filter_has, map_has, has_any}
 use Rattle.rep_core.proofs.Finding.{any_find}
 use Rattle.suite_collect.specs.Telling.{holds}
 use Rattle.weak_cache.specs.Entries.{Cache}
-use Rattle.txn_core.specs.Suites.{Suite, Suites, suite_of, has_locks, holds_lock, told_in, told_at}
+use Rattle.txn_core.specs.Suites.{GatheredSuite, Suites, suite_of, has_locks, holds_lock, told_in, told_at}
 use Rattle.txn_core.specs.Writing.{part_of, parts_at}
 use Rattle.txn_core.specs.declared.response.Response.{Response}
 use Rattle.txn_core.specs.declared.response.Response.TheVariants.{Replied, Lacked}
@@ -77,12 +77,12 @@ found_there (e ∷ es) key value is =
     some a b is = cc
 
 -- where a suite's collector holds a lock, the suite stands among those that were gathered
-holds_at : (suites : Suites) (z i : ℕ) → holds Shared (told_at suites z) i ≡ true → (one : ℕ × Suite) × Has suites one × (one.0 ≡ z) × (holds_lock one.1 i ≡ true)
+holds_at : (suites : Suites) (z i : ℕ) → holds Shared (told_at suites z) i ≡ true → (one : ℕ × GatheredSuite) × Has suites one × (one.0 ≡ z) × (holds_lock one.1 i ≡ true)
 holds_at suites z i is = by (suite_of suites z) refl is
   where
-    by : (o : Option Suite) → suite_of suites z ≡ o → holds Shared (told_in o) i ≡ true → (one : ℕ × Suite) × Has suites one × (one.0 ≡ z) × (holds_lock one.1 i ≡ true)
+    by : (o : Option GatheredSuite) → suite_of suites z ≡ o → holds Shared (told_in o) i ≡ true → (one : ℕ × GatheredSuite) × Has suites one × (one.0 ≡ z) × (holds_lock one.1 i ≡ true)
     by None there is = absurd (false≢true is)
-    by (Some suite) there is = let found = found_there suites z suite there in (found.0, found.1, found.2, ap (λ (suite : Suite). holds_lock suite i) found.3 ∙ is)
+    by (Some suite) there is = let found = found_there suites z suite there in (found.0, found.1, found.2, ap (λ (suite : GatheredSuite). holds_lock suite i) found.3 ∙ is)
 
 among : (start count i : ℕ) → start ≤ i → i < start + count → Has (numbers_from start count) i
 among start zero i low high = absurd (omega arith)

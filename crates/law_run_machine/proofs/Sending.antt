@@ -23,7 +23,7 @@ use Rattle.rep_core.proofs.Finding.{find_some}
 use Rattle.rep_core.proofs.IntentionLookups.{get_has}
 use Rattle.suite_collect.specs.Telling.{newest, holds}
 use Rattle.suite_collect.specs.Collecting.{Collector, needed, got, all_told, wanted, request_for, Asked, Poll, Upgrade, Next, Ask, Current, Short, next, is_left, counted, is_member, members_of, version, asked_of, ask_or_short}
-use Rattle.txn_core.specs.Suites.{ReadPoint, Suite, Suites, suite_of, holds_lock, holds_exclusively, told_in, told_at}
+use Rattle.txn_core.specs.Suites.{ReadPoint, GatheredSuite, Suites, suite_of, holds_lock, holds_exclusively, told_in, told_at}
 use Rattle.txn_core.specs.Writing.{change_of, new_copy, new_prefix, sets_prefix, has_vote, takes_whole, take_of_changed, take_from, part_of, parts_at}
 use Rattle.txn_core.specs.Doing.{Fixed, Task, home_of, Proposal, Phase, Gathering, Fetching, Widening, Preparing, Deciding, Finishing}
 use Rattle.txn_core.specs.Transactions.{asked_by, asked_for, fetched_at, fetched_for, request_in, changes_of, decision_of}
@@ -66,7 +66,7 @@ upgraded c server is =
 
 -- what is asked for a suite
 record AsksFor (task : Task) (suites : Suites) (number server : ℕ) (asked : Request) : Type 0 where
-  pub suite : Suite
+  pub suite : GatheredSuite
   pub there : suite_of suites number ≡ Some suite
   pub question : Asked
   pub comes : question ≡ asked_of suite.collector server
@@ -79,7 +79,7 @@ asks_there a b x y same = ap at same
     at None = a
     at (Some asked) = asked.0
 
-asks_for : (task : Task) (suites : Suites) (number server : ℕ) (asked : Request) (found : Option Suite) → suite_of suites number ≡ found → asked_for task number found ≡ Some (server, asked) → AsksFor task suites number server asked
+asks_for : (task : Task) (suites : Suites) (number server : ℕ) (asked : Request) (found : Option GatheredSuite) → suite_of suites number ≡ found → asked_for task number found ≡ Some (server, asked) → AsksFor task suites number server asked
 asks_for task suites number server asked None there is = absurd cc
 asks_for task suites number server asked (Some suite) there is = by (next suite.collector) refl is
   where
@@ -121,7 +121,7 @@ module _ (z : ℕ) (w : World) (fixed : Fixed) (task : Task) (suites : Suites) (
           ∙ ap (λ o. holds Shared (told_in o) server) asks.there
           ∙ upgraded asks.suite.collector server comes
 
-  fetch_none : {A : Type 0} (number t s : ℕ) (found : Option Suite) → fetched_for task number found ≡ Some (server, request.Upgrade t s) → A
+  fetch_none : {A : Type 0} (number t s : ℕ) (found : Option GatheredSuite) → fetched_for task number found ≡ Some (server, request.Upgrade t s) → A
   fetch_none number t s None is = absurd cc
   fetch_none {A} number t s (Some suite) is = by suite.first is
     where
@@ -155,7 +155,7 @@ goes_by first change server changes =
     ] refl changes
 
 -- of a suite of which that much is known
-writes : (suite : Suite) (server : ℕ) (first : Option ReadPoint) (change : Option executor.Change) → is_keep (take_from suite server first change) ≡ false → (new : Change) × (written_from first change ≡ Some new) × GoesBy (take_from suite server first change) new
+writes : (suite : GatheredSuite) (server : ℕ) (first : Option ReadPoint) (change : Option executor.Change) → is_keep (take_from suite server first change) ≡ false → (new : Change) × (written_from first change ≡ Some new) × GoesBy (take_from suite server first change) new
 writes suite server (Some first) (Some change) changes =
     elim (holds_exclusively suite server) as (λ b. is_keep (cond b (take_of_changed first change server) take.Keep) ≡ false → (new : Change) × (Some (change_to first change) ≡ Some new) × GoesBy (cond b (take_of_changed first change server) take.Keep) new) [
       | true ↦ λ changes. (change_to first change, refl, goes_by first change server changes)
@@ -196,7 +196,7 @@ module _ (start : Beginning) (w : World) (t : ℕ) where
   ended (Ok granted) = Answered
   ended (Err refusal) = Refused
 
-  logs : (outcome : Proposal) (new : Option Change) (found : Option Suite) → (log : List Entry) × (happens start w (decides_on w t outcome new found) ≡ decided w t (ended outcome) log)
+  logs : (outcome : Proposal) (new : Option Change) (found : Option GatheredSuite) → (log : List Entry) × (happens start w (decides_on w t outcome new found) ≡ decided w t (ended outcome) log)
   logs (Ok granted) new None = (_, refl)
   logs (Err refusal) new None = (_, refl)
   logs (Ok granted) new (Some suite) = by new suite.first
@@ -247,7 +247,7 @@ module _ (start : Beginning) (z : ℕ) (home : ℕ → ℕ) (locks : List Lock) 
           ∙ polled asks.suite.collector server mode comes)
       by asks Upgrade comes = tt
 
-  fetches : (number : ℕ) (asked : Request) (decision : Event) (found : Option Suite) → fetched_for task number found ≡ Some (server, asked) → AgentSide start z home decision server locks w asked
+  fetches : (number : ℕ) (asked : Request) (decision : Event) (found : Option GatheredSuite) → fetched_for task number found ≡ Some (server, asked) → AgentSide start z home decision server locks w asked
   fetches number asked decision None is = absurd cc
   fetches number asked decision (Some suite) is = by suite.first is
     where

@@ -18,7 +18,7 @@ use Rattle.rep_core.specs.Serving.{is_full, served}
 use Rattle.rep_core.specs.Serving as serving
 use Rattle.acl_core.specs.Identity.{Identity}
 use Rattle.file_ops.specs.declared.operation.Op.{Op}
-use Rattle.txn_core.specs.Suites.{ReadPoint, Suite, Suites, suite_of}
+use Rattle.txn_core.specs.Suites.{ReadPoint, GatheredSuite, Suites, suite_of}
 use Rattle.txn_core.specs.declared.response.Response.{Response}
 use Rattle.txn_core.specs.declared.response.Response.TheVariants.{Replied, Lacked}
 use Rattle.txn_core.specs.declared.job.Job.{Job}
@@ -94,11 +94,11 @@ of_without : (t : ℕ) (outcome : Proposal) → IsOf t (decides_without t outcom
 of_without t (Ok granted) = refl
 of_without t (Err refusal) = refl
 
-of_first : (w : World) (t : ℕ) (outcome : Proposal) (new : Option Change) (suite : Suite) (first : Option ReadPoint) → IsOf t (decides_first w t outcome new suite first)
+of_first : (w : World) (t : ℕ) (outcome : Proposal) (new : Option Change) (suite : GatheredSuite) (first : Option ReadPoint) → IsOf t (decides_first w t outcome new suite first)
 of_first w t outcome new suite (Some first) = of_with w t (known_by first suite) outcome new
 of_first w t outcome new suite None = of_without t outcome
 
-of_on : (w : World) (t : ℕ) (outcome : Proposal) (new : Option Change) (found : Option Suite) → IsOf t (decides_on w t outcome new found)
+of_on : (w : World) (t : ℕ) (outcome : Proposal) (new : Option Change) (found : Option GatheredSuite) → IsOf t (decides_on w t outcome new found)
 of_on w t outcome new (Some suite) = of_first w t outcome new suite suite.first
 of_on w t outcome new None = of_without t outcome
 

@@ -5,7 +5,7 @@ use Rattle.file_exec.specs.declared.changes.Change as executor
 use Rattle.rep_core.specs.declared.reply.Verdict.TheVariants as verdict
 use Rattle.txn_core.specs.declared.ending.Ending.{Ending}
 use Rattle.txn_core.specs.declared.ending.Ending.TheVariants as ending
-use Rattle.txn_core.specs.Suites.{ReadPoint, Suite, Suites, suite_of}
+use Rattle.txn_core.specs.Suites.{ReadPoint, GatheredSuite, Suites, suite_of}
 use Rattle.txn_core.specs.Writing.{change_of, new_prefix, one_if}
 use Rattle.txn_core.specs.Doing.{Task, Proposal, Phase, Preparing, Deciding, Finishing, Doing, Running}
 use Rattle.txn_core.specs.Transactions.{changes_of}
@@ -27,7 +27,7 @@ abbrev pub written_from : Option ReadPoint → Option executor.Change → Option
 written_from (Some first) (Some change) = Some (change_to first change)
 written_from first change = None
 
-abbrev pub first_of : Option Suite → Option ReadPoint
+abbrev pub first_of : Option GatheredSuite → Option ReadPoint
 first_of (Some suite) = suite.first
 first_of None = None
 
@@ -45,7 +45,7 @@ showed known (Some told) = nat_le told.copy.prefix.pver known.prefix.pver && nat
 abbrev pub showed_to : World → ℕ → Known → ℕ → Bool
 showed_to w t known i = showed known (w.told i t)
 
-abbrev pub known_by : ReadPoint → Suite → Known
+abbrev pub known_by : ReadPoint → GatheredSuite → Known
 known_by first suite = record { prefix = first.prefix; dver = first.dver; content = suite.content }
 
 -- of a suite of which it knows so much
@@ -59,11 +59,11 @@ abbrev pub decides_without : ℕ → Proposal → Event
 decides_without t (Ok granted) = DecideElsewhere t Answered
 decides_without t (Err refusal) = DecideElsewhere t Refused
 
-abbrev pub decides_first : World → ℕ → Proposal → Option Change → Suite → Option ReadPoint → Event
+abbrev pub decides_first : World → ℕ → Proposal → Option Change → GatheredSuite → Option ReadPoint → Event
 decides_first w t outcome new suite (Some first) = decides_with w t (known_by first suite) outcome new
 decides_first w t outcome new suite None = decides_without t outcome
 
-abbrev pub decides_on : World → ℕ → Proposal → Option Change → Option Suite → Event
+abbrev pub decides_on : World → ℕ → Proposal → Option Change → Option GatheredSuite → Event
 decides_on w t outcome new (Some suite) = decides_first w t outcome new suite suite.first
 decides_on w t outcome new None = decides_without t outcome
 

@@ -5,7 +5,7 @@ use Rattle.vote_core.specs.Validity.{IsValid}
 use Rattle.suite_content.specs.declared.content.Content.{Content}
 use Rattle.suite_prefix.specs.declared.copies.Prefix.{Prefix}
 use Rattle.suite_prefix.specs.SettingsRules.{Opening}
-use Rattle.txn_core.specs.Suites.{ReadPoint, Suite, suite_of}
+use Rattle.txn_core.specs.Suites.{ReadPoint, GatheredSuite, suite_of}
 use Rattle.txn_core.specs.Doing.{Proposal, Deciding, TransactionRun, Running}
 use Rattle.txn_core.specs.Agents.{fixed_of}
 use Rattle.run_core.specs.declared.event.Event.{Event}
@@ -47,11 +47,11 @@ OwesWith start w t known (Ok granted) None = OwesKnown start w t known
 OwesWith start w t known (Ok granted) (Some new) = OwesWritten start w t known new
 
 -- each suite that it asked for had a Current, or it would not decide
-abbrev pub OwesFirst : Beginning → World → ℕ → Proposal → Option Change → Suite → Option ReadPoint → Type 0
+abbrev pub OwesFirst : Beginning → World → ℕ → Proposal → Option Change → GatheredSuite → Option ReadPoint → Type 0
 OwesFirst start w t outcome new suite (Some first) = OwesWith start w t (known_by first suite) outcome new
 OwesFirst start w t outcome new suite None = Unit {0}
 
-abbrev pub Owes : Beginning → World → ℕ → Proposal → Option Change → Option Suite → Type 0
+abbrev pub Owes : Beginning → World → ℕ → Proposal → Option Change → Option GatheredSuite → Type 0
 Owes start w t outcome new (Some suite) = OwesFirst start w t outcome new suite suite.first
 Owes start w t outcome new None = Unit {0}
 

@@ -9,7 +9,7 @@ use Rattle.suite_collect.specs.declared.told.Said.{Said}
 use Rattle.suite_collect.specs.declared.told.Told.{Told}
 use Rattle.suite_collect.specs.Collecting.{all_told, mode_of, next}
 use Rattle.weak_cache.specs.Entries.{Cache}
-use Rattle.txn_core.specs.Suites.{Suite, Suites, suite_of, with_suite, told_in}
+use Rattle.txn_core.specs.Suites.{GatheredSuite, Suites, suite_of, with_suite, told_in}
 use Rattle.txn_core.specs.declared.response.Response.{Response}
 use Rattle.txn_core.specs.declared.response.Response.TheVariants.{Replied}
 use Rattle.txn_core.specs.Doing.{Fixed, Task, Phase, Fetching, After, TransactionRun}
@@ -40,7 +40,7 @@ module _ (told : ℕ → List Told) (fixed : Fixed) (task : Task) (cache : Cache
   quiet : (phase : Phase) (response : Response) → IsQuiet phase → request_in fixed task suites phase ≡ Some (server, asked) → (z : ℕ) → told z ≡ heard_by z (told z) server asked response
   quiet phase response none is z = sym (ap (λ b. cond b (told_by (told z) (record { server = server; request = asked; response = response }) response) (told z)) (quiet_asks fixed task suites phase server asked none is z))
 
-  one_more : {phase : Phase} {number : ℕ} {stage : Stage} (suite new : Suite) (reply : Reply) (said : Said) → request_in fixed task suites phase ≡ Some (server, asked) → Collects phase number stage → suite_of suites number ≡ Some suite
+  one_more : {phase : Phase} {number : ℕ} {stage : Stage} (suite new : GatheredSuite) (reply : Reply) (said : Said) → request_in fixed task suites phase ≡ Some (server, asked) → Collects phase number stage → suite_of suites number ≡ Some suite
       → said_to asked reply ≡ Some said → new.collector ≡ (now_told server asked said suite).collector → (stage' : Stage) (cache' : Cache) → At told server asked (Replied reply) (point stage' cache' (with_suite number new suites))
   one_more {number = number} suite new reply said is collects there says same stage' cache' =
       let one : Told = record { server = server; mode = mode_of asked; said = said } in

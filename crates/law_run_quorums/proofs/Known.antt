@@ -17,7 +17,7 @@ use Rattle.suite_collect.specs.Collecting.{Collector, all_told, needed_of}
 use Rattle.suite_collect.specs.Laws.{among, IsCurrent}
 use Rattle.suite_collect.proofs.Collected.{gives_of, current_is_a_quorum}
 use Rattle.suite_collect.proofs.Sources.{some_needed}
-use Rattle.txn_core.specs.Suites.{ReadPoint, Suite}
+use Rattle.txn_core.specs.Suites.{ReadPoint, GatheredSuite}
 use Rattle.txn_core.proofs.Quorums.{votes_more}
 use Rattle.law_suite_machine.specs.Registers.{Beginning, Known, WasPrefix}
 use Rattle.law_suite_machine.specs.Machine.{Told, World, IsQuorum}
@@ -150,7 +150,7 @@ are_later : (f : ℕ → Option Told) (later early : List collect.Told) → AreT
 are_later f [] early are = are
 are_later f (one ∷ later) early are = are_later f later early are.1
 
-module _ (f : ℕ → Option Told) (suite : Suite) (first : ReadPoint) (from : FirstFrom suite first) (told : AreTold f (all_told suite.collector)) where
+module _ (f : ℕ → Option Told) (suite : GatheredSuite) (first : ReadPoint) (from : FirstFrom suite first) (told : AreTold f (all_told suite.collector)) where
   abbrev early : Collector
   early = early_collector suite.collector.start from.mode from.earlier
 

@@ -10,7 +10,7 @@ use Rattle.suite_prefix.specs.declared.copies.Replica.{Replica}
 use Rattle.file_exec.specs.declared.changes.Change as executor
 use Rattle.rep_core.specs.declared.request.Take.TheVariants as take
 use Rattle.suite_collect.specs.Collecting.{all_told}
-use Rattle.txn_core.specs.Suites.{ReadPoint, Suite}
+use Rattle.txn_core.specs.Suites.{ReadPoint, GatheredSuite}
 use Rattle.txn_core.specs.Suites as suites
 use Rattle.txn_core.specs.Writing.{change_of, gets_votes, sets_prefix, new_prefix, new_copy, one_if, has_vote, takes_whole, take_of_changed, take_from, part_of}
 use Rattle.txn_core.specs.Doing.{Changes}
@@ -27,7 +27,7 @@ use Rattle.law_run_quorums.specs.Telling.{Agrees}
 use Rattle.law_run_quorums.specs.Fairness.{IsFair, PreparedPart}
 use Rattle.law_run_quorums.specs.Laws.{WritesToQuorums}
 
-same_set : (w : World) (t : ℕ) (suite : Suite) → Agrees (told_to w t) (all_told suite.collector) → suites.holds_exclusively suite ≡ holds_exclusively w t
+same_set : (w : World) (t : ℕ) (suite : GatheredSuite) → Agrees (told_to w t) (all_told suite.collector) → suites.holds_exclusively suite ≡ holds_exclusively w t
 same_set w t suite agrees = λ n i. sym (agrees.exclusive i) n
 
 or_false : (a b : Bool) → (a || b) ≡ false → (a ≡ false) × (b ≡ false)
@@ -46,7 +46,7 @@ votes_has (rep ∷ reps) server some =
       | false ↦ λ some. votes_has reps server (omega arith)
     ] some
 
-module _ (start : Beginning) (w : World) (t : ℕ) (z : ℕ) (suite : Suite) (changes : Changes) (change : executor.Change) (first : ReadPoint)
+module _ (start : Beginning) (w : World) (t : ℕ) (z : ℕ) (suite : GatheredSuite) (changes : Changes) (change : executor.Change) (first : ReadPoint)
     (agrees : Agrees (told_to w t) (all_told suite.collector)) (was : suite.first ≡ Some first) (changed : change_of changes z ≡ Some change) (fair : IsFair suite first change)
     (prepared : (i : ℕ) → IsTrue (holds_exclusively w t i) → PreparedPart w t i (part_of changes i (z, suite))) where
   abbrev new : Change

@@ -4,13 +4,13 @@ use Rattle.vote_core.specs.Validity.{IsValid}
 use Rattle.suite_prefix.specs.declared.copies.Replica.{Replica}
 use Rattle.file_exec.specs.declared.changes.Change.{Change}
 use Rattle.rep_core.specs.declared.request.Part.{Part}
-use Rattle.txn_core.specs.Suites.{ReadPoint, Suite}
+use Rattle.txn_core.specs.Suites.{ReadPoint, GatheredSuite}
 use Rattle.txn_core.specs.Writing.{sets_prefix, new_prefix}
 use Rattle.law_suite_machine.specs.Machine.{World}
 use Rattle.law_server_moves.specs.Preparing.{left_of}
 
 -- what is not set stays as it was known, and the votes are valid
-pub record IsFair (suite : Suite) (first : ReadPoint) (change : Change) : Type 0 where
+pub record IsFair (suite : GatheredSuite) (first : ReadPoint) (change : Change) : Type 0 where
   pub prefix : sets_prefix change ≡ false → new_prefix first change ≡ first.prefix
   pub votes : change.votes ≡ false → change.row.votes ≡ first.prefix.votes
   pub content : change.content ≡ false → change.votes ≡ true → suite.content ≡ Some change.row.content

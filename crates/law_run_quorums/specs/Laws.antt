@@ -5,7 +5,7 @@ use Rattle.suite_content.specs.declared.content.Content.{Content}
 use Rattle.suite_prefix.specs.SettingsRules.{Opening, max_agents}
 use Rattle.file_exec.specs.declared.changes.Change as executor
 use Rattle.suite_collect.specs.Collecting.{all_told}
-use Rattle.txn_core.specs.Suites.{ReadPoint, Suite}
+use Rattle.txn_core.specs.Suites.{ReadPoint, GatheredSuite}
 use Rattle.txn_core.specs.Writing.{change_of, part_of}
 use Rattle.txn_core.specs.Doing.{Changes}
 use Rattle.txn_core.specs.Laws.{newest_of, IsReady}
@@ -26,14 +26,14 @@ use Rattle.law_run_quorums.specs.Fairness.{IsFair, PreparedPart}
 -- its first Current came from that list. That the prefix and the content were the suite's is presumed here.
 abbrev pub KnowsFromAQuorum : Type 0
 KnowsFromAQuorum =
-    (start : Beginning) (w : World) (t : ℕ) (suite : Suite) (first : ReadPoint) → IsValid first.prefix.votes → FirstFrom suite first → Agrees (told_to w t) (all_told suite.collector)
+    (start : Beginning) (w : World) (t : ℕ) (suite : GatheredSuite) (first : ReadPoint) → IsValid first.prefix.votes → FirstFrom suite first → Agrees (told_to w t) (all_told suite.collector)
     → WasPrefix start w.log first.prefix → ((content : Content) → suite.content ≡ Some content → GoesWith start w.log first.prefix first.dver content) → OwesKnown start w t (known_by first suite)
 
 -- What it writes it writes to quorums: under the newest prefix that it was told of, and under the new votes where it sets them; and each server that it holds
 -- exclusively is to have what changes. Of the operations it presumes that what they do not set stays as it was known.
 abbrev pub WritesToQuorums : Type 0
 WritesToQuorums =
-    (start : Beginning) (w : World) (t z : ℕ) (suite : Suite) (changes : Changes) (change : executor.Change) (first : ReadPoint) → Agrees (told_to w t) (all_told suite.collector)
+    (start : Beginning) (w : World) (t z : ℕ) (suite : GatheredSuite) (changes : Changes) (change : executor.Change) (first : ReadPoint) → Agrees (told_to w t) (all_told suite.collector)
     → suite.first ≡ Some first → change_of changes z ≡ Some change → IsFair suite first change → ((i : ℕ) → IsTrue (holds_exclusively w t i) → PreparedPart w t i (part_of changes i (z, suite)))
     → OwesKnown start w t (known_by first suite) → IsReady suite z changes → WasPrefix start w.log (newest_of suite) → OwesWritten start w t (known_by first suite) (change_to first change)
 

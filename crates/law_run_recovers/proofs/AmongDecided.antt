@@ -17,7 +17,7 @@ use Rattle.rep_core.specs.declared.request.Request.TheVariants as request
 use Rattle.txn_core.specs.declared.ending.Ending.{Ending}
 use Rattle.txn_core.specs.declared.ending.Ending.TheVariants.{Answered, Refused, Swept, Undecided}
 use Rattle.txn_core.specs.declared.job.Job.TheVariants.{Transaction}
-use Rattle.txn_core.specs.Suites.{ReadPoint, Suite, suite_of}
+use Rattle.txn_core.specs.Suites.{ReadPoint, GatheredSuite, suite_of}
 use Rattle.txn_core.specs.Doing as doing
 use Rattle.txn_core.specs.Doing.{Running, home_of}
 use Rattle.txn_core.specs.Transactions.{request_in, decision_of}
@@ -179,11 +179,11 @@ module _ (given : Opening) (events later : List Event) (agent t : ℕ) (caller :
     course_gathered c z mode =
         held_so (suite_of so.txn_run.suites z) ∙ (all_had c).gathered z mode ∙ ap (λ n. has_asked (locks_asked (table_of given events) n caller ops) z mode) (number given events later agent t caller site ops actor goes)
       where
-        of_first : (suite : Suite) (first : Option ReadPoint) → (is_some first && serves suite.mode mode) ≡ held_if suite mode first
+        of_first : (suite : GatheredSuite) (first : Option ReadPoint) → (is_some first && serves suite.mode mode) ≡ held_if suite mode first
         of_first suite (Some point) = refl
         of_first suite None = refl
 
-        held_so : (found : Option Suite) → is_gathered mode found ≡ held_in mode found
+        held_so : (found : Option GatheredSuite) → is_gathered mode found ≡ held_in mode found
         held_so (Some suite) = of_first suite suite.first
         held_so None = refl
 

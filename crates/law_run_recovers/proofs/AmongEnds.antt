@@ -26,7 +26,7 @@ use Rattle.law_run_recovers.proofs.Steady.{GoesSteadily}
 use Rattle.law_run_recovers.proofs.Apart.{event_apart, who_ends}
 use Rattle.law_run_recovers.proofs.Keeps.{run_at}
 use Rattle.law_run_recovers.proofs.NearGround.{number}
-use Rattle.law_run_recovers.proofs.Took.{OwnTook, own_took}
+use Rattle.law_run_recovers.proofs.StepsServed.{OwnTook, own_took}
 use Rattle.law_run_recovers.proofs.AmongCourse.{Course, Right, runs_it, next_is, apart_on}
 use Rattle.law_run_recovers.proofs.AmongBegin.{begun, first_course}
 use Rattle.law_run_recovers.proofs.AmongStep.{ends_right, own_on}

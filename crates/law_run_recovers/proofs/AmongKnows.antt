@@ -22,7 +22,7 @@ use Rattle.rep_core.specs.State.{State, record_of}
 use Rattle.rep_core.proofs.Members.{Has}
 use Rattle.rep_core.proofs.Finding.{find_some}
 use Rattle.txn_core.specs.declared.job.Job.TheVariants.{Transaction}
-use Rattle.txn_core.specs.Suites.{ReadPoint, Suite, suite_of, known_of}
+use Rattle.txn_core.specs.Suites.{ReadPoint, GatheredSuite, suite_of, known_of}
 use Rattle.txn_core.specs.Doing.{TransactionRun, Running}
 use Rattle.txn_core.specs.Agents.{fixed_of}
 use Rattle.txn_core.specs.Laws.{is_decide}
@@ -57,13 +57,13 @@ use Rattle.law_run_recovers.proofs.AsBegun.{row_same, stored_effect}
 use Rattle.law_run_recovers.proofs.Asking.{known_if_first, known_in, known_is}
 use Rattle.law_run_recovers.proofs.AtWork.{locks_stand, stands_next}
 use Rattle.law_run_recovers.proofs.Keeps.{IsAtWork, after_append, run_at}
-use Rattle.law_run_recovers.proofs.Knew.{unrecorded_on, unanswered, knows_registers, knows_table}
+use Rattle.law_run_recovers.proofs.KnownIsTheTables.{unrecorded_on, unanswered, knows_registers, knows_table}
 use Rattle.law_run_recovers.proofs.Locked.{free_beside}
 use Rattle.law_run_recovers.proofs.NearGround.{its, first_asked, can_first}
 use Rattle.law_run_recovers.proofs.Serves.{On}
 use Rattle.law_run_recovers.proofs.Stand.{free_where}
 use Rattle.law_run_recovers.proofs.Stands.{asks_of, locks_on}
-use Rattle.law_run_recovers.proofs.Took.{OwnTook}
+use Rattle.law_run_recovers.proofs.StepsServed.{OwnTook}
 use Rattle.law_run_recovers.proofs.AmongAt.{IsSpared, HasWhereOpen, ShowsWhereLocked, can_so_far}
 use Rattle.law_run_recovers.proofs.Unrobbed.{unrecorded_at}
 
@@ -155,7 +155,7 @@ module _ (given : Opening) (events later : List Event) (agent t : ℕ) (caller :
                 ap (λ (copy : Replica). copy.dver) now ∙ same.1 ∙ sym (ap (λ (copy : Replica). copy.dver) begun),
               )
 
-      module _ (suite : Suite) (first : ReadPoint) (found : suite_of more.suites z ≡ Some suite) (had : suite.first ≡ Some first) where
+      module _ (suite : GatheredSuite) (first : ReadPoint) (found : suite_of more.suites z ≡ Some suite) (had : suite.first ≡ Some first) where
         owes : OwesKnown (beginning z given) (machine_of given z all) more.task.t (known_by first suite)
         owes = known_owed given z (machine_of given z all) (run given all) (holds_after given all can z) agent new more there_run running suite first found had
 
@@ -200,11 +200,11 @@ module _ (given : Opening) (events later : List Event) (agent t : ℕ) (caller :
     pub knows_begun : (z : ℕ) → asks_of (locks_on (table_of given events) (its given events later agent t caller site ops actor goes)) z ≡ true → IsSoAt (known.known_of (known_of more.suites) z) (row_of (table_of given events).rows z)
     knows_begun z is = of (suite_of more.suites z) refl
       where
-        by : (suite : Suite) → suite_of more.suites z ≡ Some suite → (first : Option ReadPoint) → suite.first ≡ first → IsSoAt (known.known_of (known_of more.suites) z) (row_of (table_of given events).rows z)
+        by : (suite : GatheredSuite) → suite_of more.suites z ≡ Some suite → (first : Option ReadPoint) → suite.first ≡ first → IsSoAt (known.known_of (known_of more.suites) z) (row_of (table_of given events).rows z)
         by suite found None had =
             subst (λ found. IsSoAt found (row_of (table_of given events).rows z)) (sym (known_is more.suites ordered z ∙ ap known_in found ∙ ap (known_if_first suite) had)) tt
         by suite found (Some first) had = subst (IsSoAt (known.known_of (known_of more.suites) z)) (rows_same z suite first found had) (at_moment z)
 
-        of : (found : Option Suite) → suite_of more.suites z ≡ found → IsSoAt (known.known_of (known_of more.suites) z) (row_of (table_of given events).rows z)
+        of : (found : Option GatheredSuite) → suite_of more.suites z ≡ found → IsSoAt (known.known_of (known_of more.suites) z) (row_of (table_of given events).rows z)
         of None found = subst (λ found. IsSoAt found (row_of (table_of given events).rows z)) (sym (known_is more.suites ordered z ∙ ap known_in found)) tt
         of (Some suite) found = by suite found suite.first refl

@@ -45,11 +45,11 @@ use Rattle.law_run_recovers.proofs.Apart.{Apart, event_apart}
 use Rattle.law_run_recovers.proofs.Downs.{held-append}
 use Rattle.law_run_recovers.proofs.Keeps.{run_at}
 use Rattle.law_run_recovers.proofs.Locked.{freed}
-use Rattle.law_run_recovers.proofs.Knows.{among_numbers}
+use Rattle.law_run_recovers.proofs.KnownStays.{among_numbers}
 use Rattle.law_run_recovers.proofs.NearGround.{number, first_asked, opens_up}
 use Rattle.law_run_recovers.proofs.Open.{begun_servers}
 use Rattle.law_run_recovers.proofs.Serves.{On, Told, told_on}
-use Rattle.law_run_recovers.proofs.Took.{OwnTook, own_took}
+use Rattle.law_run_recovers.proofs.StepsServed.{OwnTook, own_took}
 use Rattle.law_run_recovers.proofs.AmongCourse.{Course, runs_it, next_is, running_now, course_runs, apart_on}
 use Rattle.law_run_recovers.proofs.Steady.{GoesSteadily, steady, never_hindered}
 use Rattle.law_run_recovers.proofs.AmongEnds.{Over, over_on, over_now}

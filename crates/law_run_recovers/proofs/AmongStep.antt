@@ -67,7 +67,7 @@ use Rattle.law_run_recovers.proofs.Polled.{Answers, dver_at, dver_in}
 use Rattle.law_run_recovers.proofs.Serves.{Told}
 use Rattle.law_run_recovers.proofs.Stands.{asks_of, locks_on}
 use Rattle.law_run_recovers.proofs.Still.{IsOpenPhase}
-use Rattle.law_run_recovers.proofs.Took.{OwnTook}
+use Rattle.law_run_recovers.proofs.StepsServed.{OwnTook}
 use Rattle.law_run_recovers.proofs.AmongAt.{HasWhereOpen, lock_right, fetch_right, prepare_right, decide_right, ShowsWhereLocked, on_locks}
 use Rattle.law_run_recovers.proofs.AmongAsks.{gather_asks, widen_asks, set_there}
 use Rattle.law_run_recovers.proofs.AmongBegin.{Good, stands_left, right_end, begun, idle_before}

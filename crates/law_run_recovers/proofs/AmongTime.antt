@@ -33,10 +33,10 @@ use Rattle.law_run_recovers.specs.Unmet.{begun_world, world_after, hinders_itsel
 use Rattle.law_run_recovers.proofs.Apart.{event_apart}
 use Rattle.law_run_recovers.proofs.AmongOver.{has_after}
 use Rattle.law_run_recovers.proofs.Keeps.{run_at}
-use Rattle.law_run_recovers.proofs.Knows.{among_numbers}
+use Rattle.law_run_recovers.proofs.KnownStays.{among_numbers}
 use Rattle.law_run_recovers.proofs.Names.{itself, suites_named, names_for, CountedOf, few_enough}
 use Rattle.law_run_recovers.proofs.NearGround.{its, Known, ground, number, sight, can_first}
-use Rattle.law_run_recovers.proofs.Took.{own_took}
+use Rattle.law_run_recovers.proofs.StepsServed.{own_took}
 use Rattle.law_run_recovers.proofs.Open.{unmet_is_among_locks}
 use Rattle.law_run_recovers.proofs.AmongCourse.{Course, RunsIt, runs_it, next_is, apart_on}
 use Rattle.law_run_recovers.proofs.AmongBegin.{idle_before, first_course, first_told}

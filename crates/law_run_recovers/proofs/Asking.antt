@@ -16,7 +16,7 @@ use Rattle.file_exec.specs.declared.need.Need.TheVariants.{Hold, Know}
 use Rattle.file_exec.specs.KnownSuites.{KnownSuite}
 use Rattle.file_exec.specs.Known as known
 use Rattle.file_exec.specs.Known.{Known, is_held, is_opened, first_unmet}
-use Rattle.txn_core.specs.Suites.{ReadPoint, Suite, Suites, suite_of, known_row, known_of}
+use Rattle.txn_core.specs.Suites.{ReadPoint, GatheredSuite, Suites, suite_of, known_row, known_of}
 use Rattle.txn_core.proofs.Growing.{known_from}
 use Rattle.txn_core.proofs.Setting.{known_at}
 use Rattle.law_run_recovers.specs.Demands.{has_asked, not_asked}
@@ -148,48 +148,48 @@ module _ (all : Known) (asked : List (ℕ × LockMode)) (modes : (suite : ℕ) (
 -- ---- in which modes suites are known
 
 -- what is known of a suite, where it had a Current
-abbrev pub known_if_first : Suite → Option ReadPoint → Option KnownSuite
+abbrev pub known_if_first : GatheredSuite → Option ReadPoint → Option KnownSuite
 known_if_first suite (Some first) = Some (known_row suite first)
 known_if_first suite None = None
 
-abbrev pub known_in : Option Suite → Option KnownSuite
+abbrev pub known_in : Option GatheredSuite → Option KnownSuite
 known_in (Some suite) = known_if_first suite suite.first
 known_in None = None
 
 pub known_is : (suites : Suites) → IsOrdered nat_cmp suites → (number : ℕ) → known.known_of (known_of suites) number ≡ known_in (suite_of suites number)
 known_is suites ordered number = of (suite_of suites number) refl
   where
-    none_but : (found : Option Suite) → suite_of suites number ≡ found → ((suite : Suite) (first : ReadPoint) → found ≡ Some suite → suite.first ≡ Some first → ⊥) → (it : Option KnownSuite) → known.known_of (known_of suites) number ≡ it → it ≡ None
+    none_but : (found : Option GatheredSuite) → suite_of suites number ≡ found → ((suite : GatheredSuite) (first : ReadPoint) → found ≡ Some suite → suite.first ≡ Some first → ⊥) → (it : Option KnownSuite) → known.known_of (known_of suites) number ≡ it → it ≡ None
     none_but found is none None was = refl
     none_but found is none (Some it) was =
         let from = known_from suites number it ordered was in
         absurd (none from.suite from.first (sym is ∙ from.there) from.was)
 
-    first_of : (suite : Suite) → suite_of suites number ≡ Some suite → (first : Option ReadPoint) → suite.first ≡ first → known.known_of (known_of suites) number ≡ known_if_first suite first
+    first_of : (suite : GatheredSuite) → suite_of suites number ≡ Some suite → (first : Option ReadPoint) → suite.first ≡ first → known.known_of (known_of suites) number ≡ known_if_first suite first
     first_of suite is (Some first) was = known_at suites number suite first is was
     first_of suite is None was =
-        none_but (Some suite) is (λ other first same had. none-some first (sym was ∙ ap (λ (suite : Suite). suite.first) (same_Some suite other same) ∙ had)) (known.known_of (known_of suites) number) refl
+        none_but (Some suite) is (λ other first same had. none-some first (sym was ∙ ap (λ (suite : GatheredSuite). suite.first) (same_Some suite other same) ∙ had)) (known.known_of (known_of suites) number) refl
 
-    of : (found : Option Suite) → suite_of suites number ≡ found → known.known_of (known_of suites) number ≡ known_in found
+    of : (found : Option GatheredSuite) → suite_of suites number ≡ found → known.known_of (known_of suites) number ≡ known_in found
     of None is = none_but None is (λ suite first none had. none-some suite none) (known.known_of (known_of suites) number) refl
     of (Some suite) is = first_of suite is suite.first refl
 
-abbrev pub held_if : Suite → LockMode → Option ReadPoint → Bool
+abbrev pub held_if : GatheredSuite → LockMode → Option ReadPoint → Bool
 held_if suite mode (Some first) = serves suite.mode mode
 held_if suite mode None = false
 
 -- whether a suite is held in a mode, as far as it is known
-abbrev pub held_in : LockMode → Option Suite → Bool
+abbrev pub held_in : LockMode → Option GatheredSuite → Bool
 held_in mode (Some suite) = held_if suite mode suite.first
 held_in mode None = false
 
 pub held_is : (suites : Suites) → IsOrdered nat_cmp suites → (number : ℕ) (mode : LockMode) → is_held mode (known.known_of (known_of suites) number) ≡ held_in mode (suite_of suites number)
 held_is suites ordered number mode = ap (is_held mode) (known_is suites ordered number) ∙ of (suite_of suites number)
   where
-    by : (suite : Suite) (first : Option ReadPoint) → is_held mode (known_if_first suite first) ≡ held_if suite mode first
+    by : (suite : GatheredSuite) (first : Option ReadPoint) → is_held mode (known_if_first suite first) ≡ held_if suite mode first
     by suite (Some first) = refl
     by suite None = refl
 
-    of : (found : Option Suite) → is_held mode (known_in found) ≡ held_in mode found
+    of : (found : Option GatheredSuite) → is_held mode (known_in found) ≡ held_in mode found
     of (Some suite) = by suite suite.first
     of None = refl

@@ -8,7 +8,7 @@ use Rattle.rep_core.specs.declared.stamped.Stamped.{Stamped}
 use Rattle.rep_core.specs.State.{State, record_of}
 use Rattle.rep_core.specs.Service.{reply_of, reply_up, reply_down}
 use Rattle.rep_core.specs.Serving.{is_full, answer_of}
-use Rattle.txn_core.specs.Suites.{Suite, suite_of}
+use Rattle.txn_core.specs.Suites.{GatheredSuite, suite_of}
 use Rattle.txn_core.specs.Doing.{Fixed, Task}
 use Rattle.txn_core.specs.Transactions.{changes_of}
 use Rattle.txn_core.specs.Agents.{fixed_of}
@@ -69,7 +69,7 @@ module _ (fixed : Fixed) (w : World) (i : ℕ) (actor : Actor) (task : Option Ta
 
 -- the newest prefix that it saw is the row's
 module _ (given : Opening) (all : List Event) (can : CanBe given all) (agent : ℕ) (one : Decided) (is : decided (fixed_of given) (run given all) (Step agent) ≡ Some one) (so : IsAnsweredAsKnown given (run given all) (Step agent) one)
-    (z : ℕ) (suite : Suite) (found : suite_of so.txn_run.suites z ≡ Some suite) (ready : IsReady suite z (changes_of so.outcome)) where
+    (z : ℕ) (suite : GatheredSuite) (found : suite_of so.txn_run.suites z ≡ Some suite) (ready : IsReady suite z (changes_of so.outcome)) where
   abbrev start : Beginning
   start = beginning z given
 

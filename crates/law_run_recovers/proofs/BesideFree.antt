@@ -54,7 +54,7 @@ use Rattle.law_run_recovers.proofs.Keeps.{run_at}
 use Rattle.law_run_recovers.proofs.NearGround.{its, opens, sight}
 use Rattle.law_run_recovers.proofs.Open.{open_first, unmet_is_among_locks, near_among, plain_way}
 use Rattle.law_run_recovers.proofs.Polled.{Answers}
-use Rattle.law_run_recovers.proofs.Took.{OwnTook, own_took}
+use Rattle.law_run_recovers.proofs.StepsServed.{OwnTook, own_took}
 use Rattle.law_run_recovers.proofs.AmongAsks.{gather_asks, widen_asks}
 use Rattle.law_run_recovers.proofs.AmongCourse.{Course, PhaseIn, runs_it, next_is, running_now, course_runs, apart_on}
 use Rattle.law_run_recovers.proofs.Steady.{GoesSteadily, steady, never_hindered}

@@ -27,7 +27,7 @@ use Rattle.law_run_recovers.specs.Local.{EndsThen}
 use Rattle.law_run_recovers.specs.Standing.{is_up}
 use Rattle.law_run_recovers.specs.Unmet.{is_running, world_after, GoesUnmet}
 use Rattle.law_run_recovers.proofs.Keeps.{step_asks}
-use Rattle.law_run_recovers.proofs.Took.{own_took}
+use Rattle.law_run_recovers.proofs.StepsServed.{own_took}
 use Rattle.law_run_recovers.proofs.UnmetLaws.{unmet_by_votes}
 use Rattle.law_run_recovers.proofs.AmongTime.{unmet_end_in_time}
 use Rattle.law_run_recovers.proofs.BesideUnmet.{IsUnmet, then_is, goes_of, ran}

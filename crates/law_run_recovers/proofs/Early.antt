@@ -4,7 +4,7 @@ use Rattle.std.proofs.lemmas.Option.{none-some, same_Some}
 use Rattle.rep_core.specs.declared.request.Request.{Request}
 use Rattle.rep_core.specs.declared.request.Request.TheVariants as request
 use Rattle.txn_core.specs.declared.ending.Ending.{Ending}
-use Rattle.txn_core.specs.Suites.{ReadPoint, Suite, Suites, suite_of}
+use Rattle.txn_core.specs.Suites.{ReadPoint, GatheredSuite, Suites, suite_of}
 use Rattle.txn_core.specs.Doing.{Fixed, Task, Phase, Gathering, Fetching, Widening, Preparing, Deciding, Finishing}
 use Rattle.txn_core.specs.Transactions.{fetched_at, fetched_for, request_in}
 use Rattle.txn_core.specs.Laws.{is_decide}
@@ -36,7 +36,7 @@ early_asks fixed task suites (Deciding outcome) may server asked is = absurd may
 early_asks fixed task suites (Finishing left v ended) may server asked is = absurd may
 
 -- a content is fetched by Fetch
-pub fetch_is : (task : Task) (number : ℕ) (found : Option Suite) (server : ℕ) (asked : Request) → fetched_for task number found ≡ Some (server, asked) → asked ≡ request.Fetch task.t number
+pub fetch_is : (task : Task) (number : ℕ) (found : Option GatheredSuite) (server : ℕ) (asked : Request) → fetched_for task number found ≡ Some (server, asked) → asked ≡ request.Fetch task.t number
 fetch_is task number None server asked is = absurd (none-some (server, asked) is)
 fetch_is task number (Some suite) server asked is = of suite.first is
   where

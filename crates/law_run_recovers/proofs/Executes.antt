@@ -36,7 +36,7 @@ use Rattle.suite_collect.specs.Collecting.{Collector, collect, raise}
 use Rattle.weak_cache.specs.Entries.{Cache}
 use Rattle.weak_cache.specs.Cache.{hint, searched}
 use Rattle.weak_cache.proofs.Origins.{search_keeps_all}
-use Rattle.txn_core.specs.Suites.{ReadPoint, Suite, Suites, suite_of, with_suite, known_of}
+use Rattle.txn_core.specs.Suites.{ReadPoint, GatheredSuite, Suites, suite_of, with_suite, known_of}
 use Rattle.txn_core.specs.Doing.{Fixed, Task, Granted}
 use Rattle.txn_core.specs.Transactions.{Step, Gathered, start_from, raised_or_new, gather, widen_all, heard_on, after_search, free_content, opened_with, open_first, open_suite, open_needed, or_all, opened, proceed, execute, prepare, locked_at}
 use Rattle.txn_core.proofs.Gathers.{self, with_at, each_but, each_with, but_with}
@@ -79,7 +79,7 @@ any_wider asked z is =
 
 -- ---- what is not gathered
 
-pub none_with : (suites : Suites) (number : ℕ) (new : Suite) (z : ℕ) → suite_of (with_suite number new suites) z ≡ None → (suite_of suites z ≡ None) × ((number == z) ≡ false)
+pub none_with : (suites : Suites) (number : ℕ) (new : GatheredSuite) (z : ℕ) → suite_of (with_suite number new suites) z ≡ None → (suite_of suites z ≡ None) × ((number == z) ≡ false)
 none_with suites number new z none = of (number == z) refl (sym (with_at number new suites z) ∙ none)
   where
     of : (b : Bool) → (number == z) ≡ b → cond b (Some new) (suite_of suites z) ≡ None → (suite_of suites z ≡ None) × ((number == z) ≡ false)
@@ -128,13 +128,13 @@ module _ (fixed : Fixed) (world : World) (sight : Sight) (table : PlainTable) (t
   abbrev Hinted : Suites → Cache → Type 0
   Hinted suites now = Hints fixed world sight table task cache suites now
 
-  abbrev Right : ℕ → Suite → Type 0
+  abbrev Right : ℕ → GatheredSuite → Type 0
   Right z suite = IsRight fixed world sight table task cache z suite
 
-  abbrev Whole : ℕ → Suite → Type 0
+  abbrev Whole : ℕ → GatheredSuite → Type 0
   Whole z suite = IsWhole fixed world sight table task cache Was ground z suite
 
-  pub hinted_with : (suites : Suites) (number : ℕ) (new : Suite) (now : Cache) → Hinted suites now → Hinted (with_suite number new suites) now
+  pub hinted_with : (suites : Suites) (number : ℕ) (new : GatheredSuite) (now : Cache) → Hinted suites now → Hinted (with_suite number new suites) now
   hinted_with suites number new now hints z none = hints z (none_with suites number new z none).0
 
   -- nothing is gathered yet
@@ -153,12 +153,12 @@ module _ (fixed : Fixed) (world : World) (sight : Sight) (table : PlainTable) (t
 
   -- ---- contents that are to be had without asking
 
-  pub content_ready : (suites : Suites) (number : ℕ) (suite : Suite) (content : Option Content) → Ready suites → suite_of suites number ≡ Some suite → Ready (with_suite number (record suite { content = content }) suites)
+  pub content_ready : (suites : Suites) (number : ℕ) (suite : GatheredSuite) (content : Option Content) → Ready suites → suite_of suites number ≡ Some suite → Ready (with_suite number (record suite { content = content }) suites)
   content_ready suites number suite content ready there = record {
     asked = ready.asked;
     asks = asked_with fixed world sight table task cache suites ready.asked number (record suite { content = content }) ready.asks
         (record { may = (ready.asks.right number suite there).may; right = (ready.asks.right number suite there).right })
-        (λ old is. ap (λ (suite : Suite). suite.collector.start) (same_Some suite old (sym there ∙ is)))
+        (λ old is. ap (λ (suite : GatheredSuite). suite.collector.start) (same_Some suite old (sym there ∙ is)))
         (λ mode. held mode suite.first ∙ ap (held_in mode) (sym there));
     whole = each_with Whole number suites (record suite { content = content }) (each_but Whole number suites ready.whole) (of (ready.whole number suite there));
   }
@@ -188,7 +188,7 @@ module _ (fixed : Fixed) (world : World) (sight : Sight) (table : PlainTable) (t
       of true = refl
       of false = search_keeps_all.hint task.site number first.dver task.site z now
 
-  pub still_there : (suites : Suites) (number : ℕ) (new : Suite) (z : ℕ) → is_some (suite_of suites z) ≡ true → is_some (suite_of (with_suite number new suites) z) ≡ true
+  pub still_there : (suites : Suites) (number : ℕ) (new : GatheredSuite) (z : ℕ) → is_some (suite_of suites z) ≡ true → is_some (suite_of (with_suite number new suites) z) ≡ true
   still_there suites number new z some = ap is_some (with_at number new suites z) ∙ of (number == z)
     where
       of : (b : Bool) → is_some (cond b (Some new) (suite_of suites z)) ≡ true
@@ -196,7 +196,7 @@ module _ (fixed : Fixed) (world : World) (sight : Sight) (table : PlainTable) (t
       of false = some
 
   module _ (all : Gathered) (ready : Ready all.suites) (hints : Hinted all.suites all.cache) where
-    opens_with : (number : ℕ) (suite : Suite) (first : ReadPoint) → suite_of all.suites number ≡ Some suite → (found : Option Content) (more : Gathered) → opened_with task all number suite first found ≡ Some more → Opened all more
+    opens_with : (number : ℕ) (suite : GatheredSuite) (first : ReadPoint) → suite_of all.suites number ≡ Some suite → (found : Option Content) (more : Gathered) → opened_with task all number suite first found ≡ Some more → Opened all more
     opens_with number suite first there None more is = absurd (none-some more is)
     opens_with number suite first there (Some content) more is =
         subst (Opened all) (same_Some _ more is) (record {
@@ -205,11 +205,11 @@ module _ (fixed : Fixed) (world : World) (sight : Sight) (table : PlainTable) (t
           there = still_there all.suites number (record suite { content = Some content });
         })
 
-    opens_first : (number : ℕ) (suite : Suite) → suite_of all.suites number ≡ Some suite → (first : Option ReadPoint) (more : Gathered) → open_first task all number suite first ≡ Some more → Opened all more
+    opens_first : (number : ℕ) (suite : GatheredSuite) → suite_of all.suites number ≡ Some suite → (first : Option ReadPoint) (more : Gathered) → open_first task all number suite first ≡ Some more → Opened all more
     opens_first number suite there (Some first) more is = opens_with number suite first there (free_content task all.cache number first) more is
     opens_first number suite there None more is = absurd (none-some more is)
 
-    opens_suite : (number : ℕ) (found : Option Suite) → suite_of all.suites number ≡ found → (more : Gathered) → open_suite task all number found ≡ Some more → Opened all more
+    opens_suite : (number : ℕ) (found : Option GatheredSuite) → suite_of all.suites number ≡ found → (more : Gathered) → open_suite task all number found ≡ Some more → Opened all more
     opens_suite number (Some suite) there more is = opens_first number suite there suite.first more is
     opens_suite number None there more is = absurd (none-some more is)
 
@@ -241,7 +241,7 @@ module _ (fixed : Fixed) (world : World) (sight : Sight) (table : PlainTable) (t
       is_new : has_asked ready.asked number mode ≡ false
       is_new = first_new (known_of suites) ready.asked modes_known (needed_on table task) number mode is
 
-      gathers : (new : Suite) → IsFound fixed world sight table task cache Was ground number new → new.collector.mode ≡ mode → SameStart fixed world sight table task cache suites number new
+      gathers : (new : GatheredSuite) → IsFound fixed world sight table task cache Was ground number new → new.collector.mode ≡ mode → SameStart fixed world sight table task cache suites number new
           → ((other : LockMode) → held_in other (Some new) ≡ held_in other (suite_of suites number)) → ((other : LockMode) → has_asked ready.asked number other ≡ true → serves mode other ≡ true)
           → IsGathering fixed world sight table task cache Was ground (with_suite number new suites) number
       gathers new found mode_is same held weaker = record {
@@ -281,11 +281,11 @@ module _ (fixed : Fixed) (world : World) (sight : Sight) (table : PlainTable) (t
       unfolding gathers
       gather_stands = of (suite_of suites number) refl
         where
-          of : (found : Option Suite) → suite_of suites number ≡ found → Good (gather task now suites number (raised_or_new fixed task now number mode found))
+          of : (found : Option GatheredSuite) → suite_of suites number ≡ found → Good (gather task now suites number (raised_or_new fixed task now number mode found))
           of None none =
               let start = start_from fixed task now number in
               let may = may_from number none in
-              let new : Suite = record { collector = collect mode start; first = None; mode = Shared; content = None } in
+              let new : GatheredSuite = record { collector = collect mode start; first = None; mode = Shared; content = None } in
               let g = gathers new (record { start = start; may = may; asked = asked_for_it; reached = reached_first fixed world sight number (Was number) start (ground.rules number start asked_for_it may) mode (first_of none); led = λ first had. absurd (none-some first had); version = λ first had. absurd (none-some first had) }) refl
               (λ old there. absurd (none-some old (sym none ∙ there))) (λ other. ap (held_in other) (sym none))
               (λ other had. absurd (false≢true (sym (ap (held_in other) none) ∙ ready.asks.modes number other ∙ had))) in
@@ -293,13 +293,13 @@ module _ (fixed : Fixed) (world : World) (sight : Sight) (table : PlainTable) (t
           of (Some suite) there =
               let whole = ready.whole number suite there in
               let found = whole.found in
-              let new : Suite = record suite { collector = raise suite.collector } in
+              let new : GatheredSuite = record suite { collector = raise suite.collector } in
               let raised_mode : new.collector.mode ≡ Exclusive = ap (λ (c : Collector). (raise c).mode) found.reached.is in
               let weak : serves suite.mode mode ≡ false = sym (by_first suite.first whole.had) ∙ ap (held_in mode) (sym there) ∙ ready.asks.modes number mode ∙ is_new in
               let exclusive : mode ≡ Exclusive = weak_or_not suite.mode mode weak in
               let g = gathers new (record { start = found.start; may = found.may; asked = found.asked; reached = reached_raise fixed world sight number (Was number) found.start (ground.rules number found.start found.asked found.may) suite.collector found.reached whole.none_newer; led = found.led; version = found.version })
               (raised_mode ∙ sym exclusive)
-              (λ old is. ap (λ (suite : Suite). suite.collector.start) (same_Some suite old (sym there ∙ is)))
+              (λ old is. ap (λ (suite : GatheredSuite). suite.collector.start) (same_Some suite old (sym there ∙ is)))
               (λ other. held other suite.first ∙ ap (held_in other) (sym there))
               (λ other had. ap (λ mode. serves mode other) exclusive ∙ serves_all other) in
               gather_by_stands fixed world sight table task cache Was ground (with_suite number new suites) number g now (hinted_with suites number new now hints)
@@ -379,7 +379,7 @@ module _ (fixed : Fixed) (world : World) (sight : Sight) (table : PlainTable) (t
           set_there : (one : ℕ × Configuration) → IsSet (changes.changes_of (known_of suites) ended.edits) one → is_some (suite_of suites one.0) ≡ true
           set_there one set = of (suite_of suites one.0) (set_held one set)
             where
-              of : (found : Option Suite) → held_in Exclusive found ≡ true → is_some found ≡ true
+              of : (found : Option GatheredSuite) → held_in Exclusive found ≡ true → is_some found ≡ true
               of (Some suite) held = refl
               of None held = absurd (false≢true held)
 

@@ -20,7 +20,7 @@ use Rattle.suite_collect.specs.Telling.{holds, newest}
 use Rattle.suite_collect.specs.Collecting.{Collector, all_told, first_members, version, needed, needed_of, got, Next, Current, Ask, Short, next}
 use Rattle.weak_cache.specs.Entries.{Cache}
 use Rattle.txn_core.specs.declared.ending.Ending.TheVariants.{Undecided}
-use Rattle.txn_core.specs.Suites.{ReadPoint, Suite, Suites, suite_of, with_suite, settled, first_or, source_of}
+use Rattle.txn_core.specs.Suites.{ReadPoint, GatheredSuite, Suites, suite_of, with_suite, settled, first_or, source_of}
 use Rattle.txn_core.specs.Doing.{Fixed, Task}
 use Rattle.txn_core.specs.Transactions.{Step, short_cause, gather_by, locked_at}
 use Rattle.txn_core.proofs.Gathers.{self, with_at, each_but, each_with}
@@ -70,10 +70,10 @@ module _ (fixed : Fixed) (world : World) (sight : Sight) (table : PlainTable) (t
   abbrev Now : Suites → ℕ → Type 0
   Now suites number = IsGathering fixed world sight table task cache Was ground suites number
 
-  abbrev Right : ℕ → Suite → Type 0
+  abbrev Right : ℕ → GatheredSuite → Type 0
   Right z suite = IsRight fixed world sight table task cache z suite
 
-  abbrev Whole : ℕ → Suite → Type 0
+  abbrev Whole : ℕ → GatheredSuite → Type 0
   Whole z suite = IsWhole fixed world sight table task cache Was ground z suite
 
   -- ---- it falls short
@@ -113,8 +113,8 @@ module _ (fixed : Fixed) (world : World) (sight : Sight) (table : PlainTable) (t
 
   -- ---- it had a Current
 
-  has_lock : (z : ℕ) (suite : Suite) → (found : IsFound fixed world sight table task cache Was ground z suite) → (prefix : Prefix) (dver : ℕ) (members : List ℕ) → next suite.collector ≡ Current prefix dver members
-      → (new : Suite) → new.collector ≡ suite.collector → HasLock fixed world sight table task cache Was ground new
+  has_lock : (z : ℕ) (suite : GatheredSuite) → (found : IsFound fixed world sight table task cache Was ground z suite) → (prefix : Prefix) (dver : ℕ) (members : List ℕ) → next suite.collector ≡ Current prefix dver members
+      → (new : GatheredSuite) → new.collector ≡ suite.collector → HasLock fixed world sight table task cache Was ground new
   has_lock z suite found prefix dver members is new same =
       let at = found.reached in
       let c : Collector = gathering found.start at.mode at.told in
@@ -129,7 +129,7 @@ module _ (fixed : Fixed) (world : World) (sight : Sight) (table : PlainTable) (t
         holds = ap (λ (c : Collector). holds Shared (all_told c) voter.rep.0) (same ∙ at.is) ∙ holds_shared at.mode at.told voter.rep.0 voter.holds;
       }
 
-  pub current_whole : (z : ℕ) (suite : Suite) → IsFound fixed world sight table task cache Was ground z suite → (prefix : Prefix) (dver : ℕ) (members : List ℕ) → next suite.collector ≡ Current prefix dver members → Whole z (settled prefix dver members suite)
+  pub current_whole : (z : ℕ) (suite : GatheredSuite) → IsFound fixed world sight table task cache Was ground z suite → (prefix : Prefix) (dver : ℕ) (members : List ℕ) → next suite.collector ≡ Current prefix dver members → Whole z (settled prefix dver members suite)
   current_whole z suite found prefix dver members is = record {
     found = record { start = found.start; may = found.may; asked = found.asked; reached = found.reached; led = λ first. led_of suite.first refl first; version = λ first. version_of suite.first refl first };
     had = some suite.first _;
@@ -159,7 +159,7 @@ module _ (fixed : Fixed) (world : World) (sight : Sight) (table : PlainTable) (t
       version_of None was first same n all = subst (λ (first : ReadPoint). first.dver ≤ n) (same_Some _ first same) (now_below n all)
 
   module _ (suites : Suites) (number : ℕ) (g : Now suites number) (prefix : Prefix) (dver : ℕ) (members : List ℕ) (is : next g.suite.collector ≡ Current prefix dver members) where
-    abbrev new : Suite
+    abbrev new : GatheredSuite
     new = settled prefix dver members g.suite
 
     whole : Whole number new
@@ -172,7 +172,7 @@ module _ (fixed : Fixed) (world : World) (sight : Sight) (table : PlainTable) (t
         ∙ ap (λ mode. is_met (demand_by (sight.opens number mode) number mode (led_to_by fixed world (finds_at sight number) number g.found.start).votes)) (sym g.mode_is) ∙ ends.enough
 
     same_from : SameStart fixed world sight table task cache suites number new
-    same_from old there = ap (λ (suite : Suite). suite.collector.start) (same_Some g.suite old (sym g.there ∙ there))
+    same_from old there = ap (λ (suite : GatheredSuite). suite.collector.start) (same_Some g.suite old (sym g.there ∙ there))
 
     held_new : (mode : LockMode) → held_in mode (Some new) ≡ serves g.suite.collector.mode mode
     held_new mode = of g.suite.first _

@@ -20,7 +20,7 @@ use Rattle.suite_collect.specs.Telling.{holds}
 use Rattle.suite_collect.specs.Collecting.{needed_of, all_told}
 use Rattle.txn_core.specs.declared.job.Job.{Job}
 use Rattle.txn_core.specs.declared.job.Job.TheVariants.{Transaction}
-use Rattle.txn_core.specs.Suites.{Suite, suite_of, told_in}
+use Rattle.txn_core.specs.Suites.{GatheredSuite, suite_of, told_in}
 use Rattle.txn_core.specs.Writing.{is_changed, sets_votes}
 use Rattle.txn_core.specs.Doing.{Running, home_of}
 use Rattle.txn_core.specs.Transactions.{request_in, changes_of, decision_of, votes_after}
@@ -177,7 +177,7 @@ module _ (given : Opening) (events later : List Event) (agent t : ℕ) (caller :
         (ap (λ (first : Option Decided). cons_option first (decisions_from (fixed_of given) begun_world found.before)) (no_task world (step (fixed_of given) world (Begin agent job)).done.served) ∙ found.none)
         ∙ append-nil (decisions given events))
 
-    module _ (z : ℕ) (suite : Suite) (is : suite_of so.txn_run.suites z ≡ Some suite) where
+    module _ (z : ℕ) (suite : GatheredSuite) (is : suite_of so.txn_run.suites z ≡ Some suite) where
       ready : IsReady suite z (changes_of so.outcome)
       ready = decides_on_quorums (fixed_of given) actor.agent job found.now.told so.txn_run so.outcome z suite starts.idle running so.deciding is
 

@@ -23,7 +23,7 @@ use Rattle.weak_cache.specs.Entries.{Cache}
 use Rattle.weak_cache.specs.Cache.{put}
 use Rattle.txn_core.specs.declared.ending.Ending.TheVariants.{Undecided}
 use Rattle.txn_core.specs.declared.ending.Cause.TheVariants.{Lost}
-use Rattle.txn_core.specs.Suites.{ReadPoint, Suite, Suites, suite_of, with_suite, known_of, first_or, settled}
+use Rattle.txn_core.specs.Suites.{ReadPoint, GatheredSuite, Suites, suite_of, with_suite, known_of, first_or, settled}
 use Rattle.txn_core.specs.Doing as doing
 use Rattle.txn_core.specs.Doing.{Fixed, Task, Granted, Phase, Gathering, Fetching, Preparing, Deciding, Finishing, TransactionRun, GoesOn, home_of}
 use Rattle.txn_core.specs.Transactions as txn_run
@@ -43,7 +43,7 @@ use Rattle.law_run_recovers.proofs.Stands.{IsKept, held_same, Ground, asks_of, l
 use Rattle.law_run_recovers.proofs.Widens.{by_short, by_current, sets_with, sets_on, set_short, widen_stands}
 use Rattle.law_run_recovers.proofs.Gathered.{gathering_short, settled_ready}
 use Rattle.law_run_recovers.proofs.Executes.{none_with, hinted_with, content_ready, execute_stands}
-use Rattle.law_run_recovers.proofs.Knows.{agreed}
+use Rattle.law_run_recovers.proofs.KnownStays.{agreed}
 
 -- ---- replies
 
@@ -95,13 +95,13 @@ mode_stays c one = of c.widening
     of (Some widening) = refl
 
 -- what it is told so
-record HeardOne (number : ℕ) (suite : Suite) (server : ℕ) (asked : Request) (said : Reply) : Type 0 where
+record HeardOne (number : ℕ) (suite : GatheredSuite) (server : ℕ) (asked : Request) (said : Reply) : Type 0 where
   one : Told
   told : told_by (next suite.collector) said ≡ Some one
-  is : (task : Task) (now : Cache) (suites : Suites) (phase : Phase) (go_on : Suite → Step) → hear task now suites phase number suite server asked (txn_run.said_to asked said) go_on
+  is : (task : Task) (now : Cache) (suites : Suites) (phase : Phase) (go_on : GatheredSuite → Step) → hear task now suites phase number suite server asked (txn_run.said_to asked said) go_on
       ≡ collected task now suites phase number (record suite { collector = tell one suite.collector }) (next (tell one suite.collector)) go_on
 
-module _ (fixed : Fixed) (world : World) (sight : Sight) (t number : ℕ) (suite : Suite) (server : ℕ) (asked : Request) (said : Reply) (asks : AsksFor t number suite.collector server asked)
+module _ (fixed : Fixed) (world : World) (sight : Sight) (t number : ℕ) (suite : GatheredSuite) (server : ℕ) (asked : Request) (said : Reply) (asks : AsksFor t number suite.collector server asked)
     (so : Answers fixed world sight number asks.question server said) where
   heard_one : HeardOne number suite server asked said
   heard_one =
@@ -131,7 +131,7 @@ module _ (fixed : Fixed) (world : World) (sight : Sight) (table : PlainTable) (t
   abbrev Hinted : Suites → Cache → Type 0
   Hinted suites now = Hints fixed world sight table task cache suites now
 
-  abbrev Whole : ℕ → Suite → Type 0
+  abbrev Whole : ℕ → GatheredSuite → Type 0
   Whole z suite = IsWhole fixed world sight table task cache Was ground z suite
 
   abbrev Now : Suites → ℕ → Type 0
@@ -146,7 +146,7 @@ module _ (fixed : Fixed) (world : World) (sight : Sight) (table : PlainTable) (t
   executes all ready hints number some so =
       execute_stands fixed world sight table task cache Was ground same_service all ready hints (agreed fixed world sight table task cache Was ground all ready hints number some so)
 
-  is_there : (suites : Suites) (number : ℕ) (new : Suite) → suite_of (with_suite number new suites) number ≡ Some new
+  is_there : (suites : Suites) (number : ℕ) (new : GatheredSuite) → suite_of (with_suite number new suites) number ≡ Some new
   is_there suites number new = with_at number new suites number ∙ ap (λ b. cond b (Some new) (suite_of suites number)) (self number)
 
   -- ---- a suite is gathered
@@ -155,10 +155,10 @@ module _ (fixed : Fixed) (world : World) (sight : Sight) (table : PlainTable) (t
     heard_here : HeardOne number g.suite server asked said
     heard_here = heard_one fixed world sight task.t number g.suite server asked said asks so
 
-    abbrev after_one : Told → Suite
+    abbrev after_one : Told → GatheredSuite
     after_one one = record g.suite { collector = tell one g.suite.collector }
 
-    abbrev go_on : Suite → Step
+    abbrev go_on : GatheredSuite → Step
     go_on suite = execute fixed task (record { suites = with_suite number suite suites; cache = now })
 
     gathering_on : (one : Told) → told_by (next g.suite.collector) said ≡ Some one → Now (with_suite number (after_one one) suites) number
@@ -176,7 +176,7 @@ module _ (fixed : Fixed) (world : World) (sight : Sight) (table : PlainTable) (t
         record {
           asked = g.asked;
           asks = asked_with fixed world sight table task cache suites g.asked number new g.asks (found_right fixed world sight table task cache Was ground number new found)
-              (λ old there. start_stays g.suite.collector one ∙ ap (λ (suite : Suite). suite.collector.start) (same_Some g.suite old (sym g.there ∙ there)))
+              (λ old there. start_stays g.suite.collector one ∙ ap (λ (suite : GatheredSuite). suite.collector.start) (same_Some g.suite old (sym g.there ∙ there)))
               (λ mode. held mode g.suite.first ∙ ap (held_in mode) (sym g.there));
           whole = but_with Whole number suites new g.whole;
           suite = new;
@@ -197,12 +197,12 @@ module _ (fixed : Fixed) (world : World) (sight : Sight) (table : PlainTable) (t
     collected_stands one g' same (Ask who question) is knows = (refl, (g', hinted_with fixed world sight table task cache Was ground suites number (after_one one) now hints))
     collected_stands one g' same (Short had wanting busy) is knows =
         told_stands fixed world sight table task cache Was ground now (with_suite number (after_one one) suites) verdict.Aborted (Undecided (short_cause number had wanting busy)) (locked_at (with_suite number (after_one one) suites))
-        (gathering_short fixed world sight table task cache Was ground (with_suite number (after_one one) suites) number g' had wanting busy (ap (λ (suite : Suite). next suite.collector) same ∙ is))
+        (gathering_short fixed world sight table task cache Was ground (with_suite number (after_one one) suites) number g' had wanting busy (ap (λ (suite : GatheredSuite). next suite.collector) same ∙ is))
     collected_stands one g' same (Current prefix dver members) is knows =
         let last = settled prefix dver members (after_one one) in
         let ready : IsReady fixed world sight table task cache Was ground (with_suite number last suites) =
         subst (IsReady fixed world sight table task cache Was ground) (ap (λ suite. with_suite number (settled prefix dver members suite) (with_suite number (after_one one) suites)) same ∙ insert-insert nat_cmp_total suites number (after_one one) last)
-        (settled_ready fixed world sight table task cache Was ground (with_suite number (after_one one) suites) number g' prefix dver members (ap (λ (suite : Suite). next suite.collector) same ∙ is)) in
+        (settled_ready fixed world sight table task cache Was ground (with_suite number (after_one one) suites) number g' prefix dver members (ap (λ (suite : GatheredSuite). next suite.collector) same ∙ is)) in
         executes (record { suites = with_suite number last suites; cache = now }) ready (hinted_with fixed world sight table task cache Was ground suites number last now hints) number (ap is_some (is_there suites number last)) knows
 
     gathers : KnowsSo (hear task now suites (Gathering number) number g.suite server asked (txn_run.said_to asked said) go_on) → Good (hear task now suites (Gathering number) number g.suite server asked (txn_run.said_to asked said) go_on)
@@ -222,10 +222,10 @@ module _ (fixed : Fixed) (world : World) (sight : Sight) (table : PlainTable) (t
     heard_now : HeardOne number w.suite server asked said
     heard_now = heard_one fixed world sight task.t number w.suite server asked said asks so
 
-    abbrev told_one : Told → Suite
+    abbrev told_one : Told → GatheredSuite
     told_one one = record w.suite { collector = tell one w.suite.collector }
 
-    abbrev widen_on : Suite → Step
+    abbrev widen_on : GatheredSuite → Step
     widen_on suite = widen_all task now (with_suite number suite suites) granted left
 
     more_widening : (one : Told) → (tell one w.suite.collector).widening ≡ Some (record w.widening { told = one ∷ w.widening.told })
@@ -240,9 +240,9 @@ module _ (fixed : Fixed) (world : World) (sight : Sight) (table : PlainTable) (t
     was_kept : IsKept w.suite
     was_kept = w.sets.whole (number, w.votes) (inl refl) w.suite w.there
 
-    sets_now : (new : Suite) → new.collector.start ≡ w.suite.collector.start → IsRight fixed world sight table task cache number new → new.mode ≡ w.suite.mode → new.first ≡ w.suite.first → new.mode ≡ new.collector.mode → Sets fixed world sight table task cache (with_suite number new suites) w.done ((number, w.votes) ∷ w.later) granted
+    sets_now : (new : GatheredSuite) → new.collector.start ≡ w.suite.collector.start → IsRight fixed world sight table task cache number new → new.mode ≡ w.suite.mode → new.first ≡ w.suite.first → new.mode ≡ new.collector.mode → Sets fixed world sight table task cache (with_suite number new suites) w.done ((number, w.votes) ∷ w.later) granted
     sets_now new start right mode first kept =
-        sets_with fixed world sight table task cache suites number new w.done ((number, w.votes) ∷ w.later) granted w.sets right (λ old there. start ∙ ap (λ (suite : Suite). suite.collector.start) (same_Some w.suite old (sym w.there ∙ there)))
+        sets_with fixed world sight table task cache suites number new w.done ((number, w.votes) ∷ w.later) granted w.sets right (λ old there. start ∙ ap (λ (suite : GatheredSuite). suite.collector.start) (same_Some w.suite old (sym w.there ∙ there)))
         (λ asked. held_same new w.suite asked mode first ∙ ap (held_in asked) (sym w.there)) (kept, ap is_some first ∙ was_kept.1)
 
     told_kept : (one : Told) → w.suite.mode ≡ (tell one w.suite.collector).mode
@@ -294,11 +294,11 @@ module _ (fixed : Fixed) (world : World) (sight : Sight) (table : PlainTable) (t
       → (given : Option Content) → is_some given ≡ true → KnowsSo (fetched fixed task now suites number (suite_of suites number) server given) → Good (fetched fixed task now suites number (suite_of suites number) server given)
   fetches now suites number ready hints server asked request given some = of (suite_of suites number) refl request given some
     where
-      by : (suite : Suite) → suite_of suites number ≡ Some suite → (content : Content) (first : Option ReadPoint) → fetched_at task number first ≡ Some (server, asked)
+      by : (suite : GatheredSuite) → suite_of suites number ≡ Some suite → (content : Content) (first : Option ReadPoint) → fetched_at task number first ≡ Some (server, asked)
           → KnowsSo (keep_content fixed task now suites number suite content first server) → Good (keep_content fixed task now suites number suite content first server)
       by suite there content None request knows = absurd (none-some (server, asked) request)
       by suite there content (Some first) request knows =
-          let new : Suite = record suite { content = Some content } in
+          let new : GatheredSuite = record suite { content = Some content } in
           executes (record {
             suites = with_suite number new suites;
             cache = put fixed.limits (record { site = task.site; suite = number; prefix = first.prefix; dver = first.dver; content = content }) now;
@@ -309,7 +309,7 @@ module _ (fixed : Fixed) (world : World) (sight : Sight) (table : PlainTable) (t
           hints z both.0 prefix (hint_put task.site z number both.1 fixed.limits (record { site = task.site; suite = number; prefix = first.prefix; dver = first.dver; content = content }) refl refl now prefix hinted))
           number (ap is_some (is_there suites number new)) knows
 
-      of : (found : Option Suite) → suite_of suites number ≡ found → fetched_for task number found ≡ Some (server, asked) → (given : Option Content) → is_some given ≡ true
+      of : (found : Option GatheredSuite) → suite_of suites number ≡ found → fetched_for task number found ≡ Some (server, asked) → (given : Option Content) → is_some given ≡ true
           → KnowsSo (fetched fixed task now suites number found server given) → Good (fetched fixed task now suites number found server given)
       of None there request given some knows = absurd (none-some (server, asked) request)
       of (Some suite) there request None some knows = absurd (false≢true some)
@@ -338,21 +338,21 @@ module _ (fixed : Fixed) (world : World) (sight : Sight) (table : PlainTable) (t
 
   -- ---- any reply
 
-  asked_of : (number : ℕ) (suites : Suites) (suite : Suite) (server : ℕ) (asked : Request) → suite_of suites number ≡ Some suite → asked_for task number (suite_of suites number) ≡ Some (server, asked) → AsksFor task.t number suite.collector server asked
+  asked_of : (number : ℕ) (suites : Suites) (suite : GatheredSuite) (server : ℕ) (asked : Request) → suite_of suites number ≡ Some suite → asked_for task number (suite_of suites number) ≡ Some (server, asked) → AsksFor task.t number suite.collector server asked
   asked_of number suites suite server asked there request = asks_for task number suite.collector server asked (sym (ap (asked_for task number) there) ∙ request)
 
   pub reply_stands : (now : Cache) (suites : Suites) (phase : Phase) → PhaseStands fixed world sight table task cache Was ground suites now phase → (server : ℕ) (asked : Request) → request_in fixed task suites phase ≡ Some (server, asked)
       → (said : Reply) → RightFor fixed world sight task phase server asked said → (MayExecute phase → KnowsSo (after_reply fixed task now suites phase server asked said)) → Good (after_reply fixed task now suites phase server asked said)
   reply_stands now suites (Gathering number) at server asked request said right knows =
       let g = at.0 in
-      let step : Option Suite → Step = λ found. heard_of task now suites (Gathering number) number found server asked said (λ suites. execute fixed task (record { suites = suites; cache = now })) in
+      let step : Option GatheredSuite → Step = λ found. heard_of task now suites (Gathering number) number found server asked said (λ suites. execute fixed task (record { suites = suites; cache = now })) in
       subst (λ found. Good (step found)) (sym g.there)
       (gathers now suites number g at.1 server asked said (asked_of number suites g.suite server asked g.there request)
       (right (asked_of number suites g.suite server asked g.there request).question (asked_of number suites g.suite server asked g.there request).asked_is) (subst (λ found. KnowsSo (step found)) g.there (knows tt)))
   reply_stands now suites (Fetching number) at server asked request said right knows = fetches now suites number at.0 at.1 server asked request (given_in said) right (knows tt)
   reply_stands now suites (doing.Widening [] granted) at server asked request said right knows = absurd at
   reply_stands now suites (doing.Widening (number ∷ left) granted) w server asked request said right knows =
-      let step : Option Suite → Step = λ found. heard_of task now suites (doing.Widening (number ∷ left) granted) number found server asked said (λ suites. widen_all task now suites granted left) in
+      let step : Option GatheredSuite → Step = λ found. heard_of task now suites (doing.Widening (number ∷ left) granted) number found server asked said (λ suites. widen_all task now suites granted left) in
       subst (λ found. Good (step found)) (sym w.there) (widens now suites number left granted w server asked said (asked_of number suites w.suite server asked w.there request)
       (right (asked_of number suites w.suite server asked w.there request).question (asked_of number suites w.suite server asked w.there request).asked_is))
   reply_stands now suites (Preparing [] outcome) all server asked request said right knows = absurd (none-some (server, asked) request)

@@ -23,7 +23,7 @@ use Rattle.txn_core.specs.declared.ending.Ending.{Ending}
 use Rattle.txn_core.specs.declared.ending.Ending.TheVariants.{Undecided}
 use Rattle.txn_core.specs.declared.ending.Cause.{Cause}
 use Rattle.txn_core.specs.declared.ending.Cause.TheVariants.{Lost}
-use Rattle.txn_core.specs.Suites.{ReadPoint, Suite, Suites, suite_of, with_suite, settled}
+use Rattle.txn_core.specs.Suites.{ReadPoint, GatheredSuite, Suites, suite_of, with_suite, settled}
 use Rattle.txn_core.specs.Doing as doing
 use Rattle.txn_core.specs.Doing.{Fixed, Task, Granted, Phase, Gathering, Fetching, Preparing, Deciding, Finishing}
 use Rattle.txn_core.specs.Transactions as txn_run
@@ -66,7 +66,7 @@ widen_cache task now granted (number ∷ left) suites = of (suite_of suites numb
     by more (Ask server asked) go = refl
     by more (Short had wanting busy) go = up_cache task now more (txn_run.short_cause number had wanting busy)
 
-    of : (found : Option Suite) → ((suites : Suites) → (widen_all task now suites granted left).cache ≡ now) → (widen_one task now suites (doing.Widening (number ∷ left) granted) granted.changes number found go_on).cache ≡ now
+    of : (found : Option GatheredSuite) → ((suites : Suites) → (widen_all task now suites granted left).cache ≡ now) → (widen_one task now suites (doing.Widening (number ∷ left) granted) granted.changes number found go_on).cache ≡ now
     of None go = go suites
     of (Some suite) go = by (with_suite number (widened granted.changes number suite) suites) (next (widened granted.changes number suite).collector) go
 
@@ -90,15 +90,15 @@ module _ (fixed : Fixed) (world : World) (sight : Sight) (table : PlainTable) (t
     abbrev SameHint : Gathered → Type 0
     SameHint more = hint more.cache task.site z ≡ hint all.cache task.site z
 
-    with_hint : (number : ℕ) (suite : Suite) (first : ReadPoint) (found : Option Content) (more : Gathered) → opened_with task all number suite first found ≡ Some more → SameHint more
+    with_hint : (number : ℕ) (suite : GatheredSuite) (first : ReadPoint) (found : Option Content) (more : Gathered) → opened_with task all number suite first found ≡ Some more → SameHint more
     with_hint number suite first None more is = absurd (none-some more is)
     with_hint number suite first (Some content) more is = subst SameHint (same_Some _ more is) (hint_after fixed world sight table task cache Was ground all.cache number first z)
 
-    first_hint : (number : ℕ) (suite : Suite) (first : Option ReadPoint) (more : Gathered) → open_first task all number suite first ≡ Some more → SameHint more
+    first_hint : (number : ℕ) (suite : GatheredSuite) (first : Option ReadPoint) (more : Gathered) → open_first task all number suite first ≡ Some more → SameHint more
     first_hint number suite None more is = absurd (none-some more is)
     first_hint number suite (Some first) more is = with_hint number suite first (free_content task all.cache number first) more is
 
-    suite_hint : (number : ℕ) (found : Option Suite) (more : Gathered) → open_suite task all number found ≡ Some more → SameHint more
+    suite_hint : (number : ℕ) (found : Option GatheredSuite) (more : Gathered) → open_suite task all number found ≡ Some more → SameHint more
     suite_hint number None more is = absurd (none-some more is)
     suite_hint number (Some suite) more is = first_hint number suite suite.first more is
 
@@ -128,15 +128,15 @@ module _ (fixed : Fixed) (world : World) (sight : Sight) (table : PlainTable) (t
     as_now : (step : Step) → step.cache ≡ now → Led step.cache
     as_now step same = subst Led (sym same) led
 
-    heard_hints : (suites : Suites) (phase : Phase) (number : ℕ) (found : Option Suite) (go_on : Suites → Step) → ((suites : Suites) → Led (go_on suites).cache)
+    heard_hints : (suites : Suites) (phase : Phase) (number : ℕ) (found : Option GatheredSuite) (go_on : Suites → Step) → ((suites : Suites) → Led (go_on suites).cache)
         → Led (heard_of task now suites phase number found server asked said go_on).cache
     heard_hints suites phase number None go_on go = as_now (give_up task now suites (Lost server)) (up_cache task now suites (Lost server))
     heard_hints suites phase number (Some suite) go_on go = of (txn_run.said_to asked said)
       where
-        on : Suite → Step
+        on : GatheredSuite → Step
         on suite = go_on (with_suite number suite suites)
 
-        by : (new : Suite) (after : Next) → Led (collected task now suites phase number new after on).cache
+        by : (new : GatheredSuite) (after : Next) → Led (collected task now suites phase number new after on).cache
         by new (Ask who question) = led
         by new (Short had wanting busy) =
             as_now (give_up task now (with_suite number new suites) (txn_run.short_cause number had wanting busy)) (up_cache task now (with_suite number new suites) (txn_run.short_cause number had wanting busy))
@@ -151,7 +151,7 @@ module _ (fixed : Fixed) (world : World) (sight : Sight) (table : PlainTable) (t
     fetched_hints : (suites : Suites) (number : ℕ) → IsReady fixed world sight table task cache Was ground suites → (given : Option Content) → Led (fetched fixed task now suites number (suite_of suites number) server given).cache
     fetched_hints suites number ready given = of (suite_of suites number) refl given
       where
-        by : (suite : Suite) → suite_of suites number ≡ Some suite → (content : Content) (first : Option ReadPoint) → suite.first ≡ first → Led (keep_content fixed task now suites number suite content first server).cache
+        by : (suite : GatheredSuite) → suite_of suites number ≡ Some suite → (content : Content) (first : Option ReadPoint) → suite.first ≡ first → Led (keep_content fixed task now suites number suite content first server).cache
         by suite there content None had = as_now (give_up task now suites (Lost server)) (up_cache task now suites (Lost server))
         by suite there content (Some first) had =
             execute_hints (record { suites = with_suite number (record suite { content = Some content }) suites; cache = put fixed.limits entry now }) (λ z prefix hinted. at z prefix hinted (number == z) refl)
@@ -167,7 +167,7 @@ module _ (fixed : Fixed) (world : World) (sight : Sight) (table : PlainTable) (t
                 (inr (record { start = found.start; may = found.may; is = hint_put_here fixed.limits entry now prefix (ap (hint (put fixed.limits entry now) task.site) is ∙ hinted) ∙ found.led first had }))
             at z prefix hinted false apart = led z prefix (hint_put task.site z number apart fixed.limits entry refl refl now prefix hinted)
 
-        of : (found : Option Suite) → suite_of suites number ≡ found → (given : Option Content) → Led (fetched fixed task now suites number found server given).cache
+        of : (found : Option GatheredSuite) → suite_of suites number ≡ found → (given : Option Content) → Led (fetched fixed task now suites number found server given).cache
         of None there None = as_now (give_up task now suites (Lost server)) (up_cache task now suites (Lost server))
         of None there (Some content) = as_now (give_up task now suites (Lost server)) (up_cache task now suites (Lost server))
         of (Some suite) there None = as_now (give_up task now suites (Lost server)) (up_cache task now suites (Lost server))

@@ -15,7 +15,7 @@ pub mod Free
 pub mod Worked
 pub mod Unmoved
 pub mod Serves
-pub mod Taken
+pub mod LostUndecided
 pub mod Quiet
 pub mod Calm
 pub mod Stored
@@ -25,7 +25,7 @@ pub mod Decider
 pub mod AtDecision
 pub mod Deciding
 pub mod HadVotes
-pub mod Took
+pub mod StepsServed
 pub mod Still
 pub mod Asking
 pub mod VotesSet
@@ -35,10 +35,10 @@ pub mod Widens
 pub mod Hinting
 pub mod Gathered
 pub mod Executes
-pub mod Knows
+pub mod KnownStays
 pub mod Heard
 pub mod Early
-pub mod Knew
+pub mod KnownIsTheTables
 pub mod SameDemands
 pub mod Hinted
 pub mod InTime

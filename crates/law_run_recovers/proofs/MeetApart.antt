@@ -27,7 +27,7 @@ use Rattle.law_run_recovers.specs.Unmet.{world_after}
 use Rattle.law_run_recovers.proofs.AmongCourse.{tail_or}
 use Rattle.law_run_recovers.proofs.Keeps.{IsAtWork, step_asks}
 use Rattle.law_run_recovers.proofs.Sides.{compared, names_one}
-use Rattle.law_run_recovers.proofs.Took.{OwnTook, own_took}
+use Rattle.law_run_recovers.proofs.StepsServed.{OwnTook, own_took}
 use Rattle.law_run_recovers.proofs.MeetBoth.{Place, place, its_event, held_in, world_in, in_part, cancel, agent_in}
 use Rattle.law_run_recovers.proofs.MeetCalm.{Calm, up_at}
 use Rattle.law_run_recovers.proofs.MeetCount.{clash_wider, serves_own}

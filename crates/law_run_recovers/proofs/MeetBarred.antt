@@ -32,7 +32,7 @@ use Rattle.law_run_recovers.specs.Local.{VotesNeverMovedOf}
 use Rattle.law_run_recovers.specs.Near.{asks_for}
 use Rattle.law_run_recovers.specs.Unmet.{begun_world}
 use Rattle.law_run_recovers.proofs.Keeps.{step_asks}
-use Rattle.law_run_recovers.proofs.Took.{OwnTook, own_took}
+use Rattle.law_run_recovers.proofs.StepsServed.{OwnTook, own_took}
 use Rattle.law_run_recovers.proofs.MeetBoth.{its_event, in_part, IsAsked, asked_now}
 use Rattle.law_run_recovers.proofs.MeetCalm.{Calm, up_at}
 use Rattle.law_run_recovers.proofs.MeetRun.{run_is}

@@ -84,13 +84,13 @@ use Rattle.law_run_recovers.proofs.Executes.{begin_stands}
 use Rattle.law_run_recovers.proofs.Found.{Answering, all_answer}
 use Rattle.law_run_recovers.proofs.Heard.{LockRight, RightFor, reply_stands}
 use Rattle.law_run_recovers.proofs.Keeps.{IsAtWork, works, at_work, at_work_before, run_at}
-use Rattle.law_run_recovers.proofs.Knew.{unanswered, knows_table, unrecorded_on}
+use Rattle.law_run_recovers.proofs.KnownIsTheTables.{unanswered, knows_table, unrecorded_on}
 use Rattle.law_run_recovers.proofs.Led.{rules_of}
 use Rattle.law_run_recovers.proofs.Open.{its_begin, number_is, begun_there}
 use Rattle.law_run_recovers.proofs.Polled.{Sight, finds_at, Answers}
 use Rattle.law_run_recovers.proofs.Stands.{Ground, asks_of, locks_on, AfterStands, StepStands, PhaseStands, EndsRight}
 use Rattle.law_run_recovers.proofs.Still.{IsOpen, IsOpenPhase}
-use Rattle.law_run_recovers.proofs.Took.{OwnTook, own_took}
+use Rattle.law_run_recovers.proofs.StepsServed.{OwnTook, own_took}
 use Rattle.law_run_recovers.proofs.Unrobbed.{unrecorded_at, finds_then}
 use Rattle.law_run_recovers.proofs.MeetCalm.{along}
 use Rattle.law_run_recovers.proofs.MeetQuiet.{GoesQuietly, next_is, parts, heard_at, idle_before}

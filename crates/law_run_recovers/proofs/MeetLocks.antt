@@ -44,7 +44,7 @@ use Rattle.law_run_recovers.proofs.AtWork.{takes_nothing}
 use Rattle.law_run_recovers.proofs.Keeps.{IsAtWork, run_at, step_asks}
 use Rattle.law_run_recovers.proofs.Owned.{AllOwned, MayLock, owned_stays}
 use Rattle.law_run_recovers.proofs.Serves.{Serves, event_serves}
-use Rattle.law_run_recovers.proofs.Took.{OwnTook, own_took}
+use Rattle.law_run_recovers.proofs.StepsServed.{OwnTook, own_took}
 use Rattle.law_run_recovers.proofs.MeetCalm.{Calm, along, run_next, up_at}
 use Rattle.law_run_recovers.proofs.MeetQuiet.{GoesQuietly, next_is}
 use Rattle.law_run_recovers.proofs.MeetTold.{for_lock, says_held}

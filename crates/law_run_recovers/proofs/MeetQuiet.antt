@@ -53,7 +53,7 @@ use Rattle.law_run_recovers.proofs.MeetCalm.{along}
 use Rattle.law_run_recovers.proofs.Open.{its_begin, begun_there}
 use Rattle.law_run_recovers.proofs.Polled.{dver_at}
 use Rattle.law_run_recovers.proofs.Still.{IsOpen}
-use Rattle.law_run_recovers.proofs.Took.{own_took}
+use Rattle.law_run_recovers.proofs.StepsServed.{own_took}
 
 module _ (given : Opening) (base events later : List Event) (agent t : ℕ) (caller : Identity) (site : ℕ) (ops : List Op) (actor : Actor) where
   abbrev then : List Event → World

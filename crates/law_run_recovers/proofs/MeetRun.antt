@@ -41,7 +41,7 @@ use Rattle.law_run_recovers.proofs.Keeps.{IsAtWork, step_asks}
 use Rattle.law_run_recovers.proofs.Polled.{dver_in, dver_at}
 use Rattle.law_run_recovers.proofs.Rows.{start_was}
 use Rattle.law_run_recovers.proofs.Sides.{names_one, takes_named, its_agent, up_same}
-use Rattle.law_run_recovers.proofs.Took.{OwnTook, own_took}
+use Rattle.law_run_recovers.proofs.StepsServed.{OwnTook, own_took}
 use Rattle.law_run_recovers.proofs.Unrobbed.{unrecorded_at}
 use Rattle.law_run_recovers.proofs.MeetCalm.{Calm, accepted, can_at, up_at, table_same, log_same, busy_one, one_named, stored_at}
 use Rattle.law_run_recovers.proofs.MeetQuiet.{GoesQuietly}

@@ -39,7 +39,7 @@ use Rattle.law_run_recovers.specs.Unmet.{runs, begun_world, world_after}
 use Rattle.law_run_recovers.proofs.Keeps.{IsAtWork, works, at_work, run_at, step_asks}
 use Rattle.law_run_recovers.proofs.Sides.{compared, names_one}
 use Rattle.law_run_recovers.proofs.Still.{IsOpen, open_where}
-use Rattle.law_run_recovers.proofs.Took.{own_took}
+use Rattle.law_run_recovers.proofs.StepsServed.{own_took}
 use Rattle.law_run_recovers.proofs.Widened.{same_mode}
 use Rattle.law_run_recovers.proofs.MeetCount.{serves_own}
 use Rattle.law_run_recovers.proofs.MeetCourse.{Fits}

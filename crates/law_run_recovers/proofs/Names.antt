@@ -19,7 +19,7 @@ use Rattle.file_ops.specs.Rows.{PlainTable}
 use Rattle.suite_collect.specs.Collecting.{Asked, Poll, Upgrade, request_for}
 use Rattle.weak_cache.specs.Entries.{Cache}
 use Rattle.txn_core.specs.declared.job.Job.TheVariants.{Transaction}
-use Rattle.txn_core.specs.Suites.{ReadPoint, Suite, Suites, suite_of}
+use Rattle.txn_core.specs.Suites.{ReadPoint, GatheredSuite, Suites, suite_of}
 use Rattle.txn_core.specs.Doing as doing
 use Rattle.txn_core.specs.Doing.{Fixed, Task, Phase, Gathering, Fetching, Preparing, Deciding, Finishing, home_of}
 use Rattle.txn_core.specs.Transactions.{numbers_from, asked_for, fetched_at, fetched_for, request_in, changes_of, decision_of}
@@ -63,7 +63,7 @@ module _ (fixed : Fixed) (world : World) (sight : Sight) (table : PlainTable) (t
       let found = any_has (λ (lock : ℕ × LockMode). lock.0 == z) asked is in
       subst (λ z. among (suites_named table task) z ≡ true) (eqb-true found.0.0 z found.2) (lock_named found.0 (subst (λ locks. Has locks found.0) (sym are) (onto_so_far asked left found.0 found.1)))
 
-  fetch_found : (suites : Suites) (z server : ℕ) (asked : Request) (found : Option Suite) → fetched_for task z found ≡ Some (server, asked) → held_in Shared found ≡ true
+  fetch_found : (suites : Suites) (z server : ℕ) (asked : Request) (found : Option GatheredSuite) → fetched_for task z found ≡ Some (server, asked) → held_in Shared found ≡ true
   fetch_found suites z server asked None is = absurd (none-some (server, asked) is)
   fetch_found suites z server asked (Some suite) is = of suite.first is
     where

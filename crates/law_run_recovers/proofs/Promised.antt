@@ -29,7 +29,7 @@ use Rattle.law_run_recovers.proofs.Rounds.{only_doubts_are_left}
 use Rattle.law_run_recovers.proofs.Rows.{met_demands_are_rows}
 use Rattle.law_run_recovers.proofs.Stored.{all_is_stored}
 use Rattle.law_run_recovers.proofs.Swept.{sweeps_leave_doubts}
-use Rattle.law_run_recovers.proofs.Taken.{taken_away_are_never_decided}
+use Rattle.law_run_recovers.proofs.LostUndecided.{taken_away_are_never_decided}
 use Rattle.law_run_recovers.proofs.AmongDecided.{among_locks_had_votes_open, among_locks_are_answered_as_begun, among_locks_gather_their_asks, unmet_had_votes_up}
 use Rattle.law_run_recovers.proofs.UnmetLaws.{unmet_end_by_votes, unmet_are_decided_where_votes_are}
 use Rattle.law_run_recovers.proofs.AmongLeft.{among_locks_leave_no_lock}

@@ -31,7 +31,7 @@ use Rattle.weak_cache.specs.Cache.{hint}
 use Rattle.txn_core.specs.declared.ending.Ending.{Ending}
 use Rattle.txn_core.specs.declared.ending.Ending.TheVariants.{Undecided}
 use Rattle.txn_core.specs.declared.ending.Cause.TheVariants.{Busy, Unavailable}
-use Rattle.txn_core.specs.Suites.{ReadPoint, Suite, Suites, suite_of, with_suite}
+use Rattle.txn_core.specs.Suites.{ReadPoint, GatheredSuite, Suites, suite_of, with_suite}
 use Rattle.txn_core.specs.Doing as doing
 use Rattle.txn_core.specs.Doing.{Fixed, Task, Granted, Phase, Gathering, Fetching, Preparing, Deciding, Finishing, TransactionRun, After, GoesOn, Ends, home_of}
 use Rattle.txn_core.specs.Transactions.{Step, short_cause, tell_end, prepare}
@@ -93,11 +93,11 @@ abbrev pub wants_of : Fixed → World → Sight → PlainTable → ℕ → Ident
 wants_of fixed world sight table t caller ops start = map (of_lock fixed world sight start) (locks_asked table t caller ops) ++ map of_votes (votes_set table t caller ops)
 
 -- a suite that had a Current, and is held in its collector's mode
-abbrev pub IsKept : Suite → Type 0
+abbrev pub IsKept : GatheredSuite → Type 0
 IsKept suite = (suite.mode ≡ suite.collector.mode) × (is_some suite.first ≡ true)
 
 -- one of the same mode and first Current is held as it was
-pub held_same : (new old : Suite) (mode : LockMode) → new.mode ≡ old.mode → new.first ≡ old.first → held_in mode (Some new) ≡ held_in mode (Some old)
+pub held_same : (new old : GatheredSuite) (mode : LockMode) → new.mode ≡ old.mode → new.first ≡ old.first → held_in mode (Some new) ≡ held_in mode (Some old)
 held_same new old mode same first = ap (held_if new mode) first ∙ of old.first
   where
     of : (first : Option ReadPoint) → held_if new mode first ≡ held_if old mode first
@@ -172,17 +172,17 @@ module _ (fixed : Fixed) (world : World) (sight : Sight) (table : PlainTable) (t
   -- ---- the suites that it gathered
 
   -- a suite is looked for from where it may be, and what was told of it is right
-  pub record IsRight (z : ℕ) (suite : Suite) : Type 0 where
+  pub record IsRight (z : ℕ) (suite : GatheredSuite) : Type 0 where
     pub may : MayStart fixed cache task.site z suite.collector.start
     pub right : AllRight fixed world sight z Exclusive (all_told suite.collector)
 
   -- a lock that was had
   pub record IsHad (suites : Suites) (one : ℕ × LockMode) : Type 0 where
-    pub suite : Suite
+    pub suite : GatheredSuite
     pub there : suite_of suites one.0 ≡ Some suite
     pub met : is_met (demand_by (sight.opens one.0 one.1) one.0 one.1 (led_to_by fixed world (finds_at sight one.0) one.0 suite.collector.start).votes) ≡ true
 
-  abbrev pub start_of : Option Suite → Prefix
+  abbrev pub start_of : Option GatheredSuite → Prefix
   start_of (Some suite) = suite.collector.start
   start_of None = absent_prefix fixed.service.c0
 
@@ -192,7 +192,7 @@ module _ (fixed : Fixed) (world : World) (sight : Sight) (table : PlainTable) (t
   pub may_start : (suites : Suites) → Each IsRight suites → MayStartAll fixed cache task.site (starts suites)
   may_start suites right z = of (suite_of suites z) refl
     where
-      of : (found : Option Suite) → suite_of suites z ≡ found → MayStart fixed cache task.site z (start_of found)
+      of : (found : Option GatheredSuite) → suite_of suites z ≡ found → MayStart fixed cache task.site z (start_of found)
       of None is = inl refl
       of (Some suite) is = (right z suite is).may
 
@@ -200,10 +200,10 @@ module _ (fixed : Fixed) (world : World) (sight : Sight) (table : PlainTable) (t
   had_met suites one had = ap (λ found. not (is_met (demand_by (sight.opens one.0 one.1) one.0 one.1 (led_to_by fixed world (finds_at sight one.0) one.0 (start_of found)).votes))) had.there ∙ ap not had.met
 
   -- another suite in its place that is looked for from the same prefix
-  abbrev pub SameStart : Suites → ℕ → Suite → Type 0
-  SameStart suites number new = (old : Suite) → suite_of suites number ≡ Some old → new.collector.start ≡ old.collector.start
+  abbrev pub SameStart : Suites → ℕ → GatheredSuite → Type 0
+  SameStart suites number new = (old : GatheredSuite) → suite_of suites number ≡ Some old → new.collector.start ≡ old.collector.start
 
-  pub had_with : (suites : Suites) (number : ℕ) (new : Suite) (one : ℕ × LockMode) → SameStart suites number new → IsHad suites one → IsHad (with_suite number new suites) one
+  pub had_with : (suites : Suites) (number : ℕ) (new : GatheredSuite) (one : ℕ × LockMode) → SameStart suites number new → IsHad suites one → IsHad (with_suite number new suites) one
   had_with suites number new one same had = of (number == one.0) refl
     where
       of : (b : Bool) → (number == one.0) ≡ b → IsHad (with_suite number new suites) one
@@ -222,7 +222,7 @@ module _ (fixed : Fixed) (world : World) (sight : Sight) (table : PlainTable) (t
     pub modes : (z : ℕ) (mode : LockMode) → held_in mode (suite_of suites z) ≡ has_asked asked z mode
     pub order : locks_on table task ≡ onto asked (not_asked asked (needed_on table task))
 
-  pub asked_with : (suites : Suites) (asked : List (ℕ × LockMode)) (number : ℕ) (new : Suite) → Asked suites asked → IsRight number new → SameStart suites number new
+  pub asked_with : (suites : Suites) (asked : List (ℕ × LockMode)) (number : ℕ) (new : GatheredSuite) → Asked suites asked → IsRight number new → SameStart suites number new
       → ((mode : LockMode) → held_in mode (Some new) ≡ held_in mode (suite_of suites number)) → Asked (with_suite number new suites) asked
   asked_with suites asked number new asks right same held = record {
     ordered = IsOrdered-insert nat_cmp_total suites number new asks.ordered;
@@ -272,7 +272,7 @@ module _ (fixed : Fixed) (world : World) (sight : Sight) (table : PlainTable) (t
     pub locked : (one : ℕ × Configuration) → Has left one → list_any (λ (lock : ℕ × LockMode). lock.0 == one.0) so_far ≡ true
     pub exclusive : (one : ℕ × Configuration) → Has left one → has_asked so_far one.0 Exclusive ≡ true
     pub modes : Gathers suites
-    pub whole : (one : ℕ × Configuration) → Has left one → (suite : Suite) → suite_of suites one.0 ≡ Some suite → IsKept suite
+    pub whole : (one : ℕ × Configuration) → Has left one → (suite : GatheredSuite) → suite_of suites one.0 ≡ Some suite → IsKept suite
 
   -- the first of them now
   pub record IsWidening (suites : Suites) (number : ℕ) (left : List ℕ) (granted : Granted) : Type 0 where
@@ -281,7 +281,7 @@ module _ (fixed : Fixed) (world : World) (sight : Sight) (table : PlainTable) (t
     pub later : List (ℕ × Configuration)
     pub left_is : map (λ (one : ℕ × Configuration). one.0) later ≡ left
     pub sets : Sets suites done ((number, votes) ∷ later) granted
-    pub suite : Suite
+    pub suite : GatheredSuite
     pub there : suite_of suites number ≡ Some suite
     pub widening : Widening
     pub widening_is : suite.collector.widening ≡ Some widening
@@ -291,7 +291,7 @@ module _ (fixed : Fixed) (world : World) (sight : Sight) (table : PlainTable) (t
 
   module _ (Was : ℕ → Prefix → Type 0) (ground : Ground fixed world sight cache task.site (locks_on table task) Was) where
     -- a suite whose collector goes alone
-    pub record IsFound (z : ℕ) (suite : Suite) : Type 0 where
+    pub record IsFound (z : ℕ) (suite : GatheredSuite) : Type 0 where
       pub start : Prefix
       pub may : MayStart fixed cache task.site z start
       pub asked : asks_of (locks_on table task) z ≡ true
@@ -299,10 +299,10 @@ module _ (fixed : Fixed) (world : World) (sight : Sight) (table : PlainTable) (t
       pub led : (first : ReadPoint) → suite.first ≡ Some first → first.prefix ≡ led_to_by fixed world (finds_at sight z) z start
       pub version : (first : ReadPoint) → suite.first ≡ Some first → (n : ℕ) → AllBelow fixed world sight z n → first.dver ≤ n
 
-    pub found_start : (z : ℕ) (suite : Suite) (found : IsFound z suite) → suite.collector.start ≡ found.start
+    pub found_start : (z : ℕ) (suite : GatheredSuite) (found : IsFound z suite) → suite.collector.start ≡ found.start
     found_start z suite found = ap (λ (c : Collector). c.start) found.reached.is
 
-    pub found_right : (z : ℕ) (suite : Suite) → IsFound z suite → IsRight z suite
+    pub found_right : (z : ℕ) (suite : GatheredSuite) → IsFound z suite → IsRight z suite
     found_right z suite found = record {
       may = subst (MayStart fixed cache task.site z) (sym (found_start z suite found)) found.may;
       right = subst (AllRight fixed world sight z Exclusive) (sym (ap all_told found.reached.is))
@@ -310,12 +310,12 @@ module _ (fixed : Fixed) (world : World) (sight : Sight) (table : PlainTable) (t
     }
 
     -- and that had a Current: some server holds a lock on it
-    pub record HasLock (suite : Suite) : Type 0 where
+    pub record HasLock (suite : GatheredSuite) : Type 0 where
       pub server : ℕ
       pub is_one : nat_lt server max_servers ≡ true
       pub holds : holds Shared (all_told suite.collector) server ≡ true
 
-    pub record IsWhole (z : ℕ) (suite : Suite) : Type 0 where
+    pub record IsWhole (z : ℕ) (suite : GatheredSuite) : Type 0 where
       pub found : IsFound z suite
       pub had : is_some suite.first ≡ true
       pub mode_is : suite.mode ≡ suite.collector.mode
@@ -333,7 +333,7 @@ module _ (fixed : Fixed) (world : World) (sight : Sight) (table : PlainTable) (t
       pub asked : List (ℕ × LockMode)
       pub asks : Asked suites asked
       pub whole : EachBut IsWhole number suites
-      pub suite : Suite
+      pub suite : GatheredSuite
       pub there : suite_of suites number ≡ Some suite
       pub found : IsFound number suite
       pub mode : LockMode

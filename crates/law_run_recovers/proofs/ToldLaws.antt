@@ -29,7 +29,7 @@ use Rattle.law_run_recovers.proofs.NearGround.{first_asked, opens_up}
 use Rattle.law_run_recovers.proofs.Sides.{ended_runs_not}
 use Rattle.law_run_recovers.proofs.Steady.{GoesSteadily, never_hindered, steady, told_steady}
 use Rattle.law_run_recovers.proofs.Still.{IsOpen, IsOpenPhase}
-use Rattle.law_run_recovers.proofs.Took.{OwnTook, own_took}
+use Rattle.law_run_recovers.proofs.StepsServed.{OwnTook, own_took}
 
 -- ---- among locks that stay
 

@@ -52,7 +52,7 @@ use Rattle.law_run_recovers.proofs.Polled.{Sight, finds_at}
 use Rattle.law_run_recovers.proofs.Rows.{start_was}
 use Rattle.law_run_recovers.proofs.SameDemands.{HintsLed, hints_alike, same_so_far, still_up}
 use Rattle.law_run_recovers.proofs.Steady.{GoesSteadily, never_hindered}
-use Rattle.law_run_recovers.proofs.Took.{OwnTook, own_took}
+use Rattle.law_run_recovers.proofs.StepsServed.{OwnTook, own_took}
 use Rattle.law_run_recovers.proofs.UnmetLaws.{open_where_free, unmet_by_votes}
 
 -- ---- how it ends

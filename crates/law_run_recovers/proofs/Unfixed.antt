@@ -39,7 +39,7 @@ use Rattle.law_run_recovers.proofs.AtWork.{takes_nothing}
 use Rattle.law_run_recovers.proofs.Keeps.{IsAtWork, Works, works, last_of, step_asks, operates_it, becomes_none, lacks_none}
 use Rattle.law_run_recovers.proofs.Serves.{Serves, event_serves}
 use Rattle.law_run_recovers.proofs.Still.{IsOpen, open_undecided}
-use Rattle.law_run_recovers.proofs.Took.{OwnTook, own_took}
+use Rattle.law_run_recovers.proofs.StepsServed.{OwnTook, own_took}
 
 -- ---- a server
 

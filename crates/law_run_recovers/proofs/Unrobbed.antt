@@ -35,7 +35,7 @@ use Rattle.law_run_recovers.specs.Unmet.{world_after, robs, hinders_itself}
 use Rattle.law_run_recovers.specs.Told.{bereaves}
 use Rattle.law_run_recovers.proofs.AtWork.{locks_stand}
 use Rattle.law_run_recovers.proofs.Keeps.{IsAtWork, after_append, run_at, at_work_before}
-use Rattle.law_run_recovers.proofs.Knew.{unanswered, knows_table}
+use Rattle.law_run_recovers.proofs.KnownIsTheTables.{unanswered, knows_table}
 use Rattle.law_run_recovers.proofs.Open.{begun_servers}
 use Rattle.law_run_recovers.proofs.Unfixed.{unrecorded_next}
 

@@ -13,7 +13,7 @@ use Rattle.file_exec.specs.declared.changes.Change.{Change}
 use Rattle.suite_collect.specs.Collecting.{Collector, Widening, all_told, told_since, widen, Next, Current, Ask, Short, next}
 use Rattle.weak_cache.specs.Entries.{Cache}
 use Rattle.txn_core.specs.declared.ending.Ending.TheVariants.{Undecided}
-use Rattle.txn_core.specs.Suites.{Suite, Suites, suite_of, with_suite}
+use Rattle.txn_core.specs.Suites.{GatheredSuite, Suites, suite_of, with_suite}
 use Rattle.txn_core.specs.Doing as doing
 use Rattle.txn_core.specs.Doing.{Fixed, Task, Granted}
 use Rattle.txn_core.specs.Transactions.{Step, short_cause, votes_then, widened, widen_by, widen_one, widen_all, locked_at}
@@ -48,7 +48,7 @@ module _ (fixed : Fixed) (world : World) (sight : Sight) (table : PlainTable) (t
   abbrev Setting : Suites → List (ℕ × Configuration) → List (ℕ × Configuration) → Granted → Type 0
   Setting suites done left granted = Sets fixed world sight table task cache suites done left granted
 
-  pub sets_with : (suites : Suites) (number : ℕ) (new : Suite) (done left : List (ℕ × Configuration)) (granted : Granted) → Setting suites done left granted → IsRight fixed world sight table task cache number new
+  pub sets_with : (suites : Suites) (number : ℕ) (new : GatheredSuite) (done left : List (ℕ × Configuration)) (granted : Granted) → Setting suites done left granted → IsRight fixed world sight table task cache number new
       → SameStart fixed world sight table task cache suites number new → ((mode : LockMode) → held_in mode (Some new) ≡ held_in mode (suite_of suites number)) → IsKept new → Setting (with_suite number new suites) done left granted
   sets_with suites number new done left granted s right same held kept = record {
     right = each_with (IsRight fixed world sight table task cache) number suites new (each_but (IsRight fixed world sight table task cache) number suites s.right) right;
@@ -70,7 +70,7 @@ module _ (fixed : Fixed) (world : World) (sight : Sight) (table : PlainTable) (t
       held_so z mode true is = held mode ∙ ap (λ z. held_in mode (suite_of suites z)) (eqb-true number z is)
       held_so z mode false is = refl
 
-      kept_so : (one : ℕ × Configuration) → Has left one → (suite : Suite) (b : Bool) → cond b (Some new) (suite_of suites one.0) ≡ Some suite → IsKept suite
+      kept_so : (one : ℕ × Configuration) → Has left one → (suite : GatheredSuite) (b : Bool) → cond b (Some new) (suite_of suites one.0) ≡ Some suite → IsKept suite
       kept_so one has suite true is = subst IsKept (same_Some new suite is) kept
       kept_so one has suite false is = s.whole one has suite is
 
@@ -129,7 +129,7 @@ module _ (fixed : Fixed) (world : World) (sight : Sight) (table : PlainTable) (t
         phase : doing.Phase
         phase = doing.Widening (one.0 ∷ numbers later) granted
 
-        of : (found : Option Suite) → suite_of suites one.0 ≡ found → is_some found ≡ true → ((suites : Suites) → Setting suites (one ∷ done) later granted → Good (go_on suites)) → Good (widen_one task now suites phase granted.changes one.0 found go_on)
+        of : (found : Option GatheredSuite) → suite_of suites one.0 ≡ found → is_some found ≡ true → ((suites : Suites) → Setting suites (one ∷ done) later granted → Good (go_on suites)) → Good (widen_one task now suites phase granted.changes one.0 found go_on)
         of None is some go = absurd (false≢true some)
         of (Some suite) is some go = by (next (widened granted.changes one.0 suite).collector) refl
           where
@@ -146,9 +146,9 @@ module _ (fixed : Fixed) (world : World) (sight : Sight) (table : PlainTable) (t
             right = let was = s.right one.0 suite is in record { may = was.may; right = was.right }
 
             same : SameStart fixed world sight table task cache suites one.0 (widened granted.changes one.0 suite)
-            same old there = ap (λ (found : Option Suite). start_in found) (sym is ∙ there)
+            same old there = ap (λ (found : Option GatheredSuite). start_in found) (sym is ∙ there)
               where
-                start_in : Option Suite → Prefix
+                start_in : Option GatheredSuite → Prefix
                 start_in (Some suite) = suite.collector.start
                 start_in None = suite.collector.start
 

@@ -12,7 +12,7 @@ use Rattle.txn_core.specs.declared.ending.Ending.{Ending}
 use Rattle.txn_core.specs.declared.ending.Ending.TheVariants.{Undecided}
 use Rattle.txn_core.specs.declared.ending.Cause.TheVariants.{Busy, Unavailable}
 use Rattle.txn_core.specs.declared.job.Job.TheVariants.{Transaction}
-use Rattle.txn_core.specs.Suites.{Suite, suite_of}
+use Rattle.txn_core.specs.Suites.{GatheredSuite, suite_of}
 use Rattle.txn_core.specs.Doing.{home_of, TransactionRun, Running}
 use Rattle.txn_core.specs.Agents.{fixed_of}
 use Rattle.weak_cache.specs.Entries.{Cache}
@@ -157,7 +157,7 @@ abbrev pub AmongLocksAreAnsweredAsBegun : Type 0
 AmongLocksAreAnsweredAsBegun = (given : Opening) (events : List Event) → AmongLocksAreAnsweredAsBegunAt given events
 
 -- whether a suite was gathered in a mode, or in a stronger one
-abbrev pub is_gathered : LockMode → Option Suite → Bool
+abbrev pub is_gathered : LockMode → Option GatheredSuite → Bool
 is_gathered mode (Some suite) = is_some suite.first && serves suite.mode mode
 is_gathered mode None = false
 

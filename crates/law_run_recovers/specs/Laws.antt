@@ -15,7 +15,7 @@ use Rattle.txn_core.specs.declared.ending.Ending.TheVariants.{Answered, Refused,
 use Rattle.txn_core.specs.declared.ending.Cause.TheVariants.{Unavailable, HomeDown}
 use Rattle.txn_core.specs.declared.job.Job.{Job}
 use Rattle.txn_core.specs.declared.job.Job.TheVariants.{Transaction}
-use Rattle.txn_core.specs.Suites.{Suite, suite_of}
+use Rattle.txn_core.specs.Suites.{GatheredSuite, suite_of}
 use Rattle.txn_core.specs.Writing.{is_changed}
 use Rattle.txn_core.specs.Transactions.{changes_of, votes_after}
 use Rattle.txn_core.specs.Doing.{home_of, Proposal, Deciding, TransactionRun, Running}
@@ -200,11 +200,11 @@ pub record HadVotesUp (given : Opening) (events later : List Event) (agent t : �
   pub outcome : Proposal
   pub deciding : txn_run.phase ≡ Deciding outcome
   pub home : is_up (run given events) (home_of (fixed_of given).service t) ≡ true
-  pub votes : (z : ℕ) (suite : Suite) → suite_of txn_run.suites z ≡ Some suite
+  pub votes : (z : ℕ) (suite : GatheredSuite) → suite_of txn_run.suites z ≡ Some suite
       → is_met (demand (run given events) z suite.mode (votes_of_row (fixed_of given) (row_of (table_of given events).rows z))) ≡ true
-  pub changed : (z : ℕ) (suite : Suite) → suite_of txn_run.suites z ≡ Some suite → is_changed (changes_of outcome) z ≡ true
+  pub changed : (z : ℕ) (suite : GatheredSuite) → suite_of txn_run.suites z ≡ Some suite → is_changed (changes_of outcome) z ≡ true
       → is_write_quorum (votes_of_row (fixed_of given) (row_of (table_of given events).rows z)) (is_up (run given events)) ≡ true
-  pub left : (z : ℕ) (suite : Suite) → suite_of txn_run.suites z ≡ Some suite → is_changed (changes_of outcome) z ≡ true
+  pub left : (z : ℕ) (suite : GatheredSuite) → suite_of txn_run.suites z ≡ Some suite → is_changed (changes_of outcome) z ≡ true
       → is_write_quorum (votes_after (changes_of outcome) z suite) (is_up (run given events)) ≡ true
 
 -- It was decided: it stands among the decisions, as its home has it recorded; or its job ended answered or refused.

@@ -29,7 +29,7 @@ use Rattle.suite_collect.specs.declared.told.Told.{Told}
 use Rattle.suite_collect.specs.declared.told.Said.{Said}
 use Rattle.suite_collect.specs.Collecting.{Collector, Widening as Wider, raised, tell, tell_at, mode_of, Next, Ask, Current, Short, next}
 use Rattle.weak_cache.specs.Entries.{Cache}
-use Rattle.txn_core.specs.Suites.{ReadPoint, Suite, Suites, suite_of, with_suite, known_of, settled, first_or}
+use Rattle.txn_core.specs.Suites.{ReadPoint, GatheredSuite, Suites, suite_of, with_suite, known_of, settled, first_or}
 use Rattle.txn_core.specs.declared.response.Response.{Response}
 use Rattle.txn_core.specs.declared.response.Response.TheVariants.{Replied, Lacked}
 use Rattle.txn_core.specs.declared.ending.Cause.{Cause}
@@ -188,7 +188,7 @@ left_widen_by fixed task cache suites left granted number (Current prefix dver m
 left_widen_by fixed task cache suites left granted number (Ask server asked) go_on fit came more = (fit, came)
 left_widen_by fixed task cache suites left granted number (Short got needed busy) go_on fit came more = left_give_up fixed task cache suites (short_cause number got needed busy)
 
-left_widen_one : (fixed : Fixed) (task : Task) (cache : Cache) (suites : Suites) (left : List ℕ) (granted : Granted) (number : ℕ) (found : Option Suite) → suite_of suites number ≡ found → (go_on : Suites → Step) → AreFit suites → Came fixed task suites (Ok granted)
+left_widen_one : (fixed : Fixed) (task : Task) (cache : Cache) (suites : Suites) (left : List ℕ) (granted : Granted) (number : ℕ) (found : Option GatheredSuite) → suite_of suites number ≡ found → (go_on : Suites → Step) → AreFit suites → Came fixed task suites (Ok granted)
     → ((suites : Suites) → AreFit suites → Came fixed task suites (Ok granted) → Left fixed (go_on suites).after) → Left fixed (widen_one task cache suites (Widening left granted) granted.changes number found go_on).after
 left_widen_one fixed task cache suites left granted number (Some suite) there go_on fit came more =
     let wider = widened granted.changes number suite in
@@ -218,7 +218,7 @@ any_serves : (mode : LockMode) → serves mode Shared ≡ true
 any_serves Shared = refl
 any_serves Exclusive = refl
 
-new_mode : (fixed : Fixed) (task : Task) (cache : Cache) (suites : Suites) (number : ℕ) (mode : LockMode) (found : Option Suite) → suite_of suites number ≡ found → AreFit suites
+new_mode : (fixed : Fixed) (task : Task) (cache : Cache) (suites : Suites) (number : ℕ) (mode : LockMode) (found : Option GatheredSuite) → suite_of suites number ≡ found → AreFit suites
     → serves (raised_or_new fixed task cache number mode found).collector.mode (raised_or_new fixed task cache number mode found).mode ≡ true
 new_mode fixed task cache suites number mode (Some suite) there fit = raised_serves suite.collector.widening suite.collector.mode suite.mode (fit.modes number suite there)
 new_mode fixed task cache suites number mode None there fit = any_serves mode
@@ -236,15 +236,15 @@ abbrev FitIf : Option Gathered → Type 0
 FitIf (Some all) = AreFit all.suites
 FitIf None = Unit {0}
 
-fit_opened_with : (task : Task) (all : Gathered) (number : ℕ) (suite : Suite) (first : ReadPoint) (content : Option Content) → suite_of all.suites number ≡ Some suite → AreFit all.suites → FitIf (opened_with task all number suite first content)
+fit_opened_with : (task : Task) (all : Gathered) (number : ℕ) (suite : GatheredSuite) (first : ReadPoint) (content : Option Content) → suite_of all.suites number ≡ Some suite → AreFit all.suites → FitIf (opened_with task all number suite first content)
 fit_opened_with task all number suite first (Some content) there fit = with_fit all.suites number (record suite { content = Some content }) fit (fit.modes number suite there)
 fit_opened_with task all number suite first None there fit = tt
 
-fit_first : (task : Task) (all : Gathered) (number : ℕ) (suite : Suite) (first : Option ReadPoint) → suite_of all.suites number ≡ Some suite → AreFit all.suites → FitIf (open_first task all number suite first)
+fit_first : (task : Task) (all : Gathered) (number : ℕ) (suite : GatheredSuite) (first : Option ReadPoint) → suite_of all.suites number ≡ Some suite → AreFit all.suites → FitIf (open_first task all number suite first)
 fit_first task all number suite (Some first) there fit = fit_opened_with task all number suite first (free_content task all.cache number first) there fit
 fit_first task all number suite None there fit = tt
 
-fit_suite : (task : Task) (all : Gathered) (number : ℕ) (found : Option Suite) → suite_of all.suites number ≡ found → AreFit all.suites → FitIf (open_suite task all number found)
+fit_suite : (task : Task) (all : Gathered) (number : ℕ) (found : Option GatheredSuite) → suite_of all.suites number ≡ found → AreFit all.suites → FitIf (open_suite task all number found)
 fit_suite task all number (Some suite) there fit = fit_first task all number suite suite.first there fit
 fit_suite task all number None there fit = tt
 
@@ -271,20 +271,20 @@ left_execute fixed task all fit =
 -- ---- a response
 
 -- a suite of which something was told
-abbrev told_of : Told → Suite → Suite
+abbrev told_of : Told → GatheredSuite → GatheredSuite
 told_of told suite = record suite { collector = tell told suite.collector }
 
 tell_mode : (told : Told) (widening : Option Wider) (c : Collector) → (tell_at widening told c).mode ≡ c.mode
 tell_mode told None c = refl
 tell_mode told (Some wider) c = refl
 
-left_collected : (fixed : Fixed) (task : Task) (cache : Cache) (suites : Suites) (phase : Phase) (number : ℕ) (suite : Suite) (next : Next) (go_on : Suite → Step)
+left_collected : (fixed : Fixed) (task : Task) (cache : Cache) (suites : Suites) (phase : Phase) (number : ℕ) (suite : GatheredSuite) (next : Next) (go_on : GatheredSuite → Step)
     → Keeps fixed task (with_suite number suite suites) phase → ((prefix : Prefix) (dver : ℕ) (members : List ℕ) → Left fixed (go_on (settled prefix dver members suite)).after) → Left fixed (collected task cache suites phase number suite next go_on).after
 left_collected fixed task cache suites phase number suite (Ask server asked) go_on keeps more = keeps
 left_collected fixed task cache suites phase number suite (Short got needed busy) go_on keeps more = left_give_up fixed task cache (with_suite number suite suites) (short_cause number got needed busy)
 left_collected fixed task cache suites phase number suite (Current prefix dver members) go_on keeps more = more prefix dver members
 
-left_hear : (fixed : Fixed) (task : Task) (cache : Cache) (suites : Suites) (phase : Phase) (number : ℕ) (suite : Suite) (server : ℕ) (asked : Request) (heard : Option Said) (go_on : Suite → Step)
+left_hear : (fixed : Fixed) (task : Task) (cache : Cache) (suites : Suites) (phase : Phase) (number : ℕ) (suite : GatheredSuite) (server : ℕ) (asked : Request) (heard : Option Said) (go_on : GatheredSuite → Step)
     → ((told : Told) → Keeps fixed task (with_suite number (told_of told suite) suites) phase) → ((told : Told) (prefix : Prefix) (dver : ℕ) (members : List ℕ) → Left fixed (go_on (settled prefix dver members (told_of told suite))).after)
     → Left fixed (hear task cache suites phase number suite server asked heard go_on).after
 left_hear fixed task cache suites phase number suite server asked (Some heard) go_on keeps more =
@@ -292,14 +292,14 @@ left_hear fixed task cache suites phase number suite server asked (Some heard) g
     left_collected fixed task cache suites phase number (told_of told suite) (next (told_of told suite).collector) go_on (keeps told) (more told)
 left_hear fixed task cache suites phase number suite server asked None go_on keeps more = left_give_up fixed task cache suites (Lost server)
 
-told_mode : (suites : Suites) (number : ℕ) (suite : Suite) (told : Told) → AreFit suites → suite_of suites number ≡ Some suite → serves (tell told suite.collector).mode suite.mode ≡ true
+told_mode : (suites : Suites) (number : ℕ) (suite : GatheredSuite) (told : Told) → AreFit suites → suite_of suites number ≡ Some suite → serves (tell told suite.collector).mode suite.mode ≡ true
 told_mode suites number suite told fit there = subst (λ mode. serves mode suite.mode ≡ true) (sym (tell_mode told suite.collector.widening suite.collector)) (fit.modes number suite there)
 
 first_stays : (found : Option ReadPoint) (first new : ReadPoint) → found ≡ Some first → first_or found new ≡ Some first
 first_stays (Some other) first new is = is
 first_stays None first new is = cc
 
-left_gathering : (fixed : Fixed) (task : Task) (cache : Cache) (suites : Suites) (number : ℕ) (found : Option Suite) (server : ℕ) (asked : Request) (said : Reply) → suite_of suites number ≡ found → AreFit suites
+left_gathering : (fixed : Fixed) (task : Task) (cache : Cache) (suites : Suites) (number : ℕ) (found : Option GatheredSuite) (server : ℕ) (asked : Request) (said : Reply) → suite_of suites number ≡ found → AreFit suites
     → Left fixed (heard_of task cache suites (Gathering number) number found server asked said (λ suites. execute fixed task (record { suites = suites; cache = cache }))).after
 left_gathering fixed task cache suites number (Some suite) server asked said there fit =
     left_hear fixed task cache suites (Gathering number) number suite server asked (said_to asked said) _
@@ -307,7 +307,7 @@ left_gathering fixed task cache suites number (Some suite) server asked said the
     (λ told prefix dver members. left_execute fixed task (record { suites = with_suite number (settled prefix dver members (told_of told suite)) suites; cache = cache }) (with_fit suites number (settled prefix dver members (told_of told suite)) fit (serves_itself (tell told suite.collector).mode)))
 left_gathering fixed task cache suites number None server asked said there fit = left_give_up fixed task cache suites (Lost server)
 
-left_widening : (fixed : Fixed) (task : Task) (cache : Cache) (suites : Suites) (number : ℕ) (left : List ℕ) (granted : Granted) (found : Option Suite) (server : ℕ) (asked : Request) (said : Reply) → suite_of suites number ≡ found → AreFit suites → Came fixed task suites (Ok granted)
+left_widening : (fixed : Fixed) (task : Task) (cache : Cache) (suites : Suites) (number : ℕ) (left : List ℕ) (granted : Granted) (found : Option GatheredSuite) (server : ℕ) (asked : Request) (said : Reply) → suite_of suites number ≡ found → AreFit suites → Came fixed task suites (Ok granted)
     → Left fixed (heard_of task cache suites (Widening (number ∷ left) granted) number found server asked said (λ suites. widen_all task cache suites granted left)).after
 left_widening fixed task cache suites number left granted (Some suite) server asked said there fit came =
     left_hear fixed task cache suites (Widening (number ∷ left) granted) number suite server asked (said_to asked said) _
@@ -323,11 +323,11 @@ left_widening fixed task cache suites number left granted (Some suite) server as
     (with_fit suites number now fit (serves_itself (tell told suite.collector).mode)) came))
 left_widening fixed task cache suites number left granted None server asked said there fit came = left_give_up fixed task cache suites (Lost server)
 
-left_keep : (fixed : Fixed) (task : Task) (cache : Cache) (suites : Suites) (number : ℕ) (suite : Suite) (content : Content) (first : Option ReadPoint) (server : ℕ) → suite_of suites number ≡ Some suite → AreFit suites → Left fixed (keep_content fixed task cache suites number suite content first server).after
+left_keep : (fixed : Fixed) (task : Task) (cache : Cache) (suites : Suites) (number : ℕ) (suite : GatheredSuite) (content : Content) (first : Option ReadPoint) (server : ℕ) → suite_of suites number ≡ Some suite → AreFit suites → Left fixed (keep_content fixed task cache suites number suite content first server).after
 left_keep fixed task cache suites number suite content (Some first) server there fit = left_execute fixed task _ (with_fit suites number (record suite { content = Some content }) fit (fit.modes number suite there))
 left_keep fixed task cache suites number suite content None server there fit = left_give_up fixed task cache suites (Lost server)
 
-left_fetched : (fixed : Fixed) (task : Task) (cache : Cache) (suites : Suites) (number : ℕ) (found : Option Suite) (server : ℕ) (given : Option Content) → suite_of suites number ≡ found → AreFit suites → Left fixed (fetched fixed task cache suites number found server given).after
+left_fetched : (fixed : Fixed) (task : Task) (cache : Cache) (suites : Suites) (number : ℕ) (found : Option GatheredSuite) (server : ℕ) (given : Option Content) → suite_of suites number ≡ found → AreFit suites → Left fixed (fetched fixed task cache suites number found server given).after
 left_fetched fixed task cache suites number (Some suite) server (Some content) there fit = left_keep fixed task cache suites number suite content suite.first server there fit
 left_fetched fixed task cache suites number (Some suite) server None there fit = left_give_up fixed task cache suites (Lost server)
 left_fetched fixed task cache suites number None server (Some content) there fit = left_give_up fixed task cache suites (Lost server)

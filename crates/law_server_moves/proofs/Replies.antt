@@ -16,7 +16,7 @@ use Rattle.rep_core.specs.Service.{reply_of, after}
 use Rattle.rep_core.specs.Serving.{is_full, served, step}
 use Rattle.rep_core.proofs.Records.{decide_ruled, resolve_ruled}
 use Rattle.rep_core.proofs.LockLookups.{lock_there}
-use Rattle.rep_core.proofs.Told.{LockTold, poll_told, upgrade_told, ContentTold, fetch_told}
+use Rattle.rep_core.proofs.RepliesTell.{LockTold, poll_told, upgrade_told, ContentTold, fetch_told}
 use Rattle.law_suite_machine.specs.Machine.{World, set1}
 use Rattle.law_server_moves.specs.Views.{hold_of, verdict_of, ended_as, Shows}
 use Rattle.law_server_moves.specs.Laws.{TellsCopy, TellsContent, Tells, RepliesTell}

@@ -25,7 +25,7 @@ mod rings;
 mod shelf;
 
 #[doc(hidden)]
-pub use node::{Link, Node, Place};
+pub use node::{Link, Node, NodeAt};
 #[doc(hidden)]
 pub use rings::Rings;
 pub use shelf::{Shelf, Slot};

@@ -5,7 +5,7 @@ ghost use Rattle.std.specs.Vec.{vec_ptr, vec_len, vec_capacity};
 ghost use Rattle.recency.specs.Rings.{IsAlone};
 ghost use Rattle.recency.specs.Links.{index_of, IsNode, number};
 
-use crate::node::{Link, Node, Place, enter_all, enter_own, leave_all, leave_own, look, relist};
+use crate::node::{Link, Node, NodeAt, enter_all, enter_own, leave_all, leave_own, look, relist};
 use crate::place::place;
 use std::alloc::{AllocError, Global};
 use std::marker::Model;
@@ -39,12 +39,12 @@ impl Model for Rings {
 }
 
 /// Where a node lies.
-fn place_of(nodes: &Vec<Node>, index: usize) -> Place
+fn place_of(nodes: &Vec<Node>, index: usize) -> NodeAt
     requires { index < vec_len nodes.now }
     ensures node { IsNode nodes.now result.ptr }
     ensures index { index_of nodes.now result.ptr ≡ index }
 {
-    Place {
+    NodeAt {
         ptr: place(nodes, nodes.as_ptr(), index),
     }
 }
@@ -55,7 +55,7 @@ fn alone(nodes: &Vec<Node>, index: usize, list: usize) -> Node
     ensures slot { (result.slot ≡ index) × (result.list ≡ list) }
     ensures alone { IsAlone (vec_ptr nodes.now) index result }
 {
-    let here = Place {
+    let here = NodeAt {
         ptr: place(nodes, nodes.as_ptr(), index),
     };
     let link = Link {

@@ -29,7 +29,7 @@ use Rattle.rep_core.proofs.LockLookups.{new_lock}
 use Rattle.rep_core.proofs.Ways.{Ways}
 use Rattle.rep_core.proofs.Consistent.{consistent_step}
 use Rattle.rep_core.proofs.Reached.{consistent_all}
-use Rattle.rep_core.proofs.Told.{LockTold, poll_told, upgrade_told}
+use Rattle.rep_core.proofs.RepliesTell.{LockTold, poll_told, upgrade_told}
 use Rattle.rep_core.proofs.Again.{has_locked}
 use Rattle.rep_core.proofs.Later.{stays_later, kept_step, later_recorded, later_prepared, later_finished, later_fetched, HasCopy, still_copy, spared, spared_break}
 

@@ -8,7 +8,7 @@ pub mod Least
 pub mod LockLookups
 pub mod PreparedLocks
 pub mod Quiet
-pub mod Told
+pub mod RepliesTell
 pub mod Again
 pub mod Later
 pub mod HeldStill

@@ -14,7 +14,7 @@ mod row;
 
 use byte_streams::{MemoryIn, MemoryOut, SystemIn, SystemOut, read_all, write_all};
 use line::Unread;
-use report::{Place, Report};
+use report::{RowAt, Report};
 use row::Row;
 use std::alloc::{AllocError, Global};
 use std::io;
@@ -55,7 +55,7 @@ fn play_all<R: Threads + Wait + Sync>(
 ) -> Result<Report, AllocError> {
     let text = text.strip_suffix('\n').unwrap_or(text);
     let mut report = Report::new(alloc);
-    let mut place = Place { line: 1, title: "" };
+    let mut place = RowAt { line: 1, title: "" };
     for (number, part) in text.split("\n$").enumerate() {
         if number > 0 {
             play_one(rt, place, part, &mut report)?;
@@ -69,7 +69,7 @@ fn play_all<R: Threads + Wait + Sync>(
 /// Plays a row.
 fn play_one<R: Threads + Wait + Sync>(
     rt: &R,
-    place: Place<'_>,
+    place: RowAt<'_>,
     text: &str,
     report: &mut Report,
 ) -> Result<(), AllocError> {
@@ -92,7 +92,7 @@ fn play_one<R: Threads + Wait + Sync>(
 /// Runs the words of a row over an input, and compares what was printed.
 fn compare<R: Threads + Wait + Sync>(
     rt: &R,
-    place: Place<'_>,
+    place: RowAt<'_>,
     row: &Row<'_>,
     mut input: MemoryIn<'_>,
     report: &mut Report,

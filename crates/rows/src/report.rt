@@ -6,19 +6,19 @@ use std::alloc::{AllocError, Global};
 
 /// Where a row stands: the number of its line, and its title.
 #[derive(Clone, Copy)]
-pub(crate) struct Place<'a> {
+pub(crate) struct RowAt<'a> {
     pub(crate) line: usize,
     pub(crate) title: &'a str,
 }
 
-impl<'a> Place<'a> {
+impl<'a> RowAt<'a> {
     /// The place after a part of a text that begins here.
-    pub(crate) fn after(self, part: &'a str) -> Place<'a> {
+    pub(crate) fn after(self, part: &'a str) -> RowAt<'a> {
         let title = match part.rsplit_once("\n=") {
             Some((_, after)) => after.split_once('\n').map_or(after, |(title, _)| title),
             None => self.title,
         };
-        Place {
+        RowAt {
             line: self.line.saturating_add(part.split('\n').count()),
             title: title.trim(),
         }
@@ -58,11 +58,11 @@ impl Report {
     /// Adds a row that answered with another status, or printed something else.
     pub(crate) fn add_difference(
         &mut self,
-        place: Place<'_>,
+        place: RowAt<'_>,
         status: u8,
         printed: &[u8],
     ) -> Result<(), AllocError> {
-        let Place { line, title } = place;
+        let RowAt { line, title } = place;
         let head = format!(in self.alloc; "line {line}: {title}: status {status}, and printed\n")?;
         self.differences = self.differences.saturating_add(1);
         self.text.extend_from_slice(head.as_bytes())?;
@@ -70,8 +70,8 @@ impl Report {
     }
 
     /// Adds a row that cannot be read.
-    pub(crate) fn add_bad_row(&mut self, place: Place<'_>) -> Result<(), AllocError> {
-        let Place { line, title } = place;
+    pub(crate) fn add_bad_row(&mut self, place: RowAt<'_>) -> Result<(), AllocError> {
+        let RowAt { line, title } = place;
         let head = format!(in self.alloc; "line {line}: {title}: no row\n")?;
         self.differences = self.differences.saturating_add(1);
         self.text.extend_from_slice(head.as_bytes())

@@ -8,7 +8,7 @@ ghost use Rattle.run_core.specs.Wanting.{by_exchange};
 
 use crate::done::{EndedJob, Served};
 use crate::host::Host;
-use crate::seat::Seat;
+use crate::seat::WorldAgent;
 use rep_core::Lack;
 use std::alloc::AllocError;
 
@@ -18,7 +18,7 @@ use std::alloc::AllocError;
 #[inline(always)]
 pub(crate) fn exchange(
     host: &mut Host,
-    seat: &mut Seat,
+    seat: &mut WorldAgent,
     agent: u8,
     asked: &mut Served,
     ended: &mut Option<EndedJob>,

@@ -10,13 +10,13 @@ ghost use Rattle.run_core.specs.code.Seats.{AreOf, Becomes, changed};
 use crate::done::{EndedJob, Served};
 use crate::exchange::exchange;
 use crate::host::Host;
-use crate::seat::Seat;
+use crate::seat::WorldAgent;
 use rep_core::Lack;
 use std::alloc::AllocError;
 use txn_core::Job;
 
 /// The agent of this number begins a job.
-pub(crate) fn begin(seats: &mut Vec<Seat>, number: u8, job: &Job) -> Result<(), AllocError>
+pub(crate) fn begin(seats: &mut Vec<WorldAgent>, number: u8, job: &Job) -> Result<(), AllocError>
     ensures ok { OnOk result (moved.IsBegun seats.old.items seats.new.items number job.now) }
     ensures err { OnErr result (seats.new.items ≡ seats.old.items) }
     ensures memory { IfErr result (λ _. moved.BeginWants seats.old.items number job.now) }
@@ -28,7 +28,7 @@ pub(crate) fn begin(seats: &mut Vec<Seat>, number: u8, job: &Job) -> Result<(), 
 }
 
 /// The agent of this number forgets what its cache keeps for a site.
-pub(crate) fn forget(seats: &mut Vec<Seat>, number: u8, site: u8)
+pub(crate) fn forget(seats: &mut Vec<WorldAgent>, number: u8, site: u8)
     ensures { Becomes (slice_get seats.old.items number) (λ seat. changed seat (agents.forget seat.actor.agent site)) number seats.old.items seats.new.items }
 {
     if let Some(seat) = seats.get_mut(usize::from(number)) {
@@ -41,7 +41,7 @@ pub(crate) fn forget(seats: &mut Vec<Seat>, number: u8, site: u8)
 #[inline(always)]
 pub(crate) fn ask(
     servers: &mut Vec<Host>,
-    seats: &mut Vec<Seat>,
+    seats: &mut Vec<WorldAgent>,
     number: u8,
     asked: &mut Served,
     ended: &mut Option<EndedJob>,
@@ -68,7 +68,7 @@ pub(crate) fn ask(
 
 /// The agent of this number is told that its request is not served, which takes no memory. How its job ended is put
 /// into a place of the caller's, which else keeps what it has.
-pub(crate) fn lack(seats: &mut Vec<Seat>, number: u8, lack: Lack, ended: &mut Option<EndedJob>)
+pub(crate) fn lack(seats: &mut Vec<WorldAgent>, number: u8, lack: Lack, ended: &mut Option<EndedJob>)
     ensures of { (fixed : Fixed) → AreOf fixed seats.old.items → AreOf fixed seats.new.items }
     ensures told { moved.IsLacked seats.old.items seats.new.items number lack ended.old ended.new }
 {

@@ -5,7 +5,7 @@ ghost use Rattle.run_core.specs.code.Seats.{seats_from};
 ghost use Rattle.run_core.specs.Worlds.{servers_from};
 
 use crate::host::Host;
-use crate::seat::Seat;
+use crate::seat::WorldAgent;
 use rep_core::Server;
 use std::alloc::{AllocError, Global};
 use suite_prefix::Settings;
@@ -24,13 +24,13 @@ pub(crate) fn servers_of(alloc: Global, settings: &Settings) -> Result<Vec<Host>
 }
 
 /// All agents, numbered from 0.
-pub(crate) fn seats_of(alloc: Global, settings: &Settings) -> Result<Vec<Seat>, AllocError>
+pub(crate) fn seats_of(alloc: Global, settings: &Settings) -> Result<Vec<WorldAgent>, AllocError>
     ensures { IfOk result (λ seats. seats.items ≡ seats_from settings.now 0 settings.now.agents) }
 {
     let count = settings.agents() as u8;
     let mut seats = Vec::new(alloc);
     for index in 0..count {
-        let seat = Seat::new(alloc, index, settings)?;
+        let seat = WorldAgent::new(alloc, index, settings)?;
         seats.push(seat)?;
     }
     Ok(seats)

@@ -17,13 +17,13 @@ use txn_core::{Agent, Ending, Job};
 
 /// An agent, with the last stamp that it was told, and how many steps its job has taken.
 #[derive(Drop)]
-pub(crate) struct Seat {
+pub(crate) struct WorldAgent {
     agent: Agent,
     stamp: u64,
     steps: u64,
 }
 
-impl Model for Seat {
+impl Model for WorldAgent {
     ghost use Rattle.run_core.specs.code.Seats.{Seated};
     ghost use Rattle.run_core.specs.code.SeatFields.{seated_of};
 
@@ -32,16 +32,16 @@ impl Model for Seat {
     ghost view = { seated_of };
 }
 
-impl Seat {
+impl WorldAgent {
     /// An agent of this number, as a service opens.
-    pub(crate) fn new(alloc: Global, index: u8, settings: &Settings) -> Result<Seat, AllocError>
+    pub(crate) fn new(alloc: Global, index: u8, settings: &Settings) -> Result<WorldAgent, AllocError>
         requires { index < settings.now.agents }
         ensures { IfOk result (λ seat. seat ≡ seats.opening settings.now index) }
     {
         let Some(agent) = Agent::new(alloc, index, settings)? else {
             unreachable!();
         };
-        Ok(Seat {
+        Ok(WorldAgent {
             agent,
             stamp: 0,
             steps: 0,

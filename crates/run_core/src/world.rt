@@ -15,7 +15,7 @@ use crate::host::Host;
 use crate::moves;
 use crate::opening::{seats_of, servers_of};
 use crate::operator::{Order, operate};
-use crate::seat::Seat;
+use crate::seat::WorldAgent;
 use file_ops::AuditItem;
 use rep_core::Server;
 use std::alloc::{AllocError, Global};
@@ -35,7 +35,7 @@ pub struct World {
     alloc: Global,
     settings: Settings,
     servers: Vec<Host>,
-    seats: Vec<Seat>,
+    seats: Vec<WorldAgent>,
 }
 
 impl Model for World {

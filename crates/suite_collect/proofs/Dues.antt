@@ -10,11 +10,11 @@ use Rattle.suite_collect.specs.declared.told.Said.{Said}
 use Rattle.suite_collect.specs.declared.told.Told.{Told}
 use Rattle.suite_collect.specs.declared.collect.Collect.TheInside.{Inside}
 use Rattle.suite_collect.specs.declared.widening.Widening.{Widening as Wide}
-use Rattle.suite_collect.specs.declared.due.Tally.{Tally as Coded}
+use Rattle.suite_collect.specs.declared.due.Standing.{Standing as Coded}
 use Rattle.suite_collect.specs.declared.read_point.ReadPoint.{ReadPoint}
 use Rattle.suite_collect.specs.code.Adding.{IsAdded}
 use Rattle.suite_collect.specs.code.Dues as due
-use Rattle.suite_collect.specs.code.Dues.{Due, Tally, due_left, tally_among, tally_by, tally_in, IsKnown}
+use Rattle.suite_collect.specs.code.Dues.{Due, Standing, due_left, tally_among, tally_by, tally_in, IsKnown}
 use Rattle.suite_collect.specs.Telling.{newer, newest, holds, has_refused, first_busy, shown}
 use Rattle.suite_collect.specs.Collecting.{Widening, Collector, all_told, counted, wanted, needed, got, is_member, is_left, members_of, version, source, asked_of, ask_or_short, said_to, tell, told_by, Current, Ask, Short, next}
 use Rattle.suite_collect.specs.code.CollectFields.{widening_of, collecting_of, tally_of, due_of, IsSummed}
@@ -110,7 +110,7 @@ all_told_then c last = of c.widening
     of (Some w) = refl
 
 -- what is due once something is told, and the votes that are had
-pub tally_then : (c : Collector) (last : Told) (votes : Configuration) (held refused : ℕ → Bool) (tally : Tally)
+pub tally_then : (c : Collector) (last : Told) (votes : Configuration) (held refused : ℕ → Bool) (tally : Standing)
     → votes ≡ counted (tell last c) → ((other : ℕ) → held other ≡ holds (wanted c) (last ∷ all_told c) other) → ((other : ℕ) → refused other ≡ has_refused (last ∷ all_told c) other)
     → tally ≡ tally_among votes (wanted c) held refused → tally ≡ tally_of (tell last c)
 tally_then c last votes held refused tally counting holding refusing is =

@@ -13,7 +13,7 @@ ghost use Rattle.suite_collect.specs.Telling as telling;
 ghost use Rattle.suite_collect.specs.Telling.{is_held};
 
 use crate::coming::{Asked, Coming};
-use crate::due::{Due, Tally, due_among, tally_of};
+use crate::due::{Due, Standing, due_among, tally_of};
 use crate::heard::Heard;
 use crate::hearing::Hearing;
 use crate::log::Log;
@@ -43,7 +43,7 @@ pub struct Collect {
     widening: Option<Widening>,
     /// What is due, and the votes that are had. They are found where something changes, and not each time
     /// that they are asked for.
-    tally: Tally,
+    tally: Standing,
 }
 
 impl Model for Collect {
@@ -312,7 +312,7 @@ impl Collect {
 
     /// What is due once this is told, and the votes that are had then.
     #[inline(always)]
-    fn tally_after(&self, last: Saying<'_>) -> Tally
+    fn tally_after(&self, last: Saying<'_>) -> Standing
         requires { last.server < MAX_SERVERS }
         ensures value { tally_in result ≡ tally_of (spec.tell (told_of last.entry) self.now.collector) }
         ensures known { IsKnown result.due }
@@ -324,7 +324,7 @@ impl Collect {
         let votes = self.counted_after(last);
         let got = self.got_after(last, votes);
         let due = due_among(got, votes, &holders, &refused, wanted);
-        Tally { got, due }
+        Standing { got, due }
     }
 
     /// The votes that are had once this is told, where these votes count then. All are counted only where
@@ -356,7 +356,7 @@ impl Collect {
     /// Puts what is told behind what was told before, and what is due and had then. Only a prefix that is newer
     /// than all others needs memory: a copy of it is kept.
     #[inline(always)]
-    fn put(&mut self, last: Saying<'_>, tally: Tally) -> Result<(), AllocError>
+    fn put(&mut self, last: Saying<'_>, tally: Standing) -> Result<(), AllocError>
         requires server { last.server < MAX_SERVERS }
         requires tally { tally_in tally ≡ tally_of (spec.tell (told_of last) self.old.collector) }
         requires known { IsKnown tally.due }

@@ -22,20 +22,20 @@ pub(crate) enum Due {
 
 /// What is due, and the votes of those that hold what is wanted.
 #[derive(Clone, Copy)]
-pub(crate) struct Tally {
+pub(crate) struct Standing {
     pub(crate) got: u32,
     pub(crate) due: Due,
 }
 
 /// The tally where some votes count, a mode is wanted and this was heard. All votes are counted.
-pub(crate) fn tally_of(votes: &Votes, heard: &Heard, wanted: LockMode) -> Tally
+pub(crate) fn tally_of(votes: &Votes, heard: &Heard, wanted: LockMode) -> Standing
     ensures value { tally_in result ≡ spec.tally_by votes.now wanted heard.now }
     ensures known { IsKnown result.due }
 {
     let (holders, refused) = (heard.holders(wanted), heard.refused());
     let got = votes.votes_of(&holders);
     let due = due_among(got, votes, &holders, &refused, wanted);
-    Tally { got, due }
+    Standing { got, due }
 }
 
 /// What is due where these servers hold what is wanted, with so many votes, and those refused.

@@ -27,8 +27,8 @@ use Rattle.suite_play.specs.Promised.{events_in, events_of, steps_of}
 use Rattle.suite_play.specs.declared.command.Command.{Command}
 use Rattle.suite_play.specs.declared.command.Command.TheVariants.{Event}
 use Rattle.suite_play.specs.declared.places.Places.{Places}
-use Rattle.suite_play.specs.declared.verb.Verb as lines
-use Rattle.suite_play.specs.declared.verb.Verb.TheVariants as line
+use Rattle.suite_play.specs.declared.verb.EventVerb as lines
+use Rattle.suite_play.specs.declared.verb.EventVerb.TheVariants as line
 
 -- ---- operations
 
@@ -72,7 +72,7 @@ valid_begin places names words =
     after_any _ (number places.last_agent words) _ (λ agent.
     then_holds JobIsValid _ (transaction_in names agent.rest) _ (valid_transaction names agent.rest) (λ job valid. begun_valid agent.value job valid))
 
-valid_said : (places : Places) (names : Tables) (verb : lines.Verb) (words : List Word) → IfOk (said_by places names verb words) LineIsValid
+valid_said : (places : Places) (names : Tables) (verb : lines.EventVerb) (words : List Word) → IfOk (said_by places names verb words) LineIsValid
 valid_said places names line.Begin words = valid_begin places names words
 valid_said places names line.Sweep words =
     after_any _ (number places.last_agent words) _ (λ agent. after_any _ (number places.last_server agent.rest) _ (λ server. after_end _ (at_end server.rest) _ (tt, tt)))
@@ -85,7 +85,7 @@ valid_said places names line.Forget words =
     after_any _ (number places.last_agent words) _ (λ agent. after_any _ (number last_site agent.rest) _ (λ site. after_end _ (at_end site.rest) _ (tt, tt)))
 valid_said places names line.Audit words = after_any _ (server_in places words) _ (λ server. tt)
 
-valid_after : (places : Places) (names : Tables) (verb : Option lines.Verb) (words : List Word) → IfOk (said_after places names verb words) LineIsValid
+valid_after : (places : Places) (names : Tables) (verb : Option lines.EventVerb) (words : List Word) → IfOk (said_after places names verb words) LineIsValid
 valid_after places names (Some verb) words = valid_said places names verb words
 valid_after places names None words = tt
 

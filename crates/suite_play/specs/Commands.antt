@@ -14,12 +14,12 @@ use Rattle.suite_script.specs.Operations.{operations}
 use Rattle.suite_script.specs.Words.{Taken, Word, at_end, caller, number}
 use Rattle.suite_play.specs.declared.command.Command.{Command}
 use Rattle.suite_play.specs.declared.command.Command.TheVariants.{Event, Steps, Run, Audit}
-use Rattle.suite_play.specs.declared.verb.Verb.{Verb}
-use Rattle.suite_play.specs.declared.verb.Verb.TheVariants as verb
+use Rattle.suite_play.specs.declared.verb.EventVerb.{EventVerb}
+use Rattle.suite_play.specs.declared.verb.EventVerb.TheVariants as verb
 use Rattle.suite_play.specs.declared.places.Places.{Places}
 
 -- how the first word of a line is written
-abbrev pub spelling : Verb → Word
+abbrev pub spelling : EventVerb → Word
 spelling verb.Begin = codes "begin"
 spelling verb.Sweep = codes "sweep"
 spelling verb.Step = codes "step"
@@ -29,10 +29,10 @@ spelling verb.Return = codes "return"
 spelling verb.Forget = codes "forget"
 spelling verb.Audit = codes "audit"
 
-abbrev pub verbs : List Verb
+abbrev pub verbs : List EventVerb
 verbs = verb.Begin ∷ verb.Sweep ∷ verb.Step ∷ verb.Run ∷ verb.Crash ∷ verb.Return ∷ verb.Forget ∷ verb.Audit ∷ []
 
-abbrev pub verb_in : Word → Option Verb
+abbrev pub verb_in : Word → Option EventVerb
 verb_in text = find (λ verb. bytes_eq text (spelling verb)) verbs
 
 abbrev pub is_command : Word → Bool
@@ -109,7 +109,7 @@ audit_in places words = do
   Ok (Audit server)
 
 -- what the words after a verb say
-abbrev pub said_by : Places → Tables → Verb → List Word → Result Command LineFault
+abbrev pub said_by : Places → Tables → EventVerb → List Word → Result Command LineFault
 said_by places names verb.Begin words = begin_in places names words
 said_by places names verb.Sweep words = sweep_in places words
 said_by places names verb.Step words = step_in places words
@@ -119,7 +119,7 @@ said_by places names verb.Return words = return_in places words
 said_by places names verb.Forget words = forget_in places words
 said_by places names verb.Audit words = audit_in places words
 
-abbrev pub said_after : Places → Tables → Option Verb → List Word → Result Command LineFault
+abbrev pub said_after : Places → Tables → Option EventVerb → List Word → Result Command LineFault
 said_after places names (Some verb) words = said_by places names verb words
 said_after places names None words = Err Form
 

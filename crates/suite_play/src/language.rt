@@ -11,7 +11,7 @@ ghost use Rattle.suite_script.specs.Readings.{Gives};
 
 use crate::command::Command;
 use crate::places::Places;
-use crate::verb::Verb;
+use crate::verb::EventVerb;
 use acl_text::Names;
 use run_core::Event;
 use script_text::{Words, read_number};
@@ -41,11 +41,11 @@ impl Language for Places {
     ghost own = { λ places names first words. ok_map kept_command (command_in places names first words) };
 
     fn is_known(word: &[u8]) -> bool {
-        is_header(word) || Verb::of(word).is_some()
+        is_header(word) || EventVerb::of(word).is_some()
     }
 
     fn begins(word: &[u8]) -> bool {
-        Verb::of(word).is_some()
+        EventVerb::of(word).is_some()
     }
 
     fn read(
@@ -55,7 +55,7 @@ impl Language for Places {
         first: &[u8],
         words: Words<'_>,
     ) -> Result<Command, LineError> {
-        let verb = Verb::of(first).ok_or(LineFault::Form)?;
+        let verb = EventVerb::of(first).ok_or(LineFault::Form)?;
         read_command(alloc, *self, names, verb, words)
     }
 }
@@ -77,26 +77,26 @@ fn read_command(
     alloc: Global,
     places: Places,
     names: &Names,
-    verb: Verb,
+    verb: EventVerb,
     mut words: Words<'_>,
 ) -> Result<Command, LineError>
     ensures { Gives result (ok_map kept_command (said_by places names.now verb words.entry)) }
 {
     match verb {
-        Verb::Begin => read_begin(alloc, places, names, words),
-        Verb::Sweep => read_sweep(places, &mut words),
-        Verb::Step => read_step(places, &mut words),
-        Verb::Run => read_run(places, &mut words),
-        Verb::Crash => {
+        EventVerb::Begin => read_begin(alloc, places, names, words),
+        EventVerb::Sweep => read_sweep(places, &mut words),
+        EventVerb::Step => read_step(places, &mut words),
+        EventVerb::Run => read_run(places, &mut words),
+        EventVerb::Crash => {
             let server = read_server(places, &mut words)?;
             Ok(Command::Event(Event::Crash { server }))
         }
-        Verb::Return => {
+        EventVerb::Return => {
             let server = read_server(places, &mut words)?;
             Ok(Command::Event(Event::Return { server }))
         }
-        Verb::Forget => read_forget(places, &mut words),
-        Verb::Audit => {
+        EventVerb::Forget => read_forget(places, &mut words),
+        EventVerb::Audit => {
             let server = read_server(places, &mut words)?;
             Ok(Command::Audit { server })
         }

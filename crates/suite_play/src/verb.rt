@@ -5,7 +5,7 @@ ghost use Rattle.suite_play.specs.Commands.{verb_in};
 
 /// The words that begin the lines after a header and its names.
 #[derive(Clone, Copy)]
-pub(crate) enum Verb {
+pub(crate) enum EventVerb {
     Begin,
     Sweep,
     Step,
@@ -16,19 +16,19 @@ pub(crate) enum Verb {
     Audit,
 }
 
-impl Verb {
-    pub(crate) fn of(word: &[u8]) -> Option<Verb>
+impl EventVerb {
+    pub(crate) fn of(word: &[u8]) -> Option<EventVerb>
         ensures { result ≡ verb_in word.now }
     {
         match word {
-            b"begin" => Some(Verb::Begin),
-            b"sweep" => Some(Verb::Sweep),
-            b"step" => Some(Verb::Step),
-            b"run" => Some(Verb::Run),
-            b"crash" => Some(Verb::Crash),
-            b"return" => Some(Verb::Return),
-            b"forget" => Some(Verb::Forget),
-            b"audit" => Some(Verb::Audit),
+            b"begin" => Some(EventVerb::Begin),
+            b"sweep" => Some(EventVerb::Sweep),
+            b"step" => Some(EventVerb::Step),
+            b"run" => Some(EventVerb::Run),
+            b"crash" => Some(EventVerb::Crash),
+            b"return" => Some(EventVerb::Return),
+            b"forget" => Some(EventVerb::Forget),
+            b"audit" => Some(EventVerb::Audit),
             _ => None,
         }
     }

@@ -11,19 +11,19 @@ use Rattle.suite_script.specs.Words.{Word, at_end, number}
 use Rattle.suite_play.specs.Commands.{transaction_in}
 use Rattle.suite_serve.specs.declared.command.Command.{Command}
 use Rattle.suite_serve.specs.declared.command.Command.TheVariants.{Job, Together}
-use Rattle.suite_serve.specs.declared.verb.Verb.{Verb}
-use Rattle.suite_serve.specs.declared.verb.Verb.TheVariants as verb
+use Rattle.suite_serve.specs.declared.verb.JobVerb.{JobVerb}
+use Rattle.suite_serve.specs.declared.verb.JobVerb.TheVariants as verb
 
 -- how the first word of a line is written
-abbrev pub spelling : Verb → Word
+abbrev pub spelling : JobVerb → Word
 spelling verb.Do = codes "do"
 spelling verb.Sweep = codes "sweep"
 spelling verb.Together = codes "together"
 
-abbrev pub verbs : List Verb
+abbrev pub verbs : List JobVerb
 verbs = verb.Do ∷ verb.Sweep ∷ verb.Together ∷ []
 
-abbrev pub verb_in : Word → Option Verb
+abbrev pub verb_in : Word → Option JobVerb
 verb_in text = find (λ verb. bytes_eq text (spelling verb)) verbs
 
 abbrev pub is_command : Word → Bool
@@ -56,12 +56,12 @@ together_in words = do
   Ok Together
 
 -- what the words after a verb say
-abbrev pub said_by : ℕ → Tables → Verb → List Word → Result Command LineFault
+abbrev pub said_by : ℕ → Tables → JobVerb → List Word → Result Command LineFault
 said_by last_server names verb.Do words = do_in names words
 said_by last_server names verb.Sweep words = sweep_in last_server words
 said_by last_server names verb.Together words = together_in words
 
-abbrev pub said_after : ℕ → Tables → Option Verb → List Word → Result Command LineFault
+abbrev pub said_after : ℕ → Tables → Option JobVerb → List Word → Result Command LineFault
 said_after last_server names (Some verb) words = said_by last_server names verb words
 said_after last_server names None words = Err Form
 

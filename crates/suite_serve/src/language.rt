@@ -7,7 +7,7 @@ ghost use Rattle.suite_serve.specs.Commands.{is_header, said_by, sweep_in, toget
 ghost use Rattle.suite_serve.specs.code.Kept.{kept_command};
 
 use crate::command::Command;
-use crate::verb::Verb;
+use crate::verb::JobVerb;
 use acl_text::Names;
 use script_text::Words;
 use std::alloc::Global;
@@ -35,11 +35,11 @@ impl Language for JobLines {
     ghost own = { λ lines names first words. ok_map kept_command (command_in lines.last_server names first words) };
 
     fn is_known(word: &[u8]) -> bool {
-        is_header(word) || Verb::of(word).is_some()
+        is_header(word) || JobVerb::of(word).is_some()
     }
 
     fn begins(word: &[u8]) -> bool {
-        Verb::of(word).is_some()
+        JobVerb::of(word).is_some()
     }
 
     fn read(
@@ -49,7 +49,7 @@ impl Language for JobLines {
         first: &[u8],
         words: Words<'_>,
     ) -> Result<Command, LineError> {
-        let verb = Verb::of(first).ok_or(LineFault::Form)?;
+        let verb = JobVerb::of(first).ok_or(LineFault::Form)?;
         read_command(alloc, self.last_server, names, verb, words)
     }
 }
@@ -70,18 +70,18 @@ fn read_command(
     alloc: Global,
     last_server: u8,
     names: &Names,
-    verb: Verb,
+    verb: JobVerb,
     mut words: Words<'_>,
 ) -> Result<Command, LineError>
     ensures { Gives result (ok_map kept_command (said_by last_server names.now verb words.entry)) }
 {
     match verb {
-        Verb::Do => {
+        JobVerb::Do => {
             let job = read_transaction(alloc, names, words)?;
             Ok(Command::Job(job))
         }
-        Verb::Sweep => read_sweep(last_server, &mut words),
-        Verb::Together => read_together(&mut words),
+        JobVerb::Sweep => read_sweep(last_server, &mut words),
+        JobVerb::Together => read_together(&mut words),
     }
 }
 

@@ -8,15 +8,15 @@ use txn_core::Agent;
 
 /// What was told last of an agent: what it gathered, and what its cache keeps.
 #[derive(Drop)]
-pub(crate) struct Told {
+pub(crate) struct AgentTexts {
     gathered: Vec<u8>,
     cache: Vec<u8>,
 }
 
-impl Told {
+impl AgentTexts {
     /// Nothing yet.
-    pub(crate) fn new(alloc: Global) -> Told {
-        Told {
+    pub(crate) fn new(alloc: Global) -> AgentTexts {
+        AgentTexts {
             gathered: Vec::new(alloc),
             cache: Vec::new(alloc),
         }

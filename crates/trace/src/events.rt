@@ -1,6 +1,6 @@
 //! What happens, as objects of JSON, one a line.
 
-use crate::agents::{Told, push_agent};
+use crate::agents::{AgentTexts, push_agent};
 use event_json::{Before, push_denials, push_reply, push_request, push_server, push_string};
 use file_ops::AuditItem;
 use rep_core::Request;
@@ -19,7 +19,7 @@ pub(crate) struct Events {
     before: Before,
     asked: Request,
     servers: u8,
-    told: Vec<Told>,
+    told: Vec<AgentTexts>,
 }
 
 impl Events {
@@ -96,7 +96,7 @@ impl Events {
         self.told.clear();
         before = b"],\"agents\":[";
         for number in 0..agents {
-            self.told.push(Told::new(self.alloc))?;
+            self.told.push(AgentTexts::new(self.alloc))?;
             if let Some(agent) = world.agent(number) {
                 text.extend_from_slice(before)?;
                 self.push_by(text, number, agent)?;

@@ -5,7 +5,7 @@ use Rattle.suite_prefix.specs.declared.lock_mode.LockMode.{LockMode}
 use Rattle.rep_core.specs.declared.request.Request.{Request}
 use Rattle.rep_core.specs.declared.request.Request.TheVariants as request
 use Rattle.suite_collect.specs.Collecting.{Poll, Upgrade, Next, Ask, Current, Short, next}
-use Rattle.txn_core.specs.Suites.{ReadPoint, Suite}
+use Rattle.txn_core.specs.Suites.{ReadPoint, GatheredSuite}
 use Rattle.txn_core.specs.Doing.{Task}
 use Rattle.txn_core.specs.Transactions.{asked_by, asked_for, fetched_at, fetched_for}
 
@@ -13,7 +13,7 @@ pub asks_same : (a b : ℕ) (x y : Request) → ◌≡◌ {A = Option (ℕ × Re
 asks_same a b x y is = ap (λ (pair : ℕ × Request). pair.1) (same_Some (a, x) (b, y) is)
 
 -- what holds of polls and upgrades holds of what a collector asks
-pub asked_as : (p : Request → Bool) (b : Bool) (task : Task) (number : ℕ) (found : Option Suite) (server : ℕ) (asked : Request) → ((mode : LockMode) → p (request.Poll task.t number mode) ≡ b) → p (request.Upgrade task.t number) ≡ b
+pub asked_as : (p : Request → Bool) (b : Bool) (task : Task) (number : ℕ) (found : Option GatheredSuite) (server : ℕ) (asked : Request) → ((mode : LockMode) → p (request.Poll task.t number mode) ≡ b) → p (request.Upgrade task.t number) ≡ b
     → asked_for task number found ≡ Some (server, asked) → p asked ≡ b
 asked_as p b task number None server asked polls upgrades is = cc
 asked_as p b task number (Some suite) server asked polls upgrades is = of (next suite.collector) is
@@ -25,7 +25,7 @@ asked_as p b task number (Some suite) server asked polls upgrades is = of (next 
     of (Short had wanting busy) is = cc
 
 -- what holds of fetches holds of what is asked for a content
-pub fetched_as : (p : Request → Bool) (b : Bool) (task : Task) (number : ℕ) (found : Option Suite) (server : ℕ) (asked : Request) → p (request.Fetch task.t number) ≡ b → fetched_for task number found ≡ Some (server, asked) → p asked ≡ b
+pub fetched_as : (p : Request → Bool) (b : Bool) (task : Task) (number : ℕ) (found : Option GatheredSuite) (server : ℕ) (asked : Request) → p (request.Fetch task.t number) ≡ b → fetched_for task number found ≡ Some (server, asked) → p asked ≡ b
 fetched_as p b task number None server asked fetches is = cc
 fetched_as p b task number (Some suite) server asked fetches is = of suite.first is
   where

@@ -9,7 +9,7 @@ use Rattle.rep_core.specs.declared.reply.Reply.TheVariants as reply
 use Rattle.weak_cache.specs.Entries.{Entry, Cache}
 use Rattle.weak_cache.specs.Cache.{searched}
 use Rattle.weak_cache.proofs.Origins.{Has, put_has, searched_has}
-use Rattle.txn_core.specs.Suites.{ReadPoint, Suite, Suites, suite_of}
+use Rattle.txn_core.specs.Suites.{ReadPoint, GatheredSuite, Suites, suite_of}
 use Rattle.txn_core.specs.declared.response.Response.{Response}
 use Rattle.txn_core.specs.declared.response.Response.TheVariants.{Replied}
 use Rattle.txn_core.specs.Doing.{Fixed, Task, Phase, Fetching}
@@ -48,7 +48,7 @@ execute_has fixed task all x has = moves_has fixed task x (point Executes all.ca
 pub record PutBy (fixed : Fixed) (task : Task) (suites : Suites) (phase : Phase) (response : Response) (x : Entry) : Type 0 where
   pub number : ℕ
   pub fetching : phase ≡ Fetching number
-  pub suite : Suite
+  pub suite : GatheredSuite
   pub there : suite_of suites number ≡ Some suite
   pub first : ReadPoint
   pub was : suite.first ≡ Some first

@@ -7,7 +7,7 @@ use Rattle.sorted_map.specs.SortedMap.{IsOrdered, replace}
 use Rattle.sorted_map.specs.Edits.{insert_present, replace_same}
 use Rattle.suite_content.specs.declared.content.Content.{Content}
 use Rattle.suite_collect.specs.Collecting.{raise}
-use Rattle.txn_core.specs.Suites.{ReadPoint, Suite, Suites, suite_of, with_suite}
+use Rattle.txn_core.specs.Suites.{ReadPoint, GatheredSuite, Suites, suite_of, with_suite}
 use Rattle.txn_core.specs.Doing.{Task}
 use Rattle.txn_core.specs.Transactions.{Gathered}
 use Rattle.txn_core.specs.code.Plans.{opened_by, raised_at}
@@ -15,22 +15,22 @@ use Rattle.txn_core.specs.code.Seeing.{changed_at}
 use Rattle.txn_core.proofs.Rounds.{opens}
 
 -- another value of a suite that is there
-pub set_there : (suites : Suites) (number : ℕ) (suite new : Suite) → IsOrdered nat_cmp suites → suite_of suites number ≡ Some suite → replace nat_cmp suites number new ≡ with_suite number new suites
+pub set_there : (suites : Suites) (number : ℕ) (suite new : GatheredSuite) → IsOrdered nat_cmp suites → suite_of suites number ≡ Some suite → replace nat_cmp suites number new ≡ with_suite number new suites
 set_there suites number suite new ordered is = sym (insert_present nat_cmp_total suites number new ordered (ap is_some is))
 
-pub raised : (suites : Suites) (number : ℕ) (suite new : Suite) → IsOrdered nat_cmp suites → Some suite ≡ suite_of suites number → new ≡ record suite { collector = raise suite.collector }
+pub raised : (suites : Suites) (number : ℕ) (suite new : GatheredSuite) → IsOrdered nat_cmp suites → Some suite ≡ suite_of suites number → new ≡ record suite { collector = raise suite.collector }
     → replace nat_cmp suites number new ≡ raised_at number (suite_of suites number) suites
 raised suites number suite new ordered is more =
     set_there suites number suite new ordered (sym is)
     ∙ ap (λ new. with_suite number new suites) more
     ∙ ap (λ o. raised_at number o suites) is
 
-pub opens_none : (task : Task) (all : Gathered) (number : ℕ) (content : Content) (suite : Suite) → Some suite ≡ suite_of all.suites number → suite.first ≡ None
+pub opens_none : (task : Task) (all : Gathered) (number : ℕ) (content : Content) (suite : GatheredSuite) → Some suite ≡ suite_of all.suites number → suite.first ≡ None
     → replace nat_cmp all.suites number suite ≡ (opened_by task all (number, content)).suites
 opens_none task all number content suite is was =
     replace_same nat_cmp_total all.suites number suite (sym is) ∙ ap (λ (g : Gathered). g.suites) (sym (opens task all number content suite None (sym is) was))
 
-pub opens_some : (task : Task) (all : Gathered) (number : ℕ) (content : Content) (suite new : Suite) (first : ReadPoint) → IsOrdered nat_cmp all.suites → Some suite ≡ suite_of all.suites number → suite.first ≡ Some first
+pub opens_some : (task : Task) (all : Gathered) (number : ℕ) (content : Content) (suite new : GatheredSuite) (first : ReadPoint) → IsOrdered nat_cmp all.suites → Some suite ≡ suite_of all.suites number → suite.first ≡ Some first
     → new ≡ record suite { content = Some content } → replace nat_cmp all.suites number new ≡ (opened_by task all (number, content)).suites
 opens_some task all number content suite new first ordered is was more =
     set_there all.suites number suite new ordered (sym is)
@@ -38,7 +38,7 @@ opens_some task all number content suite new first ordered is was more =
     ∙ ap (λ (g : Gathered). g.suites) (sym (opens task all number content suite (Some first) (sym is) was))
 
 -- a suite gets what was learned of it
-pub changed_there : (change : Suite → Suite) (suites : Suites) (number : ℕ) (suite new : Suite) → IsOrdered nat_cmp suites → Some suite ≡ suite_of suites number → new ≡ change suite
+pub changed_there : (change : GatheredSuite → GatheredSuite) (suites : Suites) (number : ℕ) (suite new : GatheredSuite) → IsOrdered nat_cmp suites → Some suite ≡ suite_of suites number → new ≡ change suite
     → replace nat_cmp suites number new ≡ changed_at change number (suite_of suites number) suites
 changed_there change suites number suite new ordered is more =
     set_there suites number suite new ordered (sym is)

@@ -30,7 +30,7 @@ use Rattle.suite_collect.specs.Collecting as collecting
 use Rattle.suite_collect.specs.Collecting.{Collector, all_told, raise, tell, mode_of, request_for, Asked, Poll, Upgrade, Next, Ask, Current, Short, next}
 use Rattle.weak_cache.specs.Entries.{Cache}
 use Rattle.weak_cache.specs.Cache.{put}
-use Rattle.txn_core.specs.Suites.{ReadPoint, Suite, Suites, suite_of, with_suite, settled, told_in}
+use Rattle.txn_core.specs.Suites.{ReadPoint, GatheredSuite, Suites, suite_of, with_suite, settled, told_in}
 use Rattle.txn_core.specs.Writing.{parts_at}
 use Rattle.txn_core.specs.declared.response.Response.{Response}
 use Rattle.txn_core.specs.declared.ending.Cause.{Cause}
@@ -136,7 +136,7 @@ EndCaused fixed task Old Loose past ending = all_fit past ≡ true → EndIs fix
 -- What a phase keeps: of the suite that is gathered, of all others, of the suites that get votes, and of how it ends.
 abbrev pub StandsOn : Fixed → Task → (Old : Base) (Now Loose : ℕ → Prefix → Type 0) → List Exchange → Suites → Phase → Type 0
 StandsOn fixed task Old Now Loose past suites (Gathering number) =
-    Are (Tells past) suites × EachBut (Kept fixed task Old past) number suites × ((suite : Suite) → suite_of suites number ≡ Some suite → Asking fixed task Old Now past number suite)
+    Are (Tells past) suites × EachBut (Kept fixed task Old past) number suites × ((suite : GatheredSuite) → suite_of suites number ≡ Some suite → Asking fixed task Old Now past number suite)
 StandsOn fixed task Old Now Loose past suites (Fetching number) = Are (Tells past) suites × Each (Kept fixed task Old past) suites
 StandsOn fixed task Old Now Loose past suites (Widening left granted) =
     Are (Tells past) suites × Each (Kept fixed task Old past) suites × Grants fixed task Old past granted.answers granted.changes × ((number : ℕ) → Has left number → Has (to_widen granted.changes) number)
@@ -218,7 +218,7 @@ tells_heard past number server asked said heard lock was other =
     ∙ ap (λ b. cond b (more_told (Tells past other) server asked (said_to asked said)) (Tells past other)) (lock other)
     ∙ ap (λ heard. cond (number == other) (more_told (Tells past other) server asked heard) (Tells past other)) was
 
-are_heard : (told new : ℕ → List Told) (suites : Suites) (number : ℕ) (one : Told) (now : Suite) → Are told suites → ((other : ℕ) → new other ≡ cond (number == other) (one ∷ told other) (told other)) → all_told now.collector ≡ one ∷ told number
+are_heard : (told new : ℕ → List Told) (suites : Suites) (number : ℕ) (one : Told) (now : GatheredSuite) → Are told suites → ((other : ℕ) → new other ≡ cond (number == other) (one ∷ told other) (told other)) → all_told now.collector ≡ one ∷ told number
     → Are new (with_suite number now suites)
 are_heard told new suites number one now are newly same =
     let with' = are_with told suites number now are in
@@ -228,16 +228,16 @@ are_heard told new suites number one now are newly same =
     at other true is = same ∙ ap (λ other. one ∷ told other) (eqb-true number other is)
     at other false is = refl
 
-told_there : (past : List Exchange) (suites : Suites) (number : ℕ) (found : Option Suite) → suite_of suites number ≡ found → Are (Tells past) suites → told_in found ≡ Tells past number
+told_there : (past : List Exchange) (suites : Suites) (number : ℕ) (found : Option GatheredSuite) → suite_of suites number ≡ found → Are (Tells past) suites → told_in found ≡ Tells past number
 told_there past suites number found there are = ap told_in (sym there) ∙ are.1 number
 
-there_with : (number : ℕ) (suite : Suite) (suites : Suites) → suite_of (with_suite number suite suites) number ≡ Some suite
+there_with : (number : ℕ) (suite : GatheredSuite) (suites : Suites) → suite_of (with_suite number suite suites) number ≡ Some suite
 there_with number suite suites = with_at number suite suites number ∙ ap (λ b. cond b (Some suite) (suite_of suites number)) (self number)
 
 -- ---- steps
 
 module _ (fixed : Fixed) (task : Task) (Old : Base) (Loose : ℕ → Prefix → Type 0) where
-  abbrev Keeps : List Exchange → ℕ → Suite → Type 0
+  abbrev Keeps : List Exchange → ℕ → GatheredSuite → Type 0
   Keeps past number suite = Kept fixed task Old past number suite
 
   -- what no lock is asked for leaves causes as they were
@@ -292,7 +292,7 @@ module _ (fixed : Fixed) (task : Task) (Old : Base) (Loose : ℕ → Prefix → 
   caused_prepare past cache suites outcome [] = (refl, tt)
   caused_prepare past cache suites outcome (server ∷ servers) = (refl, tt)
 
-  caused_gather : (past : List Exchange) (cache : Cache) (suites : Suites) (number : ℕ) (suite : Suite) (after : Next) → Are (Tells past) suites → EachBut (Keeps past) number suites → suite_of suites number ≡ Some suite
+  caused_gather : (past : List Exchange) (cache : Cache) (suites : Suites) (number : ℕ) (suite : GatheredSuite) (after : Next) → Are (Tells past) suites → EachBut (Keeps past) number suites → suite_of suites number ≡ Some suite
       → all_told suite.collector ≡ Tells past number → Asking fixed task Old (OrFresh fixed task cache past Old.start) past number suite → next suite.collector ≡ after → Leaves fixed task Old Loose past (gather_by task cache suites number after)
   caused_gather past cache suites number suite (Short had wanting busy) are others there same asking is =
       caused_give_up past cache suites (short_cause number had wanting busy) (λ _. short_caused (OrFresh fixed task cache past Loose) past number suite.collector had wanting busy same is
@@ -303,11 +303,11 @@ module _ (fixed : Fixed) (task : Task) (Old : Base) (Loose : ℕ → Prefix → 
       (refl, (are, others, λ found at. subst (Asking fixed task Old (OrFresh fixed task cache past Old.start) past number) (same_Some suite found (sym there ∙ at)) asking))
 
   -- what is gathered: a suite that is there, or a new one
-  gathers : (past : List Exchange) (cache : Cache) (number : ℕ) (mode : LockMode) (found : Option Suite) → ((suite : Suite) → found ≡ Some suite → Keeps past number suite) → (found ≡ None → told_of number [] past ≡ []) → Wants fixed task Old past number mode
-      → ((suite : Suite) (first : ReadPoint) → found ≡ Some suite → suite.first ≡ Some first → mode ≡ Exclusive)
+  gathers : (past : List Exchange) (cache : Cache) (number : ℕ) (mode : LockMode) (found : Option GatheredSuite) → ((suite : GatheredSuite) → found ≡ Some suite → Keeps past number suite) → (found ≡ None → told_of number [] past ≡ []) → Wants fixed task Old past number mode
+      → ((suite : GatheredSuite) (first : ReadPoint) → found ≡ Some suite → suite.first ≡ Some first → mode ≡ Exclusive)
       → Asking fixed task Old (OrFresh fixed task cache past Old.start) past number (raised_or_new fixed task cache number mode found)
   gathers past cache number mode (Some suite) kept untold wants exclusive =
-      let raised : Suite = record suite { collector = raise suite.collector } in
+      let raised : GatheredSuite = record suite { collector = raise suite.collector } in
       let was = kept suite refl in
       let wanted : Wants fixed task Old past number raised.collector.mode =
       wants_raised suite.collector.widening (subst (Wants fixed task Old past number) (exclusive suite was.first.first refl was.first.was) wants) was.wanted in
@@ -328,7 +328,7 @@ module _ (fixed : Fixed) (task : Task) (Old : Base) (Loose : ℕ → Prefix → 
   caused_widen_by past cache suites left granted number collector (Short had wanting busy) go_on stands same is old wide wanted more =
       caused_give_up past cache suites (short_cause number had wanting busy) (λ _. short_caused (OrFresh fixed task cache past Loose) past number collector had wanting busy same is (inl old) wide wanted)
 
-  caused_widen_one : (past : List Exchange) (cache : Cache) (suites : Suites) (number : ℕ) (left : List ℕ) (granted : Granted) (found : Option Suite) (go_on : Suites → Step) → suite_of suites number ≡ found → Are (Tells past) suites → Each (Keeps past) suites
+  caused_widen_one : (past : List Exchange) (cache : Cache) (suites : Suites) (number : ℕ) (left : List ℕ) (granted : Granted) (found : Option GatheredSuite) (go_on : Suites → Step) → suite_of suites number ≡ found → Are (Tells past) suites → Each (Keeps past) suites
       → Grants fixed task Old past granted.answers granted.changes → ((n : ℕ) → Has (number ∷ left) n → Has (to_widen granted.changes) n) → ((suites : Suites) → Are (Tells past) suites → Each (Keeps past) suites → Leaves fixed task Old Loose past (go_on suites))
       → Leaves fixed task Old Loose past (widen_one task cache suites (Widening (number ∷ left) granted) granted.changes number found go_on)
   caused_widen_one past cache suites number left granted None go_on there are each grants gets more = more suites are each
@@ -369,7 +369,7 @@ module _ (fixed : Fixed) (task : Task) (Old : Base) (Loose : ℕ → Prefix → 
       caused_proceed past open'.cache open'.suites (heard_on fixed task open'.suites) refl (are_opened (Tells past) (length all.suites) fixed task all are)
       (each_opened all.cache task (Keeps past) opens (length all.suites) fixed all (λ number dver. refl) each)
     where
-      opens : (number : ℕ) (suite : Suite) (first : ReadPoint) (content : Content) → suite.first ≡ Some first → Free task all.cache first number content → Keeps past number suite → Keeps past number (record suite { content = Some content })
+      opens : (number : ℕ) (suite : GatheredSuite) (first : ReadPoint) (content : Content) → suite.first ≡ Some first → Free task all.cache first number content → Keeps past number suite → Keeps past number (record suite { content = Some content })
       opens number suite first content was found kept =
           kept_same fixed task Old past number suite (record suite { content = Some content }) refl refl
           (λ other at. (first, was, subst (Old.content number first) (same_Some content other at) (free number first content found)))
@@ -378,17 +378,17 @@ module _ (fixed : Fixed) (task : Task) (Old : Base) (Loose : ℕ → Prefix → 
   -- ---- a reply to a collector
 
   -- a suite that was told something: what is kept of it, and what follows
-  record Hears (past : List Exchange) (cache : Cache) (suites : Suites) (phase : Phase) (number : ℕ) (go_on : Suites → Step) (now : Suite) : Type 0 where
+  record Hears (past : List Exchange) (cache : Cache) (suites : Suites) (phase : Phase) (number : ℕ) (go_on : Suites → Step) (now : GatheredSuite) : Type 0 where
     told : all_told now.collector ≡ Tells past number
-    are : (it : Suite) → it.collector ≡ now.collector → Are (Tells past) (with_suite number it suites)
+    are : (it : GatheredSuite) → it.collector ≡ now.collector → Are (Tells past) (with_suite number it suites)
     begun : Old.start number now.collector.start
     wide : (w : collecting.Widening) → now.collector.widening ≡ Some w → Sets fixed task Old past number w.votes
     wanted : Wants fixed task Old past number now.collector.mode
     asks : (who : ℕ) (what : Asked) → next now.collector ≡ Ask who what → StandsOn fixed task Old (OrFresh fixed task cache past Old.start) (OrFresh fixed task cache past Loose) past (with_suite number now suites) phase
     settles : (prefix : Prefix) (dver : ℕ) (members : List ℕ) → next now.collector ≡ Current prefix dver members → Keeps past number (settled prefix dver members now)
-    more : (it : Suite) → Are (Tells past) (with_suite number it suites) → Keeps past number it → Leaves fixed task Old Loose past (go_on (with_suite number it suites))
+    more : (it : GatheredSuite) → Are (Tells past) (with_suite number it suites) → Keeps past number it → Leaves fixed task Old Loose past (go_on (with_suite number it suites))
 
-  caused_collected : (past : List Exchange) (cache : Cache) (suites : Suites) (phase : Phase) (number : ℕ) (go_on : Suites → Step) (now : Suite) (after : Next) → Hears past cache suites phase number go_on now → next now.collector ≡ after
+  caused_collected : (past : List Exchange) (cache : Cache) (suites : Suites) (phase : Phase) (number : ℕ) (go_on : Suites → Step) (now : GatheredSuite) (after : Next) → Hears past cache suites phase number go_on now → next now.collector ≡ after
       → Leaves fixed task Old Loose past (collected task cache suites phase number now after (λ suite. go_on (with_suite number suite suites)))
   caused_collected past cache suites phase number go_on now (Ask server asked) hears is = (refl, hears.asks server asked is)
   caused_collected past cache suites phase number go_on now (Short had wanting busy) hears is =
@@ -396,13 +396,13 @@ module _ (fixed : Fixed) (task : Task) (Old : Base) (Loose : ℕ → Prefix → 
   caused_collected past cache suites phase number go_on now (Current prefix dver members) hears is =
       hears.more (settled prefix dver members now) (hears.are (settled prefix dver members now) refl) (hears.settles prefix dver members is)
 
-  caused_heard : (past : List Exchange) (cache : Cache) (suites : Suites) (phase : Phase) (number : ℕ) (found : Option Suite) (server : ℕ) (asked : Request) (said : Reply) (go_on : Suites → Step)
-      → Are (Tells past) suites → suite_of suites number ≡ found → asked_for task number found ≡ Some (server, asked) → ((suite : Suite) → found ≡ Some suite → Asking fixed task Old Old.start past number suite)
-      → ((suite : Suite) (one : Told) → found ≡ Some suite → (heard : all_told (tell one suite.collector) ≡ Tells (push past server asked (Replied said)) number)
+  caused_heard : (past : List Exchange) (cache : Cache) (suites : Suites) (phase : Phase) (number : ℕ) (found : Option GatheredSuite) (server : ℕ) (asked : Request) (said : Reply) (go_on : Suites → Step)
+      → Are (Tells past) suites → suite_of suites number ≡ found → asked_for task number found ≡ Some (server, asked) → ((suite : GatheredSuite) → found ≡ Some suite → Asking fixed task Old Old.start past number suite)
+      → ((suite : GatheredSuite) (one : Told) → found ≡ Some suite → (heard : all_told (tell one suite.collector) ≡ Tells (push past server asked (Replied said)) number)
       → Are (Tells (push past server asked (Replied said))) (with_suite number (record suite { collector = tell one suite.collector }) suites)
       → Asking fixed task Old Old.start (push past server asked (Replied said)) number (record suite { collector = tell one suite.collector })
       → StandsOn fixed task Old (OrFresh fixed task cache (push past server asked (Replied said)) Old.start) (OrFresh fixed task cache (push past server asked (Replied said)) Loose) (push past server asked (Replied said)) (with_suite number (record suite { collector = tell one suite.collector }) suites) phase)
-      → ((it : Suite) → Are (Tells (push past server asked (Replied said))) (with_suite number it suites) → Keeps (push past server asked (Replied said)) number it → Leaves fixed task Old Loose (push past server asked (Replied said)) (go_on (with_suite number it suites)))
+      → ((it : GatheredSuite) → Are (Tells (push past server asked (Replied said))) (with_suite number it suites) → Keeps (push past server asked (Replied said)) number it → Leaves fixed task Old Loose (push past server asked (Replied said)) (go_on (with_suite number it suites)))
       → Leaves fixed task Old Loose (push past server asked (Replied said)) (heard_of task cache suites phase number found server asked said go_on)
   caused_heard past cache suites phase number None server asked said go_on are there is own keep more = cc
   caused_heard past cache suites phase number (Some suite) server asked said go_on are there is own keep more = at (next suite.collector) refl is
@@ -421,14 +421,14 @@ module _ (fixed : Fixed) (task : Task) (Old : Base) (Loose : ℕ → Prefix → 
               (λ fine. was_now past server asked (Replied said) loses (lost_asked task number (Ask who question) server asked said is (last_fits past server asked (Replied said) fine) was))
           of (Some heard) was =
               let one : Told = record { server = server; mode = mode_of asked; said = heard } in
-              let now : Suite = record suite { collector = tell one suite.collector } in
+              let now : GatheredSuite = record suite { collector = tell one suite.collector } in
               let x : Exchange = record { server = server; request = asked; response = Replied said } in
               let lock : (other : ℕ) → locks other asked ≡ (number == other) = asks_lock task number (Some suite) server asked (ap (asked_by task number) asks ∙ is) in
               let newly = tells_heard past number server asked said heard lock was in
               let same : all_told (tell one suite.collector) ≡ one ∷ Tells past number = all_told-tell one suite.collector ∙ ap (λ told. one ∷ told) (told_there past suites number (Some suite) there are) in
               let told : all_told (tell one suite.collector) ≡ Tells (push past server asked (Replied said)) number = same ∙ ap (λ b. cond b (one ∷ Tells past number) (Tells past number)) (sym (self number)) ∙ sym (newly number) in
               let asking = own suite refl in
-              let areas : (it : Suite) → it.collector ≡ now.collector → Are (Tells (push past server asked (Replied said))) (with_suite number it suites) =
+              let areas : (it : GatheredSuite) → it.collector ≡ now.collector → Are (Tells (push past server asked (Replied said))) (with_suite number it suites) =
               λ it at. are_heard (Tells past) (Tells (push past server asked (Replied said))) suites number one it are newly (ap all_told at ∙ same) in
               caused_collected (push past server asked (Replied said)) cache suites phase number go_on now (next now.collector) (record {
                 told = told;
@@ -443,7 +443,7 @@ module _ (fixed : Fixed) (task : Task) (Old : Base) (Loose : ℕ → Prefix → 
 
   -- ---- other responses
 
-  caused_fetched : (past : List Exchange) (cache : Cache) (suites : Suites) (number : ℕ) (found : Option Suite) (server : ℕ) (asked : Request) (said : Reply) → Are (Tells past) suites → Each (Keeps past) suites → suite_of suites number ≡ found
+  caused_fetched : (past : List Exchange) (cache : Cache) (suites : Suites) (number : ℕ) (found : Option GatheredSuite) (server : ℕ) (asked : Request) (said : Reply) → Are (Tells past) suites → Each (Keeps past) suites → suite_of suites number ≡ found
       → fetched_for task number found ≡ Some (server, asked) → GivenTo Old.content task server asked said → FreeIn Old.content task (fetched fixed task cache suites number found server (given_in said)).cache → Leaves fixed task Old Loose (push past server asked (Replied said)) (fetched fixed task cache suites number found server (given_in said))
   caused_fetched past cache suites number None server asked said are each there is given free = cc
   caused_fetched past cache suites number (Some suite) server asked said are each there is given free = of (given_in said) refl free

@@ -18,7 +18,7 @@ use Rattle.file_exec.specs.declared.executor.Outcome.TheVariants as exec
 use Rattle.weak_cache.specs.Entries.{Cache}
 use Rattle.weak_cache.specs.Cache.{content_at, searched}
 use Rattle.weak_cache.proofs.Origins.{search_keeps_all}
-use Rattle.txn_core.specs.Suites.{ReadPoint, Suite, suite_of}
+use Rattle.txn_core.specs.Suites.{ReadPoint, GatheredSuite, suite_of}
 use Rattle.txn_core.specs.declared.response.Response.{Response}
 use Rattle.txn_core.specs.declared.response.Response.TheVariants.{Replied, Lacked}
 use Rattle.txn_core.specs.declared.job.Job.{Job}
@@ -64,8 +64,8 @@ free_is task cache number first content is = of (first.dver == 0) refl is
     of false some is = inr is
 
 -- contents are opened as they are found from the start on
-pub each_opened : (start : Cache) (task : Task) (K : ℕ → Suite → Type 0)
-    → ((number : ℕ) (suite : Suite) (first : ReadPoint) (content : Content) → suite.first ≡ Some first → Free task start first number content → K number suite → K number (record suite { content = Some content }))
+pub each_opened : (start : Cache) (task : Task) (K : ℕ → GatheredSuite → Type 0)
+    → ((number : ℕ) (suite : GatheredSuite) (first : ReadPoint) (content : Content) → suite.first ≡ Some first → Free task start first number content → K number suite → K number (record suite { content = Some content }))
     → (n : ℕ) (fixed : Fixed) (all : Gathered) → ((number dver : ℕ) → content_at all.cache task.site number dver ≡ content_at start task.site number dver) → Each K all.suites → Each K (opened n fixed task all).suites
 each_opened start task K opening zero fixed all same each = each
 each_opened start task K opening (suc n) fixed all same each = of (heard_on fixed task all.suites) (λ more same each. each_opened start task K opening n fixed more same each)
@@ -81,7 +81,7 @@ each_opened start task K opening (suc n) fixed all same each = of (heard_on fixe
     back first number content (inl none) = inl none
     back first number content (inr found) = inr (sym (same number first.dver) ∙ found)
 
-    with_content : (number : ℕ) (suite : Suite) (first : ReadPoint) (content : Option Content) (more : Gathered) → suite_of all.suites number ≡ Some suite → suite.first ≡ Some first → free_content task all.cache number first ≡ content
+    with_content : (number : ℕ) (suite : GatheredSuite) (first : ReadPoint) (content : Option Content) (more : Gathered) → suite_of all.suites number ≡ Some suite → suite.first ≡ Some first → free_content task all.cache number first ≡ content
         → opened_with task all number suite first content ≡ Some more → ((number dver : ℕ) → content_at more.cache task.site number dver ≡ content_at start task.site number dver) × Each K more.suites
     with_content number suite first (Some content) more there was given is =
         subst (λ (more : Gathered). ((number dver : ℕ) → content_at more.cache task.site number dver ≡ content_at start task.site number dver) × Each K more.suites) (same_Some _ more is) (
@@ -91,12 +91,12 @@ each_opened start task K opening (suc n) fixed all same each = of (heard_on fixe
         )
     with_content number suite first None more there was given is = cc
 
-    at_first : (number : ℕ) (suite : Suite) (first : Option ReadPoint) (more : Gathered) → suite_of all.suites number ≡ Some suite → suite.first ≡ first → open_first task all number suite first ≡ Some more
+    at_first : (number : ℕ) (suite : GatheredSuite) (first : Option ReadPoint) (more : Gathered) → suite_of all.suites number ≡ Some suite → suite.first ≡ first → open_first task all number suite first ≡ Some more
         → ((number dver : ℕ) → content_at more.cache task.site number dver ≡ content_at start task.site number dver) × Each K more.suites
     at_first number suite (Some first) more there was is = with_content number suite first (free_content task all.cache number first) more there was refl is
     at_first number suite None more there was is = cc
 
-    at_suite : (number : ℕ) (found : Option Suite) (more : Gathered) → suite_of all.suites number ≡ found → open_suite task all number found ≡ Some more
+    at_suite : (number : ℕ) (found : Option GatheredSuite) (more : Gathered) → suite_of all.suites number ≡ found → open_suite task all number found ≡ Some more
         → ((number dver : ℕ) → content_at more.cache task.site number dver ≡ content_at start task.site number dver) × Each K more.suites
     at_suite number (Some suite) more there is = at_first number suite suite.first more there refl is
     at_suite number None more there is = cc

@@ -28,7 +28,7 @@ use Rattle.file_exec.specs.Changes.{answered}
 use Rattle.file_exec.proofs.Unmet.{needs_what_is_unmet}
 use Rattle.suite_collect.specs.Collecting.{next}
 use Rattle.weak_cache.specs.Entries.{Cache}
-use Rattle.txn_core.specs.Suites.{ReadPoint, Suite, Suites, suite_of, with_suite, known_of}
+use Rattle.txn_core.specs.Suites.{ReadPoint, GatheredSuite, Suites, suite_of, with_suite, known_of}
 use Rattle.txn_core.specs.declared.response.Response.{Response}
 use Rattle.txn_core.specs.declared.ending.Cause.{Cause}
 use Rattle.txn_core.specs.declared.ending.Ending.{Ending}
@@ -58,7 +58,7 @@ abbrev one_if : Bool → ℕ
 one_if b = cond b 1 0
 
 -- whether the content of a suite is there
-abbrev content_in : Option Suite → ℕ
+abbrev content_in : Option GatheredSuite → ℕ
 content_in (Some suite) = one_if (is_some suite.content)
 content_in None = 0
 
@@ -69,7 +69,7 @@ Keeps before suites = (number : ℕ) → before number ≤ content_in (suite_of 
 abbrev Bounded : (ℕ → ℕ) → Type 0
 Bounded before = (number : ℕ) → before number ≤ 1
 
-one_most : (found : Option Suite) → content_in found ≤ 1
+one_most : (found : Option GatheredSuite) → content_in found ≤ 1
 one_most None = omega arith
 one_most (Some suite) = of (is_some suite.content)
   where
@@ -81,7 +81,7 @@ bounded_by : (before : ℕ → ℕ) (suites : Suites) → Keeps before suites �
 bounded_by before suites keeps number = let bound = keeps number in let most = one_most (suite_of suites number) in omega (arith, bound, most)
 
 -- a suite whose content stays there
-keeps_with : (before : ℕ → ℕ) (suites : Suites) (number : ℕ) (found : Option Suite) (now : Suite) → suite_of suites number ≡ found → content_in found ≤ content_in (Some now) → Keeps before suites → Keeps before (with_suite number now suites)
+keeps_with : (before : ℕ → ℕ) (suites : Suites) (number : ℕ) (found : Option GatheredSuite) (now : GatheredSuite) → suite_of suites number ≡ found → content_in found ≤ content_in (Some now) → Keeps before suites → Keeps before (with_suite number now suites)
 keeps_with before suites number found now there more keeps other =
     subst (λ found. before other ≤ content_in found) (sym (get-insert nat_cmp_total suites number now other ∙ ap (λ b. cond b (Some now) (suite_of suites other)) (unsigned_tied number other)))
     (of (number == other) refl)
@@ -95,7 +95,7 @@ keeps_with before suites number found now there more keeps other =
 
 -- a suite whose content is not there is fetched
 abbrev IsAway : Suites → ℕ → Type 0
-IsAway suites number = (suite : Suite) (first : ReadPoint) → suite_of suites number ≡ Some suite → suite.first ≡ Some first → is_some suite.content ≡ false
+IsAway suites number = (suite : GatheredSuite) (first : ReadPoint) → suite_of suites number ≡ Some suite → suite.first ≡ Some first → is_some suite.content ≡ false
 
 abbrev InPhase : (ℕ → ℕ) → Suites → Phase → Type 0
 InPhase before suites (Gathering number) = Keeps before suites
@@ -119,7 +119,7 @@ l_prepare before task cache suites outcome [] bounded = bounded
 l_prepare before task cache suites outcome (server ∷ servers) bounded = bounded
 
 -- a content more
-more_content : (suite : Suite) (content : Content) → content_in (Some suite) ≤ content_in (Some (record suite { content = Some content }))
+more_content : (suite : GatheredSuite) (content : Content) → content_in (Some suite) ≤ content_in (Some (record suite { content = Some content }))
 more_content suite content = one_most (Some suite)
 
 -- what the executor needs is not there
@@ -141,7 +141,7 @@ away fixed task suites number is suite first there was =
     (needed_first (known_of suites) (known.exec_of fixed.service (known_of suites) task.t task.caller task.ops) (Know number) is)
 
 -- a lock that is needed on a suite that had a Current is an exclusive one
-pub exclusive_needed : (fixed : Fixed) (task : Task) (suites : Suites) (number : ℕ) (mode : LockMode) (suite : Suite) (first : ReadPoint) → heard_on fixed task suites ≡ exec.Need (Hold number mode) → suite_of suites number ≡ Some suite → suite.first ≡ Some first → mode ≡ Exclusive
+pub exclusive_needed : (fixed : Fixed) (task : Task) (suites : Suites) (number : ℕ) (mode : LockMode) (suite : GatheredSuite) (first : ReadPoint) → heard_on fixed task suites ≡ exec.Need (Hold number mode) → suite_of suites number ≡ Some suite → suite.first ≡ Some first → mode ≡ Exclusive
 exclusive_needed fixed task suites number mode suite first is there was =
     of suite.mode mode (sym (ap (known.is_held mode) (known_at suites number suite first there was))
     ∙ needs_what_is_unmet fixed.service (known_of suites) task.t task.caller task.ops (Hold number mode)
@@ -152,7 +152,7 @@ exclusive_needed fixed task suites number mode suite first is there was =
     of Shared Shared is = cc
     of Exclusive Shared is = cc
 
-raised_keeps : (before : ℕ → ℕ) (fixed : Fixed) (task : Task) (cache : Cache) (suites : Suites) (number : ℕ) (mode : LockMode) (found : Option Suite) → suite_of suites number ≡ found → Keeps before suites
+raised_keeps : (before : ℕ → ℕ) (fixed : Fixed) (task : Task) (cache : Cache) (suites : Suites) (number : ℕ) (mode : LockMode) (found : Option GatheredSuite) → suite_of suites number ≡ found → Keeps before suites
     → Keeps before (with_suite number (raised_or_new fixed task cache number mode found) suites)
 raised_keeps before fixed task cache suites number mode (Some suite) there keeps = keeps_with before suites number (Some suite) (raised_or_new fixed task cache number mode (Some suite)) there (omega arith) keeps
 raised_keeps before fixed task cache suites number mode None there keeps = keeps_with before suites number None (raised_or_new fixed task cache number mode None) there (omega arith) keeps
@@ -168,7 +168,7 @@ move_in : (before : ℕ → ℕ) (fixed : Fixed) (task : Task) {at next : Point}
 move_in before fixed task (opens {suites = suites} {number = number} {suite = suite} {content = content} needs there was free) keeps = keeps_with before suites number (Some suite) _ there (more_content suite content) keeps
 move_in before fixed task (fetches' {suites = suites} {number = number} needs) keeps = (keeps, away fixed task suites number needs)
 move_in before fixed task (gathers {cache = cache} {suites = suites} {number = number} {mode = mode} needs new more) keeps =
-    subst (λ (suite : Suite). Keeps before (with_suite number suite suites)) new (raised_keeps before fixed task cache suites number mode (suite_of suites number) refl keeps)
+    subst (λ (suite : GatheredSuite). Keeps before (with_suite number suite suites)) new (raised_keeps before fixed task cache suites number mode (suite_of suites number) refl keeps)
 move_in before fixed task (lacks_lock {suites = suites} needs new short) keeps = bounded_by before suites keeps
 move_in before fixed task (refuses {suites = suites} needs) keeps = bounded_by before suites keeps
 move_in before fixed task (grants done) keeps = keeps
@@ -213,18 +213,18 @@ keeps_quiet before asked suites none keeps number = let same = none_more before 
 bounded_quiet : (before : ℕ → ℕ) (asked : Request) → ((number : ℕ) → fetches number asked ≡ false) → Bounded before → Bounded (plus before asked)
 bounded_quiet before asked none bounded number = let same = none_more before asked number (none number) in let bound = bounded number in omega (arith, same, bound)
 
-asks_no_content : (task : Task) (number : ℕ) (found : Option Suite) (server : ℕ) (asked : Request) → asked_for task number found ≡ Some (server, asked) → (other : ℕ) → fetches other asked ≡ false
+asks_no_content : (task : Task) (number : ℕ) (found : Option GatheredSuite) (server : ℕ) (asked : Request) → asked_for task number found ≡ Some (server, asked) → (other : ℕ) → fetches other asked ≡ false
 asks_no_content task number found server asked is other = asked_as (fetches other) false task number found server asked (λ mode. refl) refl is
 
 -- a content that is fetched was not there
 record IsFetch (task : Task) (suites : Suites) (number : ℕ) (asked : Request) : Type 0 where
-  suite : Suite
+  suite : GatheredSuite
   first : ReadPoint
   there : suite_of suites number ≡ Some suite
   was : suite.first ≡ Some first
   what : (other : ℕ) → fetches other asked ≡ (number == other)
 
-is_fetch : (task : Task) (suites : Suites) (number : ℕ) (server : ℕ) (asked : Request) (found : Option Suite) → suite_of suites number ≡ found → fetched_for task number found ≡ Some (server, asked) → IsFetch task suites number asked
+is_fetch : (task : Task) (suites : Suites) (number : ℕ) (server : ℕ) (asked : Request) (found : Option GatheredSuite) → suite_of suites number ≡ found → fetched_for task number found ≡ Some (server, asked) → IsFetch task suites number asked
 is_fetch task suites number server asked None there is = cc
 is_fetch task suites number server asked (Some suite) there is = of suite.first refl is
   where
@@ -258,7 +258,7 @@ fetch_bounded before task suites number asked fetch keeps away' other = of (numb
         let one = ap one_if (fetch.what other ∙ same) in
         omega (arith, bound, one)
 
-fetch_keeps : (before : ℕ → ℕ) (task : Task) (suites : Suites) (number : ℕ) (asked : Request) (suite : Suite) (content : Content) → IsFetch task suites number asked → Keeps before suites → IsAway suites number
+fetch_keeps : (before : ℕ → ℕ) (task : Task) (suites : Suites) (number : ℕ) (asked : Request) (suite : GatheredSuite) (content : Content) → IsFetch task suites number asked → Keeps before suites → IsAway suites number
     → Keeps (plus before asked) (with_suite number (record suite { content = Some content }) suites)
 fetch_keeps before task suites number asked suite content fetch keeps away' other =
     subst (λ found. plus before asked other ≤ content_in found) (sym (get-insert nat_cmp_total suites number _ other ∙ ap (λ b. cond b (Some (record suite { content = Some content })) (suite_of suites other)) (unsigned_tied number other)))
@@ -288,7 +288,7 @@ response_bounded before fixed task suites (Finishing (now ∷ left) v ending) se
 
 module _ (before : ℕ → ℕ) (fixed : Fixed) (task : Task) (cache : Cache) (suites : Suites) (server : ℕ) (asked : Request) where
   -- the collector of a suite was told
-  collected_in : {phase : Phase} {number : ℕ} {stage : Stage} (suite new : Suite) → Collects phase number stage → InPhase before suites phase → request_in fixed task suites phase ≡ Some (server, asked) → suite_of suites number ≡ Some suite
+  collected_in : {phase : Phase} {number : ℕ} {stage : Stage} (suite new : GatheredSuite) → Collects phase number stage → InPhase before suites phase → request_in fixed task suites phase ≡ Some (server, asked) → suite_of suites number ≡ Some suite
       → new.content ≡ suite.content → Keeps (plus before asked) (with_suite number new suites)
   collected_in {number = number} suite new collects in' is there same =
       let none = asks_no_content task number (suite_of suites number) server asked (sym (collects_asks fixed task suites collects) ∙ is) in

@@ -21,7 +21,7 @@ use Rattle.suite_collect.specs.declared.told.Told.{Told}
 use Rattle.suite_collect.specs.declared.told.Said.{Said}
 use Rattle.suite_collect.specs.Collecting.{Widening, Collector, told_since, all_told, tell_at, tell, collect, Asked, Next, Current, Ask, next}
 use Rattle.rep_core.proofs.Members.{Has}
-use Rattle.txn_core.specs.Suites.{ReadPoint, Suite, Suites, suite_of, with_suite, source_of, first_or, settled}
+use Rattle.txn_core.specs.Suites.{ReadPoint, GatheredSuite, Suites, suite_of, with_suite, source_of, first_or, settled}
 use Rattle.txn_core.specs.Writing.{change_of}
 use Rattle.txn_core.specs.declared.response.Response.{Response}
 use Rattle.txn_core.specs.declared.response.Response.TheVariants.{Replied, Lacked}
@@ -72,31 +72,31 @@ untold_before number past early rest is parts = untold_first number (told_of num
 pub self : (number : ℕ) → (number == number) ≡ true
 self number = eq-eqb number number refl
 
-pub with_at : (number : ℕ) (suite : Suite) (suites : Suites) (n : ℕ) → suite_of (with_suite number suite suites) n ≡ cond (number == n) (Some suite) (suite_of suites n)
+pub with_at : (number : ℕ) (suite : GatheredSuite) (suites : Suites) (n : ℕ) → suite_of (with_suite number suite suites) n ≡ cond (number == n) (Some suite) (suite_of suites n)
 with_at number suite suites n = get-insert nat_cmp_total suites number suite n ∙ ap (λ b. cond b (Some suite) (suite_of suites n)) (unsigned_tied number n)
 
-pub at_with : (number : ℕ) (suite other : Suite) (suites : Suites) → suite_of (with_suite number suite suites) number ≡ Some other → suite ≡ other
+pub at_with : (number : ℕ) (suite other : GatheredSuite) (suites : Suites) → suite_of (with_suite number suite suites) number ≡ Some other → suite ≡ other
 at_with number suite other suites is = same_Some suite other (sym (with_at number suite suites number ∙ ap (λ b. cond b (Some suite) (suite_of suites number)) (self number)) ∙ is)
 
 -- of each suite; of each but one
-abbrev pub Each : (ℕ → Suite → Type 0) → Suites → Type 0
-Each K suites = (n : ℕ) (suite : Suite) → suite_of suites n ≡ Some suite → K n suite
+abbrev pub Each : (ℕ → GatheredSuite → Type 0) → Suites → Type 0
+Each K suites = (n : ℕ) (suite : GatheredSuite) → suite_of suites n ≡ Some suite → K n suite
 
-abbrev pub EachBut : (ℕ → Suite → Type 0) → ℕ → Suites → Type 0
-EachBut K number suites = (n : ℕ) (suite : Suite) → (number == n) ≡ false → suite_of suites n ≡ Some suite → K n suite
+abbrev pub EachBut : (ℕ → GatheredSuite → Type 0) → ℕ → Suites → Type 0
+EachBut K number suites = (n : ℕ) (suite : GatheredSuite) → (number == n) ≡ false → suite_of suites n ≡ Some suite → K n suite
 
-module _ (K : ℕ → Suite → Type 0) (number : ℕ) (suites : Suites) where
+module _ (K : ℕ → GatheredSuite → Type 0) (number : ℕ) (suites : Suites) where
   pub each_but : Each K suites → EachBut K number suites
   each_but each n suite other is = each n suite is
 
-  pub each_with : (suite : Suite) → EachBut K number suites → K number suite → Each K (with_suite number suite suites)
+  pub each_with : (suite : GatheredSuite) → EachBut K number suites → K number suite → Each K (with_suite number suite suites)
   each_with suite others own n found is = of (number == n) refl (sym (with_at number suite suites n) ∙ is)
     where
       of : (b : Bool) → (number == n) ≡ b → cond b (Some suite) (suite_of suites n) ≡ Some found → K n found
       of true same is = subst (λ n. K n found) (eqb-true number n same) (subst (K number) (same_Some suite found is) own)
       of false other is = others n found other is
 
-  pub but_with : (suite : Suite) → EachBut K number suites → EachBut K number (with_suite number suite suites)
+  pub but_with : (suite : GatheredSuite) → EachBut K number suites → EachBut K number (with_suite number suite suites)
   but_with suite others n found other is = others n found other (sym (with_at number suite suites n ∙ ap (λ b. cond b (Some suite) (suite_of suites n)) other) ∙ is)
 
 -- ---- collectors
@@ -153,27 +153,27 @@ pub record Base : Type 1 where
   pub content : ℕ → ReadPoint → Content → Type 0
 
 -- of a suite whose content is there: it had a Current, and this holds of what that gave and of the content
-abbrev pub Knows : (ℕ → ReadPoint → Content → Type 0) → ℕ → Suite → Type 0
+abbrev pub Knows : (ℕ → ReadPoint → Content → Type 0) → ℕ → GatheredSuite → Type 0
 Knows C number suite = (content : Content) → suite.content ≡ Some content → (first : ReadPoint) × (suite.first ≡ Some first) × C number first content
 
-pub knows_settled : (C : ℕ → ReadPoint → Content → Type 0) (number : ℕ) (suite : Suite) (prefix : Prefix) (dver : ℕ) (members : List ℕ) → Knows C number suite → Knows C number (settled prefix dver members suite)
+pub knows_settled : (C : ℕ → ReadPoint → Content → Type 0) (number : ℕ) (suite : GatheredSuite) (prefix : Prefix) (dver : ℕ) (members : List ℕ) → Knows C number suite → Knows C number (settled prefix dver members suite)
 knows_settled C number suite prefix dver members knows content is =
     let was = knows content is in (was.0, ap (λ first. first_or first (record { prefix = prefix; dver = dver; source = source_of suite.collector dver members })) was.1, was.2)
 
-pub knows_map : (C D : ℕ → ReadPoint → Content → Type 0) (number : ℕ) (suite : Suite) → ((number : ℕ) (first : ReadPoint) (content : Content) → C number first content → D number first content) → Knows C number suite → Knows D number suite
+pub knows_map : (C D : ℕ → ReadPoint → Content → Type 0) (number : ℕ) (suite : GatheredSuite) → ((number : ℕ) (first : ReadPoint) (content : Content) → C number first content → D number first content) → Knows C number suite → Knows D number suite
 knows_map C D number suite maps knows content is = let was = knows content is in (was.0, was.1, maps number was.0 content was.2)
 
-pub record FirstKept (past : List Exchange) (number : ℕ) (suite : Suite) : Type 0 where
+pub record FirstKept (past : List Exchange) (number : ℕ) (suite : GatheredSuite) : Type 0 where
   pub first : ReadPoint
   pub was : suite.first ≡ Some first
   pub gave : FirstGave suite.collector.start number past first
 
-first_more : (past more : List Exchange) (number : ℕ) (suite : Suite) → FirstKept past number suite → FirstKept (past ++ more) number suite
+first_more : (past more : List Exchange) (number : ℕ) (suite : GatheredSuite) → FirstKept past number suite → FirstKept (past ++ more) number suite
 first_more past more number suite kept = record { first = kept.first; was = kept.was; gave = gave_more suite.collector.start number past more kept.first kept.gave }
 
 -- all of them
 abbrev pub AllGathered : Base → List Exchange → Suites → Type 0
-AllGathered Old past suites = (n : ℕ) (suite : Suite) → suite_of suites n ≡ Some suite → Old.start n suite.collector.start × FirstKept past n suite × Knows Old.content n suite
+AllGathered Old past suites = (n : ℕ) (suite : GatheredSuite) → suite_of suites n ≡ Some suite → Old.start n suite.collector.start × FirstKept past n suite × Knows Old.content n suite
 
 gathered_more : (Old : Base) (past more : List Exchange) (suites : Suites) → AllGathered Old past suites → AllGathered Old (past ++ more) suites
 gathered_more Old past more suites gathered n suite there = let was = gathered n suite there in (was.0, first_more past more n suite was.1, was.2)
@@ -263,11 +263,11 @@ listed_change (one ∷ changes) number has = of (is_at (nat_cmp number) one.0) r
 
 -- ---- what is kept of a suite
 
-abbrev pub Wide : Fixed → Task → Base → List Exchange → ℕ → Suite → Type 0
+abbrev pub Wide : Fixed → Task → Base → List Exchange → ℕ → GatheredSuite → Type 0
 Wide fixed task Old past number suite = (w : Widening) → suite.collector.widening ≡ Some w → Sets fixed task Old past number w.votes
 
 -- a suite that had a Current
-pub record Kept (fixed : Fixed) (task : Task) (Old : Base) (past : List Exchange) (number : ℕ) (suite : Suite) : Type 0 where
+pub record Kept (fixed : Fixed) (task : Task) (Old : Base) (past : List Exchange) (number : ℕ) (suite : GatheredSuite) : Type 0 where
   pub start : Old.start number suite.collector.start
   pub first : FirstKept past number suite
   pub content : Knows Old.content number suite
@@ -278,14 +278,14 @@ pub record Kept (fixed : Fixed) (task : Task) (Old : Base) (past : List Exchange
 abbrev pub NoneYet : Prefix → LockMode → ℕ → List Exchange → Type 0
 NoneYet start mode number past = (early rest : List Exchange) → past ≡ early ++ rest → IsCurrent (next (gathered_from start mode number early)) → ⊥
 
-abbrev pub FirstOrAsks : List Exchange → ℕ → Suite → Type 0
+abbrev pub FirstOrAsks : List Exchange → ℕ → GatheredSuite → Type 0
 FirstOrAsks past number suite =
     FirstKept past number suite
     ⊎ ((suite.first ≡ None) × (suite.collector.widening ≡ None)
     × ((server : ℕ) (asked : Asked) → next suite.collector ≡ Ask server asked → NoneYet suite.collector.start suite.collector.mode number past))
 
 -- a suite that is gathered
-pub record Asking (fixed : Fixed) (task : Task) (Old : Base) (Start : ℕ → Prefix → Type 0) (past : List Exchange) (number : ℕ) (suite : Suite) : Type 0 where
+pub record Asking (fixed : Fixed) (task : Task) (Old : Base) (Start : ℕ → Prefix → Type 0) (past : List Exchange) (number : ℕ) (suite : GatheredSuite) : Type 0 where
   pub start : Start number suite.collector.start
   pub first : FirstOrAsks past number suite
   pub content : Knows Old.content number suite
@@ -293,18 +293,18 @@ pub record Asking (fixed : Fixed) (task : Task) (Old : Base) (Start : ℕ → Pr
   pub wanted : Wants fixed task Old past number suite.collector.mode
 
 -- another with the same start and the same first
-first_same : (past : List Exchange) (number : ℕ) (suite other : Suite) → other.collector.start ≡ suite.collector.start → other.first ≡ suite.first → FirstKept past number suite → FirstKept past number other
+first_same : (past : List Exchange) (number : ℕ) (suite other : GatheredSuite) → other.collector.start ≡ suite.collector.start → other.first ≡ suite.first → FirstKept past number suite → FirstKept past number other
 first_same past number suite other start first kept = record { first = kept.first; was = first ∙ kept.was; gave = subst (λ start. FirstGave start number past kept.first) (sym start) kept.gave }
 
 module _ (fixed : Fixed) (task : Task) (Old : Base) (past : List Exchange) where
-  pub wide_told : (number : ℕ) (suite : Suite) (one : Told) (more : List Exchange) → Wide fixed task Old past number suite → Wide fixed task Old (past ++ more) number (record suite { collector = tell one suite.collector })
+  pub wide_told : (number : ℕ) (suite : GatheredSuite) (one : Told) (more : List Exchange) → Wide fixed task Old past number suite → Wide fixed task Old (past ++ more) number (record suite { collector = tell one suite.collector })
   wide_told number suite one more wide after is =
       let was = tell_votes one suite.collector after is in subst (Sets fixed task Old (past ++ more) number) was.2 (sets_more fixed task Old past more number was.0.votes (wide was.0 was.1))
 
-  pub wants_told : (number : ℕ) (suite : Suite) (one : Told) (more : List Exchange) → Wants fixed task Old past number suite.collector.mode → Wants fixed task Old (past ++ more) number (tell one suite.collector).mode
+  pub wants_told : (number : ℕ) (suite : GatheredSuite) (one : Told) (more : List Exchange) → Wants fixed task Old past number suite.collector.mode → Wants fixed task Old (past ++ more) number (tell one suite.collector).mode
   wants_told number suite one more wanted = subst (Wants fixed task Old (past ++ more) number) (sym (tell_mode one suite.collector)) (wants_more fixed task Old past more number suite.collector.mode wanted)
 
-  pub wide_widened : (changes : Changes) (answers : List Answer) (number : ℕ) (suite : Suite) → Grants fixed task Old past answers changes → Has (to_widen changes) number → Wide fixed task Old past number (widened changes number suite)
+  pub wide_widened : (changes : Changes) (answers : List Answer) (number : ℕ) (suite : GatheredSuite) → Grants fixed task Old past answers changes → Has (to_widen changes) number → Wide fixed task Old past number (widened changes number suite)
   wide_widened changes answers number suite grants gets after is =
       let change = listed_change changes number gets in
       let votes : change.0.row.votes ≡ after.votes = of change.0 change.1 in
@@ -331,10 +331,10 @@ none_same start other mode another number past same_start same_mode none early r
     none early rest parts (subst (λ mode. IsCurrent (next (gathered_from start mode number early))) same_mode (subst (λ start. IsCurrent (next (gathered_from start another number early))) same_start current))
 
 module _ (fixed : Fixed) (task : Task) (Old : Base) (past : List Exchange) (number : ℕ) where
-  pub kept_same : (suite other : Suite) → other.collector.start ≡ suite.collector.start → other.first ≡ suite.first → Knows Old.content number other → Wide fixed task Old past number other → Wants fixed task Old past number other.collector.mode → Kept fixed task Old past number suite → Kept fixed task Old past number other
+  pub kept_same : (suite other : GatheredSuite) → other.collector.start ≡ suite.collector.start → other.first ≡ suite.first → Knows Old.content number other → Wide fixed task Old past number other → Wants fixed task Old past number other.collector.mode → Kept fixed task Old past number suite → Kept fixed task Old past number other
   kept_same suite other start first content wide wanted kept = record { start = subst (Old.start number) (sym start) kept.start; first = first_same past number suite other start first kept.first; content = content; wide = wide; wanted = wanted }
 
-  pub kept_more : (more : List Exchange) (suite : Suite) → Kept fixed task Old past number suite → Kept fixed task Old (past ++ more) number suite
+  pub kept_more : (more : List Exchange) (suite : GatheredSuite) → Kept fixed task Old past number suite → Kept fixed task Old (past ++ more) number suite
   kept_more more suite kept = record {
     start = kept.start;
     first = first_more past more number suite kept.first;
@@ -343,7 +343,7 @@ module _ (fixed : Fixed) (task : Task) (Old : Base) (past : List Exchange) (numb
     wanted = wants_more fixed task Old past more number suite.collector.mode kept.wanted;
   }
 
-  pub asking_of : (suite : Suite) → Kept fixed task Old past number suite → Asking fixed task Old Old.start past number suite
+  pub asking_of : (suite : GatheredSuite) → Kept fixed task Old past number suite → Asking fixed task Old Old.start past number suite
   asking_of suite kept = record { start = kept.start; first = inl kept.first; content = kept.content; wide = kept.wide; wanted = kept.wanted }
 
   -- a suite that is new
@@ -360,8 +360,8 @@ module _ (fixed : Fixed) (task : Task) (Old : Base) (past : List Exchange) (numb
       nothing early rest parts = ap (λ told. next (record { start = start; mode = mode; told = told; widening = None })) (untold_before number past early rest untold parts)
 
   -- a suite that was told something more
-  module _ (suite : Suite) (one : Told) (x : Exchange) (heard : all_told (tell one suite.collector) ≡ told_of number [] (past ++ x ∷ [])) where
-    abbrev now : Suite
+  module _ (suite : GatheredSuite) (one : Told) (x : Exchange) (heard : all_told (tell one suite.collector) ≡ told_of number [] (past ++ x ∷ [])) where
+    abbrev now : GatheredSuite
     now = record suite { collector = tell one suite.collector }
 
     now_is : suite.collector.widening ≡ None → now.collector ≡ gathered_from now.collector.start now.collector.mode number (past ++ x ∷ [])

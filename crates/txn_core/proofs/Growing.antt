@@ -19,7 +19,7 @@ use Rattle.file_exec.specs.KnownSuites.{KnownSuite}
 use Rattle.file_exec.specs.Known as known
 use Rattle.file_exec.specs.Known.{Known}
 use Rattle.file_exec.specs.Laws.{IsMore, IsMoreAt, MoreKnown}
-use Rattle.txn_core.specs.Suites.{ReadPoint, Suite, Suites, suite_of, with_suite, known_row, known_if, known_of}
+use Rattle.txn_core.specs.Suites.{ReadPoint, GatheredSuite, Suites, suite_of, with_suite, known_row, known_if, known_of}
 use Rattle.txn_core.specs.declared.pending_quorum.PendingQuorum.{PendingQuorum}
 use Rattle.txn_core.specs.code.Seeing.{settled_with}
 use Rattle.txn_core.proofs.Setting.{known_at}
@@ -27,7 +27,7 @@ use Rattle.txn_core.proofs.Setting.{known_at}
 -- ---- what is known is of a suite
 
 pub record IsOfSuite (suites : Suites) (number : ℕ) (it : KnownSuite) : Type 0 where
-  pub suite : Suite
+  pub suite : GatheredSuite
   pub first : ReadPoint
   pub there : suite_of suites number ≡ Some suite
   pub was : suite.first ≡ Some first
@@ -37,7 +37,7 @@ pub record IsOfSuite (suites : Suites) (number : ℕ) (it : KnownSuite) : Type 0
 other_number : (number key other : ℕ) → nat_cmp key other ≡ Less → number ≡ key → is_eq (nat_cmp number other) ≡ false
 other_number number key other less same = ap (λ n. is_eq (nat_cmp n other)) same ∙ ap is_eq less
 
-absent_here : (number : ℕ) (one : ℕ × Suite) (suites : Suites) → is_eq (nat_cmp number one.0) ≡ false → known.known_of (known_of suites) number ≡ None → (found : Option ReadPoint) → known.known_of (known_if one.0 one.1 found (known_of suites)) number ≡ None
+absent_here : (number : ℕ) (one : ℕ × GatheredSuite) (suites : Suites) → is_eq (nat_cmp number one.0) ≡ false → known.known_of (known_of suites) number ≡ None → (found : Option ReadPoint) → known.known_of (known_if one.0 one.1 found (known_of suites)) number ≡ None
 absent_here number one suites other rest (Some first) = ap (λ b. cond b (Some (known_row one.1 first)) (known.known_of (known_of suites) number)) other ∙ rest
 absent_here number one suites other rest None = rest
 
@@ -70,19 +70,19 @@ known_from (one ∷ suites) number it ordered is =
 -- ---- more of one suite
 
 -- where a suite had a quorum, another keeps what it gave and its content, and is held in its mode or a stronger one
-pub record Keeps (before after : Suite) (had : ReadPoint) : Type 0 where
+pub record Keeps (before after : GatheredSuite) (had : ReadPoint) : Type 0 where
   pub first : after.first ≡ Some had
   pub content : after.content ≡ before.content
   pub mode : serves after.mode before.mode ≡ true
 
-abbrev pub GoesOnFrom : Suite → Suite → Type 0
+abbrev pub GoesOnFrom : GatheredSuite → GatheredSuite → Type 0
 GoesOnFrom before after = (first : ReadPoint) → before.first ≡ Some first → Keeps before after first
 
 pub serves_itself : (mode : LockMode) → serves mode mode ≡ true
 serves_itself Shared = refl
 serves_itself Exclusive = refl
 
-more_of : (before after : Suite) (first : ReadPoint) → Keeps before after first → IsMore (known_row before first) (known_row after first)
+more_of : (before after : GatheredSuite) (first : ReadPoint) → Keeps before after first → IsMore (known_row before first) (known_row after first)
 more_of before after first keeps =
     subst (λ content. IsMore (known_row before first) (known_row (record after { content = content }) first)) (sym keeps.content)
     (record { mode = keeps.mode; head = refl; opened = λ is. is; content = λ _. refl })
@@ -98,7 +98,7 @@ no_less all suite = of (known.known_of all suite)
     of None = tt
 
 -- more is known once such a suite stands in the place of another, or where there was none
-pub more_known : (suites : Suites) (number : ℕ) (after : Suite) → IsOrdered nat_cmp suites → ((before : Suite) → suite_of suites number ≡ Some before → GoesOnFrom before after) → MoreKnown (known_of suites) (known_of (with_suite number after suites))
+pub more_known : (suites : Suites) (number : ℕ) (after : GatheredSuite) → IsOrdered nat_cmp suites → ((before : GatheredSuite) → suite_of suites number ≡ Some before → GoesOnFrom before after) → MoreKnown (known_of suites) (known_of (with_suite number after suites))
 more_known suites number after ordered flow other = of (known.known_of (known_of suites) other) refl
   where
     more : Suites
@@ -119,19 +119,19 @@ more_known suites number after ordered flow other = of (known.known_of (known_of
     of None is = tt
 
 -- what was collected of it does not matter
-pub collects : (before after : Suite) → after ≡ record before { collector = after.collector } → GoesOnFrom before after
+pub collects : (before after : GatheredSuite) → after ≡ record before { collector = after.collector } → GoesOnFrom before after
 collects before after is first was = record {
-  first = ap (λ (suite : Suite). suite.first) is ∙ was;
-  content = ap (λ (suite : Suite). suite.content) is;
-  mode = ap (λ (suite : Suite). serves suite.mode before.mode) is ∙ serves_itself before.mode;
+  first = ap (λ (suite : GatheredSuite). suite.first) is ∙ was;
+  content = ap (λ (suite : GatheredSuite). suite.content) is;
+  mode = ap (λ (suite : GatheredSuite). serves suite.mode before.mode) is ∙ serves_itself before.mode;
 }
 
 -- nothing is known of a suite without a quorum
-pub starts : (before after : Suite) → before.first ≡ None → GoesOnFrom before after
+pub starts : (before after : GatheredSuite) → before.first ≡ None → GoesOnFrom before after
 starts before after none first was = absurd (none-some first (sym none ∙ was))
 
 -- a suite that had no quorum goes on with its first, and another with one in its mode or a stronger one
-pub settles : (pending : PendingQuorum) (suite : Suite) → (not (is_some suite.first) || serves suite.collector.mode suite.mode) ≡ true → GoesOnFrom suite (settled_with pending suite)
+pub settles : (pending : PendingQuorum) (suite : GatheredSuite) → (not (is_some suite.first) || serves suite.collector.mode suite.mode) ≡ true → GoesOnFrom suite (settled_with pending suite)
 settles pending suite may first was = record {
   first = ap (λ had. option_or had pending.first) was;
   content = refl;

@@ -30,7 +30,7 @@ use Rattle.txn_core.specs.declared.cache_after.Fetched.{Fetched}
 use Rattle.txn_core.specs.declared.response.Response.TheVariants.{Lacked, Replied}
 use Rattle.txn_core.specs.Agents.{left as begun}
 use Rattle.txn_core.specs.Doing.{Fixed, TransactionRun, Granted, Phase, Running, After, GoesOn, Ends}
-use Rattle.txn_core.specs.Suites.{ReadPoint, Suite, Suites, suite_of, with_suite}
+use Rattle.txn_core.specs.Suites.{ReadPoint, GatheredSuite, Suites, suite_of, with_suite}
 use Rattle.txn_core.specs.Transactions.{Step, after_lack, execute, fetched, gather_by, give_up, given_in, keep_content, request_of, widen_all}
 use Rattle.txn_core.specs.code.Goings.{GoesBy, IsStep, IsUntouched, IsWidenedBy, IsWidenedFrom, Keeps, fixed_by, given, held, held_from, held_where_asked, replied, widened}
 use Rattle.txn_core.specs.code.Hearing.{CompletesAt, Hearing, HearsAt, IsSettled, IsSound, SettlesAt, asks_in, heard_at, on_hearing}
@@ -46,12 +46,12 @@ use Rattle.txn_core.proofs.Replies.{server_of}
 use Rattle.txn_core.proofs.Reaching.{IsLate, gives_up, goes_gather, goes_unless, late, reached_asks, reached_at, reached_short}
 
 module _ (before mid : TransactionRun) (number server : ℕ) (said : Reply) where
-  abbrev pub found : Option Suite
+  abbrev pub found : Option GatheredSuite
   found = suite_of before.suites number
 
   -- ---- the step, whatever follows a quorum
 
-  module _ (cache : Cache) (go_on : Suite → Step) where
+  module _ (cache : Cache) (go_on : GatheredSuite → Step) where
     abbrev pub step_on : Hearing → Step
     step_on what = on_hearing before.task cache before.suites before.phase number server what go_on
 
@@ -92,27 +92,27 @@ module _ (before mid : TransactionRun) (number server : ℕ) (said : Reply) wher
     pub asks_reached : HearsAt found number Asks before said mid → IsReachedIn service mid.task mid.suites reached
     asks_reached hears = of found refl hears
       where
-        of : (it : Option Suite) → suite_of before.suites number ≡ it → HearsAt it number Asks before said mid → IsReachedIn service mid.task mid.suites reached
+        of : (it : Option GatheredSuite) → suite_of before.suites number ≡ it → HearsAt it number Asks before said mid → IsReachedIn service mid.task mid.suites reached
         of (Some suite) there hears = reached_asks service reached before mid number suite hears.0 said ordered there hears.1 hears.2 is
         of None there hears = cc
 
     pub short_reached : HearsAt found number Short before said mid → IsReachedIn service mid.task mid.suites reached
     short_reached hears = of found refl hears
       where
-        of : (it : Option Suite) → suite_of before.suites number ≡ it → HearsAt it number Short before said mid → IsReachedIn service mid.task mid.suites reached
+        of : (it : Option GatheredSuite) → suite_of before.suites number ≡ it → HearsAt it number Short before said mid → IsReachedIn service mid.task mid.suites reached
         of (Some suite) there hears = reached_short service reached before mid number suite hears.0 said ordered there hears.1 hears.2 is
         of None there hears = cc
 
 -- ---- a suite that is gathered
 
 module _ (resources : Resources) (before mid : TransactionRun) (number server : ℕ) (said : Reply) (unused : HasUnused resources.cache.entries) where
-  abbrev pub found' : Option Suite
+  abbrev pub found' : Option GatheredSuite
   found' = suite_of before.suites number
 
   abbrev pub held' : Step
   held' = held (fixed_by resources) before resources.cache.entries number server said
 
-  abbrev pub go_on : Suite → Step
+  abbrev pub go_on : GatheredSuite → Step
   go_on suite = execute (fixed_by resources) before.task (record { suites = with_suite number suite before.suites; cache = resources.cache.entries })
 
   pub keeps : Keeps resources resources
@@ -330,7 +330,7 @@ module _ (resources : Resources) (txn_run : TransactionRun) (number server : ℕ
   abbrev pub given' : Step
   given' = given (fixed_by resources) txn_run resources.cache.entries number server said
 
-  abbrev pub fetched_by : Option Suite → Option Content → Step
+  abbrev pub fetched_by : Option GatheredSuite → Option Content → Step
   fetched_by found content = fetched (fixed_by resources) txn_run.task resources.cache.entries txn_run.suites number found server content
 
   abbrev pub gives_up' : Step
@@ -343,26 +343,26 @@ module _ (resources : Resources) (txn_run : TransactionRun) (number server : ℕ
   pub not_given : given_in said ≡ None → gives_up' ≡ given'
   not_given none = of (suite_of txn_run.suites number) ∙ ap (fetched_by (suite_of txn_run.suites number)) (sym none)
     where
-      of : (found : Option Suite) → gives_up' ≡ fetched_by found None
+      of : (found : Option GatheredSuite) → gives_up' ≡ fetched_by found None
       of (Some suite) = refl
       of None = refl
 
   module _ (content : Content) (gave : given_in said ≡ Some content) where
-    abbrev pub kept_if : Option Suite → Option Fetched
+    abbrev pub kept_if : Option GatheredSuite → Option Fetched
     kept_if found = option_map (kept_of txn_run.task number content) (first_at found)
 
-    first_is : (suite : Suite) (first : Option ReadPoint) → suite.first ≡ first → kept_if (Some suite) ≡ option_map (kept_of txn_run.task number content) first
+    first_is : (suite : GatheredSuite) (first : Option ReadPoint) → suite.first ≡ first → kept_if (Some suite) ≡ option_map (kept_of txn_run.task number content) first
     first_is suite first was = ap (option_map (kept_of txn_run.task number content)) was
 
     -- of a suite that had no quorum
     pub not_learned : None ≡ content_kept txn_run number content → gives_up' ≡ given'
     not_learned none = of (suite_of txn_run.suites number) none ∙ ap (fetched_by (suite_of txn_run.suites number)) (sym gave)
       where
-        had : (suite : Suite) (first : Option ReadPoint) → suite.first ≡ first → None ≡ kept_if (Some suite) → gives_up' ≡ fetched_by (Some suite) (Some content)
+        had : (suite : GatheredSuite) (first : Option ReadPoint) → suite.first ≡ first → None ≡ kept_if (Some suite) → gives_up' ≡ fetched_by (Some suite) (Some content)
         had suite None was none = ap (λ first. keep_content (fixed_by resources) txn_run.task resources.cache.entries txn_run.suites number suite content first server) (sym was)
         had suite (Some first) was none = absurd (none-some (kept_of txn_run.task number content first) (none ∙ first_is suite (Some first) was))
 
-        of : (found : Option Suite) → None ≡ kept_if found → gives_up' ≡ fetched_by found (Some content)
+        of : (found : Option GatheredSuite) → None ≡ kept_if found → gives_up' ≡ fetched_by found (Some content)
         of (Some suite) none = had suite suite.first refl none
         of None none = refl
 
@@ -373,7 +373,7 @@ module _ (resources : Resources) (txn_run : TransactionRun) (number server : ℕ
         keeps : Fetched → Suites → Step
         keeps one suites = execute (fixed_by resources) txn_run.task (record { suites = suites; cache = shelved resources.cache (Some one) })
 
-        had : (suite : Suite) (first : Option ReadPoint) → suite_of txn_run.suites number ≡ Some suite → suite.first ≡ first → Some fetched ≡ kept_if (Some suite) → executes (Given fetched) ≡ fetched_by (Some suite) (Some content)
+        had : (suite : GatheredSuite) (first : Option ReadPoint) → suite_of txn_run.suites number ≡ Some suite → suite.first ≡ first → Some fetched ≡ kept_if (Some suite) → executes (Given fetched) ≡ fetched_by (Some suite) (Some content)
         had suite (Some first) there was is =
             let all : Suites → Step = keeps (kept_of txn_run.task number content first) in
             ap (λ one. keeps one (changed_at (with_content one.content) one.suite (suite_of txn_run.suites one.suite) txn_run.suites)) (same_Some fetched (kept_of txn_run.task number content first) (is ∙ first_is suite (Some first) was))
@@ -381,7 +381,7 @@ module _ (resources : Resources) (txn_run : TransactionRun) (number server : ℕ
             ∙ ap (λ first. keep_content (fixed_by resources) txn_run.task resources.cache.entries txn_run.suites number suite content first server) (sym was)
         had suite None there was is = absurd (none-some fetched (sym (is ∙ first_is suite None was)))
 
-        of : (found : Option Suite) → suite_of txn_run.suites number ≡ found → Some fetched ≡ kept_if found → executes (Given fetched) ≡ fetched_by found (Some content)
+        of : (found : Option GatheredSuite) → suite_of txn_run.suites number ≡ found → Some fetched ≡ kept_if found → executes (Given fetched) ≡ fetched_by found (Some content)
         of (Some suite) there is = had suite suite.first there refl is
         of None there is = absurd (none-some fetched (sym is))
 

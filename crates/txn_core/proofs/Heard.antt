@@ -14,7 +14,7 @@ use Rattle.suite_collect.specs.Collecting.{Widening, Collector, Asked, Poll, Upg
 use Rattle.suite_collect.specs.Collecting as collecting
 use Rattle.suite_collect.proofs.Collected.{gives_of}
 use Rattle.weak_cache.specs.Entries.{Cache}
-use Rattle.txn_core.specs.Suites.{ReadPoint, Suite, Suites, first_or, settled, source_of}
+use Rattle.txn_core.specs.Suites.{ReadPoint, GatheredSuite, Suites, first_or, settled, source_of}
 use Rattle.txn_core.specs.Doing.{Task, Phase}
 use Rattle.txn_core.specs.Transactions.{Step, said_to, collected, hear}
 use Rattle.txn_core.specs.declared.pending_quorum.PendingQuorum.{PendingQuorum}
@@ -39,8 +39,8 @@ pub same_mode : (t number : ℕ) (asked : Asked) → mode_of (request_for t numb
 same_mode t number (Poll mode) = refl
 same_mode t number Upgrade = refl
 
-module _ (task : Task) (cache : Cache) (suites : Suites) (phase : Phase) (number : ℕ) (suite : Suite) (server : ℕ) (go_on : Suite → Step) where
-  next_is : (after : Suite) (next : Next) → collected task cache suites phase number after next go_on ≡ on_hearing task cache suites phase number server (heard_next after next) go_on
+module _ (task : Task) (cache : Cache) (suites : Suites) (phase : Phase) (number : ℕ) (suite : GatheredSuite) (server : ℕ) (go_on : GatheredSuite → Step) where
+  next_is : (after : GatheredSuite) (next : Next) → collected task cache suites phase number after next go_on ≡ on_hearing task cache suites phase number server (heard_next after next) go_on
   next_is after (Current prefix dver members) = refl
   next_is after (Ask at asked) = refl
   next_is after (Short got needed busy) = refl
@@ -48,8 +48,8 @@ module _ (task : Task) (cache : Cache) (suites : Suites) (phase : Phase) (number
   one_is : (asked : Asked) (what : Option Said) → hear task cache suites phase number suite server (request_for task.t number asked) what go_on
       ≡ on_hearing task cache suites phase number server (heard_one suite (option_map (λ said. record { server = server; mode = mode_asked asked; said = said }) what)) go_on
   one_is asked None = refl
-  one_is (Poll mode) (Some said) = let after : Suite = record suite { collector = tell (record { server = server; mode = mode; said = said }) suite.collector } in next_is after (next after.collector)
-  one_is Upgrade (Some said) = let after : Suite = record suite { collector = tell (record { server = server; mode = mode_asked Upgrade; said = said }) suite.collector } in next_is after (next after.collector)
+  one_is (Poll mode) (Some said) = let after : GatheredSuite = record suite { collector = tell (record { server = server; mode = mode; said = said }) suite.collector } in next_is after (next after.collector)
+  one_is Upgrade (Some said) = let after : GatheredSuite = record suite { collector = tell (record { server = server; mode = mode_asked Upgrade; said = said }) suite.collector } in next_is after (next after.collector)
 
   -- the reply to what it asks
   pub hears : (asked : Asked) (answer : Reply) → next suite.collector ≡ Ask server asked
@@ -78,7 +78,7 @@ mode_stays c one = of c.widening
     of None = refl
     of (Some wide) = refl
 
-module _ (suite : Suite) (answer : Reply) where
+module _ (suite : GatheredSuite) (answer : Reply) where
   pub hears_lost : told_by (next suite.collector) answer ≡ None → heard suite answer ≡ hearing.Lost
   hears_lost told = ap (heard_one suite) told
 
@@ -135,7 +135,7 @@ module _ (suite : Suite) (answer : Reply) where
       c : Collector
       c = tell pending.last suite.collector
 
-      after : Suite
+      after : GatheredSuite
       after = record suite { collector = c }
 
       told_to : (what : Next) → next c ≡ what → heard_next after what ≡ hearing.Settled settles.0
@@ -163,12 +163,12 @@ module _ (c : Collector) (prefix : Prefix) (dver : ℕ) (members : List ℕ) (is
   given_first None none = ap (λ (first : ReadPoint). Some first) point_given
   given_first (Some first) none = absurd (none-some first (sym none))
 
-pub first_given : (suite : Suite) (last : Told) (point : ReadPoint) → suite.first ≡ None → point ≡ read_point (tell last suite.collector) → IsFirstAfter suite last (Some point)
+pub first_given : (suite : GatheredSuite) (last : Told) (point : ReadPoint) → suite.first ≡ None → point ≡ read_point (tell last suite.collector) → IsFirstAfter suite last (Some point)
 first_given suite last point none gives prefix dver members is =
     ap (λ (point : ReadPoint). option_or suite.first (Some point)) gives ∙ given_first (tell last suite.collector) prefix dver members is suite.first none
 
 -- a suite that had a first quorum keeps what it gave
-pub first_kept : (suite : Suite) (last : Told) → is_some suite.first ≡ true → IsFirstAfter suite last None
+pub first_kept : (suite : GatheredSuite) (last : Told) → is_some suite.first ≡ true → IsFirstAfter suite last None
 first_kept suite last some prefix dver members is = of suite.first some
   where
     of : (first : Option ReadPoint) → is_some first ≡ true → option_or first None ≡ first_or first (record { prefix = prefix; dver = dver; source = source_of (tell last suite.collector) dver members })

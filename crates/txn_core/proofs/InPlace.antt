@@ -24,7 +24,7 @@ use Rattle.txn_core.specs.Doing.{TransactionRun}
 use Rattle.txn_core.specs.code.Hearing as hearing
 use Rattle.txn_core.specs.code.Hearing.{asks_in, heard, heard_at, CompletesAt, Hears, HearsIn, HearsAt, FallsShort, IsSettled, IsSound, SettlesAt}
 use Rattle.txn_core.specs.code.Seeing.{settled_with}
-use Rattle.txn_core.specs.Suites.{Suite, Suites, suite_of, with_suite}
+use Rattle.txn_core.specs.Suites.{GatheredSuite, Suites, suite_of, with_suite}
 use Rattle.txn_core.specs.Transactions.{asked_by, asked_for}
 use Rattle.txn_core.specs.code.Unused.{SawUnused, shows_unused}
 use Rattle.txn_core.proofs.Carried.{set_there}
@@ -44,8 +44,8 @@ locks_held reply.Down unused shows = cc
 locks_held (reply.Locked locks) unused shows = cc
 
 -- what a collector heard, of its suite
-module _ (rest : Suite) (before after : Collecting) (answer : Reply) (unused : shows_unused answer ≡ true) where
-  abbrev pub with_collector : Collector → Suite
+module _ (rest : GatheredSuite) (before after : Collecting) (answer : Reply) (unused : shows_unused answer ≡ true) where
+  abbrev pub with_collector : Collector → GatheredSuite
   with_collector c = record rest { collector = c }
 
   pub heard_as : (result : Result Heard AllocError) → IfOk result (λ hearing. collector.Hears hearing before answer after)
@@ -81,7 +81,7 @@ module _ (rest : Suite) (before after : Collecting) (answer : Reply) (unused : s
       of (Ok (Quorum last)) hears left = same hears.same
 
 -- a suite that was left is as it was
-pub left_there : (before after : TransactionRun) (held : Suites) (number : ℕ) (suite new : Suite) → held ≡ before.suites → Some suite ≡ suite_of held number → new ≡ suite
+pub left_there : (before after : TransactionRun) (held : Suites) (number : ℕ) (suite new : GatheredSuite) → held ≡ before.suites → Some suite ≡ suite_of held number → new ≡ suite
     → after ≡ record before { suites = replace nat_cmp held number new } → after ≡ before
 left_there before after held number suite new same there is put =
     put
@@ -89,7 +89,7 @@ left_there before after held number suite new same there is put =
     ∙ ap (λ suites. record before { suites = suites }) (replace_same nat_cmp_total held number suite (sym there) ∙ same)
 
 -- a suite that heard a reply, among those of a transaction's run
-module _ (before after : TransactionRun) (held : Suites) (number : ℕ) (suite new : Suite) (said : Reply) (same : held ≡ before.suites) (there : Some suite ≡ suite_of held number) (up : IsOrdered nat_cmp held)
+module _ (before after : TransactionRun) (held : Suites) (number : ℕ) (suite new : GatheredSuite) (said : Reply) (same : held ≡ before.suites) (there : Some suite ≡ suite_of held number) (up : IsOrdered nat_cmp held)
     (put : after ≡ record before { suites = replace nat_cmp held number new }) where
   inserted : after ≡ record before { suites = with_suite number new before.suites }
   inserted =
@@ -112,7 +112,7 @@ module _ (before after : TransactionRun) (held : Suites) (number : ℕ) (suite n
   left_err (Err why) is = left_there before after held number suite new same there is put
 
 -- whom a suite asks
-module _ (before : TransactionRun) (held : Suites) (number : ℕ) (suite : Suite) (same : held ≡ before.suites) (there : Some suite ≡ suite_of held number) where
+module _ (before : TransactionRun) (held : Suites) (number : ℕ) (suite : GatheredSuite) (same : held ≡ before.suites) (there : Some suite ≡ suite_of held number) where
   asks_by : (next' : Next) → next suite.collector ≡ next' → option_map (λ (asked : ℕ × Request). asked.0) (asked_by before.task number next') ≡ asks_in before number
   asks_by next' is =
       ap (λ next. option_map (λ (asked : ℕ × Request). asked.0) (asked_by before.task number next)) (sym is)
@@ -128,46 +128,46 @@ module _ (before : TransactionRun) (held : Suites) (number : ℕ) (suite : Suite
 
 -- and what came of it
 module _ (before after : TransactionRun) (number : ℕ) (said : Reply) where
-  pub at_lost : (found : Option Suite) → HearsAt found number Lost before said after → (heard_at found said ≡ hearing.Lost) × (after ≡ before)
+  pub at_lost : (found : Option GatheredSuite) → HearsAt found number Lost before said after → (heard_at found said ≡ hearing.Lost) × (after ≡ before)
   at_lost (Some suite) hears = hears
   at_lost None hears = (refl, hears.1)
 
-  pub at_asks : (found : Option Suite) → HearsAt found number Asks before said after → (new : Suite) × (heard_at found said ≡ hearing.Asks new) × (after ≡ record before { suites = with_suite number new before.suites })
+  pub at_asks : (found : Option GatheredSuite) → HearsAt found number Asks before said after → (new : GatheredSuite) × (heard_at found said ≡ hearing.Asks new) × (after ≡ record before { suites = with_suite number new before.suites })
   at_asks (Some suite) hears = hears
   at_asks None hears = cc
 
-  pub at_short : (found : Option Suite) → HearsAt found number Short before said after → (new : Suite) × FallsShort (heard_at found said) new × (after ≡ record before { suites = with_suite number new before.suites })
+  pub at_short : (found : Option GatheredSuite) → HearsAt found number Short before said after → (new : GatheredSuite) × FallsShort (heard_at found said) new × (after ≡ record before { suites = with_suite number new before.suites })
   at_short (Some suite) hears = hears
   at_short None hears = cc
 
-  pub at_quorum : (last : Told) (found : Option Suite) → HearsAt found number (Quorum last) before said after → CompletesAt found last said × (after ≡ before)
+  pub at_quorum : (last : Told) (found : Option GatheredSuite) → HearsAt found number (Quorum last) before said after → CompletesAt found last said × (after ≡ before)
   at_quorum last (Some suite) hears = hears
   at_quorum last None hears = cc
 
 -- with a lock that completes a quorum
 module _ (last : Told) (said : Reply) where
-  pub settled_at : (found : Option Suite) → CompletesAt found last said → IsSettled (heard_at found said)
+  pub settled_at : (found : Option GatheredSuite) → CompletesAt found last said → IsSettled (heard_at found said)
   settled_at (Some suite) is = is.settled
   settled_at None is = is
 
-  pub held_at : (found : Option Suite) → CompletesAt found last said → is_held said ≡ true
+  pub held_at : (found : Option GatheredSuite) → CompletesAt found last said → is_held said ≡ true
   held_at (Some suite) is = is.held
   held_at None is = let bad : hearing.Lost ≡ hearing.Settled is.0 = is.1 in cc
 
-  pub sound_at : (found : Option Suite) → CompletesAt found last said → IsSound last
+  pub sound_at : (found : Option GatheredSuite) → CompletesAt found last said → IsSound last
   sound_at (Some suite) is = is.sound
   sound_at None is = let bad : hearing.Lost ≡ hearing.Settled is.0 = is.1 in absurd (lost_alone is.0 bad)
     where
-      lost_alone : (suite : Suite) → hearing.Lost ≡ hearing.Settled suite → ⊥
+      lost_alone : (suite : GatheredSuite) → hearing.Lost ≡ hearing.Settled suite → ⊥
       lost_alone suite is = cc
 
 -- the quorum that a suite is to have then
 module _ (said : Reply) where
-  pub settles_there : (pending : PendingQuorum) (found : Option Suite) → IsSettled (heard_at found said) → SettlesAt found (Some pending) said
-      → (suite : Suite) × (found ≡ Some suite) × (heard_at found said ≡ hearing.Settled (settled_with pending suite))
+  pub settles_there : (pending : PendingQuorum) (found : Option GatheredSuite) → IsSettled (heard_at found said) → SettlesAt found (Some pending) said
+      → (suite : GatheredSuite) × (found ≡ Some suite) × (heard_at found said ≡ hearing.Settled (settled_with pending suite))
   settles_there pending (Some suite) settles by = (suite, refl, by settles)
   settles_there pending None settles by = cc
 
-  pub settles_lost : (found : Option Suite) → SettlesAt found None said → heard_at found said ≡ hearing.Lost
+  pub settles_lost : (found : Option GatheredSuite) → SettlesAt found None said → heard_at found said ≡ hearing.Lost
   settles_lost (Some suite) by = by
   settles_lost None by = refl

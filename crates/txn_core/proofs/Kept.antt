@@ -13,7 +13,7 @@ use Rattle.suite_prefix.specs.Copies.{held_by}
 use Rattle.weak_cache.specs.Entries.{Cache}
 use Rattle.weak_cache.specs.Cache.{content_at, hint, searched}
 use Rattle.weak_cache.proofs.Origins.{search_keeps_all}
-use Rattle.txn_core.specs.Suites.{ReadPoint, Suite, Suites, suite_of, with_suite}
+use Rattle.txn_core.specs.Suites.{ReadPoint, GatheredSuite, Suites, suite_of, with_suite}
 use Rattle.txn_core.specs.Doing.{Task}
 use Rattle.txn_core.specs.Transactions.{Gathered, after_search, free_content}
 use Rattle.txn_core.specs.code.Unused.{HasUnused}
@@ -21,7 +21,7 @@ use Rattle.txn_core.proofs.Unused.{unused_searched}
 use Rattle.txn_core.specs.code.Plans.{opened_first, opened_at, opened_by, opened_all, free_first, free_of}
 
 -- what the first quorum of a suite gave
-abbrev pub first_in : Option Suite → Option ReadPoint
+abbrev pub first_in : Option GatheredSuite → Option ReadPoint
 first_in (Some suite) = suite.first
 first_in None = None
 
@@ -47,7 +47,7 @@ keeps_on all some more first then' = record {
 }
 
 -- at each number there is what the suite before and after have in common
-same_at : {X : Type 0} (see : Option Suite → X) (suites : Suites) (number : ℕ) (suite new : Suite) → suite_of suites number ≡ Some suite → see (Some new) ≡ see (Some suite)
+same_at : {X : Type 0} (see : Option GatheredSuite → X) (suites : Suites) (number : ℕ) (suite new : GatheredSuite) → suite_of suites number ≡ Some suite → see (Some new) ≡ see (Some suite)
     → (other : ℕ) → see (suite_of (with_suite number new suites) other) ≡ see (suite_of suites other)
 same_at see suites number suite new is same other =
     ap see (get-insert nat_cmp_total suites number new other) ∙ of (is_eq (nat_cmp number other)) refl
@@ -76,10 +76,10 @@ search_keeps task cache number first = of (first.dver == 0)
 keeps_one : (task : Task) (all : Gathered) (one : ℕ × Content) → Keeps all (opened_by task all one)
 keeps_one task all one = of (suite_of all.suites one.0) refl
   where
-    opens : (suite : Suite) → suite_of all.suites one.0 ≡ Some suite → (first : Option ReadPoint) → suite.first ≡ first → Keeps all (opened_first task all one.0 one.1 suite first)
+    opens : (suite : GatheredSuite) → suite_of all.suites one.0 ≡ Some suite → (first : Option ReadPoint) → suite.first ≡ first → Keeps all (opened_first task all one.0 one.1 suite first)
     opens suite is None was = keeps_itself all
     opens suite is (Some first) was =
-        let new : Suite = record suite { content = Some one.1 } in
+        let new : GatheredSuite = record suite { content = Some one.1 } in
         let cache = search_keeps task all.cache one.0 first in
         record {
           ordered = λ o. IsOrdered-insert nat_cmp_total all.suites one.0 new o;
@@ -90,7 +90,7 @@ keeps_one task all one = of (suite_of all.suites one.0) refl
           unused = cache.unused;
         }
 
-    of : (found : Option Suite) → suite_of all.suites one.0 ≡ found → Keeps all (opened_at task all one.0 one.1 found)
+    of : (found : Option GatheredSuite) → suite_of all.suites one.0 ≡ found → Keeps all (opened_at task all one.0 one.1 found)
     of (Some suite) is = opens suite is suite.first refl
     of None is = keeps_itself all
 
@@ -103,7 +103,7 @@ same_free : (task : Task) (all more : Gathered) → Keeps all more → (number :
 same_free task all more keeps number first =
     ap (λ o. if first.dver == 0 then Some (empty_content (held_by first.prefix.kind)) else o) (keeps.contents task.site number first.dver)
 
-free_by_first : (task : Task) (cache : Cache) (number : ℕ) (found : Option Suite) → free_of task cache number found ≡ free_first task cache number (first_in found)
+free_by_first : (task : Task) (cache : Cache) (number : ℕ) (found : Option GatheredSuite) → free_of task cache number found ≡ free_first task cache number (first_in found)
 free_by_first task cache number (Some suite) = refl
 free_by_first task cache number None = refl
 

@@ -6,7 +6,7 @@ use Rattle.std.specs.FinSet.{FinSet, contains}
 use Rattle.std.proofs.lemmas.List.{at_drop_all}
 use Rattle.std.proofs.Math.Bool.{or_assoc}
 use Rattle.std.proofs.Math.Seq.{drop-cons}
-use Rattle.txn_core.specs.Suites.{Suite, Suites, holds_lock, has_locks}
+use Rattle.txn_core.specs.Suites.{GatheredSuite, Suites, holds_lock, has_locks}
 
 or_none : (b : Bool) → b ≡ (b || false)
 or_none true = refl
@@ -16,7 +16,7 @@ or_none false = refl
 abbrev pub HasLocked : Suites → Suites → FinSet nat_cmp → Type 0
 HasLocked suites left locked = (server : ℕ) → (contains locked server || has_locks left server) ≡ has_locks suites server
 
-pub locked_more : (suites : Suites) (i : ℕ) (one : ℕ × Suite) (locked new : FinSet nat_cmp) → i < length suites → one ≡ get_or suites i one
+pub locked_more : (suites : Suites) (i : ℕ) (one : ℕ × GatheredSuite) (locked new : FinSet nat_cmp) → i < length suites → one ≡ get_or suites i one
     → ((server : ℕ) → contains new server ≡ (contains locked server || holds_lock one.1 server)) → HasLocked suites (drop i suites) locked → HasLocked suites (drop (i + 1) suites) new
 locked_more suites i one locked new below here adds so_far server =
     let rest = drop (i + 1) suites in

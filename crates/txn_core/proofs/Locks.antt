@@ -40,7 +40,7 @@ use Rattle.suite_collect.specs.Telling.{is_held, holds}
 use Rattle.suite_collect.specs.Collecting.{Collector, told_since, all_told, tell, tell_at, mode_of, request_for, Asked, Poll, Upgrade, Next, Ask, Current, Short, next}
 use Rattle.suite_collect.specs.Collecting as collecting
 use Rattle.weak_cache.specs.Entries.{Cache}
-use Rattle.txn_core.specs.Suites.{ReadPoint, Suite, Suites, suite_of, with_suite, told_in, told_at, holds_lock}
+use Rattle.txn_core.specs.Suites.{ReadPoint, GatheredSuite, Suites, suite_of, with_suite, told_in, told_at, holds_lock}
 use Rattle.txn_core.specs.declared.response.Response.{Response}
 use Rattle.txn_core.specs.declared.job.Job.{Job}
 use Rattle.txn_core.specs.declared.response.Response.TheVariants.{Replied, Lacked}
@@ -62,7 +62,7 @@ Are told suites = IsOrdered nat_cmp suites × ((number : ℕ) → told_at suites
 abbrev pub told_with : ℕ → List Told → (ℕ → List Told) → ℕ → List Told
 told_with number now told other = cond (number == other) now (told other)
 
-pub are_with : (told : ℕ → List Told) (suites : Suites) (number : ℕ) (suite : Suite) → Are told suites → Are (told_with number (all_told suite.collector) told) (with_suite number suite suites)
+pub are_with : (told : ℕ → List Told) (suites : Suites) (number : ℕ) (suite : GatheredSuite) → Are told suites → Are (told_with number (all_told suite.collector) told) (with_suite number suite suites)
 are_with told suites number suite are = (
   IsOrdered-insert nat_cmp_total suites number suite are.0,
   λ other.
@@ -76,7 +76,7 @@ are_with told suites number suite are = (
     at other false = are.1 other
 
 -- nothing new is told
-pub are_same : (told : ℕ → List Told) (suites : Suites) (number : ℕ) (suite : Suite) → Are told suites → all_told suite.collector ≡ told_at suites number → Are told (with_suite number suite suites)
+pub are_same : (told : ℕ → List Told) (suites : Suites) (number : ℕ) (suite : GatheredSuite) → Are told suites → all_told suite.collector ≡ told_at suites number → Are told (with_suite number suite suites)
 are_same told suites number suite are same =
     let with' = are_with told suites number suite are in
     (with'.0, λ other. with'.1 other ∙ at other (number == other) refl)
@@ -105,16 +105,16 @@ are_opened told (suc n) fixed task all are = of (heard_on fixed task all.suites)
     or' (Some more) found_are later = later more (found_are more refl)
     or' None found_are later = are
 
-    with_content : (number : ℕ) (suite : Suite) (first : ReadPoint) (content : Option Content) (more : Gathered) → suite_of all.suites number ≡ Some suite → opened_with task all number suite first content ≡ Some more → Are told more.suites
+    with_content : (number : ℕ) (suite : GatheredSuite) (first : ReadPoint) (content : Option Content) (more : Gathered) → suite_of all.suites number ≡ Some suite → opened_with task all number suite first content ≡ Some more → Are told more.suites
     with_content number suite first (Some content) more there is =
         subst (λ (more : Gathered). Are told more.suites) (same_Some _ more is) (are_same told all.suites number (record suite { content = Some content }) are (sym (ap told_in there)))
     with_content number suite first None more there is = cc
 
-    at_first : (number : ℕ) (suite : Suite) (first : Option ReadPoint) (more : Gathered) → suite_of all.suites number ≡ Some suite → open_first task all number suite first ≡ Some more → Are told more.suites
+    at_first : (number : ℕ) (suite : GatheredSuite) (first : Option ReadPoint) (more : Gathered) → suite_of all.suites number ≡ Some suite → open_first task all number suite first ≡ Some more → Are told more.suites
     at_first number suite (Some first) more there is = with_content number suite first (free_content task all.cache number first) more there is
     at_first number suite None more there is = cc
 
-    at_suite : (number : ℕ) (found : Option Suite) (more : Gathered) → suite_of all.suites number ≡ found → open_suite task all number found ≡ Some more → Are told more.suites
+    at_suite : (number : ℕ) (found : Option GatheredSuite) (more : Gathered) → suite_of all.suites number ≡ found → open_suite task all number found ≡ Some more → Are told more.suites
     at_suite number (Some suite) more there is = at_first number suite suite.first more there is
     at_suite number None more there is = cc
 
@@ -127,7 +127,7 @@ are_opened told (suc n) fixed task all are = of (heard_on fixed task all.suites)
     of : (heard : Executed) → ((more : Gathered) → Are told more.suites → Are told (opened n fixed task more).suites) → Are told (or_all all (open_needed task all heard) (λ all. opened n fixed task all)).suites
     of heard later = or' (open_needed task all heard) (needed' heard) later
 
-pub told_raised : (fixed : Fixed) (task : Task) (cache : Cache) (number : ℕ) (mode : LockMode) (found : Option Suite) → all_told (raised_or_new fixed task cache number mode found).collector ≡ told_in found
+pub told_raised : (fixed : Fixed) (task : Task) (cache : Cache) (number : ℕ) (mode : LockMode) (found : Option GatheredSuite) → all_told (raised_or_new fixed task cache number mode found).collector ≡ told_in found
 told_raised fixed task cache number mode (Some suite) = refl
 told_raised fixed task cache number mode None = refl
 
@@ -135,9 +135,9 @@ told_raised fixed task cache number mode None = refl
 pub move_are : (told : ℕ → List Told) (fixed : Fixed) (task : Task) {at next : Point} → Move fixed task at next → Are told at.suites → Are told next.suites
 move_are told fixed task (opens {suites = suites} {number = number} needs there was free) are = are_same told suites number _ are (sym (ap told_in there))
 move_are told fixed task (gathers {cache = cache} {suites = suites} {number = number} {mode = mode} needs new more) are =
-    are_same told suites number _ are (ap (λ (suite : Suite). all_told suite.collector) (sym new) ∙ told_raised fixed task cache number mode (suite_of suites number))
+    are_same told suites number _ are (ap (λ (suite : GatheredSuite). all_told suite.collector) (sym new) ∙ told_raised fixed task cache number mode (suite_of suites number))
 move_are told fixed task (lacks_lock {cache = cache} {suites = suites} {number = number} {mode = mode} needs new short) are =
-    are_same told suites number _ are (ap (λ (suite : Suite). all_told suite.collector) (sym new) ∙ told_raised fixed task cache number mode (suite_of suites number))
+    are_same told suites number _ are (ap (λ (suite : GatheredSuite). all_told suite.collector) (sym new) ∙ told_raised fixed task cache number mode (suite_of suites number))
 move_are told fixed task (widens {suites = suites} {number = number} there is) are = are_same told suites number _ are (sym (ap told_in there))
 move_are told fixed task (widens_by {suites = suites} {number = number} there is) are = are_same told suites number _ are (sym (ap told_in there))
 move_are told fixed task (lacks_wide {suites = suites} {number = number} there is) are = are_same told suites number _ are (sym (ap told_in there))
@@ -268,7 +268,7 @@ lock_of t number (Poll mode) other = refl
 lock_of t number Upgrade other = refl
 
 -- what a collector asks is for a lock on its suite
-pub asks_lock : (task : Task) (number : ℕ) (found : Option Suite) (server : ℕ) (asked : Request) → asked_for task number found ≡ Some (server, asked) → (other : ℕ) → locks other asked ≡ (number == other)
+pub asks_lock : (task : Task) (number : ℕ) (found : Option GatheredSuite) (server : ℕ) (asked : Request) → asked_for task number found ≡ Some (server, asked) → (other : ℕ) → locks other asked ≡ (number == other)
 asks_lock task number None server asked is other = cc
 asks_lock task number (Some suite) server asked is other = of (next suite.collector) is
   where
@@ -300,7 +300,7 @@ record HeldAt (held : ℕ → ℕ → Bool) (at : Point) : Type 0 where
   agree : Held held told
 
 module _ (held : ℕ → ℕ → Bool) (told : ℕ → List Told) (fixed : Fixed) (task : Task) (cache : Cache) (suites : Suites) (server : ℕ) (asked : Request) (are : Are told suites) (agree : Held held told) where
-  held_told : {phase : Phase} {number : ℕ} {stage : Stage} (suite new : Suite) (reply : Reply) (said : Said) → request_in fixed task suites phase ≡ Some (server, asked) → Collects phase number stage → suite_of suites number ≡ Some suite
+  held_told : {phase : Phase} {number : ℕ} {stage : Stage} (suite new : GatheredSuite) (reply : Reply) (said : Said) → request_in fixed task suites phase ≡ Some (server, asked) → Collects phase number stage → suite_of suites number ≡ Some suite
       → said_to asked reply ≡ Some said → new.collector ≡ (now_told server asked said suite).collector → (stage' : Stage) (cache' : Cache) → HeldAt (plus held server asked (Replied reply)) (point stage' cache' (with_suite number new suites))
   held_told {number = number} suite new reply said is collects there says same stage' cache' = record {
     told = told_with number (all_told new.collector) told;
@@ -411,11 +411,11 @@ begin_keeps fixed agent job idle =
 -- ---- what a Prepare lists
 
 -- a suite that is listed, where it holds something
-abbrev holds_in : (Suite → Bool) → Option Suite → Bool
+abbrev holds_in : (GatheredSuite → Bool) → Option GatheredSuite → Bool
 holds_in p (Some suite) = p suite
 holds_in p None = false
 
-any_at : (p : Suite → Bool) (suites : Suites) (number : ℕ) → IsOrdered nat_cmp suites → list_any (λ one. (one.0 == number) && p one.1) suites ≡ holds_in p (suite_of suites number)
+any_at : (p : GatheredSuite → Bool) (suites : Suites) (number : ℕ) → IsOrdered nat_cmp suites → list_any (λ one. (one.0 == number) && p one.1) suites ≡ holds_in p (suite_of suites number)
 any_at p [] number ordered = refl
 any_at p (e ∷ es) number ordered =
     ap (λ b. (b && p e.1) || list_any (λ one. (one.0 == number) && p one.1) es) (flip e.0 number ∙ sym (unsigned_tied number e.0))
@@ -451,7 +451,7 @@ any_filtered changes server number (e ∷ es) =
 listed : (changes : Changes) (server number : ℕ) (suites : Suites) → IsOrdered nat_cmp suites → list_any (λ part. part.suite == number) (parts_at suites changes server) ≡ holds Shared (told_at suites number) server
 listed changes server number suites ordered = any_filtered changes server number suites ∙ any_at (λ suite. holds_lock suite server) suites number ordered ∙ of (suite_of suites number)
   where
-    of : (found : Option Suite) → holds_in (λ suite. holds_lock suite server) found ≡ holds Shared (told_in found) server
+    of : (found : Option GatheredSuite) → holds_in (λ suite. holds_lock suite server) found ≡ holds Shared (told_in found) server
     of (Some suite) = refl
     of None = refl
 
@@ -489,7 +489,7 @@ prepare_is held fixed (Some (Running txn_run)) server t parts keeps is = of txn_
     by_next who (Current prefix dver members) is = cc
     by_next who (Short had wanting busy) is = cc
 
-    by_suite : (who : ℕ) (found : Option Suite) → asked_for txn_run.task who found ≡ Some (server, request.Prepare t parts) → IsPrepare held server parts
+    by_suite : (who : ℕ) (found : Option GatheredSuite) → asked_for txn_run.task who found ≡ Some (server, request.Prepare t parts) → IsPrepare held server parts
     by_suite who (Some suite) is = by_next who (next suite.collector) is
     by_suite who None is = cc
 
@@ -497,7 +497,7 @@ prepare_is held fixed (Some (Running txn_run)) server t parts keeps is = of txn_
     by_first who (Some first) is = no_prepare first.source server t (request.Fetch txn_run.task.t who) parts refl is
     by_first who None is = cc
 
-    by_fetch : (who : ℕ) (found : Option Suite) → fetched_for txn_run.task who found ≡ Some (server, request.Prepare t parts) → IsPrepare held server parts
+    by_fetch : (who : ℕ) (found : Option GatheredSuite) → fetched_for txn_run.task who found ≡ Some (server, request.Prepare t parts) → IsPrepare held server parts
     by_fetch who (Some suite) is = by_first who suite.first is
     by_fetch who None is = cc
 

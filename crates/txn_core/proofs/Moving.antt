@@ -14,7 +14,7 @@ use Rattle.file_exec.specs.declared.executor.Outcome.TheVariants as exec
 use Rattle.suite_collect.specs.declared.told.Said.{Said}
 use Rattle.suite_collect.specs.Collecting.{Next, Ask, Current, Short, next}
 use Rattle.weak_cache.specs.Entries.{Cache}
-use Rattle.txn_core.specs.Suites.{ReadPoint, Suite, Suites, suite_of, with_suite}
+use Rattle.txn_core.specs.Suites.{ReadPoint, GatheredSuite, Suites, suite_of, with_suite}
 use Rattle.txn_core.specs.declared.response.Response.{Response}
 use Rattle.txn_core.specs.declared.response.Response.TheVariants.{Replied, Lacked}
 use Rattle.txn_core.specs.declared.ending.Cause.TheVariants.{Lost}
@@ -33,7 +33,7 @@ pub asks_nothing : (fixed : Fixed) (task : Task) (suites : Suites) (phase : Phas
 asks_nothing fixed task suites (Gathering number) nothing = ap (asked_for task number) nothing
 asks_nothing fixed task suites (Fetching number) nothing = of (suite_of suites number) nothing
   where
-    of : (found : Option Suite) → ((suite : Suite) → found ≡ Some suite → suite.first ≡ None) → fetched_for task number found ≡ None
+    of : (found : Option GatheredSuite) → ((suite : GatheredSuite) → found ≡ Some suite → suite.first ≡ None) → fetched_for task number found ≡ None
     of None nothing = refl
     of (Some suite) nothing = ap (fetched_at task number) (nothing suite refl)
 asks_nothing fixed task suites (Widening [] granted) nothing = refl
@@ -86,7 +86,7 @@ module _ (fixed : Fixed) (task : Task) where
   goes_widen cache suites granted [] = last _ prepares refl
   goes_widen cache suites granted (number ∷ left) = of (suite_of suites number) refl (λ suites. goes_widen cache suites granted left)
     where
-      by : (suite : Suite) → suite_of suites number ≡ Some suite → (coming : Next) → next (widened granted.changes number suite).collector ≡ coming
+      by : (suite : GatheredSuite) → suite_of suites number ≡ Some suite → (coming : Next) → next (widened granted.changes number suite).collector ≡ coming
           → ((suites : Suites) → MovesTo fixed task (point (Widens left granted) cache suites) (widen_all task cache suites granted left))
           → MovesTo fixed task (point (Widens (number ∷ left) granted) cache suites)
           (widen_by task cache (with_suite number (widened granted.changes number suite) suites) (Widening (number ∷ left) granted) number coming (λ suites. widen_all task cache suites granted left))
@@ -94,13 +94,13 @@ module _ (fixed : Fixed) (task : Task) where
       by suite there (Ask server asked) is rest = last _ (widens_by there is) refl
       by suite there (Short got wanting busy) is rest = last _ (lacks_wide there is) refl
 
-      of : (found : Option Suite) → suite_of suites number ≡ found → ((suites : Suites) → MovesTo fixed task (point (Widens left granted) cache suites) (widen_all task cache suites granted left))
+      of : (found : Option GatheredSuite) → suite_of suites number ≡ found → ((suites : Suites) → MovesTo fixed task (point (Widens left granted) cache suites) (widen_all task cache suites granted left))
           → MovesTo fixed task (point (Widens (number ∷ left) granted) cache suites)
           (widen_one task cache suites (Widening (number ∷ left) granted) granted.changes number found (λ suites. widen_all task cache suites granted left))
       of (Some suite) there rest = by suite there (next (widened granted.changes number suite).collector) refl rest
       of None there rest = more (passes there) (rest suites)
 
-  goes_gather : (cache : Cache) (suites : Suites) (number : ℕ) (mode : LockMode) (suite : Suite) → heard_on fixed task suites ≡ exec.Need (Hold number mode) → raised_or_new fixed task cache number mode (suite_of suites number) ≡ suite
+  goes_gather : (cache : Cache) (suites : Suites) (number : ℕ) (mode : LockMode) (suite : GatheredSuite) → heard_on fixed task suites ≡ exec.Need (Hold number mode) → raised_or_new fixed task cache number mode (suite_of suites number) ≡ suite
       → (coming : Next) → next suite.collector ≡ coming → MovesTo fixed task (point Executes cache suites) (gather_by task cache (with_suite number suite suites) number coming)
   goes_gather cache suites number mode suite needs new (Short got wanting busy) is = last _ (lacks_lock needs new is) refl
   goes_gather cache suites number mode suite needs new (Ask server asked) is = last _ (gathers needs new (ap is_short is)) refl
@@ -126,17 +126,17 @@ module _ (fixed : Fixed) (task : Task) where
       here : goes_from all all
       here = goes_proceed all.cache all.suites (heard_on fixed task all.suites) refl
 
-      with_content : (number : ℕ) (suite : Suite) (first : ReadPoint) (content : Option Content) → heard_on fixed task all.suites ≡ exec.Need (Know number) → suite_of all.suites number ≡ Some suite → suite.first ≡ Some first
+      with_content : (number : ℕ) (suite : GatheredSuite) (first : ReadPoint) (content : Option Content) → heard_on fixed task all.suites ≡ exec.Need (Know number) → suite_of all.suites number ≡ Some suite → suite.first ≡ Some first
           → free_content task all.cache number first ≡ content → Later n → goes_from all (or_all all (opened_with task all number suite first content) (λ all. opened n fixed task all))
       with_content number suite first (Some content) needs there was free later = more (opens needs there was free) (later _)
       with_content number suite first None needs there was free later = here
 
-      at_first : (number : ℕ) (suite : Suite) (first : Option ReadPoint) → heard_on fixed task all.suites ≡ exec.Need (Know number) → suite_of all.suites number ≡ Some suite → suite.first ≡ first → Later n
+      at_first : (number : ℕ) (suite : GatheredSuite) (first : Option ReadPoint) → heard_on fixed task all.suites ≡ exec.Need (Know number) → suite_of all.suites number ≡ Some suite → suite.first ≡ first → Later n
           → goes_from all (or_all all (open_first task all number suite first) (λ all. opened n fixed task all))
       at_first number suite (Some first) needs there was later = with_content number suite first (free_content task all.cache number first) needs there was refl later
       at_first number suite None needs there was later = here
 
-      at_suite : (number : ℕ) (found : Option Suite) → heard_on fixed task all.suites ≡ exec.Need (Know number) → suite_of all.suites number ≡ found → Later n
+      at_suite : (number : ℕ) (found : Option GatheredSuite) → heard_on fixed task all.suites ≡ exec.Need (Know number) → suite_of all.suites number ≡ found → Later n
           → goes_from all (or_all all (open_suite task all number found) (λ all. opened n fixed task all))
       at_suite number (Some suite) needs there later = at_first number suite suite.first needs there refl later
       at_suite number None needs there later = here
@@ -168,30 +168,30 @@ module _ (fixed : Fixed) (task : Task) where
         → Comes phase (Replied reply) (heard_of task cache suites phase number (suite_of suites number) server asked reply go_on)
     moves_heard phase number stage reply go_on collects none rest = of (suite_of suites number) refl
       where
-        by : (suite : Suite) → suite_of suites number ≡ Some suite → (said : Said) → said_to asked reply ≡ Some said → (coming : Next) → next (now_told server asked said suite).collector ≡ coming
+        by : (suite : GatheredSuite) → suite_of suites number ≡ Some suite → (said : Said) → said_to asked reply ≡ Some said → (coming : Next) → next (now_told server asked said suite).collector ≡ coming
             → Comes phase (Replied reply) (collected task cache suites phase number (now_told server asked said suite) coming (λ suite. go_on (with_suite number suite suites)))
         by suite there said heard (Ask who what) is = only _ (asks_on collects there heard is) refl
         by suite there said heard (Short got wanting busy) is = only _ (falls_short collects there heard is) refl
         by suite there said heard (Current prefix dver members) is = first' (settles collects there heard is) (rest _)
 
-        at : (suite : Suite) → suite_of suites number ≡ Some suite → (said : Option Said) → said_to asked reply ≡ said
+        at : (suite : GatheredSuite) → suite_of suites number ≡ Some suite → (said : Option Said) → said_to asked reply ≡ said
             → Comes phase (Replied reply) (hear task cache suites phase number suite server asked said (λ suite. go_on (with_suite number suite suites)))
         at suite there (Some said) heard = by suite there said heard (next (now_told server asked said suite).collector) refl
         at suite there None heard = only _ (loses collects there heard) refl
 
-        of : (found : Option Suite) → suite_of suites number ≡ found → Comes phase (Replied reply) (heard_of task cache suites phase number found server asked reply go_on)
+        of : (found : Option GatheredSuite) → suite_of suites number ≡ found → Comes phase (Replied reply) (heard_of task cache suites phase number found server asked reply go_on)
         of (Some suite) there = at suite there (said_to asked reply) refl
         of None there = none there
 
     moves_fetched : (number : ℕ) (reply : Reply) → Comes (Fetching number) (Replied reply) (fetched fixed task cache suites number (suite_of suites number) server (given_in reply))
     moves_fetched number reply = of (suite_of suites number) refl (given_in reply) refl
       where
-        kept : (suite : Suite) → suite_of suites number ≡ Some suite → (content : Content) → given_in reply ≡ Some content → (first : Option ReadPoint) → suite.first ≡ first
+        kept : (suite : GatheredSuite) → suite_of suites number ≡ Some suite → (content : Content) → given_in reply ≡ Some content → (first : Option ReadPoint) → suite.first ≡ first
             → Comes (Fetching number) (Replied reply) (keep_content fixed task cache suites number suite content first server)
         kept suite there content given (Some first) was = first' (gets there was given) (execute_moves _)
-        kept suite there content given None was = only _ (strays (λ other is. ap (λ (suite : Suite). suite.first) (same_Some other suite (sym is ∙ there)) ∙ was)) refl
+        kept suite there content given None was = only _ (strays (λ other is. ap (λ (suite : GatheredSuite). suite.first) (same_Some other suite (sym is ∙ there)) ∙ was)) refl
 
-        of : (found : Option Suite) → suite_of suites number ≡ found → (given : Option Content) → given_in reply ≡ given → Comes (Fetching number) (Replied reply) (fetched fixed task cache suites number found server given)
+        of : (found : Option GatheredSuite) → suite_of suites number ≡ found → (given : Option Content) → given_in reply ≡ given → Comes (Fetching number) (Replied reply) (fetched fixed task cache suites number found server given)
         of (Some suite) there (Some content) given = kept suite there content given suite.first refl
         of (Some suite) there None given = only _ (misses given) refl
         of None there None given = only _ (misses given) refl

@@ -16,7 +16,7 @@ use Rattle.file_ops.specs.Rows.{Row, with_content}
 use Rattle.file_exec.specs.KnownSuites.{KnownSuite}
 use Rattle.file_exec.specs.Known as known
 use Rattle.file_exec.specs.Known.{Known}
-use Rattle.txn_core.specs.Suites.{ReadPoint, Suite, Suites, suite_of, with_suite, row_with, known_row, known_if, known_of}
+use Rattle.txn_core.specs.Suites.{ReadPoint, GatheredSuite, Suites, suite_of, with_suite, row_with, known_row, known_if, known_of}
 use Rattle.txn_core.proofs.Setting.{known_at}
 
 -- ---- what is known of a suite that gets its content
@@ -26,16 +26,16 @@ row_again kind.Absent prefix before content = refl
 row_again kind.File prefix before content = refl
 row_again kind.Folder prefix before content = refl
 
-abbrev with_it : Suite → Content → Suite
+abbrev with_it : GatheredSuite → Content → GatheredSuite
 with_it suite content = record suite { content = Some content }
 
-row_opened : (suite : Suite) (first : ReadPoint) (content : Content) → known.opened (known_row suite first) content ≡ known_row (record suite { content = Some content }) first
+row_opened : (suite : GatheredSuite) (first : ReadPoint) (content : Content) → known.opened (known_row suite first) content ≡ known_row (record suite { content = Some content }) first
 row_opened suite first content =
     let read : Option Row → KnownSuite = λ row. record { mode = suite.mode; row = row; opened = true } in
     ap read (row_again first.prefix.kind first.prefix suite.content content)
 
 -- another value at the number of a suite that had a quorum
-replaced_known : (suites : Suites) (number : ℕ) (suite new : Suite) (first : ReadPoint) → suite_of suites number ≡ Some suite → suite.first ≡ Some first → new.first ≡ Some first
+replaced_known : (suites : Suites) (number : ℕ) (suite new : GatheredSuite) (first : ReadPoint) → suite_of suites number ≡ Some suite → suite.first ≡ Some first → new.first ≡ Some first
     → replace nat_cmp (known_of suites) number (known_row new first) ≡ known_of (replace nat_cmp suites number new)
 replaced_known [] number suite new first is was now = refl
 replaced_known (e ∷ es) number suite new first is was now = of (λ is. replaced_known es number suite new first is was now) (is_at (nat_cmp number) e.0) refl is
@@ -59,14 +59,14 @@ replaced_known (e ∷ es) number suite new first is was now = of (λ is. replace
         → replace nat_cmp (known_of (e ∷ es)) number row ≡ known_of (replace nat_cmp (e ∷ es) number new)
     of again true at is =
         let same : e.1 ≡ suite = same_Some e.1 suite is in
-        here e.1.first (ap (λ (it : Suite). it.first) same ∙ was) at
+        here e.1.first (ap (λ (it : GatheredSuite). it.first) same ∙ was) at
         ∙ sym (ap (λ o. known_if e.0 new o (known_of es)) now)
         ∙ sym (ap (λ b. known_of (cond b ((e.0, new) ∷ es) (e ∷ replace nat_cmp es number new))) at)
     of again false at is =
         later e.1.first at (again is)
         ∙ sym (ap (λ b. known_of (cond b ((e.0, new) ∷ es) (e ∷ replace nat_cmp es number new))) at)
 
-pub known_opened : (suites : Suites) (number : ℕ) (suite : Suite) (first : ReadPoint) (content : Content) → IsOrdered nat_cmp suites → suite_of suites number ≡ Some suite → suite.first ≡ Some first
+pub known_opened : (suites : Suites) (number : ℕ) (suite : GatheredSuite) (first : ReadPoint) (content : Content) → IsOrdered nat_cmp suites → suite_of suites number ≡ Some suite → suite.first ≡ Some first
     → known.opened_suite (known_of suites) number content ≡ known_of (with_suite number (record suite { content = Some content }) suites)
 known_opened suites number suite first content ordered is was =
     let new = with_it suite content in

@@ -12,7 +12,7 @@ use Rattle.rep_core.specs.declared.stamped.Lack.{Lack}
 use Rattle.rep_core.specs.Fits.{is_prepared}
 use Rattle.suite_collect.specs.declared.told.Said.TheVariants as said
 use Rattle.weak_cache.specs.Entries.{Cache}
-use Rattle.txn_core.specs.Suites.{Suite, Suites, suite_of, with_suite}
+use Rattle.txn_core.specs.Suites.{GatheredSuite, Suites, suite_of, with_suite}
 use Rattle.txn_core.specs.declared.response.Response.{Response}
 use Rattle.txn_core.specs.declared.ending.Cause.{Cause}
 use Rattle.txn_core.specs.declared.ending.Ending.{Ending}
@@ -103,7 +103,7 @@ ends_prepared asked reply.Done is = refl
 ends_prepared asked (reply.Locked locks) is = refl
 ends_prepared asked reply.Down is = refl
 
-pub over_heard : (task : Task) (cache : Cache) (suites : Suites) (phase : Phase) (number : ℕ) (found : Option Suite) (server : ℕ) (asked : Request) (said : Reply) (go_on : Suites → Step) → ends_it asked (Replied said) ≡ true
+pub over_heard : (task : Task) (cache : Cache) (suites : Suites) (phase : Phase) (number : ℕ) (found : Option GatheredSuite) (server : ℕ) (asked : Request) (said : Reply) (go_on : Suites → Step) → ends_it asked (Replied said) ≡ true
     → LeftOver (heard_of task cache suites phase number found server asked said go_on).after
 over_heard task cache suites phase number None server asked said go_on is = over_give_up task cache suites (Lost server)
 over_heard task cache suites phase number (Some suite) server asked said go_on is =
@@ -116,7 +116,7 @@ over_response fixed task cache suites (Gathering number) server asked (Replied s
 over_response fixed task cache suites (Fetching number) server asked (Replied said) is =
     subst (λ given. LeftOver (fetched fixed task cache suites number (suite_of suites number) server given).after) (sym (ends_given asked said is)) (of (suite_of suites number))
   where
-    of : (found : Option Suite) → LeftOver (fetched fixed task cache suites number found server None).after
+    of : (found : Option GatheredSuite) → LeftOver (fetched fixed task cache suites number found server None).after
     of (Some suite) = over_give_up task cache suites (Lost server)
     of None = over_give_up task cache suites (Lost server)
 over_response fixed task cache suites (Widening [] granted) server asked (Replied said) is = over_give_up task cache suites (Lost server)

@@ -17,7 +17,7 @@ use Rattle.suite_collect.specs.declared.told.Said.{Said}
 use Rattle.suite_collect.specs.Telling.{has_told}
 use Rattle.suite_collect.specs.Collecting.{Collector, all_told, mode_of, request_for, mode_asked, Asked, Poll, Upgrade, Next, Ask, Current, Short, next}
 use Rattle.weak_cache.specs.Entries.{Cache}
-use Rattle.txn_core.specs.Suites.{ReadPoint, Suite, Suites, suite_of, with_suite, told_at, told_in}
+use Rattle.txn_core.specs.Suites.{ReadPoint, GatheredSuite, Suites, suite_of, with_suite, told_at, told_in}
 use Rattle.txn_core.specs.declared.response.Response.{Response}
 use Rattle.txn_core.specs.declared.job.Job.{Job}
 use Rattle.txn_core.specs.declared.job.Job.TheVariants.{Transaction, Sweep}
@@ -126,7 +126,7 @@ record Told' (before : ℕ → ℕ → ℕ) (told : ℕ → List Told) (number s
   agree : Asked' (plus before server asked) (told_with number (record { server = server; mode = mode_of asked; said = said } ∷ list) told)
   few : AllFew (told_with number (record { server = server; mode = mode_of asked; said = said } ∷ list) told)
 
-told_more : (before : ℕ → ℕ → ℕ) (told : ℕ → List Told) (task : Task) (suites : Suites) (number : ℕ) (suite : Suite) (server : ℕ) (asked : Request) (said : Said)
+told_more : (before : ℕ → ℕ → ℕ) (told : ℕ → List Told) (task : Task) (suites : Suites) (number : ℕ) (suite : GatheredSuite) (server : ℕ) (asked : Request) (said : Said)
     → Are told suites → Asked' before told → AllFew told → suite_of suites number ≡ Some suite → asked_for task number (Some suite) ≡ Some (server, asked) → Told' before told number server asked (all_told suite.collector) said
 told_more before told task suites number suite server asked said are agree few there is =
     let same : all_told suite.collector ≡ told number = ap told_in (sym there) ∙ are.1 number in
@@ -135,7 +135,7 @@ told_more before told task suites number suite server asked said are agree few t
       few = few_with told number _ few (few_asked task number suite.collector server asked said is (subst Few (sym same) (few number)));
     }
 
-asked_bounded : (before : ℕ → ℕ → ℕ) (told : ℕ → List Told) (task : Task) (suites : Suites) (number : ℕ) (found : Option Suite) (server : ℕ) (asked : Request)
+asked_bounded : (before : ℕ → ℕ → ℕ) (told : ℕ → List Told) (task : Task) (suites : Suites) (number : ℕ) (found : Option GatheredSuite) (server : ℕ) (asked : Request)
     → Are told suites → Asked' before told → AllFew told → suite_of suites number ≡ found → asked_for task number found ≡ Some (server, asked) → Bounded (plus before server asked)
 asked_bounded before told task suites number None server asked are agree few there is = cc
 asked_bounded before told task suites number (Some suite) server asked are agree few there is =
@@ -175,7 +175,7 @@ abbrev HeardAs : (ℕ → ℕ → ℕ) → Point → Type 0
 HeardAs before at = (TellsEnd at.stage × Bounded before) ⊎ KnowsAt before at
 
 module _ (before : ℕ → ℕ → ℕ) (told : ℕ → List Told) (fixed : Fixed) (task : Task) (cache : Cache) (suites : Suites) (server : ℕ) (asked : Request) (are : Are told suites) (agree : Asked' before told) (few : AllFew told) where
-  knows_told : {phase : Phase} {number : ℕ} {stage : Stage} (suite new : Suite) (said : Said) → request_in fixed task suites phase ≡ Some (server, asked) → Collects phase number stage → suite_of suites number ≡ Some suite
+  knows_told : {phase : Phase} {number : ℕ} {stage : Stage} (suite new : GatheredSuite) (said : Said) → request_in fixed task suites phase ≡ Some (server, asked) → Collects phase number stage → suite_of suites number ≡ Some suite
       → new.collector ≡ (now_told server asked said suite).collector → (stage' : Stage) (cache' : Cache) → HeardAs (plus before server asked) (point stage' cache' (with_suite number new suites))
   knows_told {number = number} suite new said is collects there same stage' cache' =
       let list : all_told new.collector ≡ record { server = server; mode = mode_of asked; said = said } ∷ all_told suite.collector = ap all_told same ∙ all_told-tell (record { server = server; mode = mode_of asked; said = said }) suite.collector in
@@ -364,7 +364,7 @@ number_same : {t u n m : ℕ} {a b : LockMode} → request.Poll t n a ≡ reques
 number_same is = cc
 
 -- a Poll of a suite is its collector's, to a server that was told nothing of
-poll_fresh : (task : Task) (who : ℕ) (suite : Suite) (server t number : ℕ) (mode : LockMode) → asked_by task who (next suite.collector) ≡ Some (server, request.Poll t number mode) → (who ≡ number) × (has_told (λ _. true) (all_told suite.collector) server ≡ false)
+poll_fresh : (task : Task) (who : ℕ) (suite : GatheredSuite) (server t number : ℕ) (mode : LockMode) → asked_by task who (next suite.collector) ≡ Some (server, request.Poll t number mode) → (who ≡ number) × (has_told (λ _. true) (all_told suite.collector) server ≡ false)
 poll_fresh task who suite server t number mode is = of (next suite.collector) refl is
   where
     pair_of : (at : ℕ) (asked : Request) → ◌≡◌ {A = Option (ℕ × Request)} (Some (at, asked)) (Some (server, request.Poll t number mode)) → at ≡ server
@@ -393,7 +393,7 @@ fresh before fixed (Some (RunningSweep sweep_run)) server t number mode keeps is
     of (Breaking lock left) is = other_poll _ server t number mode (request.Break lock.t lock.suite) refl is
 fresh before fixed (Some (Running txn_run)) server t number mode keeps is = of txn_run.phase keeps is
   where
-    by_suite : (who : ℕ) (found : Option Suite) → suite_of txn_run.suites who ≡ found → Asked' before (told_at txn_run.suites) → asked_for txn_run.task who found ≡ Some (server, request.Poll t number mode) → before number server ≡ 0
+    by_suite : (who : ℕ) (found : Option GatheredSuite) → suite_of txn_run.suites who ≡ found → Asked' before (told_at txn_run.suites) → asked_for txn_run.task who found ≡ Some (server, request.Poll t number mode) → before number server ≡ 0
     by_suite who None there agree is = cc
     by_suite who (Some suite) there agree is =
         let fresh' = poll_fresh txn_run.task who suite server t number mode is in
@@ -403,7 +403,7 @@ fresh before fixed (Some (Running txn_run)) server t number mode keeps is = of t
     by_first who (Some first) is = other_poll first.source server t number mode (request.Fetch txn_run.task.t who) refl is
     by_first who None is = cc
 
-    by_fetch : (who : ℕ) (found : Option Suite) → fetched_for txn_run.task who found ≡ Some (server, request.Poll t number mode) → before number server ≡ 0
+    by_fetch : (who : ℕ) (found : Option GatheredSuite) → fetched_for txn_run.task who found ≡ Some (server, request.Poll t number mode) → before number server ≡ 0
     by_fetch who (Some suite) is = by_first who suite.first is
     by_fetch who None is = cc
 

@@ -33,7 +33,7 @@ use Rattle.suite_collect.specs.Telling.{newer, newest, holds}
 use Rattle.suite_collect.specs.Collecting.{told_since, Collector, all_told, needed_of, needed, got, counted, is_member, is_left, members_of, version, votes_or, mode_or, ask_or_short, tell, tell_at, mode_of, Next, Ask, Current, Short, next}
 use Rattle.suite_collect.specs.Collecting as collecting
 use Rattle.weak_cache.specs.Entries.{Cache}
-use Rattle.txn_core.specs.Suites.{ReadPoint, Suite, Suites, suite_of, with_suite, settled, first_or, source_of}
+use Rattle.txn_core.specs.Suites.{ReadPoint, GatheredSuite, Suites, suite_of, with_suite, settled, first_or, source_of}
 use Rattle.txn_core.specs.Writing.{is_changed, gets_votes, sets_votes, change_of}
 use Rattle.txn_core.specs.declared.response.Response.{Response}
 use Rattle.txn_core.specs.declared.ending.Cause.{Cause}
@@ -141,23 +141,23 @@ current_of c prefix dver members is = of (nat_le (needed c) (got c)) refl is
 -- ---- what holds of a suite
 
 -- its prefixes only grow newer; and once it had a Current, a quorum of its mode is held
-abbrev Grown : Suite → Type 0
+abbrev Grown : GatheredSuite → Type 0
 Grown suite = (first : ReadPoint) → suite.first ≡ Some first → IsSince first.prefix (newest_of suite)
 
-record Sound (suite : Suite) : Type 0 where
+record Sound (suite : GatheredSuite) : Type 0 where
   first : ReadPoint
   was : suite.first ≡ Some first
   since : IsSince first.prefix (newest_of suite)
   mode : suite.mode ≡ suite.collector.mode
   quorum : Enough suite.mode (newest_of suite).votes (all_told suite.collector)
 
-sound_grown : (suite : Suite) → Sound suite → Grown suite
+sound_grown : (suite : GatheredSuite) → Sound suite → Grown suite
 sound_grown suite sound first is = subst (λ (first : ReadPoint). IsSince first.prefix (newest_of suite)) (same_Some sound.first first (sym sound.was ∙ is)) sound.since
 
-sound_content : (suite : Suite) (content : Option Content) → Sound suite → Sound (record suite { content = content })
+sound_content : (suite : GatheredSuite) (content : Option Content) → Sound suite → Sound (record suite { content = content })
 sound_content suite content sound = record { first = sound.first; was = sound.was; since = sound.since; mode = sound.mode; quorum = sound.quorum }
 
-sound_settled : (suite : Suite) (prefix : Prefix) (dver : ℕ) (members : List ℕ) → Grown suite → suite.collector.widening ≡ None → next suite.collector ≡ Current prefix dver members → Sound (settled prefix dver members suite)
+sound_settled : (suite : GatheredSuite) (prefix : Prefix) (dver : ℕ) (members : List ℕ) → Grown suite → suite.collector.widening ≡ None → next suite.collector ≡ Current prefix dver members → Sound (settled prefix dver members suite)
 sound_settled suite prefix dver members grown narrow is = of suite.first refl
   where
     current : EnoughWith suite.collector suite.collector.widening × (newest_of suite ≡ prefix)
@@ -172,10 +172,10 @@ sound_settled suite prefix dver members grown narrow is = of suite.first refl
 
 -- ---- all suites
 
-abbrev Each : (ℕ → Suite → Type 0) → Suites → Type 0
-Each p suites = (number : ℕ) (suite : Suite) → suite_of suites number ≡ Some suite → p number suite
+abbrev Each : (ℕ → GatheredSuite → Type 0) → Suites → Type 0
+Each p suites = (number : ℕ) (suite : GatheredSuite) → suite_of suites number ≡ Some suite → p number suite
 
-each_with : (p q : ℕ → Suite → Type 0) (suites : Suites) (number : ℕ) (suite : Suite) → ((other : ℕ) (it : Suite) → (number == other) ≡ false → p other it → q other it) → q number suite → Each p suites → Each q (with_suite number suite suites)
+each_with : (p q : ℕ → GatheredSuite → Type 0) (suites : Suites) (number : ℕ) (suite : GatheredSuite) → ((other : ℕ) (it : GatheredSuite) → (number == other) ≡ false → p other it → q other it) → q number suite → Each p suites → Each q (with_suite number suite suites)
 each_with p q suites number suite others here each other it is =
     of (number == other) refl (ap (λ b. cond b (Some suite) (suite_of suites other)) (sym (unsigned_tied number other)) ∙ sym (get-insert nat_cmp_total suites number suite other) ∙ is)
   where
@@ -184,30 +184,30 @@ each_with p q suites number suite others here each other it is =
     of false no' found = others other it no' (each other it found)
 
 -- in order: gathered; gathered but for one; and done, but for the widenings that are to do
-abbrev IsNarrow : Suite → Type 0
+abbrev IsNarrow : GatheredSuite → Type 0
 IsNarrow suite = suite.collector.widening ≡ None
 
-abbrev Settled : ℕ → Suite → Type 0
+abbrev Settled : ℕ → GatheredSuite → Type 0
 Settled number suite = Sound suite × IsNarrow suite
 
-abbrev But : ℕ → ℕ → Suite → Type 0
+abbrev But : ℕ → ℕ → GatheredSuite → Type 0
 But now number suite = Grown suite × IsNarrow suite × ((now == number) ≡ false → Sound suite)
 
-abbrev Wide : Changes → ℕ → Suite → Type 0
+abbrev Wide : Changes → ℕ → GatheredSuite → Type 0
 Wide changes number suite = Enough Exclusive (votes_after changes number suite) (all_told suite.collector)
 
 abbrev among : List ℕ → ℕ → Bool
 among numbers number = list_any (λ one. one == number) numbers
 
-abbrev Ready : Changes → List ℕ → ℕ → Suite → Type 0
+abbrev Ready : Changes → List ℕ → ℕ → GatheredSuite → Type 0
 Ready changes todo number suite = Sound suite × (is_changed changes number ≡ true → suite.mode ≡ Exclusive) × (among todo number ≡ false → sets_votes changes number ≡ true → Wide changes number suite) × Keeps changes number suite
 
-record IsWidened (changes : Changes) (number : ℕ) (suite : Suite) : Type 0 where
+record IsWidened (changes : Changes) (number : ℕ) (suite : GatheredSuite) : Type 0 where
   widening : collecting.Widening
   is : suite.collector.widening ≡ Some widening
   votes : widening.votes ≡ votes_after changes number suite
 
-abbrev InWidening : Changes → ℕ → List ℕ → ℕ → Suite → Type 0
+abbrev InWidening : Changes → ℕ → List ℕ → ℕ → GatheredSuite → Type 0
 InWidening changes now left number suite = Ready changes (now ∷ left) number suite × ((now == number) ≡ true → IsWidened changes number suite)
 
 abbrev PhaseReady : Suites → Phase → Type 0
@@ -239,21 +239,21 @@ ready_prepare : (task : Task) (cache : Cache) (suites : Suites) (outcome : Propo
 ready_prepare task cache suites outcome [] each = each
 ready_prepare task cache suites outcome (server ∷ servers) each = each
 
-sound_widened : (changes : Changes) (number : ℕ) (suite : Suite) → Sound suite → Sound (widened changes number suite)
+sound_widened : (changes : Changes) (number : ℕ) (suite : GatheredSuite) → Sound suite → Sound (widened changes number suite)
 sound_widened changes number suite sound = record { first = sound.first; was = sound.was; since = sound.since; mode = sound.mode; quorum = sound.quorum }
 
-wide_current : (changes : Changes) (number : ℕ) (suite : Suite) (prefix : Prefix) (dver : ℕ) (members : List ℕ) → IsWidened changes number suite → next suite.collector ≡ Current prefix dver members → Wide changes number suite
+wide_current : (changes : Changes) (number : ℕ) (suite : GatheredSuite) (prefix : Prefix) (dver : ℕ) (members : List ℕ) → IsWidened changes number suite → next suite.collector ≡ Current prefix dver members → Wide changes number suite
 wide_current changes number suite prefix dver members wide is =
     subst (λ (votes : Configuration). Enough Exclusive votes (all_told suite.collector)) wide.votes (subst (EnoughWith suite.collector) wide.is (current_of suite.collector prefix dver members is).0)
 
 -- another suite has no less to do
-less_to_do : (changes : Changes) (now : ℕ) (left : List ℕ) (number : ℕ) (suite : Suite) → (now == number) ≡ false → Ready changes (now ∷ left) number suite → Ready changes left number suite
+less_to_do : (changes : Changes) (now : ℕ) (left : List ℕ) (number : ℕ) (suite : GatheredSuite) → (now == number) ≡ false → Ready changes (now ∷ left) number suite → Ready changes left number suite
 less_to_do changes now left number suite other ready = (ready.0, ready.1, λ none. ready.2 (ap (λ b. b || among left number) other ∙ none), ready.3)
 
-still_ready : (changes : Changes) (now : ℕ) (left : List ℕ) (number : ℕ) (suite : Suite) → (now == number) ≡ false → Ready changes (now ∷ left) number suite → InWidening changes now left number suite
+still_ready : (changes : Changes) (now : ℕ) (left : List ℕ) (number : ℕ) (suite : GatheredSuite) → (now == number) ≡ false → Ready changes (now ∷ left) number suite → InWidening changes now left number suite
 still_ready changes now left number suite other ready = (ready, λ same. absurd (false≢true (sym other ∙ same)))
 
-ready_widen_by : (task : Task) (cache : Cache) (suites : Suites) (left : List ℕ) (granted : Granted) (number : ℕ) (suite : Suite) (after : Next) (go_on : Suites → Step) → next suite.collector ≡ after
+ready_widen_by : (task : Task) (cache : Cache) (suites : Suites) (left : List ℕ) (granted : Granted) (number : ℕ) (suite : GatheredSuite) (after : Next) (go_on : Suites → Step) → next suite.collector ≡ after
     → Ready granted.changes (number ∷ left) number suite → IsWidened granted.changes number suite → Each (Ready granted.changes (number ∷ left)) suites → ((suites : Suites) → Each (Ready granted.changes left) suites → LeftReady (go_on suites).after)
     → LeftReady (widen_by task cache (with_suite number suite suites) (Widening (number ∷ left) granted) number after go_on).after
 ready_widen_by task cache suites left granted number suite (Current prefix dver members) go_on is ready wide each more =
@@ -263,7 +263,7 @@ ready_widen_by task cache suites left granted number suite (Ask server asked) go
     each_with (Ready granted.changes (number ∷ left)) (InWidening granted.changes number left) suites number suite (still_ready granted.changes number left) (ready, λ _. wide) each
 ready_widen_by task cache suites left granted number suite (Short had wanting busy) go_on is ready wide each more = ready_give_up task cache (with_suite number suite suites) (short_cause number had wanting busy)
 
-ready_widen_one : (task : Task) (cache : Cache) (suites : Suites) (left : List ℕ) (granted : Granted) (number : ℕ) (found : Option Suite) (go_on : Suites → Step) → suite_of suites number ≡ found
+ready_widen_one : (task : Task) (cache : Cache) (suites : Suites) (left : List ℕ) (granted : Granted) (number : ℕ) (found : Option GatheredSuite) (go_on : Suites → Step) → suite_of suites number ≡ found
     → Each (Ready granted.changes (number ∷ left)) suites → ((suites : Suites) → Each (Ready granted.changes left) suites → LeftReady (go_on suites).after)
     → LeftReady (widen_one task cache suites (Widening (number ∷ left) granted) granted.changes number found go_on).after
 ready_widen_one task cache suites left granted number (Some suite) go_on there each more =
@@ -274,11 +274,11 @@ ready_widen_one task cache suites left granted number (Some suite) go_on there e
     (record { widening = record { votes = votes_after granted.changes number suite; told = told_since suite.collector.widening }; is = refl; votes = refl }) each more
 ready_widen_one task cache suites left granted number None go_on there each more = more suites (λ other suite is. less_to_do granted.changes number left other suite (differs other suite is (number == other) refl) (each other suite is))
   where
-    differs : (other : ℕ) (suite : Suite) → suite_of suites other ≡ Some suite → (b : Bool) → (number == other) ≡ b → (number == other) ≡ false
+    differs : (other : ℕ) (suite : GatheredSuite) → suite_of suites other ≡ Some suite → (b : Bool) → (number == other) ≡ b → (number == other) ≡ false
     differs other suite is false same = same
     differs other suite is true same = absurd (nothing (sym there ∙ ap (suite_of suites) (eqb-true number other same) ∙ is))
       where
-        nothing : ◌≡◌ {A = Option Suite} None (Some suite) → ⊥
+        nothing : ◌≡◌ {A = Option GatheredSuite} None (Some suite) → ⊥
         nothing is = cc
 
 ready_widen : (task : Task) (cache : Cache) (suites : Suites) (granted : Granted) (left : List ℕ) → Each (Ready granted.changes left) suites → LeftReady (widen_all task cache suites granted left).after
@@ -315,7 +315,7 @@ ready_done fixed task suites answers changes is each number suite there =
 
 -- ---- the executor
 
-settled_content : (suites : Suites) (number : ℕ) (suite : Suite) (content : Option Content) → suite_of suites number ≡ Some suite → Each Settled suites → Each Settled (with_suite number (record suite { content = content }) suites)
+settled_content : (suites : Suites) (number : ℕ) (suite : GatheredSuite) (content : Option Content) → suite_of suites number ≡ Some suite → Each Settled suites → Each Settled (with_suite number (record suite { content = content }) suites)
 settled_content suites number suite content there each =
     let was = each number suite there in
     each_with Settled Settled suites number (record suite { content = content }) (λ other it _ is. is) (sound_content suite content was.0, was.1) each
@@ -328,15 +328,15 @@ settled_opened (suc n) fixed task all each = of (heard_on fixed task all.suites)
     or' (Some more) found_are later = later more (found_are more refl)
     or' None found_are later = each
 
-    with_content : (number : ℕ) (suite : Suite) (first : ReadPoint) (content : Option Content) (more : Gathered) → suite_of all.suites number ≡ Some suite → opened_with task all number suite first content ≡ Some more → Each Settled more.suites
+    with_content : (number : ℕ) (suite : GatheredSuite) (first : ReadPoint) (content : Option Content) (more : Gathered) → suite_of all.suites number ≡ Some suite → opened_with task all number suite first content ≡ Some more → Each Settled more.suites
     with_content number suite first (Some content) more there is = subst (λ (more : Gathered). Each Settled more.suites) (same_Some _ more is) (settled_content all.suites number suite (Some content) there each)
     with_content number suite first None more there is = cc
 
-    at_first : (number : ℕ) (suite : Suite) (first : Option ReadPoint) (more : Gathered) → suite_of all.suites number ≡ Some suite → open_first task all number suite first ≡ Some more → Each Settled more.suites
+    at_first : (number : ℕ) (suite : GatheredSuite) (first : Option ReadPoint) (more : Gathered) → suite_of all.suites number ≡ Some suite → open_first task all number suite first ≡ Some more → Each Settled more.suites
     at_first number suite (Some first) more there is = with_content number suite first (free_content task all.cache number first) more there is
     at_first number suite None more there is = cc
 
-    at_suite : (number : ℕ) (found : Option Suite) (more : Gathered) → suite_of all.suites number ≡ found → open_suite task all number found ≡ Some more → Each Settled more.suites
+    at_suite : (number : ℕ) (found : Option GatheredSuite) (more : Gathered) → suite_of all.suites number ≡ found → open_suite task all number found ≡ Some more → Each Settled more.suites
     at_suite number (Some suite) more there is = at_first number suite suite.first more there is
     at_suite number None more there is = cc
 
@@ -355,10 +355,10 @@ ready_gather task cache suites number (Ask server asked) each = each
 ready_gather task cache suites number (Current prefix dver members) each = each
 
 -- a suite that is gathered now
-but_here : (number : ℕ) (suite : Suite) → Grown suite → IsNarrow suite → But number number suite
+but_here : (number : ℕ) (suite : GatheredSuite) → Grown suite → IsNarrow suite → But number number suite
 but_here number suite grown narrow = (grown, narrow, λ other. absurd (false≢true (sym other ∙ self number)))
 
-but_raised : (fixed : Fixed) (task : Task) (cache : Cache) (number : ℕ) (mode : LockMode) (suites : Suites) (found : Option Suite) → suite_of suites number ≡ found → Each Settled suites → But number number (raised_or_new fixed task cache number mode found)
+but_raised : (fixed : Fixed) (task : Task) (cache : Cache) (number : ℕ) (mode : LockMode) (suites : Suites) (found : Option GatheredSuite) → suite_of suites number ≡ found → Each Settled suites → But number number (raised_or_new fixed task cache number mode found)
 but_raised fixed task cache number mode suites None there each = but_here number (raised_or_new fixed task cache number mode None) (λ first is. cc) refl
 but_raised fixed task cache number mode suites (Some suite) there each =
     let was = each number suite there in but_here number (raised_or_new fixed task cache number mode (Some suite)) (λ first is. sound_grown suite was.0 first is) was.1
@@ -379,7 +379,7 @@ ready_execute fixed task all each =
 
 -- ---- a reply to a collector
 
-ready_heard : (fixed : Fixed) (task : Task) (cache : Cache) (suites : Suites) (number : ℕ) (found : Option Suite) (server : ℕ) (asked : Request) (said : Reply) → suite_of suites number ≡ found → Each (But number) suites
+ready_heard : (fixed : Fixed) (task : Task) (cache : Cache) (suites : Suites) (number : ℕ) (found : Option GatheredSuite) (server : ℕ) (asked : Request) (said : Reply) → suite_of suites number ≡ found → Each (But number) suites
     → LeftReady (heard_of task cache suites (Gathering number) number found server asked said (λ suites. execute fixed task (record { suites = suites; cache = cache }))).after
 ready_heard fixed task cache suites number None server asked said there each = ready_give_up task cache suites (Lost server)
 ready_heard fixed task cache suites number (Some suite) server asked said there each = of (said_to asked said)
@@ -389,7 +389,7 @@ ready_heard fixed task cache suites number (Some suite) server asked said there 
         let was = each number suite there in
         but_here number (record suite { collector = tell one suite.collector }) (λ first is. tell_since first.prefix one suite.collector (was.0 first is)) (tell_narrow one suite.collector was.1)
 
-    by : (now : Suite) → But number number now → (after : Next) → next now.collector ≡ after
+    by : (now : GatheredSuite) → But number number now → (after : Next) → next now.collector ≡ after
         → LeftReady (collected task cache suites (Gathering number) number now after (λ suite. execute fixed task (record { suites = with_suite number suite suites; cache = cache }))).after
     by now was (Ask who question) is = each_with (But number) (But number) suites number now (λ other it _ was. was) was each
     by now was (Short had wanting busy) is = ready_give_up task cache (with_suite number now suites) (short_cause number had wanting busy)
@@ -405,7 +405,7 @@ ready_heard fixed task cache suites number (Some suite) server asked said there 
         by (record suite { collector = tell one suite.collector }) (but one) (next (tell one suite.collector)) refl
 
 -- something told of a widening
-sound_told : (suite : Suite) (w : collecting.Widening) (one : Told) → suite.collector.widening ≡ Some w → Sound suite → Sound (record suite { collector = tell one suite.collector })
+sound_told : (suite : GatheredSuite) (w : collecting.Widening) (one : Told) → suite.collector.widening ≡ Some w → Sound suite → Sound (record suite { collector = tell one suite.collector })
 sound_told suite w one is sound = record {
   first = sound.first;
   was = sound.was;
@@ -418,7 +418,7 @@ sound_told suite w one is sound = record {
     same : newest_of (record suite { collector = tell one suite.collector }) ≡ newest_of suite
     same = ap (λ w. let c = tell_at w one suite.collector in newest c.start c.told) is
 
-widened_told : (changes : Changes) (number : ℕ) (suite : Suite) (one : Told) → Sound suite → IsWidened changes number suite → IsWidened changes number (record suite { collector = tell one suite.collector })
+widened_told : (changes : Changes) (number : ℕ) (suite : GatheredSuite) (one : Told) → Sound suite → IsWidened changes number suite → IsWidened changes number (record suite { collector = tell one suite.collector })
 widened_told changes number suite one sound wide = record {
   widening = record wide.widening { told = one ∷ wide.widening.told };
   is = ap (λ w. (tell_at w one suite.collector).widening) wide.is;
@@ -430,13 +430,13 @@ widened_told changes number suite one sound wide = record {
     of None (Some first) a b is = refl
     of None None a b is = cc
 
-ready_told : (changes : Changes) (now : ℕ) (left : List ℕ) (suite : Suite) (one : Told) → InWidening changes now left now suite → InWidening changes now left now (record suite { collector = tell one suite.collector })
+ready_told : (changes : Changes) (now : ℕ) (left : List ℕ) (suite : GatheredSuite) (one : Told) → InWidening changes now left now suite → InWidening changes now left now (record suite { collector = tell one suite.collector })
 ready_told changes now left suite one was =
     let wide = was.1 (self now) in
     ((sound_told suite wide.widening one wide.is was.0.0, was.0.1, λ not' sets'. absurd (false≢true (sym not' ∙ ap (λ b. b || among left now) (self now))), was.0.3), λ _. widened_told changes now suite one was.0.0 wide)
 
 -- a Current again
-sound_again : (suite : Suite) (prefix : Prefix) (dver : ℕ) (members : List ℕ) → Sound suite → Sound (settled prefix dver members suite)
+sound_again : (suite : GatheredSuite) (prefix : Prefix) (dver : ℕ) (members : List ℕ) → Sound suite → Sound (settled prefix dver members suite)
 sound_again suite prefix dver members sound = record {
   first = sound.first;
   was = ap (λ first. first_or first (record { prefix = prefix; dver = dver; source = source_of suite.collector dver members })) sound.was;
@@ -445,7 +445,7 @@ sound_again suite prefix dver members sound = record {
   quorum = subst (λ (mode : LockMode). Enough mode (newest_of suite).votes (all_told suite.collector)) sound.mode sound.quorum;
 }
 
-ready_again : (changes : Changes) (now : ℕ) (left : List ℕ) (suite : Suite) (prefix : Prefix) (dver : ℕ) (members : List ℕ) → InWidening changes now left now suite → next suite.collector ≡ Current prefix dver members → Ready changes left now (settled prefix dver members suite)
+ready_again : (changes : Changes) (now : ℕ) (left : List ℕ) (suite : GatheredSuite) (prefix : Prefix) (dver : ℕ) (members : List ℕ) → InWidening changes now left now suite → next suite.collector ≡ Current prefix dver members → Ready changes left now (settled prefix dver members suite)
 unfolding sound_again
 ready_again changes now left suite prefix dver members was is =
     let sound = was.0.0 in
@@ -457,12 +457,12 @@ ready_again changes now left suite prefix dver members was is =
       λ change first told is. was.0.3 change first told (sound.was ∙ sym again.was ∙ is),
     )
 
-ready_widened : (task : Task) (cache : Cache) (suites : Suites) (number : ℕ) (left : List ℕ) (granted : Granted) (found : Option Suite) (server : ℕ) (asked : Request) (said : Reply) → suite_of suites number ≡ found → Each (InWidening granted.changes number left) suites
+ready_widened : (task : Task) (cache : Cache) (suites : Suites) (number : ℕ) (left : List ℕ) (granted : Granted) (found : Option GatheredSuite) (server : ℕ) (asked : Request) (said : Reply) → suite_of suites number ≡ found → Each (InWidening granted.changes number left) suites
     → LeftReady (heard_of task cache suites (Widening (number ∷ left) granted) number found server asked said (λ suites. widen_all task cache suites granted left)).after
 ready_widened task cache suites number left granted None server asked said there each = ready_give_up task cache suites (Lost server)
 ready_widened task cache suites number left granted (Some suite) server asked said there each = of (said_to asked said)
   where
-    by : (now : Suite) → InWidening granted.changes number left number now → (after : Next) → next now.collector ≡ after
+    by : (now : GatheredSuite) → InWidening granted.changes number left number now → (after : Next) → next now.collector ≡ after
         → LeftReady (collected task cache suites (Widening (number ∷ left) granted) number now after (λ suite. widen_all task cache (with_suite number suite suites) granted left)).after
     by now was (Ask who question) is = each_with (InWidening granted.changes number left) (InWidening granted.changes number left) suites number now (λ other it _ was. was) was each
     by now was (Short had wanting busy) is = ready_give_up task cache (with_suite number now suites) (short_cause number had wanting busy)
@@ -479,7 +479,7 @@ ready_widened task cache suites number left granted (Some suite) server asked sa
 
 -- ---- one response
 
-ready_fetched : (fixed : Fixed) (task : Task) (cache : Cache) (suites : Suites) (number : ℕ) (found : Option Suite) (server : ℕ) (given : Option Content) → suite_of suites number ≡ found → Each Settled suites
+ready_fetched : (fixed : Fixed) (task : Task) (cache : Cache) (suites : Suites) (number : ℕ) (found : Option GatheredSuite) (server : ℕ) (given : Option Content) → suite_of suites number ≡ found → Each Settled suites
     → LeftReady (fetched fixed task cache suites number found server given).after
 ready_fetched fixed task cache suites number None server (Some content) there each = ready_give_up task cache suites (Lost server)
 ready_fetched fixed task cache suites number None server None there each = ready_give_up task cache suites (Lost server)
@@ -567,7 +567,7 @@ begin_ready fixed agent job idle =
 
 -- ---- the law
 
-is_ready : (changes : Changes) (number : ℕ) (suite : Suite) → Ready changes [] number suite → IsReady suite number changes
+is_ready : (changes : Changes) (number : ℕ) (suite : GatheredSuite) → Ready changes [] number suite → IsReady suite number changes
 is_ready changes number suite ready = record {
   first = sound.first;
   was = sound.was;

@@ -37,7 +37,7 @@ use Rattle.txn_core.specs.declared.cache_after.Fetched.{Fetched}
 use Rattle.txn_core.specs.declared.next_phase.NextPhase.{NextPhase}
 use Rattle.txn_core.specs.declared.next_phase.NextPhase.TheVariants.{Gather, Fetch, Grant, Refuse}
 use Rattle.txn_core.specs.Doing.{Fixed, Task, Granted, Proposal, Phase, Gathering, Fetching, Widening, Preparing, Deciding, Finishing, TransactionRun, After, GoesOn, Ends}
-use Rattle.txn_core.specs.Suites.{ReadPoint, Suite, Suites, suite_of, with_suite, known_row, known_of, settled}
+use Rattle.txn_core.specs.Suites.{ReadPoint, GatheredSuite, Suites, suite_of, with_suite, known_row, known_of, settled}
 use Rattle.txn_core.specs.Transactions.{Gathered, Step, decided, short_cause, verdict_in, ending_by, cause_of_abort, raised_or_new, tell_end, give_up, locked_at, prepare, gather_by, to_widen, widened, widen_by, widen_one, widen_all, collected, hear, heard_of, said_to, after_reply}
 use Rattle.txn_core.specs.Agents.{is_idle}
 use Rattle.txn_core.specs.code.AgentFields.{Reaches, doing_of}
@@ -118,11 +118,11 @@ module _ (service : Service) (reached : Reached) where
       by rest now (Ask server asked) = tt
       by rest now (Short got needed busy) = goes_up task cache now (short_cause number got needed busy)
 
-      of : ((suites : Suites) → Goes (widen_all task cache suites granted left).after) → (found : Option Suite) → Goes (widen_one task cache suites (Widening (number ∷ left) granted) granted.changes number found (λ suites. widen_all task cache suites granted left)).after
+      of : ((suites : Suites) → Goes (widen_all task cache suites granted left).after) → (found : Option GatheredSuite) → Goes (widen_one task cache suites (Widening (number ∷ left) granted) granted.changes number found (λ suites. widen_all task cache suites granted left)).after
       of rest (Some suite) = by rest (with_suite number (widened granted.changes number suite) suites) (next (widened granted.changes number suite).collector)
       of rest None = rest suites
 
-  pub goes_gather : (task : Task) (cache : Cache) (suites : Suites) (number : ℕ) (found : Option Suite) → IsReachedIn service task suites reached → Goes (gather_again task cache suites number found).after
+  pub goes_gather : (task : Task) (cache : Cache) (suites : Suites) (number : ℕ) (found : Option GatheredSuite) → IsReachedIn service task suites reached → Goes (gather_again task cache suites number found).after
   goes_gather task cache suites number (Some suite) is = of (next suite.collector)
     where
       of : (what : Next) → Goes (gather_by task cache suites number what).after
@@ -143,18 +143,18 @@ module _ (service : Service) (reached : Reached) where
   IsLate (Fetching number) = ⊥
   IsLate other = Unit {0}
 
-  goes_heard : (task : Task) (cache : Cache) (suites : Suites) (number : ℕ) (left : List ℕ) (granted : Granted) (found : Option Suite) (server : ℕ) (asked : Request) (said : Reply)
+  goes_heard : (task : Task) (cache : Cache) (suites : Suites) (number : ℕ) (left : List ℕ) (granted : Granted) (found : Option GatheredSuite) (server : ℕ) (asked : Request) (said : Reply)
       → Goes (heard_of task cache suites (Widening (number ∷ left) granted) number found server asked said (λ suites. widen_all task cache suites granted left)).after
   goes_heard task cache suites number left granted None server asked said = goes_up task cache suites (Lost server)
   goes_heard task cache suites number left granted (Some suite) server asked said = of (said_to asked said)
     where
-      by : (after : Suite) (what : Next) → Goes (collected task cache suites (Widening (number ∷ left) granted) number after what (λ suite. widen_all task cache (with_suite number suite suites) granted left)).after
+      by : (after : GatheredSuite) (what : Next) → Goes (collected task cache suites (Widening (number ∷ left) granted) number after what (λ suite. widen_all task cache (with_suite number suite suites) granted left)).after
       by after (Ask server asked) = tt
       by after (Short got needed busy) = goes_up task cache (with_suite number after suites) (short_cause number got needed busy)
       by after (Current prefix dver members) = goes_widen task cache (with_suite number (settled prefix dver members after) suites) granted left
 
       of : (heard : Option Said) → Goes (hear task cache suites (Widening (number ∷ left) granted) number suite server asked heard (λ suite. widen_all task cache (with_suite number suite suites) granted left)).after
-      of (Some said) = let after : Suite = record suite { collector = tell (record { server = server; mode = mode_of asked; said = said }) suite.collector } in by after (next after.collector)
+      of (Some said) = let after : GatheredSuite = record suite { collector = tell (record { server = server; mode = mode_of asked; said = said }) suite.collector } in by after (next after.collector)
       of None = goes_up task cache suites (Lost server)
 
   goes_prepared : (task : Task) (cache : Cache) (suites : Suites) (outcome : Proposal) (server : ℕ) (left : List ℕ) (b : Bool) → Goes (cond b (prepare task cache suites outcome left) (give_up task cache suites (Lost server))).after
@@ -211,45 +211,45 @@ module _ (service : Service) (reached : Reached) where
 -- ---- by what is told
 
 -- a suite that asks on, or of which nobody is left to ask, was told something
-pub asks_on : (suite new : Suite) (said : Reply) → heard suite said ≡ hearing.Asks new → new ≡ record suite { collector = new.collector }
+pub asks_on : (suite new : GatheredSuite) (said : Reply) → heard suite said ≡ hearing.Asks new → new ≡ record suite { collector = new.collector }
 asks_on suite new said = of (told_by (next suite.collector) said)
   where
-    at : (after : Suite) (what : Next) → after ≡ record suite { collector = after.collector } → heard_next after what ≡ hearing.Asks new → new ≡ record suite { collector = new.collector }
+    at : (after : GatheredSuite) (what : Next) → after ≡ record suite { collector = after.collector } → heard_next after what ≡ hearing.Asks new → new ≡ record suite { collector = new.collector }
     at after (Ask server asked) same is = let it : after ≡ new = cc in subst (λ new. new ≡ record suite { collector = new.collector }) it same
     at after (Current prefix dver members) same is = cc
     at after (Short got needed busy) same is = cc
 
     of : (one : Option Told) → heard_one suite one ≡ hearing.Asks new → new ≡ record suite { collector = new.collector }
-    of (Some one) is = let after : Suite = record suite { collector = tell one suite.collector } in at after (next after.collector) refl is
+    of (Some one) is = let after : GatheredSuite = record suite { collector = tell one suite.collector } in at after (next after.collector) refl is
     of None is = cc
 
-pub falls_short : (suite new : Suite) (said : Reply) (got needed : ℕ) (busy : Option (ℕ × ℕ)) → heard suite said ≡ hearing.Short new got needed busy → new ≡ record suite { collector = new.collector }
+pub falls_short : (suite new : GatheredSuite) (said : Reply) (got needed : ℕ) (busy : Option (ℕ × ℕ)) → heard suite said ≡ hearing.Short new got needed busy → new ≡ record suite { collector = new.collector }
 falls_short suite new said got needed busy = of (told_by (next suite.collector) said)
   where
-    at : (after : Suite) (what : Next) → after ≡ record suite { collector = after.collector } → heard_next after what ≡ hearing.Short new got needed busy → new ≡ record suite { collector = new.collector }
+    at : (after : GatheredSuite) (what : Next) → after ≡ record suite { collector = after.collector } → heard_next after what ≡ hearing.Short new got needed busy → new ≡ record suite { collector = new.collector }
     at after (Ask server asked) same is = cc
     at after (Current prefix dver members) same is = cc
     at after (Short had wanting first) same is = let it : after ≡ new = cc in subst (λ new. new ≡ record suite { collector = new.collector }) it same
 
     of : (one : Option Told) → heard_one suite one ≡ hearing.Short new got needed busy → new ≡ record suite { collector = new.collector }
-    of (Some one) is = let after : Suite = record suite { collector = tell one suite.collector } in at after (next after.collector) refl is
+    of (Some one) is = let after : GatheredSuite = record suite { collector = tell one suite.collector } in at after (next after.collector) refl is
     of None is = cc
 
 -- ---- by a plan
 
 -- a suite that is asked for has no quorum yet, and of one that is raised what it gave stays
-asked_more : (fixed : Fixed) (task : Task) (all more : Gathered) → Keeps all more → IsOrdered nat_cmp all.suites → (outcome : Executed) (new : Option Suite) → new ≡ new_for fixed task all outcome
+asked_more : (fixed : Fixed) (task : Task) (all more : Gathered) → Keeps all more → IsOrdered nat_cmp all.suites → (outcome : Executed) (new : Option GatheredSuite) → new ≡ new_for fixed task all outcome
     → MoreKnown (known_of more.suites) (known_of (with_asked outcome new more.suites))
 asked_more fixed task all more keeps ordered (exec.Need (Hold number mode)) new is =
     subst (λ new. MoreKnown (known_of more.suites) (known_of (with_asked_at number new more.suites))) (sym is)
     (of (suite_of all.suites number) (suite_of more.suites number) refl (keeps.there number))
   where
-    of : (before after : Option Suite) → suite_of more.suites number ≡ after → is_some after ≡ is_some before → MoreKnown (known_of more.suites) (known_of (with_asked_at number (new_unless fixed task all.cache number mode before) more.suites))
+    of : (before after : Option GatheredSuite) → suite_of more.suites number ≡ after → is_some after ≡ is_some before → MoreKnown (known_of more.suites) (known_of (with_asked_at number (new_unless fixed task all.cache number mode before) more.suites))
     of None None at there = more_known more.suites number (raised_or_new fixed task all.cache number mode None) (keeps.ordered ordered) (λ before found. absurd (none-some before (sym at ∙ found)))
     of (Some before) (Some after) at there =
-        let raised : Suite = record after { collector = raise after.collector } in
+        let raised : GatheredSuite = record after { collector = raise after.collector } in
         subst (λ found. MoreKnown (known_of more.suites) (known_of (raised_at number found more.suites))) (sym at)
-        (more_known more.suites number raised (keeps.ordered ordered) (λ before found. collects before raised (ap (λ (suite : Suite). record suite { collector = raised.collector }) (same_Some after before (sym at ∙ found)))))
+        (more_known more.suites number raised (keeps.ordered ordered) (λ before found. collects before raised (ap (λ (suite : GatheredSuite). record suite { collector = raised.collector }) (same_Some after before (sym at ∙ found)))))
     of None (Some after) at there = absurd (false≢true (sym there))
     of (Some before) None at there = absurd (false≢true there)
 asked_more fixed task all more keeps ordered (exec.Need (Know number)) new is = no_less (known_of more.suites)
@@ -273,28 +273,28 @@ reached_carried service reached fixed task before put suites room after seen fet
 -- ---- by a reply, and by a content
 
 module _ (service : Service) (reached : Reached) where
-  pub reached_asks : (before after : TransactionRun) (number : ℕ) (suite new : Suite) (said : Reply) → IsOrdered nat_cmp before.suites → suite_of before.suites number ≡ Some suite → heard suite said ≡ hearing.Asks new
+  pub reached_asks : (before after : TransactionRun) (number : ℕ) (suite new : GatheredSuite) (said : Reply) → IsOrdered nat_cmp before.suites → suite_of before.suites number ≡ Some suite → heard suite said ≡ hearing.Asks new
       → after ≡ record before { suites = with_suite number new before.suites } → IsReachedIn service before.task before.suites reached → IsReachedIn service after.task after.suites reached
   reached_asks before after number suite new said ordered there asks put is =
       subst (λ (txn_run : TransactionRun). IsReachedIn service txn_run.task txn_run.suites reached) (sym put)
       (reached_in service before.task before.suites (with_suite number new before.suites) reached
-      (more_known before.suites number new ordered (λ one found. collects one new (asks_on suite new said asks ∙ ap (λ (suite : Suite). record suite { collector = new.collector }) (same_Some suite one (sym there ∙ found))))) is)
+      (more_known before.suites number new ordered (λ one found. collects one new (asks_on suite new said asks ∙ ap (λ (suite : GatheredSuite). record suite { collector = new.collector }) (same_Some suite one (sym there ∙ found))))) is)
 
-  pub reached_short : (before after : TransactionRun) (number : ℕ) (suite new : Suite) (said : Reply) → IsOrdered nat_cmp before.suites → suite_of before.suites number ≡ Some suite → FallsShort (heard suite said) new
+  pub reached_short : (before after : TransactionRun) (number : ℕ) (suite new : GatheredSuite) (said : Reply) → IsOrdered nat_cmp before.suites → suite_of before.suites number ≡ Some suite → FallsShort (heard suite said) new
       → after ≡ record before { suites = with_suite number new before.suites } → IsReachedIn service before.task before.suites reached → IsReachedIn service after.task after.suites reached
   reached_short before after number suite new said ordered there short put is =
       subst (λ (txn_run : TransactionRun). IsReachedIn service txn_run.task txn_run.suites reached) (sym put)
       (reached_in service before.task before.suites (with_suite number new before.suites) reached
-      (more_known before.suites number new ordered (λ one found. collects one new (falls_short suite new said short.0 short.1 short.2 short.4 ∙ ap (λ (suite : Suite). record suite { collector = new.collector }) (same_Some suite one (sym there ∙ found))))) is)
+      (more_known before.suites number new ordered (λ one found. collects one new (falls_short suite new said short.0 short.1 short.2 short.4 ∙ ap (λ (suite : GatheredSuite). record suite { collector = new.collector }) (same_Some suite one (sym there ∙ found))))) is)
 
   -- a suite is settled that had no quorum, or gets one in its mode or a stronger one
-  pub reached_settled : (task : Task) (suites : Suites) (number : ℕ) (pending : PendingQuorum) → IsOrdered nat_cmp suites → ((suite : Suite) → suite_of suites number ≡ Some suite → GoesOnFrom suite (settled_with pending suite))
+  pub reached_settled : (task : Task) (suites : Suites) (number : ℕ) (pending : PendingQuorum) → IsOrdered nat_cmp suites → ((suite : GatheredSuite) → suite_of suites number ≡ Some suite → GoesOnFrom suite (settled_with pending suite))
       → IsReachedIn service task suites reached → IsReachedIn service task (changed_at (settled_with pending) number (suite_of suites number) suites) reached
   reached_settled task suites number pending ordered flow is = of (suite_of suites number) refl
     where
-      of : (found : Option Suite) → suite_of suites number ≡ found → IsReachedIn service task (changed_at (settled_with pending) number found suites) reached
+      of : (found : Option GatheredSuite) → suite_of suites number ≡ found → IsReachedIn service task (changed_at (settled_with pending) number found suites) reached
       of (Some suite) there =
-          let new : Suite = settled_with pending suite in
+          let new : GatheredSuite = settled_with pending suite in
           reached_in service task suites (with_suite number new suites) reached
           (more_known suites number new ordered (λ one found. subst (λ one. GoesOnFrom one new) (same_Some suite one (sym there ∙ found)) (flow suite there))) is
       of None there = is
@@ -304,7 +304,7 @@ module _ (service : Service) (reached : Reached) where
       → IsReachedIn service task suites reached → IsReachedIn service task now reached
   reached_given task suites now number content ordered may given is = of (suite_of suites number) refl may given
     where
-      had : (suite : Suite) (first : Option ReadPoint) → suite_of suites number ≡ Some suite → suite.first ≡ first → takes (option_map (known_row suite) first) content ≡ true
+      had : (suite : GatheredSuite) (first : Option ReadPoint) → suite_of suites number ≡ Some suite → suite.first ≡ first → takes (option_map (known_row suite) first) content ≡ true
           → now ≡ with_suite number (record suite { content = Some content }) suites → IsReachedIn service task now reached
       had suite (Some first) there was may given =
           let opens = taking_tells_more (known_of suites) number content (ap (λ held. takes held content) (known_at suites number suite first there was) ∙ may) in
@@ -313,7 +313,7 @@ module _ (service : Service) (reached : Reached) where
           (reached_in service task suites more reached (subst (MoreKnown (known_of suites)) (known_opened suites number suite first content ordered there was) opens) is)
       had suite None there was may given = cc
 
-      of : (found : Option Suite) → suite_of suites number ≡ found → takes_in found content ≡ true → now ≡ changed_at (with_content content) number found suites → IsReachedIn service task now reached
+      of : (found : Option GatheredSuite) → suite_of suites number ≡ found → takes_in found content ≡ true → now ≡ changed_at (with_content content) number found suites → IsReachedIn service task now reached
       of (Some suite) there may given = had suite suite.first there refl may given
       of None there may given = cc
 

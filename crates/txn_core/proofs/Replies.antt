@@ -15,7 +15,7 @@ use Rattle.txn_core.specs.code.Goings.{widened as widens}
 use Rattle.txn_core.specs.code.Hearing.{ShowsUnused, asks_in, heard, heard_at, on_hearing}
 use Rattle.txn_core.specs.Standing.{FitsAsked}
 use Rattle.txn_core.specs.code.Steps.{Steps, taken}
-use Rattle.txn_core.specs.Suites.{ReadPoint, Suite, Suites, suite_of, with_suite}
+use Rattle.txn_core.specs.Suites.{ReadPoint, GatheredSuite, Suites, suite_of, with_suite}
 use Rattle.txn_core.specs.Transactions.{Step, decided, decision_of, fetched_at, fetched_for, execute, widen_all, asked_by, asked_for, request_in, request_of, heard_of, after_reply, changes_of, prepared, tell_end}
 use Rattle.txn_core.specs.code.Unused.{shows_unused}
 use Rattle.txn_core.specs.Writing.{parts_at}
@@ -42,12 +42,12 @@ finishing_asks fixed txn_run (now ∷ left) verdict ending server is first = ask
 
 -- a suite that asks a server
 pub record Asks (task : Task) (suites : Suites) (number server : ℕ) : Type 0 where
-  pub suite : Suite
+  pub suite : GatheredSuite
   pub asked : Asked
   pub there : suite_of suites number ≡ Some suite
   pub asks : next suite.collector ≡ Ask server asked
 
-asks_by : (task : Task) (suites : Suites) (number server : ℕ) (suite : Suite) (n : Next) → suite_of suites number ≡ Some suite → next suite.collector ≡ n → server_of (asked_by task number n) ≡ Some server → Asks task suites number server
+asks_by : (task : Task) (suites : Suites) (number server : ℕ) (suite : GatheredSuite) (n : Next) → suite_of suites number ≡ Some suite → next suite.collector ≡ n → server_of (asked_by task number n) ≡ Some server → Asks task suites number server
 asks_by task suites number server suite (Current prefix dver members) there is asked = cc
 asks_by task suites number server suite (Short got needed busy) there is asked = cc
 asks_by task suites number server suite (Ask at what) there is asked = record {
@@ -57,7 +57,7 @@ asks_by task suites number server suite (Ask at what) there is asked = record {
   asks = is ∙ ap (λ s. Ask s what) (same_Some at server asked);
 }
 
-asks_at : (task : Task) (suites : Suites) (number server : ℕ) (found : Option Suite) → suite_of suites number ≡ found → server_of (asked_for task number found) ≡ Some server → Asks task suites number server
+asks_at : (task : Task) (suites : Suites) (number server : ℕ) (found : Option GatheredSuite) → suite_of suites number ≡ found → server_of (asked_for task number found) ≡ Some server → Asks task suites number server
 asks_at task suites number server None there asked = cc
 asks_at task suites number server (Some suite) there asked = asks_by task suites number server suite (next suite.collector) there refl asked
 
@@ -137,7 +137,7 @@ module _ (fixed : Fixed) (txn_run : TransactionRun) (cache : Cache) (server : �
       ∙ ap (λ found. on_hearing txn_run.task cache txn_run.suites txn_run.phase number server (heard_at found said) (λ suite. widen_all txn_run.task cache (with_suite number suite txn_run.suites) granted left)) (sym a.there)
 
   -- a content is fetched, from the server that is asked for it
-  asks_content : (number : ℕ) (found : Option Suite) → server_of (fetched_for txn_run.task number found) ≡ Some server → fetched_for txn_run.task number found ≡ Some (server, request.Fetch txn_run.task.t number)
+  asks_content : (number : ℕ) (found : Option GatheredSuite) → server_of (fetched_for txn_run.task number found) ≡ Some server → fetched_for txn_run.task number found ≡ Some (server, request.Fetch txn_run.task.t number)
   asks_content number None asked = cc
   asks_content number (Some suite) asked = of suite.first asked
     where

@@ -8,7 +8,7 @@ use Rattle.file_exec.specs.declared.need.Need.TheVariants.{Hold, Know}
 use Rattle.file_exec.specs.declared.executor.Outcome.{Outcome as Executed}
 use Rattle.file_exec.specs.declared.executor.Outcome.TheVariants as exec
 use Rattle.file_exec.specs.Known.{Known, Knowledge, opened_suite}
-use Rattle.txn_core.specs.Suites.{ReadPoint, Suite, suite_of, known_of}
+use Rattle.txn_core.specs.Suites.{ReadPoint, GatheredSuite, suite_of, known_of}
 use Rattle.txn_core.specs.Doing.{Fixed, Task}
 use Rattle.txn_core.specs.Transactions.{Gathered, heard_on, free_content, open_first, open_suite, opened_with, open_needed, or_all, opened}
 use Rattle.txn_core.specs.code.Planning.{answer_of}
@@ -27,24 +27,24 @@ opened_last task [] one all = refl
 opened_last task (x ∷ list) one all = opened_last task list one (opened_by task all x)
 
 -- what becomes of all that was gathered
-pub opens : (task : Task) (all : Gathered) (number : ℕ) (content : Content) (suite : Suite) (first : Option ReadPoint) → suite_of all.suites number ≡ Some suite → suite.first ≡ first
+pub opens : (task : Task) (all : Gathered) (number : ℕ) (content : Content) (suite : GatheredSuite) (first : Option ReadPoint) → suite_of all.suites number ≡ Some suite → suite.first ≡ first
     → opened_by task all (number, content) ≡ opened_first task all number content suite first
 opens task all number content suite first is was = ap (opened_at task all number content) is ∙ ap (opened_first task all number content suite) was
 
 needed_opened : (task : Task) (all : Gathered) (heard : Executed) → open_needed task all heard ≡ option_map (opened_by task all) (to_open task all heard)
 needed_opened task all (exec.Need (Know number)) = of (suite_of all.suites number) refl
   where
-    got : (suite : Suite) (first : ReadPoint) → suite_of all.suites number ≡ Some suite → suite.first ≡ Some first → (content : Option Content)
+    got : (suite : GatheredSuite) (first : ReadPoint) → suite_of all.suites number ≡ Some suite → suite.first ≡ Some first → (content : Option Content)
         → opened_with task all number suite first content ≡ option_map (opened_by task all) (option_map (λ content. (number, content)) content)
     got suite first is was (Some content) = ap Some (sym (opens task all number content suite (Some first) is was))
     got suite first is was None = refl
 
-    firsts : (suite : Suite) → suite_of all.suites number ≡ Some suite → (first : Option ReadPoint) → suite.first ≡ first
+    firsts : (suite : GatheredSuite) → suite_of all.suites number ≡ Some suite → (first : Option ReadPoint) → suite.first ≡ first
         → open_first task all number suite first ≡ option_map (opened_by task all) (option_map (λ content. (number, content)) (free_first task all.cache number first))
     firsts suite is (Some first) was = got suite first is was (free_content task all.cache number first)
     firsts suite is None was = refl
 
-    of : (found : Option Suite) → suite_of all.suites number ≡ found
+    of : (found : Option GatheredSuite) → suite_of all.suites number ≡ found
         → open_suite task all number found ≡ option_map (opened_by task all) (option_map (λ content. (number, content)) (free_of task all.cache number found))
     of (Some suite) is = firsts suite is suite.first refl
     of None is = refl
@@ -64,14 +64,14 @@ known_more : (task : Task) (all : Gathered) (number : ℕ) (content : Content) �
     → opened_suite (known_of all.suites) number content ≡ known_of (opened_by task all (number, content)).suites
 known_more task all number content ordered = of (suite_of all.suites number) refl
   where
-    firsts : (suite : Suite) → suite_of all.suites number ≡ Some suite → (first : Option ReadPoint) → suite.first ≡ first → free_first task all.cache number first ≡ Some content
+    firsts : (suite : GatheredSuite) → suite_of all.suites number ≡ Some suite → (first : Option ReadPoint) → suite.first ≡ first → free_first task all.cache number first ≡ Some content
         → opened_suite (known_of all.suites) number content ≡ known_of (opened_by task all (number, content)).suites
     firsts suite is (Some first) was free =
         known_opened all.suites number suite first content ordered is was
         ∙ sym (ap (λ (g : Gathered). known_of g.suites) (opens task all number content suite (Some first) is was))
     firsts suite is None was free = cc
 
-    of : (found : Option Suite) → suite_of all.suites number ≡ found → free_of task all.cache number found ≡ Some content
+    of : (found : Option GatheredSuite) → suite_of all.suites number ≡ found → free_of task all.cache number found ≡ Some content
         → opened_suite (known_of all.suites) number content ≡ known_of (opened_by task all (number, content)).suites
     of (Some suite) is free = firsts suite is suite.first refl free
     of None is free = cc

@@ -15,7 +15,7 @@ use Rattle.file_exec.specs.Known.{Known}
 use Rattle.txn_core.specs.declared.learned.Learned.{Learned}
 use Rattle.txn_core.specs.declared.learned.Learned.TheVariants.{Nothing, Quorum, Content as Given}
 use Rattle.txn_core.specs.code.Seeing.{settled_with, with_content, told_of, changed_at, learned_suites, view_of_suite, with_known, known_by}
-use Rattle.txn_core.specs.Suites.{ReadPoint, Suite, Suites, suite_of, known_row, known_if}
+use Rattle.txn_core.specs.Suites.{ReadPoint, GatheredSuite, Suites, suite_of, known_row, known_if}
 
 -- ---- a suite among those that are seen
 
@@ -29,10 +29,10 @@ module _ (just_learned : Learned) where
   told_length [] = refl
   told_length (one ∷ suites) = ap (λ n. suc n) (told_length suites)
 
-  pub told_item : (suites : Suites) (i : ℕ) (one : ℕ × Suite) → i < length suites → one ≡ get_or suites i one → (one.0, told_of just_learned one.0 one.1) ≡ get_or (told_all suites) i (one.0, told_of just_learned one.0 one.1)
-  told_item suites i one below is = ap (λ (it : ℕ × Suite). (it.0, told_of just_learned it.0 it.1)) is ∙ at suites i one below
+  pub told_item : (suites : Suites) (i : ℕ) (one : ℕ × GatheredSuite) → i < length suites → one ≡ get_or suites i one → (one.0, told_of just_learned one.0 one.1) ≡ get_or (told_all suites) i (one.0, told_of just_learned one.0 one.1)
+  told_item suites i one below is = ap (λ (it : ℕ × GatheredSuite). (it.0, told_of just_learned it.0 it.1)) is ∙ at suites i one below
     where
-      at : (suites : Suites) (i : ℕ) (one : ℕ × Suite) → i < length suites → (let it = get_or suites i one in (it.0, told_of just_learned it.0 it.1)) ≡ get_or (told_all suites) i (one.0, told_of just_learned one.0 one.1)
+      at : (suites : Suites) (i : ℕ) (one : ℕ × GatheredSuite) → i < length suites → (let it = get_or suites i one in (it.0, told_of just_learned it.0 it.1)) ≡ get_or (told_all suites) i (one.0, told_of just_learned one.0 one.1)
       at [] i one below = absurd (omega arith)
       at (x ∷ suites) zero one below = refl
       at (x ∷ suites) (suc i) one below = at suites i one (omega arith)
@@ -55,26 +55,26 @@ module _ (just_learned : Learned) where
 -- ---- and what was learned, set
 
 -- one of them is another from now on
-module _ (change : Suite → Suite) (place : ℕ) (suites : Suites) where
-  abbrev changed : Option Suite → Suites
+module _ (change : GatheredSuite → GatheredSuite) (place : ℕ) (suites : Suites) where
+  abbrev changed : Option GatheredSuite → Suites
   changed found = changed_at change place found suites
 
-  abbrev changed_of : ℕ → Suite → Suite
+  abbrev changed_of : ℕ → GatheredSuite → GatheredSuite
   changed_of number suite = cond (place == number) (change suite) suite
 
-  changed_ordered : (found : Option Suite) → IsOrdered nat_cmp suites → IsOrdered nat_cmp (changed found)
+  changed_ordered : (found : Option GatheredSuite) → IsOrdered nat_cmp suites → IsOrdered nat_cmp (changed found)
   changed_ordered (Some suite) ordered = IsOrdered-insert nat_cmp_total suites place (change suite) ordered
   changed_ordered None ordered = ordered
 
-  changed_here : (found : Option Suite) → suite_of suites place ≡ found → suite_of (changed found) place ≡ option_map change (suite_of suites place)
+  changed_here : (found : Option GatheredSuite) → suite_of suites place ≡ found → suite_of (changed found) place ≡ option_map change (suite_of suites place)
   changed_here (Some suite) is = get_insert_here suites place (change suite) ∙ ap (option_map change) (sym is)
   changed_here None is = is ∙ ap (option_map change) (sym is)
 
-  changed_apart : (found : Option Suite) (number : ℕ) → number ≢ place → suite_of (changed found) number ≡ suite_of suites number
+  changed_apart : (found : Option GatheredSuite) (number : ℕ) → number ≢ place → suite_of (changed found) number ≡ suite_of suites number
   changed_apart (Some suite) number apart = get_insert_apart suites place (change suite) number apart
   changed_apart None number apart = refl
 
-  unchanged : (found : Option Suite) → found ≡ option_map (λ (suite : Suite). suite) found
+  unchanged : (found : Option GatheredSuite) → found ≡ option_map (λ (suite : GatheredSuite). suite) found
   unchanged (Some suite) = refl
   unchanged None = refl
 
@@ -108,7 +108,7 @@ module _ (suites : Suites) where
       same_maps (told_all just_learned suites) (learned_suites just_learned suites) (told_ordered just_learned suites ordered) (learned_ordered just_learned ordered)
       (λ number. told_at just_learned suites number ∙ sym (learned_at just_learned number))
 
-  pub learned_found : (just_learned : Learned) (number : ℕ) (suite : Suite) → Some suite ≡ suite_of suites number → suite_of (learned_suites just_learned suites) number ≡ Some (told_of just_learned number suite)
+  pub learned_found : (just_learned : Learned) (number : ℕ) (suite : GatheredSuite) → Some suite ≡ suite_of suites number → suite_of (learned_suites just_learned suites) number ≡ Some (told_of just_learned number suite)
   learned_found just_learned number suite is = learned_at just_learned number ∙ ap (option_map (told_of just_learned number)) (sym is)
 
   pub learned_absent : (just_learned : Learned) (number : ℕ) → suite_of suites number ≡ None → suite_of (learned_suites just_learned suites) number ≡ None
@@ -117,13 +117,13 @@ module _ (suites : Suites) where
   pub learned_there : (just_learned : Learned) (number : ℕ) → is_some (suite_of (learned_suites just_learned suites) number) ≡ is_some (suite_of suites number)
   learned_there just_learned number = ap (λ found. is_some found) (learned_at just_learned number) ∙ of (suite_of suites number)
     where
-      of : (found : Option Suite) → is_some (option_map (told_of just_learned number) found) ≡ is_some found
+      of : (found : Option GatheredSuite) → is_some (option_map (told_of just_learned number) found) ≡ is_some found
       of (Some suite) = refl
       of None = refl
 
 -- ---- what is known of a suite is what is seen of it
 
-pub known_seen : (number : ℕ) (suite : Suite) (known : Known) → known_by number (view_of_suite suite) known ≡ known_if number suite suite.first known
+pub known_seen : (number : ℕ) (suite : GatheredSuite) (known : Known) → known_by number (view_of_suite suite) known ≡ known_if number suite suite.first known
 known_seen number suite known = of suite.first
   where
     of : (first : Option ReadPoint) → with_known number (option_map (known_row suite) first) known ≡ known_if number suite first known

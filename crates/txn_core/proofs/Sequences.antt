@@ -15,7 +15,7 @@ use Rattle.file_exec.specs.declared.executor.Outcome.TheVariants as exec
 use Rattle.txn_core.specs.declared.plan.Plan.{Plan}
 use Rattle.txn_core.specs.declared.next_phase.NextPhase.{NextPhase}
 use Rattle.txn_core.specs.declared.cache_after.Fetched.{Fetched}
-use Rattle.txn_core.specs.Suites.{Suite, Suites, suite_of, with_suite}
+use Rattle.txn_core.specs.Suites.{GatheredSuite, Suites, suite_of, with_suite}
 use Rattle.txn_core.specs.Doing.{Fixed, Task}
 use Rattle.txn_core.specs.Transactions.{Gathered, heard_on, gather, raised_or_new, proceed, execute}
 use Rattle.txn_core.specs.code.Plans.{new_unless, new_for, with_asked_at, raised_at, with_asked, opened_all, carried_out, IsPlanOf, shelved}
@@ -23,7 +23,7 @@ use Rattle.txn_core.specs.code.Unused.{HasUnused}
 use Rattle.txn_core.specs.code.NextPhases.{next_phase_of, gather_again, follow}
 use Rattle.txn_core.proofs.Kept.{Keeps, keeps_all}
 
-gathers : (task : Task) (cache : Cache) (suites : Suites) (number : ℕ) (suite : Suite) →
+gathers : (task : Task) (cache : Cache) (suites : Suites) (number : ℕ) (suite : GatheredSuite) →
     let more = with_suite number suite suites in
     gather_again task cache more number (suite_of more number) ≡ gather task cache suites number suite
 gathers task cache suites number suite = ap (gather_again task cache (with_suite number suite suites) number) (get_insert_here suites number suite)
@@ -32,13 +32,13 @@ new_again : (fixed : Fixed) (task : Task) (cache more : Cache) (number : ℕ) (m
 new_again fixed task cache more number mode same =
     ap (λ h. record { collector = collect mode (unwrap_or h (absent_prefix fixed.service.c0)); first = None; mode = Shared; content = None }) same
 
-follows : (fixed : Fixed) (task : Task) (all more : Gathered) → Keeps all more → (outcome : Executed) (new : Option Suite) → new ≡ new_for fixed task all outcome
+follows : (fixed : Fixed) (task : Task) (all more : Gathered) → Keeps all more → (outcome : Executed) (new : Option GatheredSuite) → new ≡ new_for fixed task all outcome
     → follow task more.cache (with_asked outcome new more.suites) (next_phase_of outcome) ≡ proceed fixed task more.cache more.suites outcome
 follows fixed task all more keeps (exec.Need (Hold number mode)) new is =
     ap (λ new. gather_again task more.cache (with_asked_at number new more.suites) number (suite_of (with_asked_at number new more.suites) number)) is
     ∙ of (suite_of all.suites number) (suite_of more.suites number) refl (keeps.there number)
   where
-    of : (before after : Option Suite) → suite_of more.suites number ≡ after → is_some after ≡ is_some before →
+    of : (before after : Option GatheredSuite) → suite_of more.suites number ≡ after → is_some after ≡ is_some before →
         let suites = with_asked_at number (new_unless fixed task all.cache number mode before) more.suites in
         gather_again task more.cache suites number (suite_of suites number) ≡ gather task more.cache more.suites number (raised_or_new fixed task more.cache number mode after)
     of None None at there =

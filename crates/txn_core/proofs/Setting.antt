@@ -18,17 +18,17 @@ use Rattle.file_exec.specs.declared.changes.Change.{Change}
 use Rattle.file_exec.specs.declared.executor.Outcome.TheVariants as exec
 use Rattle.file_exec.specs.Known as known
 use Rattle.file_exec.proofs.Unset.{changes_are_held, unset_votes_stay}
-use Rattle.txn_core.specs.Suites.{ReadPoint, Suite, Suites, suite_of, row_with, known_row, known_if, known_of}
+use Rattle.txn_core.specs.Suites.{ReadPoint, GatheredSuite, Suites, suite_of, row_with, known_row, known_if, known_of}
 use Rattle.txn_core.specs.Doing.{Changes, Fixed, Task}
 use Rattle.txn_core.specs.Writing.{change_of, is_changed}
 use Rattle.txn_core.specs.Transactions.{heard_on}
 
 -- ---- what is known of a suite
 
-abbrev pub KnownAt : Suites → ℕ → Suite → ReadPoint → Type 0
+abbrev pub KnownAt : Suites → ℕ → GatheredSuite → ReadPoint → Type 0
 KnownAt suites number suite first = known.known_of (known_of suites) number ≡ Some (known_row suite first)
 
-pub known_at : (suites : Suites) (number : ℕ) (suite : Suite) (first : ReadPoint) → suite_of suites number ≡ Some suite → suite.first ≡ Some first → KnownAt suites number suite first
+pub known_at : (suites : Suites) (number : ℕ) (suite : GatheredSuite) (first : ReadPoint) → suite_of suites number ≡ Some suite → suite.first ≡ Some first → KnownAt suites number suite first
 known_at [] number suite first is was = cc
 known_at (e ∷ es) number suite first is was = of (λ is. known_at es number suite first is was) (is_at (nat_cmp number) e.0) refl is
   where
@@ -43,12 +43,12 @@ known_at (e ∷ es) number suite first is was = of (λ is. known_at es number su
     of : (suite_of es number ≡ Some suite → KnownAt es number suite first) → (b : Bool) → is_at (nat_cmp number) e.0 ≡ b → cond b (Some e.1) (suite_of es number) ≡ Some suite → KnownAt (e ∷ es) number suite first
     of again true at is =
         let same : e.1 ≡ suite = same_Some e.1 suite is in
-        ap (λ (it : Suite). known.known_of (known_if e.0 it it.first (known_of es)) number) same ∙ here suite.first was at
+        ap (λ (it : GatheredSuite). known.known_of (known_if e.0 it it.first (known_of es)) number) same ∙ here suite.first was at
     of again false at is = later e.1.first at (again is)
 
 -- ---- what is changed is held
 
-pub changed_held : (fixed : Fixed) (task : Task) (suites : Suites) (answers : List Answer) (changes : Changes) (number : ℕ) (suite : Suite) (first : ReadPoint) → heard_on fixed task suites ≡ exec.Done answers changes
+pub changed_held : (fixed : Fixed) (task : Task) (suites : Suites) (answers : List Answer) (changes : Changes) (number : ℕ) (suite : GatheredSuite) (first : ReadPoint) → heard_on fixed task suites ≡ exec.Done answers changes
     → suite_of suites number ≡ Some suite → suite.first ≡ Some first → is_changed changes number ≡ true → suite.mode ≡ Exclusive
 changed_held fixed task suites answers changes number suite first is there was changed' =
     exclusive suite.mode (ap (known.is_held Exclusive) (sym (known_at suites number suite first there was))
@@ -66,11 +66,11 @@ row_votes kind.File prefix content votes is = sym (same_Some prefix.votes votes 
 row_votes kind.Folder prefix content votes is = sym (same_Some prefix.votes votes is)
 
 -- a change that sets no votes has those of the prefix that was known
-abbrev pub Keeps : Changes → ℕ → Suite → Type 0
+abbrev pub Keeps : Changes → ℕ → GatheredSuite → Type 0
 Keeps changes number suite =
     (change : Change) (first : ReadPoint) → change_of changes number ≡ Some change → suite.first ≡ Some first → change.votes ≡ false → change.row.votes ≡ first.prefix.votes
 
-pub changed_keeps : (fixed : Fixed) (task : Task) (suites : Suites) (answers : List Answer) (changes : Changes) (number : ℕ) (suite : Suite) → heard_on fixed task suites ≡ exec.Done answers changes
+pub changed_keeps : (fixed : Fixed) (task : Task) (suites : Suites) (answers : List Answer) (changes : Changes) (number : ℕ) (suite : GatheredSuite) → heard_on fixed task suites ≡ exec.Done answers changes
     → suite_of suites number ≡ Some suite → Keeps changes number suite
 changed_keeps fixed task suites answers changes number suite is there change first told was none =
     row_votes first.prefix.kind first.prefix suite.content change.row.votes

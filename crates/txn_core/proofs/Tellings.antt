@@ -14,7 +14,7 @@ use Rattle.suite_prefix.specs.declared.copies.PrefixKind.TheVariants.{Absent, Fi
 use Rattle.file_ops.specs.Rows.{Row}
 use Rattle.file_exec.specs.Known.{Known}
 use Rattle.file_exec.specs.code.KnownFields as fields
-use Rattle.txn_core.specs.Suites.{ReadPoint, Suite, Suites, row_with, known_row, known_if, known_of}
+use Rattle.txn_core.specs.Suites.{ReadPoint, GatheredSuite, Suites, row_with, known_row, known_if, known_of}
 
 -- ---- one suite
 
@@ -23,12 +23,12 @@ same_row prefix None = elim prefix.kind as (λ kind. fields.known_row (record pr
 same_row prefix (Some content) = elim prefix.kind as (λ kind. fields.known_row (record prefix { kind = kind }) (Some content) ≡ row_with kind prefix (Some content)) [ Absent ↦ refl | File ↦ refl | Folder ↦ refl ]
 
 -- what is known of a suite is so, whoever says it
-pub same_suite : (suite : Suite) (first : ReadPoint) → fields.known_so suite.mode first.prefix suite.content ≡ known_row suite first
+pub same_suite : (suite : GatheredSuite) (first : ReadPoint) → fields.known_so suite.mode first.prefix suite.content ≡ known_row suite first
 same_suite suite first = ap (λ (row : Option Row). record { mode = suite.mode; row = row; opened = is_some suite.content }) (same_row first.prefix suite.content)
 
 -- ---- suite by suite
 
-one_then : (number : ℕ) (suite : Suite) (first : Option ReadPoint) (rest : Known) → known_if number suite first [] ++ rest ≡ known_if number suite first rest
+one_then : (number : ℕ) (suite : GatheredSuite) (first : Option ReadPoint) (rest : Known) → known_if number suite first [] ++ rest ≡ known_if number suite first rest
 one_then number suite None rest = refl
 one_then number suite (Some first) rest = refl
 
@@ -36,7 +36,7 @@ one_then number suite (Some first) rest = refl
 abbrev pub IsTelling : Suites → Suites → Known → Type 0
 IsTelling suites left known = known ++ known_of left ≡ known_of suites
 
-pub telling_more : (suites : Suites) (i : ℕ) (one : ℕ × Suite) (known new : Known) → i < length suites → one ≡ get_or suites i one → new ≡ known ++ known_if one.0 one.1 one.1.first [] → IsTelling suites (drop i suites) known → IsTelling suites (drop (i + 1) suites) new
+pub telling_more : (suites : Suites) (i : ℕ) (one : ℕ × GatheredSuite) (known new : Known) → i < length suites → one ≡ get_or suites i one → new ≡ known ++ known_if one.0 one.1 one.1.first [] → IsTelling suites (drop i suites) known → IsTelling suites (drop (i + 1) suites) new
 telling_more suites i one known new below here is at =
     let rest = drop (i + 1) suites in
     let split : drop i suites ≡ one ∷ rest =
@@ -51,7 +51,7 @@ telling_more suites i one known new below here is at =
 
 -- ---- what is known rises
 
-above_one : (number : ℕ) (one : ℕ × Suite) (first : Option ReadPoint) (known : Known) → nat_cmp number one.0 ≡ Less → AllByRecursion (λ y. nat_cmp number y ≡ Less) (keys_of known) → AllByRecursion (λ y. nat_cmp number y ≡ Less) (keys_of (known_if one.0 one.1 first known))
+above_one : (number : ℕ) (one : ℕ × GatheredSuite) (first : Option ReadPoint) (known : Known) → nat_cmp number one.0 ≡ Less → AllByRecursion (λ y. nat_cmp number y ≡ Less) (keys_of known) → AllByRecursion (λ y. nat_cmp number y ≡ Less) (keys_of (known_if one.0 one.1 first known))
 above_one number one (Some first) known here all = (here, all)
 above_one number one None known here all = all
 
@@ -59,7 +59,7 @@ above_all : (number : ℕ) (suites : Suites) → AllByRecursion (λ y. nat_cmp n
 above_all number [] all = all
 above_all number (one ∷ suites) all = above_one number one one.1.first (known_of suites) all.0 (above_all number suites all.1)
 
-rises_one : (one : ℕ × Suite) (first : Option ReadPoint) (known : Known) → AllByRecursion (λ y. nat_cmp one.0 y ≡ Less) (keys_of known) → IsOrdered nat_cmp known → IsOrdered nat_cmp (known_if one.0 one.1 first known)
+rises_one : (one : ℕ × GatheredSuite) (first : Option ReadPoint) (known : Known) → AllByRecursion (λ y. nat_cmp one.0 y ≡ Less) (keys_of known) → IsOrdered nat_cmp known → IsOrdered nat_cmp (known_if one.0 one.1 first known)
 unfolding IsStrictlySortedBy
 rises_one one (Some first) known above ordered = (above, ordered)
 rises_one one None known above ordered = ordered

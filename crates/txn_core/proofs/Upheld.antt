@@ -12,7 +12,7 @@ use Rattle.rep_core.specs.declared.request.Request.{Request}
 use Rattle.rep_core.specs.declared.reply.Reply.{Reply}
 use Rattle.rep_core.specs.declared.reply.Reply.TheVariants as reply
 use Rattle.weak_cache.specs.Entries.{Cache}
-use Rattle.txn_core.specs.Suites.{ReadPoint, Suite, Suites, suite_of}
+use Rattle.txn_core.specs.Suites.{ReadPoint, GatheredSuite, Suites, suite_of}
 use Rattle.txn_core.specs.declared.response.Response.{Response}
 use Rattle.txn_core.specs.declared.response.Response.TheVariants.{Replied, Lacked}
 use Rattle.txn_core.specs.declared.ending.Cause.{Cause}
@@ -124,7 +124,7 @@ Base_of fixed agent job begun events site = record { start = Started fixed agent
 -- ---- the same of other starts and contents
 
 module _ (fixed : Fixed) (task : Task) (Old : Base) (Loose : ℕ → Prefix → Type 0) (Old' : Base) (Loose' : ℕ → Prefix → Type 0) (past : List Exchange) (old : Follows Old Old') (loose : (n : ℕ) (start : Prefix) → Loose n start → Loose' n start) where
-  map_kept : (n : ℕ) (suite : Suite) → Kept fixed task Old past n suite → Kept fixed task Old' past n suite
+  map_kept : (n : ℕ) (suite : GatheredSuite) → Kept fixed task Old past n suite → Kept fixed task Old' past n suite
   map_kept n suite kept = record {
     start = old.start n suite.collector.start kept.start;
     first = kept.first;
@@ -189,7 +189,7 @@ no_contents fixed task Old Loose past suites phase stands =
 abbrev none_yet : (ℕ → ReadPoint → Content → Type 0) → Base
 none_yet C = record { start = λ _ _. ⊥; content = C }
 
-none_kept : (C : ℕ → ReadPoint → Content → Type 0) (fixed : Fixed) (task : Task) (n : ℕ) (suite : Suite) → suite_of [] n ≡ Some suite → Kept fixed task (none_yet C) [] n suite
+none_kept : (C : ℕ → ReadPoint → Content → Type 0) (fixed : Fixed) (task : Task) (n : ℕ) (suite : GatheredSuite) → suite_of [] n ≡ Some suite → Kept fixed task (none_yet C) [] n suite
 none_kept C fixed task n suite there = absurd (none-some suite there)
 
 begin_leaves : (C : ℕ → ReadPoint → Content → Type 0) (fixed : Fixed) (task : Task) (cache : Cache) → FreeIn C task cache → Leaves fixed task (none_yet C) (λ _ _. ⊥) [] (execute fixed task (record { suites = []; cache = cache }))

@@ -21,7 +21,7 @@ use Rattle.suite_collect.specs.Answering.{Comes}
 use Rattle.txn_core.specs.Doing.{Changes, Granted, Task, Widening, TransactionRun}
 use Rattle.txn_core.specs.code.Steps.{Steps, WidensTo, Widens}
 use Rattle.txn_core.specs.declared.ending.Ending.{Ending}
-use Rattle.txn_core.specs.Suites.{Suite, Suites, suite_of, with_suite}
+use Rattle.txn_core.specs.Suites.{GatheredSuite, Suites, suite_of, with_suite}
 use Rattle.txn_core.specs.Transactions.{Step, on_with, give_up, short_cause, to_widen, votes_then, widened, widen_by, widen_one, widen_all, prepare, locked_at}
 use Rattle.txn_core.specs.Writing.{change_of}
 
@@ -53,24 +53,24 @@ module _ (task : Task) (cache : Cache) (granted : Granted) (number : ℕ) (chang
   abbrev go_on : Suites → Step
   go_on suites = widen_all task cache suites granted left
 
-  abbrev widened_by : Suite → Suite
+  abbrev widened_by : GatheredSuite → GatheredSuite
   widened_by suite = record suite { collector = widen change.row.votes suite.collector }
 
-  same : (suite : Suite) → widened granted.changes number suite ≡ widened_by suite
+  same : (suite : GatheredSuite) → widened granted.changes number suite ≡ widened_by suite
   same suite = ap (λ c. record suite { collector = widen (votes_then c suite.first suite.collector.start.votes) suite.collector }) is
 
   -- what comes next decides
-  found : (suites : Suites) (suite : Suite) (n : Next) → suite_of suites number ≡ Some suite → next (widened_by suite).collector ≡ n
+  found : (suites : Suites) (suite : GatheredSuite) (n : Next) → suite_of suites number ≡ Some suite → next (widened_by suite).collector ≡ n
       → widen_all task cache suites granted (number ∷ left) ≡ widen_by task cache (with_suite number (widened_by suite) suites) (Widening (number ∷ left) granted) number n go_on
   found suites suite n there is' =
       ap (λ f. widen_one task cache suites (Widening (number ∷ left) granted) granted.changes number f go_on) there
-      ∙ ap (λ (new : Suite). widen_by task cache (with_suite number new suites) (Widening (number ∷ left) granted) number (next new.collector) go_on) (same suite)
+      ∙ ap (λ (new : GatheredSuite). widen_by task cache (with_suite number new suites) (Widening (number ∷ left) granted) number (next new.collector) go_on) (same suite)
       ∙ ap (λ n. widen_by task cache (with_suite number (widened_by suite) suites) (Widening (number ∷ left) granted) number n go_on) is'
 
   missed : (suites : Suites) → suite_of suites number ≡ None → widen_all task cache suites granted (number ∷ left) ≡ go_on suites
   missed suites none = ap (λ f. widen_one task cache suites (Widening (number ∷ left) granted) granted.changes number f go_on) none
 
-  stays_at : (before after : TransactionRun) (f : Option Suite) → suite_of before.suites number ≡ f → WidensTo f number change.row.votes before coming.Current after
+  stays_at : (before after : TransactionRun) (f : Option GatheredSuite) → suite_of before.suites number ≡ f → WidensTo f number change.row.votes before coming.Current after
       → widen_all task cache before.suites granted (number ∷ left) ≡ widen_all task cache after.suites granted left
   stays_at before after (Some suite) there w = found before.suites suite _ there w.1.3 ∙ ap (λ (c : TransactionRun). go_on c.suites) (sym w.0)
   stays_at before after None there w = missed before.suites there ∙ ap (λ (c : TransactionRun). go_on c.suites) (sym w.0)
@@ -79,7 +79,7 @@ module _ (task : Task) (cache : Cache) (granted : Granted) (number : ℕ) (chang
       → widen_all task cache before.suites granted (number ∷ left) ≡ widen_all task cache after.suites granted left
   stays before after w = stays_at before after (suite_of before.suites number) refl w
 
-  asks_at : (before after : TransactionRun) (server : ℕ) (asked : Asked) (f : Option Suite) → suite_of before.suites number ≡ f → WidensTo f number change.row.votes before (coming.Ask server asked) after
+  asks_at : (before after : TransactionRun) (server : ℕ) (asked : Asked) (f : Option GatheredSuite) → suite_of before.suites number ≡ f → WidensTo f number change.row.votes before (coming.Ask server asked) after
       → widen_all task cache before.suites granted (number ∷ left) ≡ on_with task cache after.suites (Widening (number ∷ left) granted)
   asks_at before after server asked (Some suite) there w =
       found before.suites suite _ there w.1 ∙ ap (λ (c : TransactionRun). on_with task cache c.suites (Widening (number ∷ left) granted)) (sym w.0)
@@ -89,7 +89,7 @@ module _ (task : Task) (cache : Cache) (granted : Granted) (number : ℕ) (chang
       → widen_all task cache before.suites granted (number ∷ left) ≡ on_with task cache after.suites (Widening (number ∷ left) granted)
   asks before after server asked w = asks_at before after server asked (suite_of before.suites number) refl w
 
-  short_at : (before after : TransactionRun) (got needed : ℕ) (busy : Option (ℕ × ℕ)) (f : Option Suite) → suite_of before.suites number ≡ f → WidensTo f number change.row.votes before (coming.Short got needed busy) after
+  short_at : (before after : TransactionRun) (got needed : ℕ) (busy : Option (ℕ × ℕ)) (f : Option GatheredSuite) → suite_of before.suites number ≡ f → WidensTo f number change.row.votes before (coming.Short got needed busy) after
       → widen_all task cache before.suites granted (number ∷ left) ≡ give_up task cache after.suites (short_cause number got needed busy)
   short_at before after got needed busy (Some suite) there w =
       found before.suites suite _ there w.1 ∙ ap (λ (c : TransactionRun). give_up task cache c.suites (short_cause number got needed busy)) (sym w.0)
@@ -101,7 +101,7 @@ module _ (task : Task) (cache : Cache) (granted : Granted) (number : ℕ) (chang
 
 -- ---- so far
 
-task_at : (before after : TransactionRun) (number : ℕ) (votes : Configuration) (what : Coming) (f : Option Suite) → WidensTo f number votes before what after → after.task ≡ before.task
+task_at : (before after : TransactionRun) (number : ℕ) (votes : Configuration) (what : Coming) (f : Option GatheredSuite) → WidensTo f number votes before what after → after.task ≡ before.task
 task_at before after number votes what (Some suite) w = ap (λ (c : TransactionRun). c.task) w.0
 task_at before after number votes what None w = ap (λ (c : TransactionRun). c.task) w.0
 
@@ -176,14 +176,14 @@ module _ (start : TransactionRun) (from : ℕ) (granted : Granted) (now : Transa
 
 -- ---- a suite in its place
 
-pub widens_here : (before after : TransactionRun) (held : Suites) (number : ℕ) (votes : Configuration) (suite new : Suite) (what : Coming) → held ≡ before.suites → Some suite ≡ suite_of held number → IsOrdered nat_cmp held
+pub widens_here : (before after : TransactionRun) (held : Suites) (number : ℕ) (votes : Configuration) (suite new : GatheredSuite) (what : Coming) → held ≡ before.suites → Some suite ≡ suite_of held number → IsOrdered nat_cmp held
     → new ≡ record suite { collector = widen votes suite.collector } → Comes what (next new.collector) → after ≡ record before { suites = replace nat_cmp held number new } → Widens number votes before what after
 widens_here before after held number votes suite new what same there up is comes put =
-    let own : Suite = record suite { collector = widen votes suite.collector } in
+    let own : GatheredSuite = record suite { collector = widen votes suite.collector } in
     let found : suite_of before.suites number ≡ Some suite = ap (λ l. suite_of l number) (sym same) ∙ sym there in
-    let some : IsSome (suite_of held number) = let Some' : Option Suite → Type 0 = λ f. IsSome f in subst Some' there refl in
+    let some : IsSome (suite_of held number) = let Some' : Option GatheredSuite → Type 0 = λ f. IsSome f in subst Some' there refl in
     let inserted : replace nat_cmp held number new ≡ with_suite number own before.suites =
     sym (insert_present nat_cmp_total held number new up some) ∙ ap (λ s. with_suite number s held) is ∙ ap (λ l. with_suite number own l) same in
-    let Comes' : Suite → Type 0 = λ s. Comes what (next s.collector) in
-    let Widens' : Option Suite → Type 0 = λ f. WidensTo f number votes before what after in
+    let Comes' : GatheredSuite → Type 0 = λ s. Comes what (next s.collector) in
+    let Widens' : Option GatheredSuite → Type 0 = λ f. WidensTo f number votes before what after in
     subst Widens' (sym found) (put ∙ ap (λ l. record before { suites = l }) inserted, subst Comes' is comes)

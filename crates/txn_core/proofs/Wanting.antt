@@ -12,7 +12,7 @@ use Rattle.txn_core.specs.declared.response.Response.{Response}
 use Rattle.txn_core.specs.declared.response.Response.TheVariants.{Replied}
 use Rattle.txn_core.specs.Agents.{Agent, next_in, next_of}
 use Rattle.txn_core.specs.Doing.{Fixed, Proposal, Gathering, Fetching, Widening, Deciding, Granted, TransactionRun, Doing}
-use Rattle.txn_core.specs.Suites.{ReadPoint, Suite, suite_of}
+use Rattle.txn_core.specs.Suites.{ReadPoint, GatheredSuite, suite_of}
 use Rattle.txn_core.specs.Transactions.{given_in, verdict_in, asked_by, asked_for, fetched_at, fetched_for, request_in, request_of}
 use Rattle.txn_core.specs.Wanting.{by_reply, by_taking}
 use Rattle.txn_core.specs.code.Hearing.{asks_in}
@@ -49,7 +49,7 @@ module _ (fixed : Fixed) (txn_run : TransactionRun) (server : ℕ) (said : Reply
   widening_wants number left granted result is asked told = told_if number result (ap (request_in fixed txn_run.task txn_run.suites) is) asked told
 
   -- a content is fetched
-  fetched_wants : (number : ℕ) (found : Option Suite) → server_of (fetched_for txn_run.task number found) ≡ Some server → is_some (given_in said) ≡ true → by_taking (fetched_for txn_run.task number found) (Replied said) ≡ true
+  fetched_wants : (number : ℕ) (found : Option GatheredSuite) → server_of (fetched_for txn_run.task number found) ≡ Some server → is_some (given_in said) ≡ true → by_taking (fetched_for txn_run.task number found) (Replied said) ≡ true
   fetched_wants number None asked given = cc
   fetched_wants number (Some suite) asked given = at suite.first asked
     where

@@ -12,7 +12,7 @@ use Rattle.rep_core.specs.declared.reply.Reply.TheVariants as reply
 use Rattle.suite_collect.specs.Collecting.{Collector, Next, Current, next}
 use Rattle.weak_cache.specs.Entries.{Entry, is_at}
 use Rattle.weak_cache.specs.Cache.{content_at}
-use Rattle.txn_core.specs.Suites.{ReadPoint, Suite, suite_of, source_of}
+use Rattle.txn_core.specs.Suites.{ReadPoint, GatheredSuite, suite_of, source_of}
 use Rattle.txn_core.specs.declared.response.Response.{Response}
 use Rattle.txn_core.specs.declared.response.Response.TheVariants.{Replied}
 use Rattle.txn_core.specs.declared.job.Job.{Job}
@@ -94,6 +94,6 @@ IsContentOf fixed agent job events site suite first content =
 -- whatever content a transaction knows of a suite
 abbrev pub KnowsContents : Type 0
 KnowsContents =
-    (fixed : Fixed) (agent : Agent) (job : Job) (events : List Event) (txn_run : TransactionRun) (number : ℕ) (suite : Suite) (content : Content) → is_idle agent.doing ≡ true
+    (fixed : Fixed) (agent : Agent) (job : Job) (events : List Event) (txn_run : TransactionRun) (number : ℕ) (suite : GatheredSuite) (content : Content) → is_idle agent.doing ≡ true
     → (after_all fixed (begin fixed agent job) events).doing ≡ Some (Running txn_run) → suite_of txn_run.suites number ≡ Some suite → suite.content ≡ Some content
     → (first : ReadPoint) × (suite.first ≡ Some first) × IsContentOf fixed agent job events txn_run.task.site number first content

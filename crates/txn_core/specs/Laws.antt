@@ -24,7 +24,7 @@ use Rattle.suite_collect.specs.Telling as telling
 use Rattle.suite_collect.specs.declared.told.Said.TheVariants as told
 use Rattle.suite_prefix.specs.LockModes.{serves}
 use Rattle.suite_collect.specs.Collecting.{needed_of, all_told, mode_of}
-use Rattle.txn_core.specs.Suites.{Suite, Suites, ReadPoint, suite_of, holds_exclusively}
+use Rattle.txn_core.specs.Suites.{GatheredSuite, Suites, ReadPoint, suite_of, holds_exclusively}
 use Rattle.txn_core.specs.Writing.{parts_at, is_changed, sets_votes}
 use Rattle.txn_core.specs.declared.response.Response.{Response}
 use Rattle.txn_core.specs.declared.ending.Ending.{Ending}
@@ -166,14 +166,14 @@ AllPrepareFirst =
 -- ---- on which quorums
 
 -- the newest prefix that a suite's servers showed
-abbrev pub newest_of : Suite → Prefix
+abbrev pub newest_of : GatheredSuite → Prefix
 newest_of suite = newest suite.collector.start suite.collector.told
 
 -- What a suite that was gathered shows once a decision is asked for: a quorum of the mode in which it is known, under the newest prefix that
 -- was seen, which is the one of its first Current or a newer one; and where it was changed, a write quorum of its votes before and of those
 -- after. Where its votes were not set those after are the votes that its first Current gave: that they are the votes before too holds where
 -- no newer prefix was seen since.
-pub record IsReady (suite : Suite) (number : ℕ) (changes : Changes) : Type 0 where
+pub record IsReady (suite : GatheredSuite) (number : ℕ) (changes : Changes) : Type 0 where
   pub first : ReadPoint
   pub was : suite.first ≡ Some first
   pub not_older : first.prefix.pver ≤ (newest_of suite).pver
@@ -184,7 +184,7 @@ pub record IsReady (suite : Suite) (number : ℕ) (changes : Changes) : Type 0 w
 
 abbrev pub DecidesOnQuorums : Type 0
 DecidesOnQuorums =
-    (fixed : Fixed) (agent : Agent) (job : Job) (events : List Event) (txn_run : TransactionRun) (outcome : Proposal) (number : ℕ) (suite : Suite) → is_idle agent.doing ≡ true
+    (fixed : Fixed) (agent : Agent) (job : Job) (events : List Event) (txn_run : TransactionRun) (outcome : Proposal) (number : ℕ) (suite : GatheredSuite) → is_idle agent.doing ≡ true
     → (after_all fixed (begin fixed agent job) events).doing ≡ Some (Running txn_run) → txn_run.phase ≡ Deciding outcome
     → suite_of txn_run.suites number ≡ Some suite → IsReady suite number (changes_of outcome)
 

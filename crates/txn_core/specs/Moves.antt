@@ -19,7 +19,7 @@ use Rattle.suite_collect.specs.declared.told.Said.{Said}
 use Rattle.suite_collect.specs.Collecting.{Asked, Next, Ask, Current, Short, tell, mode_of, next}
 use Rattle.weak_cache.specs.Entries.{Entry, Cache}
 use Rattle.weak_cache.specs.Cache.{put}
-use Rattle.txn_core.specs.Suites.{ReadPoint, Suite, Suites, suite_of, with_suite, settled}
+use Rattle.txn_core.specs.Suites.{ReadPoint, GatheredSuite, Suites, suite_of, with_suite, settled}
 use Rattle.txn_core.specs.declared.response.Response.{Response}
 use Rattle.txn_core.specs.declared.response.Response.TheVariants.{Replied, Lacked}
 use Rattle.txn_core.specs.declared.ending.Cause.TheVariants.{Lost}
@@ -75,7 +75,7 @@ is_short other = false
 module _ (fixed : Fixed) (task : Task) where
   pub data Move : Point → Point → Type 0 where
     -- fetch, without asking: the executor needs a content that the cache has, or that is empty, and it is opened
-    opens : {cache : Cache} {suites : Suites} {number : ℕ} {suite : Suite} {first : ReadPoint} {content : Content}
+    opens : {cache : Cache} {suites : Suites} {number : ℕ} {suite : GatheredSuite} {first : ReadPoint} {content : Content}
         → heard_on fixed task suites ≡ exec.Need (Know number) → suite_of suites number ≡ Some suite → suite.first ≡ Some first → free_content task cache number first ≡ Some content
         → Move (point Executes cache suites) (point Executes (after_search task cache number first) (with_suite number (record suite { content = Some content }) suites))
     -- fetch: it needs another content, which a server that showed its version is asked for
@@ -83,11 +83,11 @@ module _ (fixed : Fixed) (task : Task) where
         → heard_on fixed task suites ≡ exec.Need (Know number)
         → Move (point Executes cache suites) (point (Asks (Fetching number)) cache suites)
     -- poll: it needs a lock, and the suite is gathered, from the start or to a stronger lock
-    gathers : {cache : Cache} {suites : Suites} {number : ℕ} {mode : LockMode} {suite : Suite}
+    gathers : {cache : Cache} {suites : Suites} {number : ℕ} {mode : LockMode} {suite : GatheredSuite}
         → heard_on fixed task suites ≡ exec.Need (Hold number mode) → raised_or_new fixed task cache number mode (suite_of suites number) ≡ suite → is_short (next suite.collector) ≡ false
         → Move (point Executes cache suites) (point (Asks (Gathering number)) cache (with_suite number suite suites))
     -- no quorum, so abort: too few votes are to be had of it
-    lacks_lock : {cache : Cache} {suites : Suites} {number : ℕ} {mode : LockMode} {suite : Suite} {got wanting : ℕ} {busy : Option (ℕ × ℕ)}
+    lacks_lock : {cache : Cache} {suites : Suites} {number : ℕ} {mode : LockMode} {suite : GatheredSuite} {got wanting : ℕ} {busy : Option (ℕ × ℕ)}
         → heard_on fixed task suites ≡ exec.Need (Hold number mode) → raised_or_new fixed task cache number mode (suite_of suites number) ≡ suite → next suite.collector ≡ Short got wanting busy
         → Move (point Executes cache suites) (point (GivesUp (short_cause number got wanting busy)) cache (with_suite number suite suites))
     -- prepare, of a refusal: nothing is set, and it is decided as answers are, so that a denial is recorded
@@ -103,15 +103,15 @@ module _ (fixed : Fixed) (task : Task) where
         → suite_of suites number ≡ None
         → Move (point (Widens (number ∷ left) granted) cache suites) (point (Widens left granted) cache suites)
     -- quorum: one is held by a write quorum of its new votes already
-    widens : {cache : Cache} {suites : Suites} {number : ℕ} {left : List ℕ} {granted : Granted} {suite : Suite} {prefix : Prefix} {dver : ℕ} {members : List ℕ}
+    widens : {cache : Cache} {suites : Suites} {number : ℕ} {left : List ℕ} {granted : Granted} {suite : GatheredSuite} {prefix : Prefix} {dver : ℕ} {members : List ℕ}
         → suite_of suites number ≡ Some suite → next (widened granted.changes number suite).collector ≡ Current prefix dver members
         → Move (point (Widens (number ∷ left) granted) cache suites) (point (Widens left granted) cache (with_suite number (widened granted.changes number suite) suites))
     -- poll: one asks servers for a write quorum of its new votes
-    widens_by : {cache : Cache} {suites : Suites} {number : ℕ} {left : List ℕ} {granted : Granted} {suite : Suite} {server : ℕ} {asked : Asked}
+    widens_by : {cache : Cache} {suites : Suites} {number : ℕ} {left : List ℕ} {granted : Granted} {suite : GatheredSuite} {server : ℕ} {asked : Asked}
         → suite_of suites number ≡ Some suite → next (widened granted.changes number suite).collector ≡ Ask server asked
         → Move (point (Widens (number ∷ left) granted) cache suites) (point (Asks (Widening (number ∷ left) granted)) cache (with_suite number (widened granted.changes number suite) suites))
     -- no quorum, so abort: too few votes are to be had of one
-    lacks_wide : {cache : Cache} {suites : Suites} {number : ℕ} {left : List ℕ} {granted : Granted} {suite : Suite} {got wanting : ℕ} {busy : Option (ℕ × ℕ)}
+    lacks_wide : {cache : Cache} {suites : Suites} {number : ℕ} {left : List ℕ} {granted : Granted} {suite : GatheredSuite} {got wanting : ℕ} {busy : Option (ℕ × ℕ)}
         → suite_of suites number ≡ Some suite → next (widened granted.changes number suite).collector ≡ Short got wanting busy
         → Move (point (Widens (number ∷ left) granted) cache suites) (point (GivesUp (short_cause number got wanting busy)) cache (with_suite number (widened granted.changes number suite) suites))
     -- prepare: all are widened, and each server that holds a lock is to prepare
@@ -131,7 +131,7 @@ pub data Collects : Phase → ℕ → Stage → Type 0 where
   widening : {number : ℕ} {left : List ℕ} {granted : Granted} → Collects (Widening (number ∷ left) granted) number (Widens left granted)
 
 -- a suite whose collector was told
-abbrev pub now_told : ℕ → Request → Said → Suite → Suite
+abbrev pub now_told : ℕ → Request → Said → GatheredSuite → GatheredSuite
 now_told server asked said suite = record suite { collector = tell (record { server = server; mode = mode_of asked; said = said }) suite.collector }
 
 -- a content that was fetched, as the cache keeps it: with the prefix and the version that the suite's first quorum gave
@@ -141,7 +141,7 @@ entry_of task number first content = record { site = task.site; suite = number; 
 -- a phase that asks nothing; no transaction that is told something is in it
 abbrev pub AsksNothing : Suites → Phase → Type 0
 AsksNothing suites (Gathering number) = suite_of suites number ≡ None
-AsksNothing suites (Fetching number) = (suite : Suite) → suite_of suites number ≡ Some suite → suite.first ≡ None
+AsksNothing suites (Fetching number) = (suite : GatheredSuite) → suite_of suites number ≡ Some suite → suite.first ≡ None
 AsksNothing suites (Widening [] granted) = Unit {0}
 AsksNothing suites (Widening (number ∷ left) granted) = suite_of suites number ≡ None
 AsksNothing suites (Preparing [] outcome) = Unit {0}
@@ -155,23 +155,23 @@ IsOpen other = Unit {0}
 module _ (fixed : Fixed) (task : Task) (cache : Cache) (suites : Suites) (server : ℕ) (asked : Request) where
   pub data Hears : Phase → Response → Point → Type 0 where
     -- poll: the collector of a suite asks on
-    asks_on : {phase : Phase} {number : ℕ} {stage : Stage} {suite : Suite} {reply : Reply} {said : Said} {who : ℕ} {what : Asked}
+    asks_on : {phase : Phase} {number : ℕ} {stage : Stage} {suite : GatheredSuite} {reply : Reply} {said : Said} {who : ℕ} {what : Asked}
         → Collects phase number stage → suite_of suites number ≡ Some suite → said_to asked reply ≡ Some said → next (now_told server asked said suite).collector ≡ Ask who what
         → Hears phase (Replied reply) (point (Asks phase) cache (with_suite number (now_told server asked said suite) suites))
     -- no quorum, so abort: too few votes are to be had of it
-    falls_short : {phase : Phase} {number : ℕ} {stage : Stage} {suite : Suite} {reply : Reply} {said : Said} {got wanting : ℕ} {busy : Option (ℕ × ℕ)}
+    falls_short : {phase : Phase} {number : ℕ} {stage : Stage} {suite : GatheredSuite} {reply : Reply} {said : Said} {got wanting : ℕ} {busy : Option (ℕ × ℕ)}
         → Collects phase number stage → suite_of suites number ≡ Some suite → said_to asked reply ≡ Some said → next (now_told server asked said suite).collector ≡ Short got wanting busy
         → Hears phase (Replied reply) (point (GivesUp (short_cause number got wanting busy)) cache (with_suite number (now_told server asked said suite) suites))
     -- quorum: it has its votes, under the newest prefix that was shown
-    settles : {phase : Phase} {number : ℕ} {stage : Stage} {suite : Suite} {reply : Reply} {said : Said} {prefix : Prefix} {dver : ℕ} {members : List ℕ}
+    settles : {phase : Phase} {number : ℕ} {stage : Stage} {suite : GatheredSuite} {reply : Reply} {said : Said} {prefix : Prefix} {dver : ℕ} {members : List ℕ}
         → Collects phase number stage → suite_of suites number ≡ Some suite → said_to asked reply ≡ Some said → next (now_told server asked said suite).collector ≡ Current prefix dver members
         → Hears phase (Replied reply) (point stage cache (with_suite number (settled prefix dver members (now_told server asked said suite)) suites))
     -- abort: a lock is lost, or its server is down
-    loses : {phase : Phase} {number : ℕ} {stage : Stage} {suite : Suite} {reply : Reply}
+    loses : {phase : Phase} {number : ℕ} {stage : Stage} {suite : GatheredSuite} {reply : Reply}
         → Collects phase number stage → suite_of suites number ≡ Some suite → said_to asked reply ≡ None
         → Hears phase (Replied reply) (point (GivesUp (Lost server)) cache suites)
     -- fetch: a content is given, and the cache keeps it
-    gets : {number : ℕ} {suite : Suite} {first : ReadPoint} {reply : Reply} {content : Content}
+    gets : {number : ℕ} {suite : GatheredSuite} {first : ReadPoint} {reply : Reply} {content : Content}
         → suite_of suites number ≡ Some suite → suite.first ≡ Some first → given_in reply ≡ Some content
         → Hears (Fetching number) (Replied reply) (point Executes (put fixed.limits (entry_of task number first content) cache) (with_suite number (record suite { content = Some content }) suites))
     -- abort: none is given

@@ -20,7 +20,7 @@ use Rattle.suite_collect.specs.Telling.{holds, shown}
 use Rattle.suite_collect.specs.Collecting.{Collector, all_told}
 
 -- a suite that was asked for: its collector; what the first Current gave; in which mode a Current was had last; and its content, once it is there
-pub record Suite : Type 0 where
+pub record GatheredSuite : Type 0 where
   pub collector : Collector
   pub first : Option ReadPoint
   pub mode : LockMode
@@ -28,16 +28,16 @@ pub record Suite : Type 0 where
 
 -- by their numbers, which rise
 abbrev pub Suites : Type 0
-Suites = List (ℕ × Suite)
+Suites = List (ℕ × GatheredSuite)
 
-abbrev pub suite_of : Suites → ℕ → Option Suite
+abbrev pub suite_of : Suites → ℕ → Option GatheredSuite
 suite_of suites suite = get nat_cmp suites suite
 
-abbrev pub with_suite : ℕ → Suite → Suites → Suites
+abbrev pub with_suite : ℕ → GatheredSuite → Suites → Suites
 with_suite suite found suites = insert nat_cmp suites suite found
 
 -- what was told of it
-abbrev pub told_in : Option Suite → List Told
+abbrev pub told_in : Option GatheredSuite → List Told
 told_in (Some suite) = all_told suite.collector
 told_in None = []
 
@@ -52,12 +52,12 @@ row_with kind.Absent prefix content = None
 row_with made prefix content =
     Some (record { owner = prefix.owner; group = prefix.group; acl = prefix.acl; votes = prefix.votes; content = unwrap_or content (empty_content (held_by made)) })
 
-abbrev pub known_row : Suite → ReadPoint → KnownSuite
+abbrev pub known_row : GatheredSuite → ReadPoint → KnownSuite
 known_row suite first =
     record { mode = suite.mode; row = row_with first.prefix.kind first.prefix suite.content; opened = is_some suite.content }
 
 -- what is known of the suites that had a Current
-abbrev pub known_if : ℕ → Suite → Option ReadPoint → Known → Known
+abbrev pub known_if : ℕ → GatheredSuite → Option ReadPoint → Known → Known
 known_if number suite (Some first) known = (number, known_row suite first) ∷ known
 known_if number suite None known = known
 
@@ -68,13 +68,13 @@ known_of (one ∷ suites) = known_if one.0 one.1 one.1.first (known_of suites)
 -- ---- locks
 
 -- the servers that answered that a lock is held, and the mode in which they hold it
-abbrev pub holds_lock : Suite → ℕ → Bool
+abbrev pub holds_lock : GatheredSuite → ℕ → Bool
 holds_lock suite server = holds Shared (all_told suite.collector) server
 
-abbrev pub holds_exclusively : Suite → ℕ → Bool
+abbrev pub holds_exclusively : GatheredSuite → ℕ → Bool
 holds_exclusively suite server = holds Exclusive (all_told suite.collector) server
 
-abbrev pub lock_mode : Suite → ℕ → LockMode
+abbrev pub lock_mode : GatheredSuite → ℕ → LockMode
 lock_mode suite server = if holds_exclusively suite server then Exclusive else Shared
 
 -- whether a server holds a lock on any suite
@@ -93,7 +93,7 @@ abbrev pub first_or : Option ReadPoint → ReadPoint → Option ReadPoint
 first_or (Some first) new = Some first
 first_or None new = Some new
 
-abbrev pub settled : Prefix → ℕ → List ℕ → Suite → Suite
+abbrev pub settled : Prefix → ℕ → List ℕ → GatheredSuite → GatheredSuite
 settled prefix dver members suite = record suite {
   first = first_or suite.first (record { prefix = prefix; dver = dver; source = source_of suite.collector dver members });
   mode = suite.collector.mode;

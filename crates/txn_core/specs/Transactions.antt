@@ -31,7 +31,7 @@ use Rattle.suite_collect.specs.declared.told.Said.{Said}
 use Rattle.suite_collect.specs.Collecting.{Next, Ask, Current, Short, collect, raise, widen, tell, request_for, mode_of, next}
 use Rattle.weak_cache.specs.Entries.{Cache}
 use Rattle.weak_cache.specs.Cache.{hint, content_at, searched, put}
-use Rattle.txn_core.specs.Suites.{ReadPoint, Suite, Suites, suite_of, with_suite, known_of, has_locks, settled}
+use Rattle.txn_core.specs.Suites.{ReadPoint, GatheredSuite, Suites, suite_of, with_suite, known_of, has_locks, settled}
 use Rattle.txn_core.specs.Writing.{change_of, parts_at}
 use Rattle.txn_core.specs.declared.response.Response.{Response}
 use Rattle.txn_core.specs.declared.ending.Cause.{Cause}
@@ -89,14 +89,14 @@ abbrev pub gather_by : Task → Cache → Suites → ℕ → Next → Step
 gather_by task cache suites number (Short got needed busy) = give_up task cache suites (short_cause number got needed busy)
 gather_by task cache suites number asking = on_with task cache suites (Gathering number)
 
-abbrev pub gather : Task → Cache → Suites → ℕ → Suite → Step
+abbrev pub gather : Task → Cache → Suites → ℕ → GatheredSuite → Step
 gather task cache suites number suite = gather_by task cache (with_suite number suite suites) number (next suite.collector)
 
 -- from the hint of the site's cache, or from what was never made
 abbrev pub start_from : Fixed → Task → Cache → ℕ → Prefix
 start_from fixed task cache suite = unwrap_or (hint cache task.site suite) (absent_prefix fixed.service.c0)
 
-abbrev pub raised_or_new : Fixed → Task → Cache → ℕ → LockMode → Option Suite → Suite
+abbrev pub raised_or_new : Fixed → Task → Cache → ℕ → LockMode → Option GatheredSuite → GatheredSuite
 raised_or_new fixed task cache number mode (Some suite) = record suite { collector = raise suite.collector }
 raised_or_new fixed task cache number mode None =
     record { collector = collect mode (start_from fixed task cache number); first = None; mode = Shared; content = None }
@@ -109,10 +109,10 @@ votes_then (Some change) first before = change.row.votes
 votes_then None (Some first) before = first.prefix.votes
 votes_then None None before = before
 
-abbrev pub votes_after : Changes → ℕ → Suite → Configuration
+abbrev pub votes_after : Changes → ℕ → GatheredSuite → Configuration
 votes_after changes number suite = votes_then (change_of changes number) suite.first suite.collector.start.votes
 
-abbrev pub widened : Changes → ℕ → Suite → Suite
+abbrev pub widened : Changes → ℕ → GatheredSuite → GatheredSuite
 widened changes number suite = record suite { collector = widen (votes_after changes number suite) suite.collector }
 
 -- the suites that get votes, rising
@@ -125,7 +125,7 @@ widen_by task cache suites phase number (Current prefix dver members) go_on = go
 widen_by task cache suites phase number (Ask server asked) go_on = on_with task cache suites phase
 widen_by task cache suites phase number (Short got needed busy) go_on = give_up task cache suites (short_cause number got needed busy)
 
-abbrev pub widen_one : Task → Cache → Suites → Phase → Changes → ℕ → Option Suite → (Suites → Step) → Step
+abbrev pub widen_one : Task → Cache → Suites → Phase → Changes → ℕ → Option GatheredSuite → (Suites → Step) → Step
 widen_one task cache suites phase changes number (Some suite) go_on =
     widen_by task cache (with_suite number (widened changes number suite) suites) phase number (next (widened changes number suite).collector) go_on
 widen_one task cache suites phase changes number None go_on = go_on suites
@@ -155,18 +155,18 @@ free_content task cache number first =
 abbrev pub after_search : Task → Cache → ℕ → ReadPoint → Cache
 after_search task cache number first = if first.dver == 0 then cache else searched task.site number first.dver cache
 
-abbrev pub opened_with : Task → Gathered → ℕ → Suite → ReadPoint → Option Content → Option Gathered
+abbrev pub opened_with : Task → Gathered → ℕ → GatheredSuite → ReadPoint → Option Content → Option Gathered
 opened_with task all number suite first (Some content) = Some (record {
   suites = with_suite number (record suite { content = Some content }) all.suites;
   cache = after_search task all.cache number first;
 })
 opened_with task all number suite first None = None
 
-abbrev pub open_first : Task → Gathered → ℕ → Suite → Option ReadPoint → Option Gathered
+abbrev pub open_first : Task → Gathered → ℕ → GatheredSuite → Option ReadPoint → Option Gathered
 open_first task all number suite (Some first) = opened_with task all number suite first (free_content task all.cache number first)
 open_first task all number suite None = None
 
-abbrev pub open_suite : Task → Gathered → ℕ → Option Suite → Option Gathered
+abbrev pub open_suite : Task → Gathered → ℕ → Option GatheredSuite → Option Gathered
 open_suite task all number (Some suite) = open_first task all number suite suite.first
 open_suite task all number None = None
 
@@ -202,7 +202,7 @@ abbrev pub asked_by : Task → ℕ → Next → Option (ℕ × Request)
 asked_by task number (Ask server asked) = Some (server, request_for task.t number asked)
 asked_by task number other = None
 
-abbrev pub asked_for : Task → ℕ → Option Suite → Option (ℕ × Request)
+abbrev pub asked_for : Task → ℕ → Option GatheredSuite → Option (ℕ × Request)
 asked_for task number (Some suite) = asked_by task number (next suite.collector)
 asked_for task number None = None
 
@@ -210,7 +210,7 @@ abbrev pub fetched_at : Task → ℕ → Option ReadPoint → Option (ℕ × Req
 fetched_at task number (Some first) = Some (first.source, request.Fetch task.t number)
 fetched_at task number None = None
 
-abbrev pub fetched_for : Task → ℕ → Option Suite → Option (ℕ × Request)
+abbrev pub fetched_for : Task → ℕ → Option GatheredSuite → Option (ℕ × Request)
 fetched_for task number (Some suite) = fetched_at task number suite.first
 fetched_for task number None = None
 
@@ -252,19 +252,19 @@ said_to asked reply.Down = if is_poll asked then Some told.Down else None
 said_to asked other = None
 
 -- a suite's collector was told: it asks on, or gives up, or it is Current and something else follows
-abbrev pub collected : Task → Cache → Suites → Phase → ℕ → Suite → Next → (Suite → Step) → Step
+abbrev pub collected : Task → Cache → Suites → Phase → ℕ → GatheredSuite → Next → (GatheredSuite → Step) → Step
 collected task cache suites phase number suite (Ask server asked) go_on = on_with task cache (with_suite number suite suites) phase
 collected task cache suites phase number suite (Short got needed busy) go_on = give_up task cache (with_suite number suite suites) (short_cause number got needed busy)
 collected task cache suites phase number suite (Current prefix dver members) go_on = go_on (settled prefix dver members suite)
 
-abbrev pub hear : Task → Cache → Suites → Phase → ℕ → Suite → ℕ → Request → Option Said → (Suite → Step) → Step
+abbrev pub hear : Task → Cache → Suites → Phase → ℕ → GatheredSuite → ℕ → Request → Option Said → (GatheredSuite → Step) → Step
 hear task cache suites phase number suite server asked (Some said) go_on =
     let after = record suite { collector = tell (record { server = server; mode = mode_of asked; said = said }) suite.collector } in
     collected task cache suites phase number after (next after.collector) go_on
 hear task cache suites phase number suite server asked None go_on = give_up task cache suites (Lost server)
 
 -- a content that was fetched; the cache keeps it with the prefix that the first Current gave
-abbrev pub keep_content : Fixed → Task → Cache → Suites → ℕ → Suite → Content → Option ReadPoint → ℕ → Step
+abbrev pub keep_content : Fixed → Task → Cache → Suites → ℕ → GatheredSuite → Content → Option ReadPoint → ℕ → Step
 keep_content fixed task cache suites number suite content (Some first) server = execute fixed task (record {
   suites = with_suite number (record suite { content = Some content }) suites;
   cache = put fixed.limits (record { site = task.site; suite = number; prefix = first.prefix; dver = first.dver; content = content }) cache;
@@ -275,7 +275,7 @@ abbrev pub given_in : Reply → Option Content
 given_in (reply.Given dver content) = Some content
 given_in other = None
 
-abbrev pub fetched : Fixed → Task → Cache → Suites → ℕ → Option Suite → ℕ → Option Content → Step
+abbrev pub fetched : Fixed → Task → Cache → Suites → ℕ → Option GatheredSuite → ℕ → Option Content → Step
 fetched fixed task cache suites number (Some suite) server (Some content) = keep_content fixed task cache suites number suite content suite.first server
 fetched fixed task cache suites number suite server given = give_up task cache suites (Lost server)
 
@@ -303,7 +303,7 @@ decided task cache suites said =
     let v = verdict_in said verdict.Aborted in finish task cache suites v (ending_by v (cause_of_abort said))
 
 -- the collector of a suite was answered
-abbrev pub heard_of : Task → Cache → Suites → Phase → ℕ → Option Suite → ℕ → Request → Reply → (Suites → Step) → Step
+abbrev pub heard_of : Task → Cache → Suites → Phase → ℕ → Option GatheredSuite → ℕ → Request → Reply → (Suites → Step) → Step
 heard_of task cache suites phase number (Some suite) server asked said go_on =
     hear task cache suites phase number suite server asked (said_to asked said) (λ suite. go_on (with_suite number suite suites))
 heard_of task cache suites phase number None server asked said go_on = give_up task cache suites (Lost server)

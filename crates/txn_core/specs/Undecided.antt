@@ -18,7 +18,7 @@ use Rattle.rep_core.specs.declared.stamped.Lack.{Lack}
 use Rattle.rep_core.specs.declared.stamped.Lack.TheVariants as lack
 use Rattle.suite_collect.specs.Telling.{newest}
 use Rattle.suite_collect.specs.Collecting.{needed_of}
-use Rattle.txn_core.specs.Suites.{ReadPoint, Suite, Suites, suite_of}
+use Rattle.txn_core.specs.Suites.{ReadPoint, GatheredSuite, Suites, suite_of}
 use Rattle.txn_core.specs.Writing.{change_of}
 use Rattle.txn_core.specs.declared.response.Response.{Response}
 use Rattle.txn_core.specs.declared.response.Response.TheVariants.{Replied, Lacked}
@@ -37,7 +37,7 @@ use Rattle.txn_core.specs.Caching.{FirstGave, IsContentOf}
 
 -- A suite that it gathered: the prefix and the version that are known of it are those that its first Current gave; and whatever content is
 -- known of it is the empty one, one that the site's cache had at this version, or the one that was fetched.
-pub record WasGathered (fixed : Fixed) (agent : Agent) (job : Job) (events : List Event) (number : ℕ) (suite : Suite) : Type 0 where
+pub record WasGathered (fixed : Fixed) (agent : Agent) (job : Job) (events : List Event) (number : ℕ) (suite : GatheredSuite) : Type 0 where
   pub start : Prefix
   pub gathered : IsStart fixed agent job events number start
   pub first : ReadPoint
@@ -46,7 +46,7 @@ pub record WasGathered (fixed : Fixed) (agent : Agent) (job : Job) (events : Lis
   pub content : (content : Content) → suite.content ≡ Some content → IsContentOf fixed agent job events gathered.site number first content
 
 abbrev pub WereGathered : Fixed → Agent → Job → List Event → Suites → Type 0
-WereGathered fixed agent job events suites = (number : ℕ) (suite : Suite) → suite_of suites number ≡ Some suite → WasGathered fixed agent job events number suite
+WereGathered fixed agent job events suites = (number : ℕ) (suite : GatheredSuite) → suite_of suites number ≡ Some suite → WasGathered fixed agent job events number suite
 
 -- The mode in which it wants a suite: on suites that it gathered its operations need the lock in that mode.
 pub record IsWanted (fixed : Fixed) (agent : Agent) (job : Job) (events : List Event) (suite : ℕ) (mode : LockMode) : Type 0 where

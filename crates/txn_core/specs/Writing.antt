@@ -15,7 +15,7 @@ use Rattle.rep_core.specs.declared.request.Take.{Take}
 use Rattle.rep_core.specs.declared.request.Take.TheVariants as take
 use Rattle.rep_core.specs.declared.request.Part.{Part}
 use Rattle.file_exec.specs.declared.changes.Change.{Change}
-use Rattle.txn_core.specs.Suites.{ReadPoint, Suite, Suites, holds_lock, holds_exclusively, lock_mode}
+use Rattle.txn_core.specs.Suites.{ReadPoint, GatheredSuite, Suites, holds_lock, holds_exclusively, lock_mode}
 use Rattle.txn_core.specs.Doing.{Changes}
 
 -- ---- what is set
@@ -82,11 +82,11 @@ take_of_changed first change server =
     else if sets_prefix change then take.Prefix (new_prefix first change)
     else take.Keep
 
-abbrev pub take_from : Suite → ℕ → Option ReadPoint → Option Change → Take
+abbrev pub take_from : GatheredSuite → ℕ → Option ReadPoint → Option Change → Take
 take_from suite server (Some first) (Some change) = if holds_exclusively suite server then take_of_changed first change server else take.Keep
 take_from suite server first change = take.Keep
 
-abbrev pub part_of : Changes → ℕ → ℕ × Suite → Part
+abbrev pub part_of : Changes → ℕ → ℕ × GatheredSuite → Part
 part_of changes server one = record { suite = one.0; mode = lock_mode one.1 server; take = take_from one.1 server one.1.first (change_of changes one.0) }
 
 -- what a server is to prepare: the locks that it answered to hold, the suites rising

@@ -22,7 +22,7 @@ use crate::job::Job;
 use crate::resources::Resources;
 use crate::sameness::same_phase;
 use crate::stage::Stage;
-use crate::suites::Suite;
+use crate::suites::GatheredSuite;
 use crate::sweep_run::SweepRun;
 use crate::task::Task;
 use crate::transaction_run::TransactionRun;
@@ -313,7 +313,7 @@ impl Agent {
 
     /// The suites of which its transaction asked for locks, each with what it gathered of it: none, where it
     /// carries out no transaction.
-    pub fn gathered(&self) -> &[(u64, Suite)]
+    pub fn gathered(&self) -> &[(u64, GatheredSuite)]
         ensures { result.now ≡ gathered_in self.now.state.doing }
     {
         match &self.doing {
@@ -360,7 +360,7 @@ impl Doing {
     }
 
     /// What was gathered.
-    fn gathered(&self) -> &[(u64, Suite)]
+    fn gathered(&self) -> &[(u64, GatheredSuite)]
         ensures { result.now ≡ gathered_in (Some (doing_of self.now)) }
     {
         match self {

@@ -9,7 +9,7 @@ ghost use Rattle.txn_core.specs.Transactions.{after_search};
 use crate::granted::Granted;
 use crate::next_phase::NextPhase;
 use crate::plan::Plan;
-use crate::suites::Suite;
+use crate::suites::GatheredSuite;
 use crate::task::Task;
 use file_exec::{Need, Outcome};
 use sorted_map::RoomyMap;
@@ -20,7 +20,7 @@ use weak_cache::WeakCache;
 
 impl Plan {
     /// Makes room for a suite that is asked for the first time.
-    pub(crate) fn make_room(&self, suites: &mut RoomyMap<u64, Suite>) -> Result<(), AllocError>
+    pub(crate) fn make_room(&self, suites: &mut RoomyMap<u64, GatheredSuite>) -> Result<(), AllocError>
         ensures ok { OnOk result (IsSome self.now.new → 0 < suites.new.room) }
         ensures pairs { suites.new.pairs ≡ suites.old.pairs }
     {
@@ -34,7 +34,7 @@ impl Plan {
     pub(crate) fn carry_out(
         self,
         task: &Task,
-        suites: &mut RoomyMap<u64, Suite>,
+        suites: &mut RoomyMap<u64, GatheredSuite>,
         cache: &mut WeakCache,
     ) -> NextPhase
         requires { IsSome self.new → 0 < suites.old.room }
@@ -56,7 +56,7 @@ impl Plan {
 /// Gives suites their contents, one after the other.
 fn open_all(
     task: &Task,
-    suites: &mut RoomyMap<u64, Suite>,
+    suites: &mut RoomyMap<u64, GatheredSuite>,
     cache: &mut WeakCache,
     opened: Vec<(u64, Content)>,
 )
@@ -72,7 +72,7 @@ fn open_all(
 /// Gives a suite its content. Where the cache has it, it is the newest there from then on.
 fn open(
     task: &Task,
-    suites: &mut RoomyMap<u64, Suite>,
+    suites: &mut RoomyMap<u64, GatheredSuite>,
     cache: &mut WeakCache,
     number: u64,
     content: Content,
@@ -101,7 +101,7 @@ fn look_up(task: &Task, cache: &mut WeakCache, number: u64, first: &ReadPoint)
 }
 
 /// Asks for the suite that is needed: a new one is put among the suites, and another is raised.
-fn ask(suites: &mut RoomyMap<u64, Suite>, outcome: &Outcome, new: Option<Suite>)
+fn ask(suites: &mut RoomyMap<u64, GatheredSuite>, outcome: &Outcome, new: Option<GatheredSuite>)
     requires { IsSome new → 0 < suites.old.room }
     ensures { suites.new.pairs ≡ spec.with_asked outcome.now new suites.old.pairs }
 {
@@ -117,7 +117,7 @@ fn ask(suites: &mut RoomyMap<u64, Suite>, outcome: &Outcome, new: Option<Suite>)
 }
 
 /// From now on an exclusive lock is wanted on a suite.
-fn raise(suites: &mut RoomyMap<u64, Suite>, number: u64)
+fn raise(suites: &mut RoomyMap<u64, GatheredSuite>, number: u64)
     ensures { suites.new.pairs ≡ spec.raised_at number (suite_of suites.old.pairs number) suites.old.pairs }
 {
     if let Some(suite) = suites.get_mut(&number) {

@@ -13,7 +13,7 @@ use crate::fixed_parts::FixedParts;
 use crate::learned::Learned;
 use crate::next_phase::NextPhase;
 use crate::plan::Plan;
-use crate::suites::Suite;
+use crate::suites::GatheredSuite;
 use crate::suites_after::SuitesAfter;
 use crate::task::Task;
 use file_exec::Progress;
@@ -34,7 +34,7 @@ impl<'a> Execution<'a> {
     /// known. All that may fail comes first: an error leaves all as it was, but for what was reached.
     pub(crate) fn execute(
         self,
-        suites: &mut RoomyMap<u64, Suite>,
+        suites: &mut RoomyMap<u64, GatheredSuite>,
         cache: &mut WeakCache,
         progress: &mut Progress,
         just_learned: Learned,
@@ -56,7 +56,7 @@ impl<'a> Execution<'a> {
     /// The plan of an execution, and room for what it sets.
     fn prepare(
         self,
-        suites: &mut RoomyMap<u64, Suite>,
+        suites: &mut RoomyMap<u64, GatheredSuite>,
         cache: &WeakCache,
         progress: &mut Progress,
         just_learned: &Learned,

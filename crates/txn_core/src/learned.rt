@@ -9,7 +9,7 @@ ghost use Rattle.txn_core.specs.Suites.{suite_of};
 
 use crate::cache_after::Fetched;
 use crate::pending_quorum::PendingQuorum;
-use crate::suites::Suite;
+use crate::suites::GatheredSuite;
 use sorted_map::RoomyMap;
 use std::alloc::AllocError;
 use suite_content::Content;
@@ -39,7 +39,7 @@ impl Learned {
 
     /// Whether more is known by it, and nothing else than before: a suite had no quorum, or is held in its mode or a
     /// stronger one, or its content was not there, and this one is of its kind.
-    pub(crate) fn adds_to(&self, suites: &RoomyMap<u64, Suite>) -> bool
+    pub(crate) fn adds_to(&self, suites: &RoomyMap<u64, GatheredSuite>) -> bool
         ensures { result ≡ adds self.now suites.now.pairs }
     {
         match self {
@@ -58,7 +58,7 @@ impl Learned {
     /// It is set, of its suite and in the cache. Only a content may run out of memory: then nothing changes.
     pub(crate) fn set(
         self,
-        suites: &mut RoomyMap<u64, Suite>,
+        suites: &mut RoomyMap<u64, GatheredSuite>,
         cache: &mut WeakCache,
     ) -> Result<(), AllocError>
         requires { Fits self }
@@ -81,7 +81,7 @@ impl Learned {
 }
 
 /// A suite has a quorum from now on.
-pub(crate) fn settle(suites: &mut RoomyMap<u64, Suite>, number: u64, pending: PendingQuorum)
+pub(crate) fn settle(suites: &mut RoomyMap<u64, GatheredSuite>, number: u64, pending: PendingQuorum)
     ensures suites { suites.new.pairs ≡ changed_at (settled_with pending) number (suite_of suites.old.pairs number) suites.old.pairs }
     ensures room { suites.new.room ≡ suites.old.room }
 {
@@ -91,7 +91,7 @@ pub(crate) fn settle(suites: &mut RoomyMap<u64, Suite>, number: u64, pending: Pe
 }
 
 /// A suite has its content from now on.
-fn open(suites: &mut RoomyMap<u64, Suite>, number: u64, content: Content)
+fn open(suites: &mut RoomyMap<u64, GatheredSuite>, number: u64, content: Content)
     ensures suites { suites.new.pairs ≡ changed_at (with_content content) number (suite_of suites.old.pairs number) suites.old.pairs }
     ensures room { suites.new.room ≡ suites.old.room }
 {

@@ -92,4 +92,4 @@ pub use laws::{
 };
 pub use response::Response;
 pub use stage::Stage;
-pub use suites::Suite;
+pub use suites::GatheredSuite;

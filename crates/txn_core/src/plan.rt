@@ -15,7 +15,7 @@ ghost use Rattle.txn_core.specs.code.Unused.{HasUnused};
 use crate::cache_after::CacheAfter;
 use crate::execution::Execution;
 use crate::knowing::known_of;
-use crate::suites::Suite;
+use crate::suites::GatheredSuite;
 use crate::suites_after::SuitesAfter;
 use file_exec::{Known, Need, Outcome, Progress, exec};
 use std::alloc::AllocError;
@@ -31,7 +31,7 @@ pub(crate) struct Plan {
     /// What the transaction comes to with them.
     pub(crate) outcome: Outcome,
     /// The suite that is needed then, where it was not asked for yet.
-    pub(crate) new: Option<Suite>,
+    pub(crate) new: Option<GatheredSuite>,
 }
 
 impl<'a> Execution<'a> {
@@ -153,7 +153,7 @@ impl<'a> Execution<'a> {
         after: SuitesAfter<'_>,
         cache_after: CacheAfter<'_>,
         outcome: &Outcome,
-    ) -> Result<Option<Suite>, AllocError>
+    ) -> Result<Option<GatheredSuite>, AllocError>
         requires { HasUnused (spec.entries_on cache_after) }
         ensures { IfOk result (λ new. new ≡ new_at self.entry cache_after.entry after.entry outcome.now) }
     {
@@ -165,7 +165,7 @@ impl<'a> Execution<'a> {
         }
         let task = self.task;
         let start = self.start_of(cache_after, *number).clone()?;
-        let suite = Suite::new(self.alloc, task.t, *number, *mode, start)?;
+        let suite = GatheredSuite::new(self.alloc, task.t, *number, *mode, start)?;
         Ok(Some(suite))
     }
 

@@ -6,7 +6,7 @@ ghost use Rattle.txn_core.specs.code.Passing.{is_none};
 ghost use Rattle.txn_core.specs.Suites as gathering;
 ghost use Rattle.txn_core.specs.Transactions as txn_run;
 
-use crate::suites::Suite;
+use crate::suites::GatheredSuite;
 use arrayvec::ArrayVec;
 use std::marker::Model;
 use vote_core::{MAX_SERVERS, ServerSet};
@@ -76,7 +76,7 @@ fn same_numbers(own: &[u8], theirs: &[u8]) -> bool
 }
 
 /// The servers that answered that they hold a lock, which rise.
-pub(crate) fn locked_at(suites: &[(u64, Suite)]) -> Servers
+pub(crate) fn locked_at(suites: &[(u64, GatheredSuite)]) -> Servers
     ensures { result ≡ txn_run.locked_at suites.now }
 {
     let holders = holders_of(suites);
@@ -90,7 +90,7 @@ pub(crate) fn locked_at(suites: &[(u64, Suite)]) -> Servers
 }
 
 /// The servers that hold a lock on any suite.
-fn holders_of(suites: &[(u64, Suite)]) -> ServerSet
+fn holders_of(suites: &[(u64, GatheredSuite)]) -> ServerSet
     ensures { (server : ℕ) → contains result server ≡ gathering.has_locks suites.now server }
 {
     let mut holders = ServerSet::empty();

@@ -27,7 +27,7 @@ use vote_core::{MAX_SERVERS, ServerSet, Votes};
 
 /// A suite that was asked for. What was gathered of it stands on the heap, so that it is cheap to move.
 #[derive(Drop)]
-pub struct Suite {
+pub struct GatheredSuite {
     gathered: Box<Gathered>,
 }
 
@@ -41,18 +41,18 @@ struct Gathered {
     content: Option<Content>,
 }
 
-impl Model for Suite {
+impl Model for GatheredSuite {
     ghost use Rattle.txn_core.specs.Suites as gathering;
     ghost use Rattle.txn_core.specs.code.SuiteFields.{suite_of, IsUnused};
 
-    ghost Value = { gathering.Suite };
+    ghost Value = { gathering.GatheredSuite };
 
     ghost view = { suite_of };
 
     ghost invariant = { IsUnused };
 }
 
-impl Suite {
+impl GatheredSuite {
     /// A suite of which nothing was told. `start` is a prefix that it once had, or that of what was never
     /// made.
     pub(crate) fn new(
@@ -61,7 +61,7 @@ impl Suite {
         number: u64,
         mode: LockMode,
         start: SharedPrefix,
-    ) -> Result<Suite, AllocError>
+    ) -> Result<GatheredSuite, AllocError>
         requires { is_used_up start.pver ≡ false }
         ensures { IfOk result (λ suite. suite ≡ record { collector = spec.collect mode start; first = None; mode = LockMode.Shared; content = None }) }
     {
@@ -72,7 +72,7 @@ impl Suite {
             content: None,
         };
         let gathered = Box::new(alloc, gathered)?;
-        Ok(Suite { gathered })
+        Ok(GatheredSuite { gathered })
     }
 
     /// What its first quorum gave.

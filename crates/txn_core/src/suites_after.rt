@@ -6,7 +6,7 @@ ghost use Rattle.txn_core.specs.code.Seeing.{first_at, known_of_view, seen_in, s
 ghost use Rattle.txn_core.specs.Suites.{suite_of};
 
 use crate::learned::Learned;
-use crate::suites::Suite;
+use crate::suites::GatheredSuite;
 use file_exec::KnownSuite;
 use sorted_map::RoomyMap;
 use suite_collect::ReadPoint;
@@ -16,7 +16,7 @@ use suite_prefix::LockMode;
 /// The suites of a transaction as they will be, once what was learned is set.
 #[derive(Clone, Copy)]
 pub(crate) struct SuitesAfter<'a> {
-    pub(crate) suites: &'a RoomyMap<u64, Suite>,
+    pub(crate) suites: &'a RoomyMap<u64, GatheredSuite>,
     pub(crate) just_learned: &'a Learned,
 }
 
@@ -63,7 +63,7 @@ impl<'a> SuitesAfter<'a> {
     }
 
     /// What is known of the suite of a number.
-    pub(crate) fn at(self, number: u64, suite: &'a Suite) -> SuiteView<'a>
+    pub(crate) fn at(self, number: u64, suite: &'a GatheredSuite) -> SuiteView<'a>
         ensures { suite_view_of result ≡ view_of_suite (told_of self.entry.just_learned.now number suite.now) }
     {
         match self.just_learned {

@@ -29,7 +29,7 @@ use crate::phase::Phase;
 use crate::resources::Resources;
 use crate::servers::locked_at;
 use crate::stage::Stage;
-use crate::suites::Suite;
+use crate::suites::GatheredSuite;
 use crate::task::Task;
 use rep_core::Reply;
 use sorted_map::RoomyMap;
@@ -43,7 +43,7 @@ use suite_content::Content;
 #[derive(Drop)]
 pub(crate) struct TransactionRun {
     pub(crate) task: Task,
-    pub(crate) suites: RoomyMap<u64, Suite>,
+    pub(crate) suites: RoomyMap<u64, GatheredSuite>,
     pub(crate) phase: Phase,
 }
 
@@ -98,7 +98,7 @@ impl TransactionRun {
     }
 
     /// What was gathered of suites, the suites rising.
-    pub(crate) fn gathered(&self) -> &[(u64, Suite)]
+    pub(crate) fn gathered(&self) -> &[(u64, GatheredSuite)]
         ensures { result.now ≡ self.now.suites }
     {
         self.suites.as_slice()
@@ -360,7 +360,7 @@ impl TransactionRun {
     fn gather(&mut self, number: u64) -> Flow
         ensures { (cache : Cache) → GoesBy (gathers self.old cache number) result self.new cache }
     {
-        let coming = self.suites.get(&number).map(Suite::next);
+        let coming = self.suites.get(&number).map(GatheredSuite::next);
         if let Some(Coming::Short { got, needed, busy }) = coming {
             return self.give_up(Cause::of_short(number, got, needed, busy));
         }

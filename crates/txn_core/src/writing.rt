@@ -7,7 +7,7 @@ ghost use Rattle.txn_core.specs.Writing as spec;
 ghost use Rattle.txn_core.specs.code.Leaving.{take_of};
 ghost use Rattle.txn_core.specs.code.Unused.{GaveUnused};
 
-use crate::suites::Suite;
+use crate::suites::GatheredSuite;
 use file_exec::{Change, Changes};
 use rep_core::{Part, Parts, Take};
 use std::alloc::{AllocError, Global};
@@ -20,7 +20,7 @@ use vote_core::Votes;
 /// of them. Lists and contents are shared.
 pub(crate) fn parts_at(
     alloc: Global,
-    suites: &[(u64, Suite)],
+    suites: &[(u64, GatheredSuite)],
     changes: Option<&Changes>,
     server: u8,
 ) -> Result<Parts, AllocError>
@@ -40,7 +40,7 @@ pub(crate) fn parts_at(
 fn add_part(
     parts: &mut Vec<Part>,
     number: u64,
-    suite: &Suite,
+    suite: &GatheredSuite,
     changes: Option<&Changes>,
     server: u8,
 ) -> Result<(), AllocError>
@@ -69,7 +69,7 @@ fn add_part(
 /// else it takes nothing.
 fn taken<'a>(
     number: u64,
-    suite: &'a Suite,
+    suite: &'a GatheredSuite,
     changes: Option<&'a Changes>,
     server: u8,
 ) -> Option<(&'a ReadPoint, &'a Change)>

@@ -4,12 +4,12 @@ use Rattle.std.specs.Prelude.{slice_index}
 use Rattle.std.proofs.lemmas.Bool.{eqb-true, false≢true}
 use Rattle.std.proofs.lemmas.List.{get_or-set_same, get_or-set_other, length-set}
 use Rattle.weak_cache.specs.Entries.{Entry, Cache, size_of, sum_of, is_at, list_of, forgotten}
-use Rattle.weak_cache.specs.declared.tally.Tally.{Tally}
+use Rattle.weak_cache.specs.declared.tally.Sums.{Sums}
 use Rattle.weak_cache.specs.code.Counts.{IsEntry, IsTally}
 use Rattle.weak_cache.proofs.Keeping.{sum_of-append}
 
 -- with an entry of a site that takes so many bytes
-abbrev pub added : Tally → ℕ → ℕ → Tally
+abbrev pub added : Sums → ℕ → ℕ → Sums
 added t site size = record {
   count = t.count + 1;
   sum = t.sum + size;
@@ -17,7 +17,7 @@ added t site size = record {
 }
 
 -- and without it
-abbrev pub dropped : Tally → ℕ → ℕ → Tally
+abbrev pub dropped : Sums → ℕ → ℕ → Sums
 dropped t site size = record {
   count = t.count - 1;
   sum = t.sum - size;
@@ -46,7 +46,7 @@ at_own e = eq-eqb e.site e.site refl
 apart : (site : ℕ) (e : Entry) → is_at site e ≡ false → site ≢ e.site
 apart site e other same = false≢true (sym other ∙ eq-eqb e.site site (sym same))
 
-pub tally_dropped : (t : Tally) (newer : Cache) (e : Entry) (older : Cache) → e.site < 16 → IsTally t (newer ++ e ∷ older) → IsTally (dropped t e.site (size_of e.content)) (newer ++ older)
+pub tally_dropped : (t : Sums) (newer : Cache) (e : Entry) (older : Cache) → e.site < 16 → IsTally t (newer ++ e ∷ older) → IsTally (dropped t e.site (size_of e.content)) (newer ++ older)
 tally_dropped t newer e older small h = record {
   count = omega (arith, h.count, length-append newer (e ∷ older), length-append newer older);
   sum = omega (arith, h.sum, sum_between newer e older);
@@ -61,7 +61,7 @@ tally_dropped t newer e older small h = record {
   all = length-set t.sites e.site (slice_index t.sites e.site - size_of e.content) ∙ h.all;
 }
 
-pub tally_added : (t : Tally) (e : Entry) (c : Cache) → e.site < 16 → IsTally t c → IsTally (added t e.site (size_of e.content)) (e ∷ c)
+pub tally_added : (t : Sums) (e : Entry) (c : Cache) → e.site < 16 → IsTally t c → IsTally (added t e.site (size_of e.content)) (e ∷ c)
 tally_added t e c small h = record {
   count = omega (arith, h.count);
   sum = omega (arith, h.sum);
@@ -77,7 +77,7 @@ tally_added t e c small h = record {
 }
 
 -- what goes was counted
-pub counted_between : (t : Tally) (newer : Cache) (e : Entry) (older : Cache) → e.site < 16 → IsTally t (newer ++ e ∷ older) → (size_of e.content ≤ t.sum) × (size_of e.content ≤ slice_index t.sites e.site) × (1 ≤ t.count)
+pub counted_between : (t : Sums) (newer : Cache) (e : Entry) (older : Cache) → e.site < 16 → IsTally t (newer ++ e ∷ older) → (size_of e.content ≤ t.sum) × (size_of e.content ≤ slice_index t.sites e.site) × (1 ≤ t.count)
 counted_between t newer e older small h = (
   omega (arith, h.sum, sum_between newer e older),
   omega (arith, h.sites e.site small, own_between e.site newer e older (at_own e)),
@@ -85,16 +85,16 @@ counted_between t newer e older small h = (
 )
 
 -- what an entry less leaves, and one more
-pub tally_less : (t : Tally) (newer : Cache) (e : Entry) (older : Cache) (site size at : ℕ) → at ≡ site → e.site < 16 → IsEntry e site size → IsTally t (newer ++ e ∷ older)
+pub tally_less : (t : Sums) (newer : Cache) (e : Entry) (older : Cache) (site size at : ℕ) → at ≡ site → e.site < 16 → IsEntry e site size → IsTally t (newer ++ e ∷ older)
     → IsTally (record { count = t.count - 1; sum = t.sum - size; sites = set t.sites at (slice_index t.sites at - size) }) (newer ++ older)
 tally_less t newer e older site size at place small is h = rw (place, sym is.own_site, sym is.own_size) (tally_dropped t newer e older small h)
 
-pub tally_more : (t : Tally) (e : Entry) (c : Cache) (site size at : ℕ) → at ≡ site → e.site < 16 → IsEntry e site size → IsTally t c
+pub tally_more : (t : Sums) (e : Entry) (c : Cache) (site size at : ℕ) → at ≡ site → e.site < 16 → IsEntry e site size → IsTally t c
     → IsTally (record { count = t.count + 1; sum = t.sum + size; sites = set t.sites at (slice_index t.sites at + size) }) (e ∷ c)
 tally_more t e c site size at place small is h = rw (place, sym is.own_site, sym is.own_size) (tally_added t e c small h)
 
 -- an entry that becomes the newest
-pub tally_moved : (t : Tally) (newer : Cache) (e : Entry) (older : Cache) → IsTally t (newer ++ e ∷ older) → IsTally t (e ∷ newer ++ older)
+pub tally_moved : (t : Sums) (newer : Cache) (e : Entry) (older : Cache) → IsTally t (newer ++ e ∷ older) → IsTally t (e ∷ newer ++ older)
 tally_moved t newer e older h = record {
   count = omega (arith, h.count, length-append newer (e ∷ older), length-append newer older);
   sum = omega (arith, h.sum, sum_between newer e older);
@@ -115,5 +115,5 @@ sum_split site (e ∷ c) =
       | false ↦ omega (arith, sum_split site c)
     ]
 
-pub sites_within : (t : Tally) (c : Cache) (site : ℕ) → site < 16 → IsTally t c → slice_index t.sites site ≤ sum_of c
+pub sites_within : (t : Sums) (c : Cache) (site : ℕ) → site < 16 → IsTally t c → slice_index t.sites site ≤ sum_of c
 sites_within t c site small h = omega (arith, h.sites site small, sum_split site c)

@@ -11,7 +11,7 @@ use Rattle.std.specs.Map.{lookup}
 use Rattle.weak_cache.specs.Entries.{Entry, Cache, is_at, is_of, sum_of, list_of, entry_of}
 use Rattle.weak_cache.specs.Entries as entries
 use Rattle.weak_cache.specs.declared.kept.Kept.{Kept}
-use Rattle.weak_cache.specs.declared.tally.Tally.{Tally}
+use Rattle.weak_cache.specs.declared.tally.Sums.{Sums}
 use Rattle.weak_cache.specs.code.Counts.{IsTally}
 use Rattle.weak_cache.specs.code.Shelved.{Slotted, values, same_key, has_key, slot_in, Sited, from_slot, from_on, IsKept}
 use Rattle.weak_cache.proofs.Fewer.{fewer_moved, fewer_then, fewer_without, fewer_same, once_fewer}
@@ -360,7 +360,7 @@ kept_same k k' h same index tally slots =
     record {
       known = λ site suite. ap (lookup (same_key (site, suite))) index ∙ h.known site suite ∙ sym (ap (slot_in site suite) is);
       sited = subst Sited (sym is) h.sited;
-      counted = subst (λ (l : List Slotted). IsTally k'.tally (values l)) (sym is) (subst (λ (t : Tally). IsTally t (values k.shelf.entries)) (sym tally) h.counted);
+      counted = subst (λ (l : List Slotted). IsTally k'.tally (values l)) (sym is) (subst (λ (t : Sums). IsTally t (values k.shelf.entries)) (sym tally) h.counted);
       once = subst OnceEach (sym is) h.once;
       slots = slots ∙ h.slots ∙ sym (ap (λ (t : Shelf Entry). t.slots) same);
       small = omega (arith, slots, h.small);
@@ -467,7 +467,7 @@ module _ (k k' : Kept) (h : IsKept k) (slots : k'.slots ≡ k.slots) where
               (λ other. ap (option_map (λ (s : Slotted). s.slot)) (find_skip (has_key site suite) c.newer c.s c.older other) ∙ rw other refl)
               ∙ sym (ap (slot_in site suite) is);
           sited = subst Sited (sym is) sites;
-          counted = subst (IsTally k'.tally) (sym front) (subst (λ (t : Tally). IsTally t (c.s.value ∷ (values c.newer ++ values c.older))) (sym tally) (tally_moved k.tally (values c.newer) c.s.value (values c.older) (subst (IsTally k.tally) parted h.counted)));
+          counted = subst (IsTally k'.tally) (sym front) (subst (λ (t : Sums). IsTally t (c.s.value ∷ (values c.newer ++ values c.older))) (sym tally) (tally_moved k.tally (values c.newer) c.s.value (values c.older) (subst (IsTally k.tally) parted h.counted)));
           once = λ site suite. omega (
             arith,
             once_fewer site suite (c.s.value ∷ values c.newer ++ values c.older) (values c.newer ++ c.s.value ∷ values c.older) (fewer_moved (values c.newer) c.s.value (values c.older)),

@@ -9,7 +9,7 @@ ghost use Rattle.weak_cache.specs.code.Shelved.{IsKept, slot_in, values};
 
 use crate::cache::MAX_SITES;
 use crate::entry::SizedEntry;
-use crate::tally::Tally;
+use crate::tally::Sums;
 use indexmap::IndexMap;
 use recency::{Shelf, Slot};
 use std::alloc::{AllocError, Global};
@@ -21,7 +21,7 @@ pub(crate) struct Kept {
     pub(crate) shelf: Shelf<SizedEntry>,
     pub(crate) slots: usize,
     pub(crate) index: IndexMap<(u8, u64), Slot>,
-    pub(crate) tally: Tally,
+    pub(crate) tally: Sums,
 }
 
 impl Kept {
@@ -37,7 +37,7 @@ impl Kept {
             shelf,
             slots,
             index,
-            tally: Tally::new(),
+            tally: Sums::new(),
         })
     }
 

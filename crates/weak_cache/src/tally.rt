@@ -10,18 +10,18 @@ const SITES: usize = 16;
 /// How many entries there are, and how many bytes the contents of all take together, and those of each site. The
 /// sums have room for one entry more than there may be.
 #[derive(Drop)]
-pub(crate) struct Tally {
+pub(crate) struct Sums {
     pub(crate) count: usize,
     pub(crate) sum: u128,
     pub(crate) sites: [u128; SITES],
 }
 
-impl Tally {
+impl Sums {
     /// That of no entries.
-    pub(crate) fn new() -> Tally
+    pub(crate) fn new() -> Sums
         ensures { IsTally result [] }
     {
-        Tally {
+        Sums {
             count: 0,
             sum: 0,
             sites: [0; SITES],

@@ -2,7 +2,7 @@
 use Rattle.std.specs.Prelude.{◌≡◌, ◌⊎◌, ℕ, ◌+◌, ◌<◌, List, [], ◌∷◌, All, length, map, Contains, slice_get, slice_set, Option, Some, None}
 use Rattle.std.specs.List.{AllZip}
 use Rattle.server_lock.specs.Passes.{Held}
-use Rattle.agent_pool.specs.declared.work.Done.{Done}
+use Rattle.agent_pool.specs.declared.work.JobDone.{JobDone}
 use Rattle.agent_pool.specs.declared.work.SeatedAgent.{SeatedAgent}
 use Rattle.agent_pool.specs.declared.work.Worked.{Worked}
 use Rattle.agent_pool.specs.declared.pool_context.NamedJob.{NamedJob}
@@ -66,7 +66,7 @@ pub record IsPut (old : List (Option JobOutcome)) (place : ℕ) (outcome : JobOu
   pub is : new ≡ slice_set old place (Some outcome)
 
 -- outcomes stay in order
-abbrev pub StayInOrder : ℕ → List Done → List (Option JobOutcome) → List (Option JobOutcome) → Type 0
+abbrev pub StayInOrder : ℕ → List JobDone → List (Option JobOutcome) → List (Option JobOutcome) → Type 0
 StayInOrder agent ds old new =
     (numbers : List ℕ) (low high floor roof : ℕ) → ¬ (Contains numbers agent) → RiseBetween low ds high → RiseInPlace floor ds roof → AreInOrderIn old
     → AreBelow numbers agent low floor old → AreInOrderIn new × ((upper top : ℕ) × AreBelow numbers agent upper top new)

@@ -6,7 +6,7 @@ use Rattle.server_lock.specs.Passes.{Held}
 use Rattle.agent_pool.specs.declared.gather.Room.{Room}
 use Rattle.agent_pool.specs.declared.pool.Pool.{Pool}
 use Rattle.agent_pool.specs.declared.outcome.JobOutcome.{JobOutcome}
-use Rattle.agent_pool.specs.declared.work.Done.{Done}
+use Rattle.agent_pool.specs.declared.work.JobDone.{JobDone}
 use Rattle.agent_pool.specs.declared.work.SeatedAgent.{SeatedAgent}
 use Rattle.agent_pool.specs.declared.work.Worked.{Worked}
 use Rattle.agent_pool.specs.declared.pool_context.NamedJob.{NamedJob}
@@ -27,7 +27,7 @@ abbrev pub AllRan : List Worked → Type 0
 AllRan worked = All (λ (one : Worked). one.halt ≡ None) worked
 
 -- the place of what was done is taken by an outcome, of this job
-pub record IsTaken (jobs : List NamedJob) (slots : List (Option JobOutcome)) (done : Done) (job : ℕ) : Type 0 where
+pub record IsTaken (jobs : List NamedJob) (slots : List (Option JobOutcome)) (done : JobDone) (job : ℕ) : Type 0 where
   pub named : NamedJob
   pub there : slice_get jobs done.place ≡ Some named
   pub of : job ≡ named.number
@@ -50,10 +50,10 @@ pub record AreSeen (seen : List ℕ) (slots : List (Option JobOutcome)) : Type 0
   pub once : AreDistinct seen
 
 -- it is of a job, of which there are so many
-pub record IsWithin (many : ℕ) (done : Done) : Type 0 where
+pub record IsWithin (many : ℕ) (done : JobDone) : Type 0 where
   pub low : done.place < many
 
-abbrev pub AreWithin : ℕ → List Done → Type 0
+abbrev pub AreWithin : ℕ → List JobDone → Type 0
 AreWithin many [] = Unit {0}
 AreWithin many (done ∷ later) = IsWithin many done × AreWithin many later
 

@@ -2,7 +2,7 @@
 use Rattle.std.specs.Prelude.{◌≡◌, ◌≢◌, ℕ, ◌+◌, ◌≤◌, true, List, [], ◌∷◌, length, Contains, slice_get, Option, Some, None}
 use Rattle.server_lock.specs.Passes.{Held}
 use Rattle.txn_core.specs.Agents.{has_sense}
-use Rattle.agent_pool.specs.declared.work.Done.{Done}
+use Rattle.agent_pool.specs.declared.work.JobDone.{JobDone}
 use Rattle.agent_pool.specs.declared.work.Halt.{Halt}
 use Rattle.agent_pool.specs.declared.work.Halt.TheVariants.{Lacked, Strange, Stuck}
 use Rattle.agent_pool.specs.declared.work.Worked.{Worked}
@@ -11,24 +11,24 @@ use Rattle.agent_pool.specs.Pools.{job_numbers}
 use Rattle.agent_pool.specs.Transcripts.{Played, GoesOn, IsIdle, IsLonger, IsTold, Leads, at_rest, begins}
 
 -- the job that was handed in at a place was done, after so many others: the transcript tells it
-pub record IsDone (jobs : List NamedJob) (began : ℕ) (played : Played) (done : Done) : Type 0 where
+pub record IsDone (jobs : List NamedJob) (began : ℕ) (played : Played) (done : JobDone) : Type 0 where
   pub named : NamedJob
   pub there : slice_get jobs done.place ≡ Some named
   pub told : IsTold played named.job done.ran.count done.ran.at
   pub since : began ≤ done.ran.count
   pub sense : has_sense played.agent.fixed named.job ≡ true
 
-abbrev pub AllDone : List NamedJob → ℕ → Played → List Done → Type 0
+abbrev pub AllDone : List NamedJob → ℕ → Played → List JobDone → Type 0
 AllDone jobs began played [] = Unit {0}
 AllDone jobs began played (done ∷ later) = IsDone jobs began played done × AllDone jobs began played later
 
 -- the counts rise, from a number to below another
-abbrev pub RiseBetween : ℕ → List Done → ℕ → Type 0
+abbrev pub RiseBetween : ℕ → List JobDone → ℕ → Type 0
 RiseBetween low [] high = low ≤ high
 RiseBetween low (done ∷ later) high = (low ≤ done.ran.count) × RiseBetween (done.ran.count + 1) later high
 
 -- so do the places
-abbrev pub RiseInPlace : ℕ → List Done → ℕ → Type 0
+abbrev pub RiseInPlace : ℕ → List JobDone → ℕ → Type 0
 RiseInPlace low [] high = low ≤ high
 RiseInPlace low (done ∷ later) high = (low ≤ done.place) × RiseInPlace (done.place + 1) later high
 

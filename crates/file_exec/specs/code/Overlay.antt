@@ -3,13 +3,13 @@ use Rattle.std.specs.Prelude.{◌≡◌, ℕ, Bool, true, false, ◌||◌, Optio
 use Rattle.suite_content.specs.declared.content.Content.{Content}
 use Rattle.suite_content.specs.Contents.{empty_content}
 use Rattle.file_ops.specs.Rows.{Row}
-use Rattle.file_ops.specs.Walks.{Place}
+use Rattle.file_ops.specs.Walks.{Object}
 use Rattle.file_ops.specs.Operations.{Parent}
 use Rattle.file_exec.specs.declared.seen.Seen.{Seen}
 use Rattle.file_exec.specs.declared.seen.SeenContent.{SeenContent}
 use Rattle.file_exec.specs.declared.seen.SeenContent.TheVariants.{OfKind, Whole}
 use Rattle.file_exec.specs.declared.view.View.{View}
-use Rattle.file_exec.specs.declared.view.Place.{Place as SeenPlace}
+use Rattle.file_exec.specs.declared.view.Object.{Object as SeenPlace}
 use Rattle.file_exec.specs.declared.view.Parent.{Parent as SeenParent}
 use Rattle.file_exec.specs.Following.{emptied, head, seen, is_set}
 use Rattle.file_exec.specs.Known.{known_of, known_rows, is_opened}
@@ -33,7 +33,7 @@ seen_row seen =
 abbrev pub seen_head : Option Seen → Option Row
 seen_head seen = head (option_map seen_row seen)
 
-abbrev pub seen_place : SeenPlace → Place
+abbrev pub seen_place : SeenPlace → Object
 seen_place place = record { suite = place.suite; row = emptied (seen_row place.row) }
 
 abbrev pub seen_parent : SeenParent → Parent

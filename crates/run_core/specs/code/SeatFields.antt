@@ -1,5 +1,5 @@
--- The fields of `Seat` as contracts see them.
-use Rattle.run_core.specs.declared.seat.Seat.TheInside.{Inside}
+-- The fields of `WorldAgent` as contracts see them.
+use Rattle.run_core.specs.declared.seat.WorldAgent.TheInside.{Inside}
 use Rattle.run_core.specs.code.Seats.{Seated}
 
 abbrev pub seated_of : Inside → Seated

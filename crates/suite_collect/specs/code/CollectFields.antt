@@ -5,7 +5,7 @@ use Rattle.suite_collect.specs.declared.widening.Widening.{Widening}
 use Rattle.suite_collect.specs.Telling.{newest}
 use Rattle.suite_collect.specs.Collecting as spec
 use Rattle.suite_collect.specs.Collecting.{Collecting, Collector, counted, wanted, all_told}
-use Rattle.suite_collect.specs.code.Dues.{Due, Tally, tally_in, tally_by, IsKnown}
+use Rattle.suite_collect.specs.code.Dues.{Due, Standing, tally_in, tally_by, IsKnown}
 
 abbrev pub widening_of : Widening → spec.Widening
 widening_of widening = record { votes = widening.votes; told = widening.since.items }
@@ -23,7 +23,7 @@ collecting_of fields = record {
 }
 
 -- what is due of a collector, and the votes that it has
-abbrev pub tally_of : Collector → Tally
+abbrev pub tally_of : Collector → Standing
 tally_of c = tally_by (counted c) (wanted c) (all_told c)
 
 abbrev pub due_of : Collector → Due

@@ -6,7 +6,7 @@ use Rattle.suite_prefix.specs.declared.lock_mode.LockMode.{LockMode}
 use Rattle.suite_collect.specs.declared.told.Told.{Told}
 use Rattle.suite_collect.specs.declared.due.Due.{Due as Coded}
 use Rattle.suite_collect.specs.declared.due.Due.TheVariants as coded
-use Rattle.suite_collect.specs.declared.due.Tally.{Tally as CodedTally}
+use Rattle.suite_collect.specs.declared.due.Standing.{Standing as CodedTally}
 use Rattle.suite_collect.specs.Telling.{holds, has_refused}
 use Rattle.suite_collect.specs.Collecting.{needed_of}
 
@@ -37,17 +37,17 @@ due_among votes wanted held refused =
     else due_left got (needed_of wanted votes) (option_map (λ rep. rep.0) (find (is_left_by held refused) votes.reps))
 
 -- what is due, and the votes of those that hold what is wanted
-pub record Tally : Type 0 where
+pub record Standing : Type 0 where
   pub got : ℕ
   pub due : Due
 
-abbrev pub tally_in : CodedTally → Tally
+abbrev pub tally_in : CodedTally → Standing
 tally_in tally = record { got = tally.got; due = due_in tally.due }
 
-abbrev pub tally_among : Configuration → LockMode → (ℕ → Bool) → (ℕ → Bool) → Tally
+abbrev pub tally_among : Configuration → LockMode → (ℕ → Bool) → (ℕ → Bool) → Standing
 tally_among votes wanted held refused = record { got = votes_in votes.reps held; due = due_among votes wanted held refused }
 
-abbrev pub tally_by : Configuration → LockMode → List Told → Tally
+abbrev pub tally_by : Configuration → LockMode → List Told → Standing
 tally_by votes wanted told = tally_among votes wanted (holds wanted told) (has_refused told)
 
 -- a server that is asked is one of the service

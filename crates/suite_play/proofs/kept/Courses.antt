@@ -15,7 +15,7 @@ use Rattle.file_exec.specs.declared.executor.Outcome.TheVariants as exec
 use Rattle.suite_collect.specs.declared.told.Said.{Said}
 use Rattle.suite_collect.specs.Collecting.{tell, mode_of, Next, Ask, Current, Short, next}
 use Rattle.weak_cache.specs.Entries.{Cache}
-use Rattle.txn_core.specs.Suites.{ReadPoint, Suite, Suites, suite_of, with_suite, known_of, settled}
+use Rattle.txn_core.specs.Suites.{ReadPoint, GatheredSuite, Suites, suite_of, with_suite, known_of, settled}
 use Rattle.txn_core.specs.declared.response.Response.{Response}
 use Rattle.txn_core.specs.declared.response.Response.TheVariants.{Replied, Lacked}
 use Rattle.txn_core.specs.declared.ending.Cause.{Cause}
@@ -71,7 +71,7 @@ module _ (task : Task) where
   widens_by cache suites phase number (Ask server asked) go_on go_on' same = refl
   widens_by cache suites phase number (Short got needed busy) go_on go_on' same = gives_up cache suites (short_cause number got needed busy)
 
-  widens_one : (cache : Cache) (suites : Suites) (phase : Phase) (changes : Changes) (number : ℕ) (found : Option Suite) (go_on go_on' : Suites → Step) → ((suites : Suites) → go_on' suites ≡ cut_step (go_on suites))
+  widens_one : (cache : Cache) (suites : Suites) (phase : Phase) (changes : Changes) (number : ℕ) (found : Option GatheredSuite) (go_on go_on' : Suites → Step) → ((suites : Suites) → go_on' suites ≡ cut_step (go_on suites))
       → widen_one (cut task) cache suites phase changes number found go_on' ≡ cut_step (widen_one task cache suites phase changes number found go_on)
   widens_one cache suites phase changes number (Some suite) go_on go_on' same =
       widens_by cache (with_suite number (widened changes number suite) suites) phase number (next (widened changes number suite).collector) go_on go_on' same
@@ -109,30 +109,30 @@ module _ (task : Task) where
       ∙ ap (proceed fixed (cut task) open'.cache open'.suites) (hears_the_same fixed open'.suites)
       ∙ proceeds fixed open'.cache open'.suites (heard_on fixed task open'.suites)
 
-  collects : (cache : Cache) (suites : Suites) (phase : Phase) (number : ℕ) (suite : Suite) (next : Next) (go_on go_on' : Suite → Step) → ((suite : Suite) → go_on' suite ≡ cut_step (go_on suite))
+  collects : (cache : Cache) (suites : Suites) (phase : Phase) (number : ℕ) (suite : GatheredSuite) (next : Next) (go_on go_on' : GatheredSuite → Step) → ((suite : GatheredSuite) → go_on' suite ≡ cut_step (go_on suite))
       → collected (cut task) cache suites phase number suite next go_on' ≡ cut_step (collected task cache suites phase number suite next go_on)
   collects cache suites phase number suite (Ask server asked) go_on go_on' same = refl
   collects cache suites phase number suite (Short got needed busy) go_on go_on' same = gives_up cache (with_suite number suite suites) (short_cause number got needed busy)
   collects cache suites phase number suite (Current prefix dver members) go_on go_on' same = same (settled prefix dver members suite)
 
-  hears : (cache : Cache) (suites : Suites) (phase : Phase) (number : ℕ) (suite : Suite) (server : ℕ) (asked : Request) (heard : Option Said) (go_on go_on' : Suite → Step) → ((suite : Suite) → go_on' suite ≡ cut_step (go_on suite))
+  hears : (cache : Cache) (suites : Suites) (phase : Phase) (number : ℕ) (suite : GatheredSuite) (server : ℕ) (asked : Request) (heard : Option Said) (go_on go_on' : GatheredSuite → Step) → ((suite : GatheredSuite) → go_on' suite ≡ cut_step (go_on suite))
       → hear (cut task) cache suites phase number suite server asked heard go_on' ≡ cut_step (hear task cache suites phase number suite server asked heard go_on)
   hears cache suites phase number suite server asked (Some heard) go_on go_on' same =
-      let now : Suite = record suite { collector = tell (record { server = server; mode = mode_of asked; said = heard }) suite.collector } in collects cache suites phase number now (next now.collector) go_on go_on' same
+      let now : GatheredSuite = record suite { collector = tell (record { server = server; mode = mode_of asked; said = heard }) suite.collector } in collects cache suites phase number now (next now.collector) go_on go_on' same
   hears cache suites phase number suite server asked None go_on go_on' same = gives_up cache suites (Lost server)
 
-  hears_of : (cache : Cache) (suites : Suites) (phase : Phase) (number : ℕ) (found : Option Suite) (server : ℕ) (asked : Request) (said : Reply) (go_on go_on' : Suites → Step) → ((suites : Suites) → go_on' suites ≡ cut_step (go_on suites))
+  hears_of : (cache : Cache) (suites : Suites) (phase : Phase) (number : ℕ) (found : Option GatheredSuite) (server : ℕ) (asked : Request) (said : Reply) (go_on go_on' : Suites → Step) → ((suites : Suites) → go_on' suites ≡ cut_step (go_on suites))
       → heard_of (cut task) cache suites phase number found server asked said go_on' ≡ cut_step (heard_of task cache suites phase number found server asked said go_on)
   hears_of cache suites phase number (Some suite) server asked said go_on go_on' same =
       hears cache suites phase number suite server asked (said_to asked said) (λ suite. go_on (with_suite number suite suites)) (λ suite. go_on' (with_suite number suite suites)) (λ suite. same (with_suite number suite suites))
   hears_of cache suites phase number None server asked said go_on go_on' same = gives_up cache suites (Lost server)
 
-  keeps : (fixed : Fixed) (cache : Cache) (suites : Suites) (number : ℕ) (suite : Suite) (content : Content) (first : Option ReadPoint) (server : ℕ)
+  keeps : (fixed : Fixed) (cache : Cache) (suites : Suites) (number : ℕ) (suite : GatheredSuite) (content : Content) (first : Option ReadPoint) (server : ℕ)
       → keep_content fixed (cut task) cache suites number suite content first server ≡ cut_step (keep_content fixed task cache suites number suite content first server)
   keeps fixed cache suites number suite content (Some first) server = executes fixed _
   keeps fixed cache suites number suite content None server = gives_up cache suites (Lost server)
 
-  fetches : (fixed : Fixed) (cache : Cache) (suites : Suites) (number : ℕ) (found : Option Suite) (server : ℕ) (given : Option Content)
+  fetches : (fixed : Fixed) (cache : Cache) (suites : Suites) (number : ℕ) (found : Option GatheredSuite) (server : ℕ) (given : Option Content)
       → fetched fixed (cut task) cache suites number found server given ≡ cut_step (fetched fixed task cache suites number found server given)
   fetches fixed cache suites number (Some suite) server (Some content) = keeps fixed cache suites number suite content suite.first server
   fetches fixed cache suites number (Some suite) server None = gives_up cache suites (Lost server)

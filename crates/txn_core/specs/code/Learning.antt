@@ -9,7 +9,7 @@ use Rattle.txn_core.specs.declared.learned.Learned.{Learned}
 use Rattle.txn_core.specs.declared.learned.Learned.TheVariants.{Nothing, Quorum, Content as Given}
 use Rattle.txn_core.specs.declared.cache_after.Fetched.{Fetched}
 use Rattle.txn_core.specs.Doing.{TransactionRun}
-use Rattle.txn_core.specs.Suites.{Suite, Suites, suite_of}
+use Rattle.txn_core.specs.Suites.{GatheredSuite, Suites, suite_of}
 use Rattle.txn_core.specs.Transactions.{Gathered}
 use Rattle.txn_core.specs.code.Plans.{shelved, kept_of, takes_in}
 use Rattle.txn_core.specs.code.Seeing.{learned_suites, first_at}
@@ -24,7 +24,7 @@ abbrev pub learned : Learned → Limited → Suites → Gathered
 learned just_learned cache suites = record { suites = learned_suites just_learned suites; cache = shelved cache (kept_by just_learned) }
 
 -- a suite had no quorum, or gets one in its mode or a stronger one
-abbrev pub goes_on : Option Suite → Bool
+abbrev pub goes_on : Option GatheredSuite → Bool
 goes_on (Some suite) = not (is_some suite.first) || serves suite.collector.mode suite.mode
 goes_on None = true
 

@@ -8,7 +8,7 @@ use Rattle.file_exec.specs.declared.executor.Outcome.TheVariants as exec
 use Rattle.txn_core.specs.declared.next_phase.NextPhase.{NextPhase}
 use Rattle.txn_core.specs.declared.next_phase.NextPhase.TheVariants.{Gather, Fetch, Grant, Refuse}
 use Rattle.txn_core.specs.Doing.{Task, Gathering, Fetching}
-use Rattle.txn_core.specs.Suites.{Suite, Suites, suite_of}
+use Rattle.txn_core.specs.Suites.{GatheredSuite, Suites, suite_of}
 use Rattle.txn_core.specs.Transactions.{Step, on_with, gather_by, widen_all, to_widen, prepare, locked_at}
 
 -- what the executor's answer comes to
@@ -19,7 +19,7 @@ next_phase_of (exec.Done answers changes) = Grant (record { answers = answers; c
 next_phase_of (exec.Refused refusal) = Refuse refusal
 
 -- a suite that is among those that are asked for is gathered
-abbrev pub gather_again : Task → Cache → Suites → ℕ → Option Suite → Step
+abbrev pub gather_again : Task → Cache → Suites → ℕ → Option GatheredSuite → Step
 gather_again task cache suites number (Some suite) = gather_by task cache suites number (next suite.collector)
 gather_again task cache suites number None = on_with task cache suites (Gathering number)
 

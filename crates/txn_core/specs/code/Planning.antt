@@ -13,7 +13,7 @@ use Rattle.txn_core.specs.declared.suites_after.SuitesAfter.{SuitesAfter}
 use Rattle.txn_core.specs.declared.next_phase.NextPhase.{NextPhase}
 use Rattle.txn_core.specs.declared.cache_after.CacheAfter.{CacheAfter}
 use Rattle.txn_core.specs.Doing.{Fixed, Task}
-use Rattle.txn_core.specs.Suites.{Suite, Suites}
+use Rattle.txn_core.specs.Suites.{GatheredSuite, Suites}
 use Rattle.txn_core.specs.Transactions.{Gathered, Step, execute}
 use Rattle.txn_core.specs.code.Learning.{learned}
 use Rattle.txn_core.specs.code.Plans.{IsPlanOf, IsPlayed, fixed_in, new_for, opened_all, seen_on}
@@ -34,7 +34,7 @@ abbrev pub IsPlayedFor : Execution → CacheAfter → SuitesAfter → List (ℕ 
 IsPlayedFor execution cache_after after list outcome = IsPlayed (fixed_at execution cache_after) execution.task.now (all_seen cache_after after) list outcome
 
 -- the suite that an outcome needs, where it was not asked for yet
-abbrev pub new_at : Execution → CacheAfter → SuitesAfter → Executed → Option Suite
+abbrev pub new_at : Execution → CacheAfter → SuitesAfter → Executed → Option GatheredSuite
 new_at execution cache_after after outcome = new_for (fixed_at execution cache_after) execution.task.now (all_seen cache_after after) outcome
 
 -- what the executor answers on what is known of suites

@@ -16,7 +16,7 @@ use Rattle.txn_core.specs.declared.plan.Plan.{Plan}
 use Rattle.txn_core.specs.declared.cache_after.Fetched.{Fetched}
 use Rattle.txn_core.specs.declared.cache_after.CacheAfter.{CacheAfter}
 use Rattle.txn_core.specs.Doing.{Fixed, Task}
-use Rattle.txn_core.specs.Suites.{ReadPoint, Suite, Suites, suite_of, with_suite, known_row}
+use Rattle.txn_core.specs.Suites.{ReadPoint, GatheredSuite, Suites, suite_of, with_suite, known_row}
 use Rattle.txn_core.specs.Transactions.{Gathered, heard_on, free_content, after_search, opened, raised_or_new}
 
 -- the service of an execution, with the limits of a cache
@@ -44,14 +44,14 @@ seen_on cache_after suites = record { suites = suites; cache = entries_on cache_
 -- ---- contents that are to be had without asking
 
 -- a suite that had a quorum gets its content; one of the cache is its newest from then on
-abbrev pub opened_first : Task → Gathered → ℕ → Content → Suite → Option ReadPoint → Gathered
+abbrev pub opened_first : Task → Gathered → ℕ → Content → GatheredSuite → Option ReadPoint → Gathered
 opened_first task all number content suite (Some first) = record {
   suites = with_suite number (record suite { content = Some content }) all.suites;
   cache = after_search task all.cache number first;
 }
 opened_first task all number content suite None = all
 
-abbrev pub opened_at : Task → Gathered → ℕ → Content → Option Suite → Gathered
+abbrev pub opened_at : Task → Gathered → ℕ → Content → Option GatheredSuite → Gathered
 opened_at task all number content (Some suite) = opened_first task all number content suite suite.first
 opened_at task all number content None = all
 
@@ -68,7 +68,7 @@ abbrev pub free_first : Task → Cache → ℕ → Option ReadPoint → Option C
 free_first task cache number (Some first) = free_content task cache number first
 free_first task cache number None = None
 
-abbrev pub free_of : Task → Cache → ℕ → Option Suite → Option Content
+abbrev pub free_of : Task → Cache → ℕ → Option GatheredSuite → Option Content
 free_of task cache number (Some suite) = free_first task cache number suite.first
 free_of task cache number None = None
 
@@ -80,24 +80,24 @@ to_open task all other = None
 -- ---- a suite that is asked for
 
 -- a suite that is asked for the first time
-abbrev pub new_unless : Fixed → Task → Cache → ℕ → LockMode → Option Suite → Option Suite
+abbrev pub new_unless : Fixed → Task → Cache → ℕ → LockMode → Option GatheredSuite → Option GatheredSuite
 new_unless fixed task cache number mode (Some suite) = None
 new_unless fixed task cache number mode None = Some (raised_or_new fixed task cache number mode None)
 
-abbrev pub new_for : Fixed → Task → Gathered → Executed → Option Suite
+abbrev pub new_for : Fixed → Task → Gathered → Executed → Option GatheredSuite
 new_for fixed task all (exec.Need (Hold number mode)) = new_unless fixed task all.cache number mode (suite_of all.suites number)
 new_for fixed task all other = None
 
 -- it is put among the suites; and one that is among them is raised
-abbrev pub raised_at : ℕ → Option Suite → Suites → Suites
+abbrev pub raised_at : ℕ → Option GatheredSuite → Suites → Suites
 raised_at number (Some suite) suites = with_suite number (record suite { collector = raise suite.collector }) suites
 raised_at number None suites = suites
 
-abbrev pub with_asked_at : ℕ → Option Suite → Suites → Suites
+abbrev pub with_asked_at : ℕ → Option GatheredSuite → Suites → Suites
 with_asked_at number (Some suite) suites = with_suite number suite suites
 with_asked_at number None suites = raised_at number (suite_of suites number) suites
 
-abbrev pub with_asked : Executed → Option Suite → Suites → Suites
+abbrev pub with_asked : Executed → Option GatheredSuite → Suites → Suites
 with_asked (exec.Need (Hold number mode)) new suites = with_asked_at number new suites
 with_asked other new suites = suites
 
@@ -126,9 +126,9 @@ abbrev pub kept_of : Task → ℕ → Content → ReadPoint → Fetched
 kept_of task number content first = record { site = task.site; suite = number; prefix = first.prefix; dver = first.dver; content = content }
 
 -- whether a suite had a quorum, its content is not there, and another is of its kind
-abbrev pub known_in : Option Suite → Option KnownSuite
+abbrev pub known_in : Option GatheredSuite → Option KnownSuite
 known_in (Some suite) = option_map (known_row suite) suite.first
 known_in None = None
 
-abbrev pub takes_in : Option Suite → Content → Bool
+abbrev pub takes_in : Option GatheredSuite → Content → Bool
 takes_in suite content = takes (known_in suite) content

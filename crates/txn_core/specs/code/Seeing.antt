@@ -11,10 +11,10 @@ use Rattle.txn_core.specs.declared.learned.Learned.{Learned}
 use Rattle.txn_core.specs.declared.learned.Learned.TheVariants.{Nothing, Quorum, Content as Given}
 use Rattle.txn_core.specs.declared.suites_after.SuitesAfter.{SuitesAfter}
 use Rattle.txn_core.specs.declared.suites_after.SuiteView.{SuiteView}
-use Rattle.txn_core.specs.Suites.{ReadPoint, Suite, Suites, suite_of, with_suite, row_with}
+use Rattle.txn_core.specs.Suites.{ReadPoint, GatheredSuite, Suites, suite_of, with_suite, row_with}
 
 -- a suite once it has a quorum
-abbrev pub settled_with : PendingQuorum → Suite → Suite
+abbrev pub settled_with : PendingQuorum → GatheredSuite → GatheredSuite
 settled_with pending suite = record suite {
   collector = tell pending.last suite.collector;
   first = option_or suite.first pending.first;
@@ -22,17 +22,17 @@ settled_with pending suite = record suite {
 }
 
 -- a suite once its content is there
-abbrev pub with_content : Content → Suite → Suite
+abbrev pub with_content : Content → GatheredSuite → GatheredSuite
 with_content content suite = record suite { content = Some content }
 
 -- the suite of a number, once something was learned
-abbrev pub told_of : Learned → ℕ → Suite → Suite
+abbrev pub told_of : Learned → ℕ → GatheredSuite → GatheredSuite
 told_of Nothing number suite = suite
 told_of (Quorum place pending) number suite = if place == number then settled_with pending suite else suite
 told_of (Given fetched) number suite = if fetched.suite == number then with_content fetched.content suite else suite
 
 -- the suites, once it was set
-abbrev pub changed_at : (Suite → Suite) → ℕ → Option Suite → Suites → Suites
+abbrev pub changed_at : (GatheredSuite → GatheredSuite) → ℕ → Option GatheredSuite → Suites → Suites
 changed_at change number (Some suite) suites = with_suite number (change suite) suites
 changed_at change number None suites = suites
 
@@ -54,10 +54,10 @@ pub record Viewed : Type 0 where
 abbrev pub suite_view_of : SuiteView → Viewed
 suite_view_of suite_view = record { first = option_copied suite_view.first; mode = suite_view.mode; content = option_copied suite_view.content }
 
-abbrev pub view_of_suite : Suite → Viewed
+abbrev pub view_of_suite : GatheredSuite → Viewed
 view_of_suite suite = record { first = suite.first; mode = suite.mode; content = suite.content }
 
-abbrev pub first_at : Option Suite → Option ReadPoint
+abbrev pub first_at : Option GatheredSuite → Option ReadPoint
 first_at (Some suite) = suite.first
 first_at None = None
 

@@ -10,7 +10,7 @@ use Rattle.txn_core.specs.declared.ending.Ending.{Ending}
 use Rattle.txn_core.specs.declared.response.Response.{Response}
 use Rattle.suite_collect.specs.Answering.{Comes}
 use Rattle.txn_core.specs.Doing.{Fixed, TransactionRun, After, GoesOn, Ends}
-use Rattle.txn_core.specs.Suites.{Suite, suite_of, with_suite}
+use Rattle.txn_core.specs.Suites.{GatheredSuite, suite_of, with_suite}
 use Rattle.txn_core.specs.Transactions.{Step, after_response}
 
 -- a transaction's run that goes on, or an ending
@@ -27,9 +27,9 @@ taken fixed txn_run cache (Some asked) response = after_response fixed txn_run c
 taken fixed txn_run cache None response = record { cache = cache; after = GoesOn txn_run }
 
 -- a suite is widened to some votes, with what comes next of it; where there is no such suite, nothing has to be asked
-abbrev pub WidensTo : Option Suite → ℕ → Configuration → TransactionRun → Coming → TransactionRun → Type 0
+abbrev pub WidensTo : Option GatheredSuite → ℕ → Configuration → TransactionRun → Coming → TransactionRun → Type 0
 WidensTo (Some suite) number votes before next' after =
-    let new : Suite = record suite { collector = widen votes suite.collector } in
+    let new : GatheredSuite = record suite { collector = widen votes suite.collector } in
     (after ≡ record before { suites = with_suite number new before.suites }) × Comes next' (next new.collector)
 WidensTo None number votes before next' after = (after ≡ before) × (next' ≡ coming.Current)
 

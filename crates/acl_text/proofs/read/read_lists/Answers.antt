@@ -8,7 +8,7 @@ use Rattle.acl_text.specs.Layout.{items_of}
 use Rattle.acl_text.specs.Texts.{readings, first_item_fault, entry_said, said_before, said_in}
 use Rattle.acl_text.proofs.ItemCounts.{few_items}
 use Rattle.acl_text.proofs.Spelling.{spelled_from_faultless}
-use Rattle.acl_text.proofs.Taking.{lists_spelled}
+use Rattle.acl_text.proofs.EntryByEntry.{lists_spelled}
 use Rattle.acl_text.proofs.read.read_lists.Goals as goal
 
 -- entries of which one was taken are some

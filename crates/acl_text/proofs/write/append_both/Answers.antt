@@ -3,7 +3,7 @@ use Rattle.std.specs.List.{flat_map}
 use Rattle.acl_text.specs.declared.item.Side.TheVariants.{Access, Default}
 use Rattle.acl_text.specs.Sides.{default_entries}
 use Rattle.acl_text.specs.Writing.{line_text, long_lines, mask_of}
-use Rattle.acl_text.proofs.Taking.{on_ok}
+use Rattle.acl_text.proofs.EntryByEntry.{on_ok}
 use Rattle.acl_text.proofs.write.append_both.Goals as goal
 
 pub returns-in-Some-clause-appended : goal.returns-in-Some-clause-appended

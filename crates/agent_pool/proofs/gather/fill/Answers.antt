@@ -2,7 +2,7 @@ use Rattle.std.proofs.Common.{◌≡◌, ℕ, List, ◌∙◌, refl, sym, subst,
 use Rattle.std.proofs.lemmas.List.{take_all}
 use Rattle.std.specs.Prelude.{Contains, Some, slice_get, slice_index_or}
 use Rattle.agent_pool.specs.code.Filled.{AreOfThese, done_in, players_of, sitting}
-use Rattle.agent_pool.specs.declared.work.Done.{Done}
+use Rattle.agent_pool.specs.declared.work.JobDone.{JobDone}
 use Rattle.agent_pool.specs.declared.work.Worked.{Worked}
 use Rattle.agent_pool.specs.code.Gathering.{AreSeen, AreWithin}
 use Rattle.agent_pool.specs.Gathers.{IsDouble, places, places_by}
@@ -41,18 +41,18 @@ loop-one-preserved c =
     let fresh = subst (λ m. ¬ (Contains (take index ns) m)) (sym num) (is_fresh ns index (number_of w.player) c.requires.distinct here) in
     let lowest = begins at.seat.player.entries in
     let order = c.in_ok-place_all.ensures.order (take index ns) lowest (begins w.player.entries) 0 at.work.next fresh
-    (subst (λ (ds : List Done). RiseBetween lowest ds (begins w.player.entries)) (sym c.deref.ensures.value) at.work.rise)
-    (subst (λ (ds : List Done). RiseInPlace 0 ds at.work.next) (sym c.deref.ensures.value) at.work.order) was.1 (below_none (take index ns) n lowest 0 c.loop-one.slots was.2) in (
+    (subst (λ (ds : List JobDone). RiseBetween lowest ds (begins w.player.entries)) (sym c.deref.ensures.value) at.work.rise)
+    (subst (λ (ds : List JobDone). RiseInPlace 0 ds at.work.next) (sym c.deref.ensures.value) at.work.order) was.1 (below_none (take index ns) n lowest 0 c.loop-one.slots was.2) in (
       (λ seats works.
           let on = worked_at jobs seats worked index w works low here_is in
           c.in_ok-place_all.ensures.filled (sitting seats) (players_of worked) on.seat.player w.player (is_of jobs seats worked w n on num)
-          (subst (λ (ds : List Done). AllDone jobs (begins on.seat.player.entries) w.player ds) (sym c.deref.ensures.value) on.work.done) (was.0 seats works)),
+          (subst (λ (ds : List JobDone). AllDone jobs (begins on.seat.player.entries) w.player ds) (sym c.deref.ensures.value) on.work.done) (was.0 seats works)),
       order.0,
       subst (λ l. AreOfThese l c.place_all.new.slots) (sym (take_numbers c.args.worked.now index w c.loop-one-test.true (search rules) ∙ ap (λ m. take index ns ++ m ∷ []) (sym num))) (of_more (take index ns) n order.1.0 order.1.1 c.place_all.new.slots order.1.2),
       (let all = c.in_ok-place_all.ensures.many in let done = ap length c.deref.ensures.value in let were = was.3 in let more = more_many worked index w low here_is in omega arith),
       c.in_ok-place_all.ensures.long ∙ was.4,
       (let before = places (take index worked) in
-          subst (λ (ps : List ℕ). AreSeen ps c.place_all.new.slots) (ap (λ (ds : List Done). before ++ places_by ds) c.deref.ensures.value ∙ sym (worked_next worked index w low here_is)) (c.in_ok-place_all.ensures.seen before was.5)),
+          subst (λ (ps : List ℕ). AreSeen ps c.place_all.new.slots) (ap (λ (ds : List JobDone). before ++ places_by ds) c.deref.ensures.value ∙ sym (worked_next worked index w low here_is)) (c.in_ok-place_all.ensures.seen before was.5)),
     )
 
 pub place_all-requires-clause-within : goal.place_all-requires-clause-within
@@ -60,7 +60,7 @@ place_all-requires-clause-within c =
     let w = c.one-item.result in
     let jobs = c.args.jobs.now in
     let at = worked_at jobs c.requires.worked.0 c.args.worked.now c.loop-one.one-index w c.requires.worked.1 c.loop-one-test.true (search rules) in
-    subst (λ (ds : List Done). AreWithin (length jobs) ds) (sym c.deref.ensures.value) (done_within jobs (begins at.seat.player.entries) w.player w.done.items at.work.done)
+    subst (λ (ds : List JobDone). AreWithin (length jobs) ds) (sym c.deref.ensures.value) (done_within jobs (begins at.seat.player.entries) w.player w.done.items at.work.done)
 
 pub returns-clause-seen : goal.returns-clause-seen
 returns-clause-seen c =
@@ -82,4 +82,4 @@ returns-in_err-place_all-clause-double c =
     let more = worked_split worked index w c.loop-one-test.true (search rules) in
     let err = c.in_err-place_all.ensures.double before c.loop-one.invariant.5 in
     passed_on _ _ _ c.from_residual.ensures.1
-    (err.0, err.1, subst (λ (ps : List ℕ). IsDouble jobs ps err.0) (ap (λ (ds : List Done). (before ++ places_by ds) ++ more.0) c.deref.ensures.value ∙ sym more.1) (double_further jobs _ more.0 err.0 err.2))
+    (err.0, err.1, subst (λ (ps : List ℕ). IsDouble jobs ps err.0) (ap (λ (ds : List JobDone). (before ++ places_by ds) ++ more.0) c.deref.ensures.value ∙ sym more.1) (double_further jobs _ more.0 err.0 err.2))

@@ -1,6 +1,6 @@
 use Rattle.std.proofs.Common.{rules, ◌≡◌, ◌∙◌, ◌++◌, List, ℕ, append-nil, refl, arith, ◌+◌, subst, sym}
 use Rattle.std.proofs.lemmas.List.{drop_more, take_all}
-use Rattle.agent_pool.specs.declared.work.Done.{Done}
+use Rattle.agent_pool.specs.declared.work.JobDone.{JobDone}
 use Rattle.agent_pool.specs.Gathers.{places_by}
 use Rattle.agent_pool.specs.code.Gathering.{AreSeen}
 use Rattle.agent_pool.proofs.Seen.{double_next, passed_on, seen_next, within_at}
@@ -44,7 +44,7 @@ returns-clause-many c = let past = c.loop-one-test.false in let few = c.loop-one
 pub returns-clause-seen : goal.returns-clause-seen
 returns-clause-seen c seen was =
     let past = c.loop-one-test.false in
-    subst (λ (ds : List Done). AreSeen (seen ++ places_by ds) c.loop-one.slots) (take_all c.loop-one.one-index c.args.done.now (omega arith)) (c.loop-one.invariant.4 seen was)
+    subst (λ (ds : List JobDone). AreSeen (seen ++ places_by ds) c.loop-one.slots) (take_all c.loop-one.one-index c.args.done.now (omega arith)) (c.loop-one.invariant.4 seen was)
 
 pub returns-clause-order : goal.returns-clause-order
 returns-clause-order c numbers low high floor roof fresh rise places order below =

@@ -13,7 +13,7 @@ use Rattle.agent_pool.specs.code.Back.{IsOf}
 use Rattle.agent_pool.specs.code.Starts.{Comes, IsStart, IsWorkOf}
 use Rattle.agent_pool.specs.Transcripts.{IsIdle}
 use Rattle.agent_pool.proofs.Lines.{forks}
-use Rattle.agent_pool.proofs.Taking.{by_ok}
+use Rattle.agent_pool.proofs.JobsTaken.{by_ok}
 use Rattle.agent_pool.proofs.Zips.{zip_push, zip_then, nothing_left}
 use Rattle.agent_pool.proofs.pool.in_scope.Goals as goal
 use Rattle.agent_pool.proofs.pool.in_scope.Goals.{in-Started, in_default}

@@ -8,7 +8,7 @@ use Rattle.agent_pool.proofs.Filling.{as_many, seats_idle, still_distinct}
 use Rattle.agent_pool.proofs.Lines.{begins}
 use Rattle.agent_pool.proofs.Pooling.{pool_is}
 use Rattle.agent_pool.proofs.Seen.{handed_back, lacks_only}
-use Rattle.agent_pool.proofs.Taking.{fault_in, has_reason}
+use Rattle.agent_pool.proofs.JobsTaken.{fault_in, has_reason}
 use Rattle.agent_pool.proofs.pool.run_pool.Goals as goal
 
 pub bounded_with-requires-clause-rule : goal.bounded_with-requires-clause-rule

@@ -11,7 +11,7 @@ use Rattle.agent_pool.specs.Taken.{AllTook}
 use Rattle.agent_pool.specs.code.Back.{IsOf}
 use Rattle.agent_pool.specs.code.Starts.{Comes}
 use Rattle.agent_pool.proofs.Lines.{either_is, learns_all, merges}
-use Rattle.agent_pool.proofs.Taking.{all_took_more}
+use Rattle.agent_pool.proofs.JobsTaken.{all_took_more}
 use Rattle.agent_pool.proofs.Zips.{zip_push, nothing_left}
 use Rattle.agent_pool.proofs.start.join_all.Goals as goal
 use Rattle.agent_pool.proofs.start.join_all.Goals.{then-returned, else-returned}

@@ -3,7 +3,7 @@ use Rattle.crossbeam_channel.specs.Claims.{Pass, view, IsSeatAt}
 use Rattle.crossbeam_channel.specs.Ends.{receives_on}
 use Rattle.agent_pool.specs.declared.line.Hand.{Hand}
 use Rattle.agent_pool.specs.declared.line.Item.{Item}
-use Rattle.agent_pool.specs.declared.work.Done.{Done}
+use Rattle.agent_pool.specs.declared.work.JobDone.{JobDone}
 use Rattle.agent_pool.specs.Taken.{Took}
 use Rattle.agent_pool.specs.code.Working.{RiseInPlace}
 use Rattle.agent_pool.proofs.Lines.{behind_job, end_taken}
@@ -20,7 +20,7 @@ loop-init g c =
       back.takes,
       search rules,
       made.work c.args.context.now.jobs.now,
-      subst (λ (ds : List Done). RiseInPlace 0 ds (view c.new-worked.result.ticket).low) (sym made.none) (omega arith),
+      subst (λ (ds : List JobDone). RiseInPlace 0 ds (view c.new-worked.result.ticket).low) (sym made.none) (omega arith),
       back.took,
     )
 

@@ -1,4 +1,4 @@
-use Rattle.txn_core.proofs.Knows.{knows_contents}
+use Rattle.txn_core.proofs.ContentsKnown.{knows_contents}
 use Rattle.txn_core.proofs.laws.knows_contents.Goals as goal
 
 pub returns : goal.returns

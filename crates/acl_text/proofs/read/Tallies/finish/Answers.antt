@@ -1,7 +1,7 @@
 use Rattle.acl_text.specs.Faults.{fault_of_list}
 use Rattle.acl_text.specs.Sides.{entries_of}
 use Rattle.acl_text.specs.declared.item.Side.TheVariants.{Access}
-use Rattle.acl_text.proofs.Taking.{access_refused, err_told}
+use Rattle.acl_text.proofs.EntryByEntry.{access_refused, err_told}
 use Rattle.acl_text.proofs.read.Tallies.finish.Goals as goal
 
 pub returns-in_err-access-clause-refused : goal.returns-in_err-access-clause-refused

@@ -1,6 +1,6 @@
 use Rattle.std.proofs.Common.{refl}
 use Rattle.acl_text.specs.declared.item.Side.TheVariants.{Access, Default}
-use Rattle.acl_text.proofs.Taking.{on_ok, tally_more, tally_stays}
+use Rattle.acl_text.proofs.EntryByEntry.{on_ok, tally_more, tally_stays}
 use Rattle.acl_text.proofs.read.Tallies.take.Goals as goal
 
 pub returns-in-Access : goal.returns-in-Access

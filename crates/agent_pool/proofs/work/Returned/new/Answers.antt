@@ -1,6 +1,6 @@
 use Rattle.std.proofs.Common.{ap, true≢false, sym}
 use Rattle.agent_pool.specs.declared.line.Hand.{Hand}
-use Rattle.agent_pool.proofs.Taking.{took_none}
+use Rattle.agent_pool.proofs.JobsTaken.{took_none}
 use Rattle.agent_pool.proofs.work.Returned.new.Goals as goal
 
 pub returns-clause-back : goal.returns-clause-back

@@ -7,10 +7,10 @@ use Rattle.agent_pool.specs.declared.work.Halt.{Halt}
 use Rattle.agent_pool.specs.declared.work.Halt.TheVariants.{Lacked, Strange}
 use Rattle.agent_pool.specs.declared.pool_context.NamedJob.{NamedJob}
 use Rattle.agent_pool.specs.code.Steps.{DidJob}
-use Rattle.agent_pool.specs.declared.work.Done.{Done}
+use Rattle.agent_pool.specs.declared.work.JobDone.{JobDone}
 use Rattle.agent_pool.specs.code.Working.{IsHalted, RiseInPlace}
 use Rattle.agent_pool.specs.Taken.{Leaves}
-use Rattle.agent_pool.proofs.Taking.{took_done, took_halted, took_left}
+use Rattle.agent_pool.proofs.JobsTaken.{took_done, took_halted, took_left}
 use Rattle.agent_pool.proofs.Works.{not_some, number_there, place_longer, place_more, works_longer, works_more, works_stop}
 use Rattle.agent_pool.proofs.work.Worked.carry_out.Goals as goal
 use Rattle.agent_pool.proofs.work.Worked.carry_out.Goals.{in-Lacked, in-Stuck}
@@ -48,18 +48,18 @@ pub returns-then-is_some-clause-order : goal.returns-then-is_some-clause-order
 returns-then-is_some-clause-order g c = place_longer 0 c.args.place (c.args.place + 1) c.args.self.done.items c.requires.behind (omega arith)
 
 pub returns-then-is_err-clause-order : goal.returns-then-is_err-clause-order
-returns-then-is_err-clause-order g c = place_longer 0 c.args.place (c.args.place + 1) _ (subst (λ (ds : List Done). RiseInPlace 0 ds c.args.place) (search rules) c.requires.behind) (omega arith)
+returns-then-is_err-clause-order g c = place_longer 0 c.args.place (c.args.place + 1) _ (subst (λ (ds : List JobDone). RiseInPlace 0 ds c.args.place) (search rules) c.requires.behind) (omega arith)
 
 pub returns-in_default-clause-order : goal.returns-in_default-clause-order
-returns-in_default-clause-order g c = place_longer 0 c.args.place (c.args.place + 1) _ (subst (λ (ds : List Done). RiseInPlace 0 ds c.args.place) (search rules) c.requires.behind) (omega arith)
+returns-in_default-clause-order g c = place_longer 0 c.args.place (c.args.place + 1) _ (subst (λ (ds : List JobDone). RiseInPlace 0 ds c.args.place) (search rules) c.requires.behind) (omega arith)
 
 pub returns-in-Ended-clause-order : goal.returns-in-Ended-clause-order
 returns-in-Ended-clause-order g c =
-    subst (λ (ds : List Done). RiseInPlace 0 ds (c.args.place + 1)) (sym (c.push_reserved.ensures.items ∙ ap (λ ds. ds ++ record { place = c.args.place; ran = c.in-Ended.ran } ∷ []) c.reserve.ensures.items))
+    subst (λ (ds : List JobDone). RiseInPlace 0 ds (c.args.place + 1)) (sym (c.push_reserved.ensures.items ∙ ap (λ ds. ds ++ record { place = c.args.place; ran = c.in-Ended.ran } ∷ []) c.reserve.ensures.items))
     (place_more 0 c.args.place c.args.self.done.items (record { place = c.args.place; ran = c.in-Ended.ran }) c.requires.behind (omega arith))
 
 pub returns-clause-order : goal.returns-clause-order
-returns-clause-order g c = place_longer 0 c.args.place (c.args.place + 1) _ (subst (λ (ds : List Done). RiseInPlace 0 ds c.args.place) (sym c.reserve.ensures.items) c.requires.behind) (omega arith)
+returns-clause-order g c = place_longer 0 c.args.place (c.args.place + 1) _ (subst (λ (ds : List JobDone). RiseInPlace 0 ds c.args.place) (sym c.reserve.ensures.items) c.requires.behind) (omega arith)
 
 -- ---- what it took
 

@@ -1,12 +1,12 @@
 use Rattle.std.proofs.Common.{◌≡◌, refl, sym, ap, ◌∙◌}
 use Rattle.acl_core.specs.Identity.{Identity}
 use Rattle.acl_core.specs.declared.perms.Perms.{Perms}
-use Rattle.file_ops.specs.Walks.{Place, permit, to_change}
+use Rattle.file_ops.specs.Walks.{Object, permit, to_change}
 use Rattle.file_exec.specs.code.Overlay.{seen_place}
 use Rattle.file_exec.proofs.Steps.{goes, stops, ruled, overruled}
 use Rattle.file_exec.proofs.view.View.parent_of.Goals as goal
 
-wanted : (caller : Identity) (place : Place) {perms : Perms} → perms ≡ to_change → permit caller place to_change ≡ permit caller place perms
+wanted : (caller : Identity) (place : Object) {perms : Perms} → perms ≡ to_change → permit caller place to_change ≡ permit caller place perms
 wanted caller place is = ap (λ wanted. permit caller place wanted) (sym is)
 
 pub returns-in_err-place-clause-parent : goal.returns-in_err-place-clause-parent

@@ -1,5 +1,5 @@
 use Rattle.std.proofs.Common.{◌≡◌, true, Some, refl, sym, ap, subst, ◌∙◌, rules}
-use Rattle.suite_collect.specs.code.Dues.{Tally, due_in}
+use Rattle.suite_collect.specs.code.Dues.{Standing, due_in}
 use Rattle.suite_collect.specs.declared.hearing.Hearing.{Hearing}
 use Rattle.suite_collect.specs.declared.told.Told.{Told}
 use Rattle.suite_collect.specs.Answering.{Completes, IsTold, Hears, has_quorum}
@@ -16,7 +16,7 @@ returns-in-Current-clause-ok c =
     let was = c.args.self.now.collector in
     let last = told_of c.in-Some.last in
     let told : told_by (next was) c.args.reply.now ≡ Some last = search rules in
-    let quorum : has_quorum (next (tell last was)) ≡ true = ap has_quorum (current_next (tell last was) (ap (λ (tally : Tally). tally.due) (sym c.tally_after-tally.ensures.value) ∙ ap due_in c.in-Current.is)) in
+    let quorum : has_quorum (next (tell last was)) ≡ true = ap has_quorum (current_next (tell last was) (ap (λ (tally : Standing). tally.due) (sym c.tally_after-tally.ensures.value) ∙ ap due_in c.in-Current.is)) in
     let kept : c.in_ok-keep-in-Current.field-0 ≡ last = search rules in
     let Done : Told → Type 0 = λ one. Completes one c.args.self.now c.args.reply.now c.args.self.now in
     subst Done (sym kept) (record { told = told; known = search rules; lock = quorum_shows was c.args.reply.now last told quorum; quorum = quorum; same = refl })
@@ -30,7 +30,7 @@ returns-clause-ok c =
     let new : c.put.new.self ≡ record c.args.self.now { collector = after } = search rules in
     let tells : IsTold c.args.self.now c.args.reply.now c.put.new.self = record { last = last; told = told; new = new } in
     let Heard : Hearing → Type 0 = λ hearing. Hears hearing c.args.self.now c.args.reply.now c.put.new.self in
-    let tallied = ap (λ (tally : Tally). tally.due) (sym c.tally_after-tally.ensures.value) in
+    let tallied = ap (λ (tally : Standing). tally.due) (sym c.tally_after-tally.ensures.value) in
     elim c.match-tally.branch [
       | in-Ask w ↦
           let server = w.in-Ask.server in

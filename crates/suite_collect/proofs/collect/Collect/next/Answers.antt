@@ -10,7 +10,7 @@ use Rattle.suite_collect.proofs.collect.Collect.next.Goals as goal
 pub returns-in-Current : goal.returns-in-Current
 returns-in-Current c =
     let now = c.args.self.now.collector in
-    let is : due_of now ≡ due.Current = ap (λ (c : Collecting). due_of c.collector) (sym c.self.view_is) ∙ ap (λ (tally : due.Tally). tally.due) (sym c.self.invariant.tally) ∙ ap due_in c.in-Current.is in
+    let is : due_of now ≡ due.Current = ap (λ (c : Collecting). due_of c.collector) (sym c.self.view_is) ∙ ap (λ (tally : due.Standing). tally.due) (sym c.self.invariant.tally) ∙ ap due_in c.in-Current.is in
     let version : spec.version now ≡ c.greatest-dver.result = search rules in
     current_next now is
     ∙ ap (λ prefix. Current prefix (spec.version now) (spec.members_of (spec.counted now) (spec.is_member now))) (sym c.newest.ensures)
@@ -21,6 +21,6 @@ pub returns-in-Ask : goal.returns-in-Ask
 returns-in-Ask c =
     let now = c.args.self.now.collector in
     let server = c.in-Ask.server in
-    let is : due_of now ≡ due.Ask server = ap (λ (c : Collecting). due_of c.collector) (sym c.self.view_is) ∙ ap (λ (tally : due.Tally). tally.due) (sym c.self.invariant.tally) ∙ ap due_in c.in-Ask.is in
+    let is : due_of now ≡ due.Ask server = ap (λ (c : Collecting). due_of c.collector) (sym c.self.view_is) ∙ ap (λ (tally : due.Standing). tally.due) (sym c.self.invariant.tally) ∙ ap due_in c.in-Ask.is in
     let request : c.request.result ≡ request_for c.args.self.now.t c.args.self.now.suite (asked_of now server) = search rules in
     (asked_of now server, ask_next now server is, request)

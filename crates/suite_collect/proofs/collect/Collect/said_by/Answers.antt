@@ -15,7 +15,7 @@ pub returns-clause-told : goal.returns-clause-told
 returns-clause-told c =
     let now = c.args.self.now.collector in
     let server = c.in-Ask.server in
-    let is : due_of now ≡ due.Ask server = ap (λ (it : Collecting). due_of it.collector) (sym c.self.view_is) ∙ ap (λ (tally : due.Tally). tally.due) (sym c.self.invariant.tally) ∙ ap due_in c.in-Ask.is in
+    let is : due_of now ≡ due.Ask server = ap (λ (it : Collecting). due_of it.collector) (sym c.self.view_is) ∙ ap (λ (tally : due.Standing). tally.due) (sym c.self.invariant.tally) ∙ ap due_in c.in-Ask.is in
     let says : said_to (asked_of now server) c.args.reply.now ≡ Some (said_of c.match-reply.what) = elim c.match-reply.branch [
       | in-Held w ↦ search rules
       | in-Busy w ↦ search rules

@@ -12,7 +12,7 @@ use Rattle.txn_core.specs.declared.resources.Resources.{Resources}
 use Rattle.txn_core.specs.declared.response.Response.TheVariants.{Lacked}
 use Rattle.txn_core.specs.Standing.{Standing}
 use Rattle.txn_core.proofs.Reaching.{unbegun_by}
-use Rattle.txn_core.proofs.Taking.{took_response, tells_by}
+use Rattle.txn_core.proofs.ResponseTaken.{took_response, tells_by}
 use Rattle.txn_core.proofs.agent.Agent.on_lack.Goals as goal
 
 pub invariant_of-self : goal.invariant_of-self

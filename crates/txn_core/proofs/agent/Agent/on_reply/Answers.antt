@@ -11,7 +11,7 @@ use Rattle.txn_core.specs.declared.agent.Doing.{Doing as Coded}
 use Rattle.txn_core.specs.declared.agent.Doing.TheVariants as coded
 use Rattle.txn_core.specs.declared.response.Response.TheVariants.{Replied}
 use Rattle.txn_core.specs.Standing.{Standing, left_by}
-use Rattle.txn_core.proofs.Taking.{Took, took_response}
+use Rattle.txn_core.proofs.ResponseTaken.{Took, took_response}
 use Rattle.txn_core.proofs.agent.Agent.on_reply.Goals as goal
 
 pub returns-in-Some-Running-clause-ok : goal.returns-in-Some-Running-clause-ok
