@@ -42,16 +42,20 @@ one_more side taken said entry is = entries_more side taken said ∙ ap (λ o. e
 no_more : (side : Side) (taken : List SidedEntry) (said : SidedEntry) → if_of side said.side said.entry ≡ None → entries_of side (taken ++ said ∷ []) ≡ entries_of side taken
 no_more side taken said is = entries_more side taken said ∙ ap (λ o. entries_of side taken ++ cons_option o []) is ∙ append-nil (entries_of side taken)
 
-pub tally_more : (old new : Tallied) (side : Side) (taken : List SidedEntry) (said : SidedEntry) → said.side ≡ side → if_of side side said.entry ≡ Some said.entry → ((entries : List Entry) → IsTallyOf old entries → IsTallyOf new (entries ++ said.entry ∷ [])) → IsTallyOf old (entries_of side taken) → IsTallyOf new (entries_of side (taken ++ said ∷ []))
+pub tally_more : (old new : Tallied) (side : Side) (taken : List SidedEntry) (said : SidedEntry) → said.side ≡ side → if_of side side said.entry ≡ Some said.entry
+    → ((entries : List Entry) → IsTallyOf old entries → IsTallyOf new (entries ++ said.entry ∷ [])) → IsTallyOf old (entries_of side taken)
+    → IsTallyOf new (entries_of side (taken ++ said ∷ []))
 tally_more old new side taken said of_side same more is =
     subst (IsTallyOf new) (sym (one_more side taken said said.entry (ap (λ s. if_of side s said.entry) of_side ∙ same))) (more (entries_of side taken) is)
 
-pub tally_stays : (old : Tallied) (side other : Side) (taken : List SidedEntry) (said : SidedEntry) → said.side ≡ other → if_of side other said.entry ≡ None → IsTallyOf old (entries_of side taken) → IsTallyOf old (entries_of side (taken ++ said ∷ []))
+pub tally_stays : (old : Tallied) (side other : Side) (taken : List SidedEntry) (said : SidedEntry) → said.side ≡ other → if_of side other said.entry ≡ None
+    → IsTallyOf old (entries_of side taken) → IsTallyOf old (entries_of side (taken ++ said ∷ []))
 tally_stays old side other taken said of_other none is =
     subst (IsTallyOf old) (sym (no_more side taken said (ap (λ s. if_of side s said.entry) of_other ∙ none))) is
 
 -- the fault of an access list is that of both
-refused_first : (a : AclError) (told : Option AclFault) (taken : List SidedEntry) → told ≡ fault_in {T = Unit {0}} (Err a) → told ≡ first_fault (entries_of Access taken) → (fault_of_list a ≡ Memory → ⊥) → lists_fault taken ≡ Some (fault_of_list a)
+refused_first : (a : AclError) (told : Option AclFault) (taken : List SidedEntry) → told ≡ fault_in {T = Unit {0}} (Err a) → told ≡ first_fault (entries_of Access taken)
+    → (fault_of_list a ≡ Memory → ⊥) → lists_fault taken ≡ Some (fault_of_list a)
 refused_first (acl.Invalid fault) told taken named is other = ap (λ f. option_or (option_map Invalid f) (default_fault (entries_of Default taken))) (sym is ∙ named)
 refused_first acl.Memory told taken named is other = absurd (other refl)
 
@@ -59,7 +63,8 @@ named_by : (T : Type 0) (a : AclError) → fault_in {T = T} (Err a) ≡ fault_in
 named_by T (acl.Invalid fault) = refl
 named_by T acl.Memory = refl
 
-pub access_refused : (T : Type 0) (r : Result T AclError) (a : AclError) (taken : List SidedEntry) → r ≡ Err a → fault_in r ≡ first_fault (entries_of Access taken) → (fault_of_list a ≡ Memory → ⊥) → lists_fault taken ≡ Some (fault_of_list a)
+pub access_refused : (T : Type 0) (r : Result T AclError) (a : AclError) (taken : List SidedEntry) → r ≡ Err a → fault_in r ≡ first_fault (entries_of Access taken)
+    → (fault_of_list a ≡ Memory → ⊥) → lists_fault taken ≡ Some (fault_of_list a)
 access_refused T r a taken failed is other = refused_first a (fault_in r) taken (ap fault_in failed ∙ named_by T a) is other
 
 pub err_told : {T E : Type 0} (Q : E → Type 0) (r : Result T E) (f : E) → IsErrAnd r (λ e. e ≡ f) → Q f → IfErr r Q

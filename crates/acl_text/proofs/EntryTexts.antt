@@ -110,7 +110,8 @@ numbered_decimal table id small =
     let numeral = decimal_is_IsNumeral id (omega arith) in
     rw (decimal_digits id small, ← fits (decimal id) id (sym numeral.1) small) refl
 
-decimal_facts : (id : ℕ) → id ≤ max_id → (0 < length (decimal id)) × (lacks (λ b. eqb b colon) (decimal id) ≡ true) × (trimmed (decimal id) ≡ decimal id) × (list_all is_name_byte (decimal id) ≡ true) × (list_all is_plain (decimal id) ≡ true)
+decimal_facts : (id : ℕ) → id ≤ max_id → (0 < length (decimal id)) × (lacks (λ b. eqb b colon) (decimal id) ≡ true) × (trimmed (decimal id) ≡ decimal id)
+    × (list_all is_name_byte (decimal id) ≡ true) × (list_all is_plain (decimal id) ≡ true)
 decimal_facts id small =
     let digits = decimal_digits id small in (
       (decimal_is_IsNumeral id (omega arith)).0.0,

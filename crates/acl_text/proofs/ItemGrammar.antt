@@ -24,7 +24,25 @@ use Rattle.acl_text.specs.declared.item.Side.{Side}
 use Rattle.acl_text.specs.declared.item.Side.TheVariants.{Access, Default}
 use Rattle.acl_text.specs.declared.keyword.Keyword.{Keyword}
 use Rattle.acl_text.specs.declared.keyword.Keyword.TheVariants.{User, Group, Mask, Other}
-use Rattle.acl_text.specs.Grammar.{letter_r, letter_w, letter_x, hyphen, times_in, stands_in, are_permissions, permission_bytes, permission_digit, is_permission_byte, numbered, tag_of, fits_keyword, entry_reading, fields_reading, sided_reading, reading}
+use Rattle.acl_text.specs.Grammar.{
+  letter_r,
+  letter_w,
+  letter_x,
+  hyphen,
+  times_in,
+  stands_in,
+  are_permissions,
+  permission_bytes,
+  permission_digit,
+  is_permission_byte,
+  numbered,
+  tag_of,
+  fits_keyword,
+  entry_reading,
+  fields_reading,
+  sided_reading,
+  reading,
+}
 use Rattle.acl_text.specs.Items.{IsSpaced, Denotes, Says, Grants, IsLong, IsShort, IsLaidOut, IsItemOf, IsDefaultItemOf, SaysItem, is_single}
 use Rattle.acl_text.specs.Keywords.{word_of, letter_of, keyword_among, keyword_of, single_keyword_of, is_default}
 use Rattle.acl_text.specs.Layout.{colon, is_white, parts, trimmed, fields_of}
@@ -331,7 +349,8 @@ default_word true = record { kept = refl; known = refl }
 default_word false = record { kept = refl; known = refl }
 
 said_by_fields : (names : Tables) (bytes word : List ℕ) (more : List (List ℕ)) (marked : Bool) (r : Result Entry ItemFault) → list_all is_white bytes ≡ false → fields_of bytes ≡ word ∷ more → is_default word ≡ marked
-    → reading names bytes ≡ result_map_both Some (λ fault. fault) (cond marked (result_map_both (sided_entry Default) (λ fault. fault) (fields_reading names more)) (result_map_both (sided_entry Access) (λ fault. fault) (fields_reading names (word ∷ more))))
+    → reading names bytes ≡ result_map_both Some (λ fault. fault) (cond marked (result_map_both (sided_entry Default) (λ fault. fault) (fields_reading names more))
+    (result_map_both (sided_entry Access) (λ fault. fault) (fields_reading names (word ∷ more))))
 said_by_fields names bytes word more marked r no_blank fields default = rw (no_blank, fields, default) refl
 
 pub read_if_written : (names : Tables) (side : Side) (e : Entry) (bytes : List ℕ) → SaysItem names side e bytes → reading names bytes ≡ Ok (Some (sided_entry side e))

@@ -40,7 +40,8 @@ remark_of : (mask : Option Perms) (e : Entry) → IsRemark (remark mask e)
 remark_of None e = inl refl
 remark_of (Some mask) e =
     let common = common_text e.perms mask in
-    let letters = letter_facts (has_permission e.perms may_read && has_permission mask may_read) (has_permission e.perms may_write && has_permission mask may_write) (has_permission e.perms may_execute && has_permission mask may_execute) false in
+    let letters = letter_facts (has_permission e.perms may_read && has_permission mask may_read) (has_permission e.perms may_write && has_permission mask may_write)
+    (has_permission e.perms may_execute && has_permission mask may_execute) false in
     elim (cases_Bool (is_limited e.tag && not (has_all mask e.perms))) [
       | inl less ↦ inr (codes "effective:" ++ common, rw less refl, list_all_wider is_plain (λ b. not (eqb b 10)) no_line_feed common letters.plain)
       | inr same ↦ inl (rw same refl)

@@ -92,7 +92,8 @@ worked_at jobs (s ∷ seats) (x ∷ worked) (suc i) w all low is =
     record { seat = more.seat; sat = there s.player more.seat.player (sitting seats) more.sat; is = there x.player w.player (players_of worked) more.is; work = more.work }
 
 -- that it is one agent's
-pub is_of : (jobs : List NamedJob) (seats : List SeatedAgent) (worked : List Worked) (w : Worked) (agent : ℕ) (at : WorkedAt jobs seats worked w) → agent ≡ number_of w.player → IsOf (sitting seats) (players_of worked) agent at.seat.player w.player
+pub is_of : (jobs : List NamedJob) (seats : List SeatedAgent) (worked : List Worked) (w : Worked) (agent : ℕ) (at : WorkedAt jobs seats worked w) → agent ≡ number_of w.player
+    → IsOf (sitting seats) (players_of worked) agent at.seat.player w.player
 is_of jobs seats worked w agent at is = record { had = at.sat; old = sym at.work.longer.number ∙ sym is; has = at.is; new = sym is }
 
 -- whoever ran whatever it took is idle
@@ -158,7 +159,8 @@ seats_idle old left (p ∷ players) [] all idle = absurd all
 seats_idle old left (p ∷ players) (s ∷ seats) all idle =
     All-cons (λ (seat : SeatedAgent). IsIdle seat.player) s seats (subst (λ (q : Played). IsIdle q) (sym all.0.sits) (All-head IsIdle p players idle)) (seats_idle old left players seats all.1 (All-tail IsIdle p players idle))
 
-pub same_numbers : (jobs : List NamedJob) (old left : List Held) (players : List Played) (seats : List SeatedAgent) (worked : List Worked) → AllZip (IsSeated old left) players seats → AllZip (IsWorkOf jobs) seats worked → numbers_of (players_of worked) ≡ numbers_of players
+pub same_numbers : (jobs : List NamedJob) (old left : List Held) (players : List Played) (seats : List SeatedAgent) (worked : List Worked)
+    → AllZip (IsSeated old left) players seats → AllZip (IsWorkOf jobs) seats worked → numbers_of (players_of worked) ≡ numbers_of players
 same_numbers jobs old left [] [] [] a b = refl
 same_numbers jobs old left [] [] (w ∷ worked) a b = absurd b
 same_numbers jobs old left [] (s ∷ seats) worked a b = absurd a
@@ -167,7 +169,8 @@ same_numbers jobs old left (p ∷ players) (s ∷ seats) [] a b = absurd b
 same_numbers jobs old left (p ∷ players) (s ∷ seats) (w ∷ worked) a b =
     ap (λ n. n ∷ numbers_of (players_of worked)) (b.0.longer.number ∙ ap (λ (q : Played). number_of q) a.0.sits) ∙ ap (λ ns. number_of p ∷ ns) (same_numbers jobs old left players seats worked a.1 b.1)
 
-pub still_distinct : (jobs : List NamedJob) (old left : List Held) (players : List Played) (seats : List SeatedAgent) (worked : List Worked) → AllZip (IsSeated old left) players seats → AllZip (IsWorkOf jobs) seats worked → AreDistinct (numbers_of players)
+pub still_distinct : (jobs : List NamedJob) (old left : List Held) (players : List Played) (seats : List SeatedAgent) (worked : List Worked)
+    → AllZip (IsSeated old left) players seats → AllZip (IsWorkOf jobs) seats worked → AreDistinct (numbers_of players)
     → AreDistinct (numbers_of (players_of worked))
 still_distinct jobs old left players seats worked a b distinct = subst (λ ns. AreDistinct ns) (sym (same_numbers jobs old left players seats worked a b)) distinct
 

@@ -30,7 +30,8 @@ took_none servers jobs w taken none ran nothing = record {
   leaves = subst (λ (h : Option Halt). Leaves servers jobs w.player w.pass [] h) (sym ran) refl;
 }
 
-leaves_more : (servers : ℕ) (jobs : List NamedJob) (w : Worked) (left : List ℕ) (place : ℕ) (halt : Option Halt) → is_some halt ≡ true → Leaves servers jobs w.player w.pass left halt → Leaves servers jobs w.player w.pass (left ++ place ∷ []) halt
+leaves_more : (servers : ℕ) (jobs : List NamedJob) (w : Worked) (left : List ℕ) (place : ℕ) (halt : Option Halt) → is_some halt ≡ true
+    → Leaves servers jobs w.player w.pass left halt → Leaves servers jobs w.player w.pass (left ++ place ∷ []) halt
 leaves_more servers jobs w left place None halted leaves = cc
 leaves_more servers jobs w left place (Some Lacked) halted leaves = tt
 leaves_more servers jobs w left place (Some (Stuck job)) halted leaves = record {
@@ -57,7 +58,8 @@ took_all servers jobs w taken ran took =
     took.split ∙ ap (λ ps. places_by w.done.items ++ ps) none ∙ append-nil (places_by w.done.items)
 
 -- an agent that ran until then halts at what it takes
-pub took_halted : (servers : ℕ) (jobs : List NamedJob) (w v : Worked) (why : Halt) (taken : List ℕ) (place : ℕ) → w.halt ≡ None → v.done.items ≡ w.done.items → v.halt ≡ Some why → Leaves servers jobs v.player v.pass (place ∷ []) (Some why) → Took servers jobs w taken
+pub took_halted : (servers : ℕ) (jobs : List NamedJob) (w v : Worked) (why : Halt) (taken : List ℕ) (place : ℕ) → w.halt ≡ None → v.done.items ≡ w.done.items → v.halt ≡ Some why
+    → Leaves servers jobs v.player v.pass (place ∷ []) (Some why) → Took servers jobs w taken
     → Took servers jobs v (taken ++ place ∷ [])
 took_halted servers jobs w v why taken place ran same halts leaves took = record {
   left = place ∷ [];
@@ -70,7 +72,8 @@ places_push [] d = refl
 places_push (x ∷ ds) d = ap (λ ps. x.place ∷ ps) (places_push ds d)
 
 -- or does it
-pub took_done : (servers : ℕ) (jobs : List NamedJob) (w v : Worked) (d : JobDone) (taken : List ℕ) → w.halt ≡ None → v.done.items ≡ w.done.items ++ d ∷ [] → v.halt ≡ None → Took servers jobs w taken → Took servers jobs v (taken ++ d.place ∷ [])
+pub took_done : (servers : ℕ) (jobs : List NamedJob) (w v : Worked) (d : JobDone) (taken : List ℕ) → w.halt ≡ None → v.done.items ≡ w.done.items ++ d ∷ [] → v.halt ≡ None
+    → Took servers jobs w taken → Took servers jobs v (taken ++ d.place ∷ [])
 took_done servers jobs w v d taken ran more still took = record {
   left = [];
   split = ap (λ ps. ps ++ d.place ∷ []) (took_all servers jobs w taken ran took) ∙ sym (append-nil (places_by v.done.items) ∙ ap places_by more ∙ places_push w.done.items d);
@@ -162,7 +165,8 @@ done_few servers jobs (w ∷ worked) taken p all =
     omega arith
 
 -- an agent that left a place left more than all did
-left_more : (servers : ℕ) (jobs : List NamedJob) (w : Worked) (worked : List Worked) (taken : List ℕ) (p : ℕ) (all : AllTook servers jobs (w ∷ worked) taken) → Contains all.3.left p → weigh (same_place p) (places (w ∷ worked)) < weigh (same_place p) taken
+left_more : (servers : ℕ) (jobs : List NamedJob) (w : Worked) (worked : List Worked) (taken : List ℕ) (p : ℕ) (all : AllTook servers jobs (w ∷ worked) taken)
+    → Contains all.3.left p → weigh (same_place p) (places (w ∷ worked)) < weigh (same_place p) taken
 left_more servers jobs w worked taken p all has =
     let more = done_few servers jobs worked all.1 p all.4 in
     let own = all.3 in
@@ -181,13 +185,15 @@ later_more servers jobs w worked taken p all more =
     let done = weigh_append (same_place p) (places_by w.done.items) (places worked) in
     omega arith
 
-strange_here : (servers : ℕ) (jobs : List NamedJob) (w : Worked) (left : List ℕ) (halt : Option Halt) (later : Option ℕ) (place : ℕ) → Leaves servers jobs w.player w.pass left halt → strange_or halt later ≡ Some place → Contains left place ⊎ (later ≡ Some place)
+strange_here : (servers : ℕ) (jobs : List NamedJob) (w : Worked) (left : List ℕ) (halt : Option Halt) (later : Option ℕ) (place : ℕ)
+    → Leaves servers jobs w.player w.pass left halt → strange_or halt later ≡ Some place → Contains left place ⊎ (later ≡ Some place)
 strange_here servers jobs w left None later place leaves is = inr is
 strange_here servers jobs w left (Some Lacked) later place leaves is = inr is
 strange_here servers jobs w left (Some (Stuck job)) later place leaves is = inr is
 strange_here servers jobs w left (Some (Strange at)) later place leaves is = inl (subst (λ p. Contains left p) (same_Some at place is) leaves)
 
-strange_taken : (servers : ℕ) (jobs : List NamedJob) (worked : List Worked) (taken : List ℕ) (place : ℕ) → AllTook servers jobs worked taken → first_strange worked ≡ Some place → weigh (same_place place) (places worked) < weigh (same_place place) taken
+strange_taken : (servers : ℕ) (jobs : List NamedJob) (worked : List Worked) (taken : List ℕ) (place : ℕ) → AllTook servers jobs worked taken → first_strange worked ≡ Some place
+    → weigh (same_place place) (places worked) < weigh (same_place place) taken
 strange_taken servers jobs [] taken place all is = cc
 strange_taken servers jobs (w ∷ worked) taken place all is =
     ⊎_elim (λ (has : Contains all.3.left place). left_more servers jobs w worked taken place all has)
@@ -200,7 +206,8 @@ record StuckAt (jobs : List NamedJob) (done taken : List ℕ) : Type 0 where
   low : place < length jobs
   more : weigh (same_place place) done < weigh (same_place place) taken
 
-stuck_here : (servers : ℕ) (jobs : List NamedJob) (w : Worked) (worked : List Worked) (taken : List ℕ) (all : AllTook servers jobs (w ∷ worked) taken) (halt : Option Halt) (later : Option ℕ) (job : ℕ) → Leaves servers jobs w.player w.pass all.3.left halt
+stuck_here : (servers : ℕ) (jobs : List NamedJob) (w : Worked) (worked : List Worked) (taken : List ℕ) (all : AllTook servers jobs (w ∷ worked) taken) (halt : Option Halt)
+    (later : Option ℕ) (job : ℕ) → Leaves servers jobs w.player w.pass all.3.left halt
     → stuck_or halt later ≡ Some job → StuckAt jobs (places (w ∷ worked)) taken ⊎ (later ≡ Some job)
 stuck_here servers jobs w worked taken all None later job leaves is = inr is
 stuck_here servers jobs w worked taken all (Some Lacked) later job leaves is = inr is
@@ -218,7 +225,8 @@ stuck_taken servers jobs (w ∷ worked) taken job all is =
     (stuck_here servers jobs w worked taken all w.halt (first_stuck worked) job all.3.leaves is)
 
 -- what is left was left by one who got stuck, where memory sufficed and nobody took a strange one
-left_by : (servers : ℕ) (jobs : List NamedJob) (w : Worked) (left : List ℕ) (p : ℕ) (halt : Option Halt) (a : Bool) (b c : Option ℕ) → Leaves servers jobs w.player w.pass left halt → lacked_or halt a ≡ false → strange_or halt b ≡ None → stuck_or halt c ≡ None
+left_by : (servers : ℕ) (jobs : List NamedJob) (w : Worked) (left : List ℕ) (p : ℕ) (halt : Option Halt) (a : Bool) (b c : Option ℕ)
+    → Leaves servers jobs w.player w.pass left halt → lacked_or halt a ≡ false → strange_or halt b ≡ None → stuck_or halt c ≡ None
     → (left ≡ []) × (a ≡ false) × (b ≡ None) × (c ≡ None)
 left_by servers jobs w left p None a b c leaves x y z = (leaves, x, y, z)
 left_by servers jobs w left p (Some Lacked) a b c leaves x y z = cc
@@ -274,7 +282,8 @@ has_stuck servers jobs worked job taken none missing ran =
     let there = below_there (length jobs) place low in
     missing.none (some_holds place (places worked) (omega arith))
 
-pub fault_of : (servers : ℕ) (jobs : List NamedJob) (seats : List SeatedAgent) (worked : List Worked) (fault : PoolFault) → AllZip (IsWorkOf jobs) seats worked → AreTaken servers jobs worked → TellsOf jobs worked fault → IsFaultOf jobs fault
+pub fault_of : (servers : ℕ) (jobs : List NamedJob) (seats : List SeatedAgent) (worked : List Worked) (fault : PoolFault) → AllZip (IsWorkOf jobs) seats worked
+    → AreTaken servers jobs worked → TellsOf jobs worked fault → IsFaultOf jobs fault
 fault_of servers jobs seats worked Memory all taken tells = tt
 fault_of servers jobs seats worked (Stranger place) all taken tells = no_stranger servers jobs worked place taken tells.1 (strange_is jobs seats worked place all tells.1)
 fault_of servers jobs seats worked (Double job) all taken tells =
@@ -291,7 +300,8 @@ has_reason servers jobs worked (Err (Stranger place)) taken gathers = tt
 has_reason servers jobs worked (Err (Double job)) taken gathers = tt
 has_reason servers jobs worked (Err (Missing job)) taken gathers = has_stuck servers jobs worked job taken gathers.0 gathers.2
 
-pub fault_in : {A : Type 0} (servers : ℕ) (jobs : List NamedJob) (seats : List SeatedAgent) (worked : List Worked) (result : Result A PoolFault) → AllZip (IsWorkOf jobs) seats worked → AreTaken servers jobs worked → Gathers jobs worked result → IfErr result (IsFaultOf jobs)
+pub fault_in : {A : Type 0} (servers : ℕ) (jobs : List NamedJob) (seats : List SeatedAgent) (worked : List Worked) (result : Result A PoolFault)
+    → AllZip (IsWorkOf jobs) seats worked → AreTaken servers jobs worked → Gathers jobs worked result → IfErr result (IsFaultOf jobs)
 fault_in servers jobs seats worked (Ok pool) all taken gathers = tt
 fault_in servers jobs seats worked (Err fault) all taken gathers = fault_of servers jobs seats worked fault all taken gathers
 

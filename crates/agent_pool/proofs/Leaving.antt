@@ -119,7 +119,8 @@ did_more servers begun a b c p q r what x y = record {
 }
 
 -- what is written down of an answer, beside the pass
-pub goes_by : (server before : ℕ) (reply : Result (Stamped Reply) Miss) (delivery : Delivery) (pass : Held) → delivery_from server reply ≡ Some delivery → IfOk reply (λ reply. front_at pass server ≤ before) → IfOk reply (λ reply. sent_stamp pass < reply.stamp)
+pub goes_by : (server before : ℕ) (reply : Result (Stamped Reply) Miss) (delivery : Delivery) (pass : Held) → delivery_from server reply ≡ Some delivery
+    → IfOk reply (λ reply. front_at pass server ≤ before) → IfOk reply (λ reply. sent_stamp pass < reply.stamp)
     → GoesOn (delivery.entry ∷ []) pass (after_reply pass server before reply)
 goes_by server before (Ok reply) delivery pass is front rises = subst (λ (t : Delivery). GoesOn (t.entry ∷ []) pass (after_reply pass server before (Ok reply))) (same_Some _ delivery is) (before, front, rises, refl)
 goes_by server before (Err (Lack lack)) delivery pass is front rises = subst (λ (t : Delivery). GoesOn (t.entry ∷ []) pass pass) (same_Some _ delivery is) refl
@@ -151,7 +152,8 @@ abbrev DoesBy : Delivery → Standing → Type 0
 DoesBy delivery agent = Does agent.fixed (at_rest agent.state) delivery.entry (after_response agent.fixed (at_rest agent.state) delivery.response)
 
 -- an agent heard, and what it had done before is counted
-pub heard : (servers begun : ℕ) (delivery : Delivery) (old new : Played) (p q : Held) (what : Came) → old.agent.state.count ≡ begins old.entries → is_ask delivery.entry ≡ true → GoesOn (delivery.entry ∷ []) p q → Learns old.known (delivery.entry ∷ []) new.known → DoesBy delivery old.agent
+pub heard : (servers begun : ℕ) (delivery : Delivery) (old new : Played) (p q : Held) (what : Came) → old.agent.state.count ≡ begins old.entries → is_ask delivery.entry ≡ true
+    → GoesOn (delivery.entry ∷ []) p q → Learns old.known (delivery.entry ∷ []) new.known → DoesBy delivery old.agent
     → Hears (number_of old) begun delivery old.agent old.entries new.agent new.entries what → DidMore servers begun old new p q what
 heard servers begun delivery old new p q came.On counted asks goes learns does h =
     let is : after_response old.agent.fixed (at_rest old.agent.state) delivery.response ≡ at_rest new.agent.state = took (take old.agent.fixed old.agent.state delivery.response) new.agent.state None h.3.1.0 h.3.1.1 in
@@ -273,7 +275,13 @@ did_lack servers begun a b p agent entries known = record {
 
 pub no_job : (servers : ℕ) (job : Job) (a b : Played) (p : Held) → b ≡ a → begins_job a.agent.fixed a.agent.state job ≡ false → DidJob servers job a b p p came.Stuck
 no_job servers job a b p same not = record {
-  longer = record { fixed = ap (λ (p : Played). p.agent.fixed) same; number = ap (λ (p : Played). number_of p) same; rest = []; entries = ap (λ (p : Played). p.entries) same ∙ sym (append-nil a.entries); knows = ap (λ (p : Played). p.known) same };
+  longer = record {
+    fixed = ap (λ (p : Played). p.agent.fixed) same;
+    number = ap (λ (p : Played). number_of p) same;
+    rest = [];
+    entries = ap (λ (p : Played). p.entries) same ∙ sym (append-nil a.entries);
+    knows = ap (λ (p : Played). p.known) same;
+  };
   went = refl;
   leads = λ n. ap (λ (p : Played). at_rest p.agent.state) same;
   ran = tt;
@@ -282,7 +290,13 @@ no_job servers job a b p same not = record {
 
 pub lacked_job : (servers : ℕ) (job : Job) (a b : Played) (p : Held) → b ≡ a → DidJob servers job a b p p came.Lacked
 lacked_job servers job a b p same = record {
-  longer = record { fixed = ap (λ (p : Played). p.agent.fixed) same; number = ap (λ (p : Played). number_of p) same; rest = []; entries = ap (λ (p : Played). p.entries) same ∙ sym (append-nil a.entries); knows = ap (λ (p : Played). p.known) same };
+  longer = record {
+    fixed = ap (λ (p : Played). p.agent.fixed) same;
+    number = ap (λ (p : Played). number_of p) same;
+    rest = [];
+    entries = ap (λ (p : Played). p.entries) same ∙ sym (append-nil a.entries);
+    knows = ap (λ (p : Played). p.known) same;
+  };
   went = refl;
   leads = λ n. absurd (n refl);
   ran = tt;
@@ -290,8 +304,10 @@ lacked_job servers job a b p same = record {
 }
 
 -- the same as `heard`, where the fields are named apart
-pub heard_in : (servers begun number : ℕ) (delivery : Delivery) (old new : Played) (agent : Standing) (entries : List Entry) (p q : Held) (what : Came) → agent ≡ old.agent → entries ≡ old.entries → number ≡ number_of old → old.agent.state.count ≡ begins old.entries
-    → is_ask delivery.entry ≡ true → GoesOn (delivery.entry ∷ []) p q → Learns old.known (delivery.entry ∷ []) new.known → DoesBy delivery agent → Hears number begun delivery agent entries new.agent new.entries what → DidMore servers begun old new p q what
+pub heard_in : (servers begun number : ℕ) (delivery : Delivery) (old new : Played) (agent : Standing) (entries : List Entry) (p q : Held) (what : Came) → agent ≡ old.agent
+    → entries ≡ old.entries → number ≡ number_of old → old.agent.state.count ≡ begins old.entries
+    → is_ask delivery.entry ≡ true → GoesOn (delivery.entry ∷ []) p q → Learns old.known (delivery.entry ∷ []) new.known → DoesBy delivery agent
+    → Hears number begun delivery agent entries new.agent new.entries what → DidMore servers begun old new p q what
 heard_in servers begun number delivery old new agent entries p q what a e n counted asks goes learns does h =
     heard servers begun delivery old new p q what counted asks goes learns (subst (λ (s : Standing). DoesBy delivery s) a does)
     (subst (λ (m : ℕ). Hears m begun delivery old.agent old.entries new.agent new.entries what) n
@@ -304,7 +320,8 @@ ask_first (Lacked server lack) entries asks = refl
 ask_first (Forgot site) entries asks = cc
 ask_first (Ended outcome) entries asks = cc
 
-pub heard_begins : (number begun : ℕ) (delivery : Delivery) (old : Standing) (entries : List Entry) (new : Standing) (more : List Entry) (what : Came) → is_ask delivery.entry ≡ true → Hears number begun delivery old entries new more what → begins more ≡ begins entries
+pub heard_begins : (number begun : ℕ) (delivery : Delivery) (old : Standing) (entries : List Entry) (new : Standing) (more : List Entry) (what : Came)
+    → is_ask delivery.entry ≡ true → Hears number begun delivery old entries new more what → begins more ≡ begins entries
 heard_begins number begun delivery old entries new more came.On asks h = ap begins h.3.0 ∙ begins-append entries (delivery.entry ∷ []) ∙ (let one = ask_first delivery.entry [] asks in omega arith)
 heard_begins number begun delivery old entries new more came.Stuck asks h = absurd h.3
 heard_begins number begun delivery old entries new more came.Lacked asks h = ap begins h.3 ∙ begins-append entries (delivery.entry ∷ []) ∙ (let one = ask_first delivery.entry [] asks in omega arith)
@@ -314,7 +331,8 @@ heard_begins number begun delivery old entries new more (came.Ended ran) asks h 
     ap begins on.1 ∙ begins-append entries (delivery.entry ∷ end ∷ []) ∙ (let one = ask_first delivery.entry (end ∷ []) asks in omega arith)
 
 -- nothing is delivered where the pass is of other servers, of which it has seen something
-pub stale_seen : (server before : ℕ) (request : Request) (reply : Result (Stamped Reply) Miss) (pass : Held) (asked : Option (ℕ × Request)) → delivery_from server reply ≡ None → ((long : ℕ) → reply ≡ Err (Stale long) → before < front_at pass server)
+pub stale_seen : (server before : ℕ) (request : Request) (reply : Result (Stamped Reply) Miss) (pass : Held) (asked : Option (ℕ × Request)) → delivery_from server reply ≡ None
+    → ((long : ℕ) → reply ≡ Err (Stale long) → before < front_at pass server)
     → asked ≡ Some (server, request) → HasSeen pass asked
 stale_seen server before request (Ok reply) pass asked none stale is = cc
 stale_seen server before request (Err (Lack lack)) pass asked none stale is = cc

@@ -10,7 +10,30 @@ use Rattle.atomic_table.proofs.Lists.{at_set, at_snoc}
 use Rattle.agent_pool.specs.declared.line.Hand.{Hand}
 use Rattle.agent_pool.specs.declared.line.Item.{Item}
 use Rattle.agent_pool.specs.declared.line.Item.TheVariants.{End, Job}
-use Rattle.agent_pool.specs.Line.{feeder, spent, taker, after_put, after_take, either_one, jobs_below, marks, one_if, one_that_takes, places_below, places_in, total, weigh, with_taken, with_taker, IsEachOnce, IsKnown, IsTaker, MayPut, TakesItem, TookAll}
+use Rattle.agent_pool.specs.Line.{
+  feeder,
+  spent,
+  taker,
+  after_put,
+  after_take,
+  either_one,
+  jobs_below,
+  marks,
+  one_if,
+  one_that_takes,
+  places_below,
+  places_in,
+  total,
+  weigh,
+  with_taken,
+  with_taker,
+  IsEachOnce,
+  IsKnown,
+  IsTaker,
+  MayPut,
+  TakesItem,
+  TookAll,
+}
 
 -- ---- what is added up
 
@@ -129,7 +152,12 @@ puts_job n seat place v puts next none items hands short h at =
         known = all_set (IsKnown (suc place) 0 h.takers h.back (length h.gone)) seat v w hands
             (λ j u other there.
             let k = h.known j u there in
-            record { puts = λ p. absurd (other_puts h.put h.ends h.takers h.back (length h.gone) seat j v u hands h.known at puts other there p); low = k.low; idle = k.idle; ended = λ e. let some_end = (k.ended e).0 in absurd (omega arith) })
+            record {
+              puts = λ p. absurd (other_puts h.put h.ends h.takers h.back (length h.gone) seat j v u hands h.known at puts other there p);
+              low = k.low;
+              idle = k.idle;
+              ended = λ e. let some_end = (k.ended e).0 in absurd (omega arith);
+            })
             (record { puts = λ p. (is.0, (omega arith), none, is.3, is.4, is.5); low = mine.low; idle = mine.idle; ended = λ e. let some_end = (mine.ended e).0 in absurd (omega arith) });
       },
       refl,

@@ -166,7 +166,8 @@ ready_parts passes x xs ready = record {
 }
 
 -- who can work beside those after it: what is so of these is so of all
-pub ready_on : (passes : List Held) (x : Played) (later rest all : List Played) → rest ≡ x ∷ later → IsIdle x → HasPass passes x → IsOther later (Some (number_of x)) → (AreReady passes rest ↔ AreReady passes all) → (AreReady passes later ↔ AreReady passes all)
+pub ready_on : (passes : List Held) (x : Played) (later rest all : List Played) → rest ≡ x ∷ later → IsIdle x → HasPass passes x → IsOther later (Some (number_of x))
+    → (AreReady passes rest ↔ AreReady passes all) → (AreReady passes later ↔ AreReady passes all)
 ready_on passes x later rest all split idle has other same = (
   λ ready. same.0 (subst (λ (ps : List Played). AreReady passes ps) (sym split) (ready_cons passes x later idle has other ready)),
   λ ready. (ready_parts passes x later (subst (λ (ps : List Played). AreReady passes ps) split (same.1 ready))).rest,

@@ -42,7 +42,8 @@ AllSat jobs old left [] [] [] = Unit {0}
 AllSat jobs old left (p ∷ players) (s ∷ seats) (w ∷ worked) = Sat jobs old left p s w × AllSat jobs old left players seats worked
 AllSat jobs old left _ _ _ = ⊥
 
-all_sat : (jobs : List NamedJob) (old left : List Held) (players : List Played) (seats : List SeatedAgent) (worked : List Worked) → AllZip (IsSeated old left) players seats → AllZip (IsWorkOf jobs) seats worked → AllRan worked → AllSat jobs old left players seats worked
+all_sat : (jobs : List NamedJob) (old left : List Held) (players : List Played) (seats : List SeatedAgent) (worked : List Worked) → AllZip (IsSeated old left) players seats
+    → AllZip (IsWorkOf jobs) seats worked → AllRan worked → AllSat jobs old left players seats worked
 all_sat jobs old left [] [] [] a b ran = tt
 all_sat jobs old left [] [] (w ∷ worked) a b ran = absurd b
 all_sat jobs old left [] (s ∷ seats) worked a b ran = absurd a
@@ -54,7 +55,8 @@ all_sat jobs old left (p ∷ players) (s ∷ seats) (w ∷ worked) a b ran = (
 )
 
 -- none of these passes is another asker's
-none_of : (jobs : List NamedJob) (old left : List Held) (asker : Option ℕ) (players : List Played) (seats : List SeatedAgent) (worked : List Worked) → AllSat jobs old left players seats worked → IsOther players asker → passes_by asker (passes_of worked) ≡ []
+none_of : (jobs : List NamedJob) (old left : List Held) (asker : Option ℕ) (players : List Played) (seats : List SeatedAgent) (worked : List Worked)
+    → AllSat jobs old left players seats worked → IsOther players asker → passes_by asker (passes_of worked) ≡ []
 none_of jobs old left asker [] [] [] all other = refl
 none_of jobs old left asker [] [] (w ∷ worked) all other = absurd all
 none_of jobs old left asker [] (s ∷ seats) worked all other = absurd all
@@ -77,7 +79,8 @@ come_under jobs old left back n x (p ∷ players) [] of other all = absurd all
 come_under jobs old left back n x (p ∷ players) (w ∷ worked) of other all =
     (other_cons (Some (number_of p)) n x back of (λ e. other.0 (sym e)) ∙ all.0, come_under jobs old left back n x players worked of other.1 all.1)
 
-all_come : (jobs : List NamedJob) (old left : List Held) (players : List Played) (seats : List SeatedAgent) (worked : List Worked) → AllSat jobs old left players seats worked → AreApartFrom players → AllCome jobs old left (passes_of worked) players worked
+all_come : (jobs : List NamedJob) (old left : List Held) (players : List Played) (seats : List SeatedAgent) (worked : List Worked) → AllSat jobs old left players seats worked
+    → AreApartFrom players → AllCome jobs old left (passes_of worked) players worked
 all_come jobs old left [] [] [] all apart = tt
 all_come jobs old left [] [] (w ∷ worked) all apart = absurd all
 all_come jobs old left [] (s ∷ seats) worked all apart = absurd all
@@ -110,7 +113,8 @@ went_one jobs old left new p s w sat is =
       went = sat.work.went;
     }
 
-went_all : (jobs : List NamedJob) (old left back new : List Held) (players : List Played) (seats : List SeatedAgent) (worked : List Worked) → new ≡ left ++ back → AllSat jobs old left players seats worked → AllCome jobs old left back players worked
+went_all : (jobs : List NamedJob) (old left back new : List Held) (players : List Played) (seats : List SeatedAgent) (worked : List Worked) → new ≡ left ++ back
+    → AllSat jobs old left players seats worked → AllCome jobs old left back players worked
     → AllZip (WentOn old new) players (players_of worked)
 went_all jobs old left back new [] [] [] is all come = tt
 went_all jobs old left back new [] [] (w ∷ worked) is all come = absurd all
@@ -122,13 +126,15 @@ went_all jobs old left back new (p ∷ players) (s ∷ seats) (w ∷ worked) is 
   went_all jobs old left back new players seats worked is all.1 come.1,
 )
 
-pub all_went : (jobs : List NamedJob) (old left new : List Held) (players : List Played) (seats : List SeatedAgent) (worked : List Worked) → AreDistinct (numbers_of players) → AreSeated old left players seats → AllZip (IsWorkOf jobs) seats worked
+pub all_went : (jobs : List NamedJob) (old left new : List Held) (players : List Played) (seats : List SeatedAgent) (worked : List Worked) → AreDistinct (numbers_of players)
+    → AreSeated old left players seats → AllZip (IsWorkOf jobs) seats worked
     → AllRan worked → new ≡ left ++ passes_of worked → AllZip (WentOn old new) players (players_of worked)
 all_went jobs old left new players seats worked distinct seated work ran is =
     let all = all_sat jobs old left players seats worked seated.each work ran in
     went_all jobs old left (passes_of worked) new players seats worked is all (all_come jobs old left players seats worked all (apart_from players distinct))
 
-pub others_back : (jobs : List NamedJob) (old left new : List Held) (players : List Played) (seats : List SeatedAgent) (worked : List Worked) → AreSeated old left players seats → AllZip (IsWorkOf jobs) seats worked → AllRan worked → new ≡ left ++ passes_of worked
+pub others_back : (jobs : List NamedJob) (old left new : List Held) (players : List Played) (seats : List SeatedAgent) (worked : List Worked) → AreSeated old left players seats
+    → AllZip (IsWorkOf jobs) seats worked → AllRan worked → new ≡ left ++ passes_of worked
     → (asker : Option ℕ) → IsOther players asker → passes_by asker new ≡ passes_by asker old
 others_back jobs old left new players seats worked seated work ran is asker other =
     ap (λ zs. passes_by asker zs) is ∙ filter-append _ left (passes_of worked)

@@ -98,7 +98,8 @@ others_split : (ys : List Played) (x : Played) (asker : Option ℕ) → IsOther 
 others_split [] x asker other = (tt, other.0)
 others_split (y ∷ ys) x asker other = let more = others_split ys x asker other.1 in ((other.0, more.0), more.1)
 
-still_seated : (old mid left : List Held) (n : ℕ) (pass : Held) → IsTakenOut n mid left pass → (players : List Played) (seats : List SeatedAgent) → IsOther players (Some n) → AllZip (IsSeated old mid) players seats → AllZip (IsSeated old left) players seats
+still_seated : (old mid left : List Held) (n : ℕ) (pass : Held) → IsTakenOut n mid left pass → (players : List Played) (seats : List SeatedAgent) → IsOther players (Some n)
+    → AllZip (IsSeated old mid) players seats → AllZip (IsSeated old left) players seats
 still_seated old mid left n pass out [] [] other all = tt
 still_seated old mid left n pass out [] (s ∷ seats) other all = absurd all
 still_seated old mid left n pass out (p ∷ players) [] other all = absurd all
@@ -115,7 +116,8 @@ zip_push R (a ∷ xs) [] x y all one = absurd all
 zip_push R (a ∷ xs) (b ∷ ys) x y all one = (all.0, zip_push R xs ys x y all.1 one)
 
 -- one more takes its seat
-pub seated_more : (old mid left : List Held) (players : List Played) (seats more : List SeatedAgent) (x : Played) (pass : Held) (seat : SeatedAgent) → IsOther players (Some (number_of x)) → AreSeated old mid players seats → IsTakenOut (number_of x) mid left pass
+pub seated_more : (old mid left : List Held) (players : List Played) (seats more : List SeatedAgent) (x : Played) (pass : Held) (seat : SeatedAgent)
+    → IsOther players (Some (number_of x)) → AreSeated old mid players seats → IsTakenOut (number_of x) mid left pass
     → seat.player ≡ x → seat.pass ≡ pass → more ≡ seats ++ seat ∷ [] → AreSeated old left (players ++ x ∷ []) more
 seated_more old mid left players seats more x pass seat other was out sits has is =
     let one : IsSeated old left x seat = record {
@@ -124,7 +126,8 @@ seated_more old mid left players seats more x pass seat other was out sits has i
       of = ap (λ (p : Held). p.agent) has ∙ out.of;
     } in
     record {
-      each = subst (λ (ss : List SeatedAgent). AllZip (IsSeated old left) (players ++ x ∷ []) ss) (sym is) (zip_push (IsSeated old left) players seats x seat (still_seated old mid left (number_of x) pass out players seats other was.each) one);
+      each = subst (λ (ss : List SeatedAgent). AllZip (IsSeated old left) (players ++ x ∷ []) ss) (sym is)
+          (zip_push (IsSeated old left) players seats x seat (still_seated old mid left (number_of x) pass out players seats other was.each) one);
       others = λ asker among. let two = others_split players x asker among in out.others asker two.1 ∙ was.others asker two.0;
     }
 
@@ -133,7 +136,8 @@ all_middle : (P : Played → Type 0) (ys : List Played) (x : Played) (zs : List 
 all_middle P [] x zs all = All-head P x zs all
 all_middle P (y ∷ ys) x zs all = all_middle P ys x zs (All-tail P y (ys ++ x ∷ zs) all)
 
-pub none_left : (old mid : List Held) (players : List Played) (seats : List SeatedAgent) (x : Played) (zs : List Played) → AreDistinct (numbers_of (players ++ x ∷ zs)) → All (HasPass old) (players ++ x ∷ zs) → AreSeated old mid players seats
+pub none_left : (old mid : List Held) (players : List Played) (seats : List SeatedAgent) (x : Played) (zs : List Played) → AreDistinct (numbers_of (players ++ x ∷ zs))
+    → All (HasPass old) (players ++ x ∷ zs) → AreSeated old mid players seats
     → passes_for (number_of x) mid ≡ [] → ⊥
 none_left old mid players seats x zs distinct all was none =
     all_middle (HasPass old) players x zs all (sym (was.others (Some (number_of x)) (others_before players x zs distinct)) ∙ none)

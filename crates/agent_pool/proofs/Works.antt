@@ -98,7 +98,8 @@ not_lacked : (halt : Option Halt) → halt ≡ None → halt ≢ Some Lacked
 not_lacked halt none is = let bad : None ≡ Some Lacked = sym none ∙ is in cc
 
 -- the agent went on, and runs nothing more
-pub works_longer : (jobs : List NamedJob) (seat : SeatedAgent) (w v : Worked) (why : Halt) (longer : IsLonger w.player v.player) → IsWorkOf jobs seat w → w.halt ≡ None → GoesOn longer.rest w.pass v.pass → v.done.items ≡ w.done.items → v.halt ≡ Some why
+pub works_longer : (jobs : List NamedJob) (seat : SeatedAgent) (w v : Worked) (why : Halt) (longer : IsLonger w.player v.player) → IsWorkOf jobs seat w → w.halt ≡ None
+    → GoesOn longer.rest w.pass v.pass → v.done.items ≡ w.done.items → v.halt ≡ Some why
     → IsHalted jobs v.player (Some why) → (why ≢ Lacked → Leads w.player.agent.fixed (at_rest w.player.agent.state) longer.rest (at_rest v.player.agent.state)) → IsWorkOf jobs seat v
 works_longer jobs seat w v why longer old before went same is halted led =
     let more = begins-append w.player.entries longer.rest in
@@ -116,7 +117,8 @@ works_longer jobs seat w v why longer old before went same is halted led =
     }
 
 -- it runs nothing more, and did nothing since
-pub works_stop : (jobs : List NamedJob) (seat : SeatedAgent) (w v : Worked) (why : Halt) → IsWorkOf jobs seat w → w.halt ≡ None → v.player ≡ w.player → v.pass ≡ w.pass → v.done.items ≡ w.done.items → v.halt ≡ Some why → IsHalted jobs w.player (Some why) → IsWorkOf jobs seat v
+pub works_stop : (jobs : List NamedJob) (seat : SeatedAgent) (w v : Worked) (why : Halt) → IsWorkOf jobs seat w → w.halt ≡ None → v.player ≡ w.player → v.pass ≡ w.pass
+    → v.done.items ≡ w.done.items → v.halt ≡ Some why → IsHalted jobs w.player (Some why) → IsWorkOf jobs seat v
 works_stop jobs seat w v why old before player pass same is halted =
     works_longer jobs seat w v why
     (record {
@@ -133,7 +135,8 @@ not_some None none = refl
 not_some (Some why) none = cc
 
 -- and it did this one
-pub works_more : (servers : ℕ) (jobs : List NamedJob) (seat : SeatedAgent) (w v : Worked) (d : JobDone) (named : NamedJob) → IsWorkOf jobs seat w → DidJob servers named.job w.player v.player w.pass v.pass (came.Ended d.ran) → v.done.items ≡ w.done.items ++ d ∷ []
+pub works_more : (servers : ℕ) (jobs : List NamedJob) (seat : SeatedAgent) (w v : Worked) (d : JobDone) (named : NamedJob) → IsWorkOf jobs seat w
+    → DidJob servers named.job w.player v.player w.pass v.pass (came.Ended d.ran) → v.done.items ≡ w.done.items ++ d ∷ []
     → slice_get jobs d.place ≡ Some named → w.halt ≡ None → v.halt ≡ None → RiseInPlace 0 w.done.items d.place → IsWorkOf jobs seat v
 works_more servers jobs seat w v d named old did same there before ran order =
     let longer = did.longer in

@@ -20,7 +20,7 @@ use crate::player::Player;
 use crate::pool::Pool;
 use crate::pool_context::NamedJob;
 use crate::slots::Slots;
-use crate::work::{JobDone, Halt, SeatedAgent, Worked};
+use crate::work::{Halt, JobDone, SeatedAgent, Worked};
 use server_lock::Pass;
 use std::alloc::{AllocError, Global};
 
@@ -179,7 +179,12 @@ fn place_all(
 }
 
 /// What an agent did once is put into its place.
-fn place_one(jobs: &[NamedJob], slots: &mut Slots, agent: u8, done: JobDone) -> Result<(), PoolFault>
+fn place_one(
+    jobs: &[NamedJob],
+    slots: &mut Slots,
+    agent: u8,
+    done: JobDone,
+) -> Result<(), PoolFault>
     requires long { length slots.old ≡ length jobs.now }
     requires within { IsWithin (length jobs.now) done }
     ensures filled { OnOk result ((was players : List Played) (before player : Played) → IsOf was players agent before player

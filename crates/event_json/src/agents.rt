@@ -13,7 +13,7 @@ use crate::strings::{push_member, truth};
 use std::alloc::AllocError;
 use suite_collect::ReadPoint;
 use suite_prefix::SharedPrefix;
-use txn_core::{Stage, GatheredSuite};
+use txn_core::{GatheredSuite, Stage};
 use weak_cache::{Entries, WeakCache};
 
 /// How far a job is, in a word.
@@ -48,7 +48,11 @@ pub fn push_gathered(
     text.extend_from_slice(b"]")
 }
 
-fn push_suites(text: &mut Vec<u8>, suites: &[(u64, GatheredSuite)], servers: u8) -> Result<(), AllocError>
+fn push_suites(
+    text: &mut Vec<u8>,
+    suites: &[(u64, GatheredSuite)],
+    servers: u8,
+) -> Result<(), AllocError>
     ensures { OnOk result (text.new.items ≡ text.old.items ++ listed (suite_text servers) suites.now) }
 {
     let [first, more @ ..] = suites else {
@@ -72,7 +76,11 @@ fn push_more_suites(
     Ok(())
 }
 
-fn push_suite(text: &mut Vec<u8>, suite: &(u64, GatheredSuite), servers: u8) -> Result<(), AllocError>
+fn push_suite(
+    text: &mut Vec<u8>,
+    suite: &(u64, GatheredSuite),
+    servers: u8,
+) -> Result<(), AllocError>
     ensures { OnOk result (text.new.items ≡ text.old.items ++ suite_text servers suite.now) }
 {
     push_member(text, b"{\"suite\":", suite.0)?;

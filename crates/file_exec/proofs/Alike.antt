@@ -47,7 +47,8 @@ content_changed (Make made) (Some a) (Some b) same before = refl
 pub content_seen : (edits : Edits) (suite : ℕ) (a b : Option Row) → head a ≡ head b → is_set edits suite ≡ true → content_in (seen edits suite a) ≡ content_in (seen edits suite b)
 content_seen [] suite a b same set = cc
 content_seen (e ∷ edits) suite a b same set =
-    elim (e.0 == suite) as (λ here. ((here && sets_content e.1) || is_set edits suite) ≡ true → content_in (cond here (changed e.1 (seen edits suite a)) (seen edits suite a)) ≡ content_in (cond here (changed e.1 (seen edits suite b)) (seen edits suite b))) [
+    elim (e.0 == suite) as (λ here. ((here && sets_content e.1) || is_set edits suite) ≡ true
+    → content_in (cond here (changed e.1 (seen edits suite a)) (seen edits suite a)) ≡ content_in (cond here (changed e.1 (seen edits suite b)) (seen edits suite b))) [
       | true ↦ λ set. content_changed e.1 (seen edits suite a) (seen edits suite b) (head_seen edits suite a b same) (λ no. content_seen edits suite a b same (ap (λ b. b || is_set edits suite) (sym no) ∙ set))
       | false ↦ λ set. content_seen edits suite a b same set
     ] set
@@ -83,26 +84,39 @@ pub goes_alike : {A E : Type 0} (known : Known) (rows : ℕ → Option Row) → 
 goes_alike known rows agrees edits same (Give given) = refl
 goes_alike known rows agrees edits same (Refuse why) = refl
 goes_alike known rows agrees edits same (Set suite edit later) =
-    elim (is_held Exclusive (known_of known suite)) as (λ b. is_held Exclusive (known_of known suite) ≡ b → heard (cond (not b) (Some (Hold suite Exclusive)) (first_unmet known (needs (known_rows known) ((suite, edit) ∷ edits) later))) (ending (known_rows known) ((suite, edit) ∷ edits) later) ≡ heard (cond (not b) (Some (Hold suite Exclusive)) (first_unmet known (needs rows ((suite, edit) ∷ edits) later))) (ending rows ((suite, edit) ∷ edits) later)) [
+    elim (is_held Exclusive (known_of known suite)) as (λ b. is_held Exclusive (known_of known suite) ≡ b
+    → heard (cond (not b) (Some (Hold suite Exclusive)) (first_unmet known (needs (known_rows known) ((suite, edit) ∷ edits) later)))
+    (ending (known_rows known) ((suite, edit) ∷ edits) later) ≡ heard
+    (cond (not b) (Some (Hold suite Exclusive)) (first_unmet known (needs rows ((suite, edit) ∷ edits) later))) (ending rows ((suite, edit) ∷ edits) later)) [
       | true ↦ λ held. goes_alike known rows agrees ((suite, edit) ∷ edits) (set_more known rows edits suite edit same (held_head Exclusive (known_of known suite) (rows suite) (agrees suite) held)) later
       | false ↦ λ _. refl
     ] refl
 goes_alike known rows agrees edits same (Look suite mode later) =
-    elim (is_held mode (known_of known suite)) as (λ b. is_held mode (known_of known suite) ≡ b → heard (cond (not b) (Some (Hold suite mode)) (first_unmet known (needs (known_rows known) edits (later (looked (known_rows known) edits suite))))) (ending (known_rows known) edits (later (looked (known_rows known) edits suite))) ≡ heard (cond (not b) (Some (Hold suite mode)) (first_unmet known (needs rows edits (later (looked rows edits suite))))) (ending rows edits (later (looked rows edits suite)))) [
+    elim (is_held mode (known_of known suite)) as (λ b. is_held mode (known_of known suite) ≡ b
+    → heard (cond (not b) (Some (Hold suite mode)) (first_unmet known (needs (known_rows known) edits (later (looked (known_rows known) edits suite)))))
+    (ending (known_rows known) edits (later (looked (known_rows known) edits suite))) ≡ heard
+    (cond (not b) (Some (Hold suite mode)) (first_unmet known (needs rows edits (later (looked rows edits suite))))) (ending rows edits (later (looked rows edits suite)))) [
       | true ↦ λ held.
           goes_alike known rows agrees edits same (later (looked (known_rows known) edits suite))
           ∙ ap (λ row. Goes known rows edits (later row)) (head_seen edits suite (known_rows known suite) (rows suite) (held_head mode (known_of known suite) (rows suite) (agrees suite) held))
       | false ↦ λ _. refl
     ] refl
 goes_alike known rows agrees edits same (Read suite later) =
-    elim (is_set edits suite) as (λ b. is_set edits suite ≡ b → heard (first_unmet known (unless_set b suite (needs (known_rows known) edits (later (content_read (known_rows known) edits suite))))) (ending (known_rows known) edits (later (content_read (known_rows known) edits suite))) ≡ heard (first_unmet known (unless_set b suite (needs rows edits (later (content_read rows edits suite))))) (ending rows edits (later (content_read rows edits suite)))) [
+    elim (is_set edits suite) as (λ b. is_set edits suite ≡ b
+    → heard (first_unmet known (unless_set b suite (needs (known_rows known) edits (later (content_read (known_rows known) edits suite)))))
+    (ending (known_rows known) edits (later (content_read (known_rows known) edits suite))) ≡ heard
+    (first_unmet known (unless_set b suite (needs rows edits (later (content_read rows edits suite))))) (ending rows edits (later (content_read rows edits suite)))) [
       | true ↦ λ set.
           goes_alike known rows agrees edits same (later (content_read (known_rows known) edits suite))
           ∙ ap (λ content. Goes known rows edits (later content)) (content_seen edits suite (known_rows known suite) (rows suite) (same suite set) set)
-      | false ↦ λ _. elim (is_opened (known_of known suite)) as (λ b. is_opened (known_of known suite) ≡ b → heard (cond (not b) (Some (Know suite)) (first_unmet known (needs (known_rows known) edits (later (content_read (known_rows known) edits suite))))) (ending (known_rows known) edits (later (content_read (known_rows known) edits suite))) ≡ heard (cond (not b) (Some (Know suite)) (first_unmet known (needs rows edits (later (content_read rows edits suite))))) (ending rows edits (later (content_read rows edits suite)))) [
-        | true ↦ λ opened.
-            goes_alike known rows agrees edits same (later (content_read (known_rows known) edits suite))
-            ∙ ap (λ row. Goes known rows edits (later (content_in (seen edits suite row)))) (opened_same (known_of known suite) (rows suite) (agrees suite) opened)
-        | false ↦ λ _. refl
-      ] refl
+      | false ↦ λ _. elim (is_opened (known_of known suite)) as (λ b. is_opened (known_of known suite) ≡ b
+          → heard (cond (not b) (Some (Know suite)) (first_unmet known (needs (known_rows known) edits (later (content_read (known_rows known) edits suite)))))
+          (ending (known_rows known) edits (later (content_read (known_rows known) edits suite))) ≡ heard
+          (cond (not b) (Some (Know suite)) (first_unmet known (needs rows edits (later (content_read rows edits suite)))))
+          (ending rows edits (later (content_read rows edits suite)))) [
+            | true ↦ λ opened.
+                goes_alike known rows agrees edits same (later (content_read (known_rows known) edits suite))
+                ∙ ap (λ row. Goes known rows edits (later (content_in (seen edits suite row)))) (opened_same (known_of known suite) (rows suite) (agrees suite) opened)
+            | false ↦ λ _. refl
+          ] refl
     ] refl

@@ -34,12 +34,14 @@ placed known edits suite None ended is = cc
 
 held_holds : (known : Known) (edits : Edits) (suite : ℕ) (mode : LockMode) (ended : Ended Object) → run known edits (asked.held suite mode) ≡ Done (Ok ended) → is_met known (Hold ended.given.suite mode) ≡ true
 held_holds known edits suite mode ended is =
-    elim (is_met known (Hold suite mode)) as (λ b. is_met known (Hold suite mode) ≡ b → cond b (run known edits (asked.place_at suite (looked (known_rows known) edits suite))) (Needs (Hold suite mode)) ≡ Done (Ok ended) → is_met known (Hold ended.given.suite mode) ≡ true) [
+    elim (is_met known (Hold suite mode)) as (λ b. is_met known (Hold suite mode) ≡ b → cond b (run known edits (asked.place_at suite (looked (known_rows known) edits suite)))
+    (Needs (Hold suite mode)) ≡ Done (Ok ended) → is_met known (Hold ended.given.suite mode) ≡ true) [
       | true ↦ λ met is. ap (λ suite. is_met known (Hold suite mode)) (sym (placed known edits suite (looked (known_rows known) edits suite) ended is)) ∙ met
       | false ↦ λ _ is. cc
     ] refl is
 
-reach_holds : (known : Known) (edits : Edits) (caller : Identity) (names : List (List ℕ)) (mode : LockMode) (ended : Ended Object) → run known edits (asked.reach caller names mode) ≡ Done (Ok ended) → is_met known (Hold ended.given.suite mode) ≡ true
+reach_holds : (known : Known) (edits : Edits) (caller : Identity) (names : List (List ℕ)) (mode : LockMode) (ended : Ended Object)
+    → run known edits (asked.reach caller names mode) ≡ Done (Ok ended) → is_met known (Hold ended.given.suite mode) ≡ true
 reach_holds known edits caller names mode ended is =
     parted known edits (asked.walk caller root names) (λ suite. asked.held suite mode) ended is (λ middle _ is. held_holds known middle.edits middle.given mode ended is)
 
@@ -52,7 +54,8 @@ owned_holds known edits caller names ended is =
     of middle (Ok _) is = let same : record { given = middle.given; edits = middle.edits } ≡ ended = cc in ap (λ (ended : Ended Object). ended.given.suite) same
     of middle (Err why) is = cc
 
-parent_holds : (known : Known) (edits : Edits) (caller : Identity) (names : List (List ℕ)) (ended : Ended Parent) → run known edits (asked.parent_of caller names) ≡ Done (Ok ended) → is_met known (Hold ended.given.place.suite Exclusive) ≡ true
+parent_holds : (known : Known) (edits : Edits) (caller : Identity) (names : List (List ℕ)) (ended : Ended Parent)
+    → run known edits (asked.parent_of caller names) ≡ Done (Ok ended) → is_met known (Hold ended.given.place.suite Exclusive) ≡ true
 parent_holds known edits caller names ended is =
     parted known edits (asked.reach caller names Exclusive) _ ended is (λ middle was is.
     ap (λ suite. is_met known (Hold suite Exclusive)) (sym (folder middle (names_in middle.given.row.content) is)) ∙ reach_holds known edits caller names Exclusive middle was)
@@ -68,7 +71,8 @@ parent_holds known edits caller names ended is =
     let_in middle (Ok _) is = named middle.given middle.edits is
     let_in middle (Err why) is = cc
 
-    folder : (middle : Ended Object) (names : Result (List (List ℕ × ℕ)) Why) → run known middle.edits (◌>>◌ (rule names) (◌>>◌ (rule (permit caller middle.given to_change)) (last middle.given))) ≡ Done (Ok ended) → middle.given.suite ≡ ended.given.place.suite
+    folder : (middle : Ended Object) (names : Result (List (List ℕ × ℕ)) Why) → run known middle.edits
+        (◌>>◌ (rule names) (◌>>◌ (rule (permit caller middle.given to_change)) (last middle.given))) ≡ Done (Ok ended) → middle.given.suite ≡ ended.given.place.suite
     folder middle (Ok names) is = let_in middle (permit caller middle.given to_change) is
     folder middle (Err why) is = cc
 
@@ -94,5 +98,6 @@ module _ {A : Type 0} {known : Known} {before after : Edits} {x : A} (caller : I
   pub parent_reached : {memory : Heard Parent Why → Type 0} {see : A → Parent} → RunsOr memory see (Ok x) known before after (asked.parent_of caller names) → HoldsAll known (see x).place.suite
   parent_reached {see = see} gave = record { held = parent_holds known before caller names (record { given = see x; edits = after }) gave.told }
 
-pub looked_at : {A : Type 0} {known : Known} {before after : Edits} {suite : ℕ} {x : A} {memory : Heard (Option Row) Why → Type 0} {see : A → Option Row} → RunsOr memory see (Ok x) known before after (look suite Exclusive) → HoldsAll known suite
+pub looked_at : {A : Type 0} {known : Known} {before after : Edits} {suite : ℕ} {x : A} {memory : Heard (Option Row) Why → Type 0} {see : A → Option Row}
+    → RunsOr memory see (Ok x) known before after (look suite Exclusive) → HoldsAll known suite
 looked_at {known = known} {before = before} {after = after} {suite = suite} {x = x} {see = see} gave = record { held = look_holds known before suite Exclusive (record { given = see x; edits = after }) gave.told }

@@ -39,7 +39,8 @@ found change (e ∷ edits) suite = of (change e.0) refl (found change edits suit
     absent true change is = refl
     absent false change is = sym is
 
-    here : (b : Bool) (made : Change) → (e.0 == suite) ≡ b → change e.0 ≡ Some made → Found change edits suite false (get nat_cmp (changes_at change edits) suite) → Found change edits suite b (cond b (Some made) (get nat_cmp (changes_at change edits) suite))
+    here : (b : Bool) (made : Change) → (e.0 == suite) ≡ b → change e.0 ≡ Some made → Found change edits suite false (get nat_cmp (changes_at change edits) suite)
+        → Found change edits suite b (cond b (Some made) (get nat_cmp (changes_at change edits) suite))
     here true made is was rest = sym was ∙ ap change (eqb-true e.0 suite is)
     here false made is was rest = rest
 
@@ -47,7 +48,8 @@ found change (e ∷ edits) suite = of (change e.0) refl (found change edits suit
     none true is was rest = rest ∙ absent (touches edits suite) (change suite) (sym (ap change (eqb-true e.0 suite is)) ∙ was)
     none false is was rest = rest
 
-    of : (made : Option Change) → change e.0 ≡ made → Found change edits suite false (get nat_cmp (changes_at change edits) suite) → Found change edits suite (e.0 == suite) (get nat_cmp (with_change e.0 made (changes_at change edits)) suite)
+    of : (made : Option Change) → change e.0 ≡ made → Found change edits suite false (get nat_cmp (changes_at change edits) suite)
+        → Found change edits suite (e.0 == suite) (get nat_cmp (with_change e.0 made (changes_at change edits)) suite)
     of (Some made) was rest =
         get-insert nat_cmp_total (changes_at change edits) e.0 made suite
         ∙ ap (λ b. cond b (Some made) (get nat_cmp (changes_at change edits) suite)) (unsigned_tied e.0 suite)
@@ -196,18 +198,28 @@ changes_lead_on service known rows t caller ops ended suite agrees is =
     (by_touch (touches ended.edits suite) refl))
   where
     of_row : head (known_rows known suite) ≡ head (row_of rows suite) → (now : Option Row) → seen ended.edits suite (known_rows known suite) ≡ now
-        → TellsAt (option_map (λ row. record { made = some makes ended.edits suite; acl = some sets_acl ended.edits suite; votes = some sets_votes ended.edits suite; content = is_set ended.edits suite; row = row }) now) (row_of rows suite) (seen ended.edits suite (row_of rows suite))
+        → TellsAt
+        (option_map (λ row. record {
+          made = some makes ended.edits suite;
+          acl = some sets_acl ended.edits suite;
+          votes = some sets_votes ended.edits suite;
+          content = is_set ended.edits suite;
+          row = row;
+        }) now) (row_of rows suite) (seen ended.edits suite (row_of rows suite))
     of_row heads (Some row) was = record {
       row = ap head (sym was) ∙ head_seen ended.edits suite (known_rows known suite) (row_of rows suite) heads;
       whole = λ told. of_told told;
       content = content_stays ended.edits suite (row_of rows suite);
       acl = part_stays (λ (row : Row). row.acl) sets_acl keeps_acl ended.edits suite (row_of rows suite);
       votes = part_stays (λ (row : Row). row.votes) sets_votes keeps_votes ended.edits suite (row_of rows suite);
-      made = λ not. was_there (row_of rows suite) (seen ended.edits suite (row_of rows suite)) row (part_stays (λ (row : Row). true) makes keeps_row ended.edits suite (row_of rows suite) not) (ap head (sym was) ∙ head_seen ended.edits suite (known_rows known suite) (row_of rows suite) heads);
+      made = λ not. was_there (row_of rows suite) (seen ended.edits suite (row_of rows suite)) row
+          (part_stays (λ (row : Row). true) makes keeps_row ended.edits suite (row_of rows suite) not)
+          (ap head (sym was) ∙ head_seen ended.edits suite (known_rows known suite) (row_of rows suite) heads);
     }
       where
         of_set : is_set ended.edits suite ≡ true → Some row ≡ seen ended.edits suite (row_of rows suite)
-        of_set set = sym was ∙ same_rows (seen ended.edits suite (known_rows known suite)) (seen ended.edits suite (row_of rows suite)) (head_seen ended.edits suite (known_rows known suite) (row_of rows suite) heads) (content_seen ended.edits suite (known_rows known suite) (row_of rows suite) heads set)
+        of_set set = sym was ∙ same_rows (seen ended.edits suite (known_rows known suite)) (seen ended.edits suite (row_of rows suite))
+            (head_seen ended.edits suite (known_rows known suite) (row_of rows suite) heads) (content_seen ended.edits suite (known_rows known suite) (row_of rows suite) heads set)
 
         of_known : (b : Bool) → is_set ended.edits suite ≡ b → (b || is_opened (known_of known suite)) ≡ true → Some row ≡ seen ended.edits suite (row_of rows suite)
         of_known true set told = of_set set
@@ -223,7 +235,8 @@ changes_lead_on service known rows t caller ops ended suite agrees is =
     by_touch : (b : Bool) → touches ended.edits suite ≡ b → TellsAt (if_touched b (change_of known ended.edits suite)) (row_of rows suite) (seen ended.edits suite (row_of rows suite))
     by_touch false not = untouched ended.edits suite (row_of rows suite) not
     by_touch true touched =
-        of_row (held_head Exclusive (known_of known suite) (row_of rows suite) (agrees suite) (touched_held known ended.edits suite (sets_what_is_held service known t caller ops ended is) touched)) (seen ended.edits suite (known_rows known suite)) refl
+        of_row (held_head Exclusive (known_of known suite) (row_of rows suite) (agrees suite)
+        (touched_held known ended.edits suite (sets_what_is_held service known t caller ops ended is) touched)) (seen ended.edits suite (known_rows known suite)) refl
 
 pub changes_by_suite : ChangesBySuite
 changes_by_suite known edits suite = found (change_of known edits) edits suite ∙ same (touches edits suite)

@@ -83,7 +83,8 @@ module _ (less more : Need → Bool) (stays : (need : Need) → less need ≡ tr
   fewer_left : (needed : List Need) (need : Need) → find (λ need. not (less need)) needed ≡ Some need → more need ≡ true → length (left_more needed) < length (left_less needed)
   fewer_left [] need is met = cc
   fewer_left (first ∷ needed) need is met =
-      elim (less first) as (λ b. less first ≡ b → cond (not b) (Some first) (find (λ need. not (less need)) needed) ≡ Some need → length (cond (not (more first)) (first ∷ left_more needed) (left_more needed)) < length (cond (not b) (first ∷ left_less needed) (left_less needed))) [
+      elim (less first) as (λ b. less first ≡ b → cond (not b) (Some first) (find (λ need. not (less need)) needed) ≡ Some need
+      → length (cond (not (more first)) (first ∷ left_more needed) (left_more needed)) < length (cond (not b) (first ∷ left_less needed) (left_less needed))) [
         | true ↦ λ was is. rw (stays first was) (fewer_left needed need is met)
         | false ↦ λ _ is. let same : first ≡ need = same_Some first need is in let now : more first ≡ true = ap more same ∙ met in rw now (let rest = no_more_left needed in omega arith)
       ] refl is

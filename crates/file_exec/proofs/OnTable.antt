@@ -158,7 +158,8 @@ module _ {A Z : Type 0} (rows : Rows) (P : Result (Ended A) Why → Result Z Why
       → ((row : Row) → row_of rows suite ≡ Some row → P (On rows (next (emptied_place (record { suite = suite; row = row })))) (later (record { suite = suite; row = row })))
       → P (On rows (◌>>=◌ (asked.held suite mode) next)) (steps.◌>>=◌ (plain.place_of rows suite) later)
   at_held suite mode next later same =
-      elim (row_of rows suite) as (λ found. row_of rows suite ≡ found → P (On rows (◌>>=◌ (asked.place_at suite (head found)) next)) (steps.◌>>=◌ (steps.◌>>=◌ (found_or found why.NoName) (λ row. Ok (record { suite = suite; row = row }))) later)) [
+      elim (row_of rows suite) as (λ found. row_of rows suite ≡ found → P (On rows (◌>>=◌ (asked.place_at suite (head found)) next))
+      (steps.◌>>=◌ (steps.◌>>=◌ (found_or found why.NoName) (λ row. Ok (record { suite = suite; row = row }))) later)) [
         | None ↦ λ _. err why.NoName
         | Some row ↦ λ there. same row there
       ] refl
@@ -366,12 +367,14 @@ parent_there rows caller names parent is = reached (plain.reach rows caller name
     end place entries (Ok x) is = let same : record { place = place; names = entries } ≡ parent = cc in ap (λ (parent : plain_ops.Parent). parent.place) same
     end place entries (Err why) is = cc
 
-    folder : (place : plain.Object) (names : Result (List (List ℕ × ℕ)) Why) → steps.◌>>=◌ names (λ entries. steps.◌>>◌ (plain.permit caller place plain.to_change) (Ok (record { place = place; names = entries }))) ≡ Ok parent → place ≡ parent.place
+    folder : (place : plain.Object) (names : Result (List (List ℕ × ℕ)) Why) → steps.◌>>=◌ names (λ entries. steps.◌>>◌ (plain.permit caller place plain.to_change) (Ok (record { place = place; names = entries }))) ≡ Ok parent
+        → place ≡ parent.place
     folder place (Ok entries) is = end place entries (plain.permit caller place plain.to_change) is
     folder place (Err why) is = cc
 
     reached : (reach : Result plain.Object Why) → plain.reach rows caller names ≡ reach
-        → steps.◌>>=◌ reach (λ place. steps.◌>>=◌ (plain.names_in place.row.content) (λ entries. steps.◌>>◌ (plain.permit caller place plain.to_change) (Ok (record { place = place; names = entries })))) ≡ Ok parent → row_of rows parent.place.suite ≡ Some parent.place.row
+        → steps.◌>>=◌ reach (λ place. steps.◌>>=◌ (plain.names_in place.row.content) (λ entries. steps.◌>>◌ (plain.permit caller place plain.to_change) (Ok (record { place = place; names = entries })))) ≡ Ok parent
+        → row_of rows parent.place.suite ≡ Some parent.place.row
     reached (Err why) was is = cc
     reached (Ok place) was is =
         subst (λ (place : plain.Object). row_of rows place.suite ≡ Some place.row) (folder place (plain.names_in place.row.content) is) (reached_there rows caller names place was)
@@ -415,7 +418,8 @@ module _ (rows : Rows) (caller : Identity) where
       content row there (Names entries) is =
           let used = plain_ops.refuse_if (plain_ops.is_used (Names entries)) why.NotEmpty in
           subst (λ ended. Does rows caller names ended (steps.◌>>◌ used later))
-          (sym (ap (λ found. On rows (◌>>◌ (rule (plain_ops.refuse_if (plain_ops.is_used (content_in found)) why.NotEmpty)) next)) there ∙ ap (λ content. On rows (◌>>◌ (rule (plain_ops.refuse_if (plain_ops.is_used content) why.NotEmpty)) next)) is))
+          (sym (ap (λ found. On rows (◌>>◌ (rule (plain_ops.refuse_if (plain_ops.is_used (content_in found)) why.NotEmpty)) next)) there ∙ ap
+          (λ content. On rows (◌>>◌ (rule (plain_ops.refuse_if (plain_ops.is_used content) why.NotEmpty)) next)) is))
           (ruled_out rows (Does rows caller names) (does_err rows caller names) used next later same)
 
   on_dropped : (names : List (List ℕ)) → Does rows caller names (On rows (asked.dropped caller names)) (plain_ops.dropped rows caller names)
@@ -487,7 +491,8 @@ on_play service rows answers t at caller (op ∷ ops) =
 -- on a table the course of a transaction is the transaction
 pub on_transaction : IsTheTransaction
 on_transaction service rows t caller ops =
-    elim (plain_all.is_miscounted ops) as (λ b. on_table rows (On rows (cond b (Refuse (record { op = 0; why = why.OpCount })) (asked.play service [] t 0 caller ops))) ≡ steps.◌>>◌ (cond b (Err (record { op = 0; why = why.OpCount })) (Ok tt)) (plain_all.play service (record { answers = []; rows = rows }) t 0 caller ops)) [
+    elim (plain_all.is_miscounted ops) as (λ b. on_table rows (On rows (cond b (Refuse (record { op = 0; why = why.OpCount })) (asked.play service [] t 0 caller ops))) ≡ steps.◌>>◌
+    (cond b (Err (record { op = 0; why = why.OpCount })) (Ok tt)) (plain_all.play service (record { answers = []; rows = rows }) t 0 caller ops)) [
       | true ↦ refl
       | false ↦ from (On rows (asked.play service [] t 0 caller ops)) (plain_all.play service (record { answers = []; rows = rows }) t 0 caller ops) (on_play service rows [] t 0 caller ops)
     ]

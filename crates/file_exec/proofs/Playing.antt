@@ -37,17 +37,20 @@ pub run_at_place : {A : Type 0} (known : Known) (edits : Edits) (at : ℕ) (cour
 run_at_place known edits at (Give given) = refl
 run_at_place known edits at (Refuse why) = refl
 run_at_place known edits at (Look suite mode later) =
-    elim (is_met known (Hold suite mode)) as (λ b. cond b (run known edits (at_place at (later (looked (known_rows known) edits suite)))) (Needs (Hold suite mode)) ≡ named at (cond b (run known edits (later (looked (known_rows known) edits suite))) (Needs (Hold suite mode)))) [
+    elim (is_met known (Hold suite mode)) as (λ b. cond b (run known edits (at_place at (later (looked (known_rows known) edits suite)))) (Needs (Hold suite mode)) ≡ named at
+    (cond b (run known edits (later (looked (known_rows known) edits suite))) (Needs (Hold suite mode)))) [
       | true ↦ run_at_place known edits at (later (looked (known_rows known) edits suite))
       | false ↦ refl
     ]
 run_at_place known edits at (Read suite later) =
-    elim (is_set edits suite || is_met known (Know suite)) as (λ b. cond b (run known edits (at_place at (later (content_read (known_rows known) edits suite)))) (Needs (Know suite)) ≡ named at (cond b (run known edits (later (content_read (known_rows known) edits suite))) (Needs (Know suite)))) [
+    elim (is_set edits suite || is_met known (Know suite)) as (λ b. cond b (run known edits (at_place at (later (content_read (known_rows known) edits suite))))
+    (Needs (Know suite)) ≡ named at (cond b (run known edits (later (content_read (known_rows known) edits suite))) (Needs (Know suite)))) [
       | true ↦ run_at_place known edits at (later (content_read (known_rows known) edits suite))
       | false ↦ refl
     ]
 run_at_place known edits at (Set suite edit later) =
-    elim (is_met known (Hold suite Exclusive)) as (λ b. cond b (run known ((suite, edit) ∷ edits) (at_place at later)) (Needs (Hold suite Exclusive)) ≡ named at (cond b (run known ((suite, edit) ∷ edits) later) (Needs (Hold suite Exclusive)))) [
+    elim (is_met known (Hold suite Exclusive)) as (λ b. cond b (run known ((suite, edit) ∷ edits) (at_place at later)) (Needs (Hold suite Exclusive)) ≡ named at
+    (cond b (run known ((suite, edit) ∷ edits) later) (Needs (Hold suite Exclusive)))) [
       | true ↦ run_at_place known ((suite, edit) ∷ edits) at later
       | false ↦ refl
     ]
@@ -69,7 +72,8 @@ module _ (known : Known) (service : Service) (t : ℕ) (caller : Identity) where
       ∙ of (λ ended. parts ended.edits (answers ++ ended.given ∷ []) (at + 1) to first then (grind (arith, is))) (named at (run known edits (operation service t at caller op)))
       ∙ sym (ap (then_run known (λ answers. play service answers t to caller then)) (from_one edits answers at op first))
     where
-      of : ((ended : Ended Answer) → run known ended.edits (play service (answers ++ ended.given ∷ []) t (at + 1) caller (first ++ then)) ≡ then_run known (λ answers. play service answers t to caller then) (run known ended.edits (play service (answers ++ ended.given ∷ []) t (at + 1) caller first)))
+      of : ((ended : Ended Answer) → run known ended.edits (play service (answers ++ ended.given ∷ []) t (at + 1) caller (first ++ then)) ≡ then_run known
+          (λ answers. play service answers t to caller then) (run known ended.edits (play service (answers ++ ended.given ∷ []) t (at + 1) caller first)))
           → (heard : Heard Answer Refusal)
           → then_run known (λ answer. play service (answers ++ answer ∷ []) t (at + 1) caller (first ++ then)) heard
           ≡ then_run known (λ answers. play service answers t to caller then) (then_run known (λ answer. play service (answers ++ answer ∷ []) t (at + 1) caller first) heard)
@@ -82,12 +86,14 @@ module _ (known : Known) (service : Service) (t : ℕ) (caller : Identity) where
   one_more before after answers at op ops answer gave =
       from_one before answers at op ops ∙ ap (λ heard. then_run known (λ answer. play service (answers ++ answer ∷ []) t (at + 1) caller ops) (named at heard)) gave.told
 
-  pub one_ends : {E : Type 0} (before after : Edits) (answers : List Answer) (at : ℕ) (op : Op) (ops : List Op) (e : Stop) (result : Result Outcome E) → Runs (λ (answer : Answer). answer) (Err e) known before after (operation service t at caller op)
+  pub one_ends : {E : Type 0} (before after : Edits) (answers : List Answer) (at : ℕ) (op : Op) (ops : List Op) (e : Stop) (result : Result Outcome E)
+      → Runs (λ (answer : Answer). answer) (Err e) known before after (operation service t at caller op)
       → result_ok result ≡ end_of at e → IfOk result (λ outcome. outcome ≡ answered known (run known before (play service answers t at caller (op ∷ ops))))
   one_ends before after answers at op ops e (Err error) ended is = tt
   one_ends before after answers at op ops e (Ok outcome) ended is = of e ended.told is
     where
-      of : (e : Stop) → Told (λ heard. is_given heard ≡ true) (λ (answer : Answer). answer) (Err e) after (run known before (operation service t at caller op)) → Some outcome ≡ end_of at e → outcome ≡ answered known (run known before (play service answers t at caller (op ∷ ops)))
+      of : (e : Stop) → Told (λ heard. is_given heard ≡ true) (λ (answer : Answer). answer) (Err e) after (run known before (operation service t at caller op))
+          → Some outcome ≡ end_of at e → outcome ≡ answered known (run known before (play service answers t at caller (op ∷ ops)))
       of (stop.Needs need) told is =
           cc (is, ap (answered known) (from_one before answers at op ops ∙ ap (λ heard. then_run known (λ answer. play service (answers ++ answer ∷ []) t (at + 1) caller ops) (named at heard)) told))
       of (stop.Refused why) told is =
@@ -130,7 +136,8 @@ begins known service t caller ops log at index op unbegun begun counted below is
     of (inr later) = begun later
     of (inl none) =
         subst (λ ops. is_given (exec_of service known t caller ops) ≡ true) (first_taken ops op (subst (λ index. index < length ops) none below) (is ∙ ap (λ index. get_or ops index op) none))
-        (first_given known service t caller op (ap (λ log. is_given (run known log (operation service t 0 caller op))) (sym (unbegun none)) ∙ ap (λ at. is_given (run known log (operation service t at caller op))) (sym (counted ∙ none)) ∙ given))
+        (first_given known service t caller op (ap (λ log. is_given (run known log (operation service t 0 caller op))) (sym (unbegun none)) ∙ ap
+        (λ at. is_given (run known log (operation service t at caller op))) (sym (counted ∙ none)) ∙ given))
 
 -- once some operations were done, the first one gave something
 pub begun_first : (known : Known) (service : Service) (t : ℕ) (caller : Identity) (ops : List Op) (at : ℕ) (ended : Ended (List Answer)) → 0 < at → 0 < length ops

@@ -14,17 +14,20 @@ pub runs_in_turn : {A B E : Type 0} (known : Known) (edits : Edits) (first : Cou
 runs_in_turn known edits (Give given) next = refl
 runs_in_turn known edits (Refuse why) next = refl
 runs_in_turn known edits (Look suite mode later) next =
-    elim (is_met known (Hold suite mode)) as (λ b. cond b (run known edits (◌>>=◌ (later (looked (known_rows known) edits suite)) next)) (Needs (Hold suite mode)) ≡ then_run known next (cond b (run known edits (later (looked (known_rows known) edits suite))) (Needs (Hold suite mode)))) [
+    elim (is_met known (Hold suite mode)) as (λ b. cond b (run known edits (◌>>=◌ (later (looked (known_rows known) edits suite)) next))
+    (Needs (Hold suite mode)) ≡ then_run known next (cond b (run known edits (later (looked (known_rows known) edits suite))) (Needs (Hold suite mode)))) [
       | true ↦ runs_in_turn known edits (later (looked (known_rows known) edits suite)) next
       | false ↦ refl
     ]
 runs_in_turn known edits (Read suite later) next =
-    elim (is_set edits suite || is_met known (Know suite)) as (λ b. cond b (run known edits (◌>>=◌ (later (content_read (known_rows known) edits suite)) next)) (Needs (Know suite)) ≡ then_run known next (cond b (run known edits (later (content_read (known_rows known) edits suite))) (Needs (Know suite)))) [
+    elim (is_set edits suite || is_met known (Know suite)) as (λ b. cond b (run known edits (◌>>=◌ (later (content_read (known_rows known) edits suite)) next))
+    (Needs (Know suite)) ≡ then_run known next (cond b (run known edits (later (content_read (known_rows known) edits suite))) (Needs (Know suite)))) [
       | true ↦ runs_in_turn known edits (later (content_read (known_rows known) edits suite)) next
       | false ↦ refl
     ]
 runs_in_turn known edits (Set suite edit later) next =
-    elim (is_met known (Hold suite Exclusive)) as (λ b. cond b (run known ((suite, edit) ∷ edits) (◌>>=◌ later next)) (Needs (Hold suite Exclusive)) ≡ then_run known next (cond b (run known ((suite, edit) ∷ edits) later) (Needs (Hold suite Exclusive)))) [
+    elim (is_met known (Hold suite Exclusive)) as (λ b. cond b (run known ((suite, edit) ∷ edits) (◌>>=◌ later next)) (Needs (Hold suite Exclusive)) ≡ then_run known next
+    (cond b (run known ((suite, edit) ∷ edits) later) (Needs (Hold suite Exclusive)))) [
       | true ↦ runs_in_turn known ((suite, edit) ∷ edits) later next
       | false ↦ refl
     ]
@@ -34,19 +37,29 @@ followed_runs known edits (Give given) = refl
 followed_runs known edits (Refuse why) = refl
 followed_runs known edits (Look suite mode later) =
     let rest = followed_runs known edits (later (looked (known_rows known) edits suite)) in
-    elim (is_met known (Hold suite mode)) as (λ b. heard (cond (not b) (Some (Hold suite mode)) (first_unmet known (needs (known_rows known) edits (later (looked (known_rows known) edits suite))))) (ending (known_rows known) edits (later (looked (known_rows known) edits suite))) ≡ cond b (run known edits (later (looked (known_rows known) edits suite))) (Needs (Hold suite mode))) [
+    elim (is_met known (Hold suite mode)) as
+    (λ b. heard (cond (not b) (Some (Hold suite mode)) (first_unmet known (needs (known_rows known) edits (later (looked (known_rows known) edits suite)))))
+    (ending (known_rows known) edits (later (looked (known_rows known) edits suite))) ≡ cond b (run known edits (later (looked (known_rows known) edits suite)))
+    (Needs (Hold suite mode))) [
       | true ↦ rest
       | false ↦ refl
     ]
 followed_runs known edits (Read suite later) =
     let rest = followed_runs known edits (later (content_read (known_rows known) edits suite)) in
-    elim (is_set edits suite) as (λ s. heard (first_unmet known (unless_set s suite (needs (known_rows known) edits (later (content_read (known_rows known) edits suite))))) (ending (known_rows known) edits (later (content_read (known_rows known) edits suite))) ≡ cond (s || is_met known (Know suite)) (run known edits (later (content_read (known_rows known) edits suite))) (Needs (Know suite))) [
+    elim (is_set edits suite) as (λ s. heard (first_unmet known (unless_set s suite (needs (known_rows known) edits (later (content_read (known_rows known) edits suite)))))
+    (ending (known_rows known) edits (later (content_read (known_rows known) edits suite))) ≡ cond (s || is_met known (Know suite))
+    (run known edits (later (content_read (known_rows known) edits suite))) (Needs (Know suite))) [
       | true ↦ rest
-      | false ↦ elim (is_met known (Know suite)) as (λ b. heard (cond (not b) (Some (Know suite)) (first_unmet known (needs (known_rows known) edits (later (content_read (known_rows known) edits suite))))) (ending (known_rows known) edits (later (content_read (known_rows known) edits suite))) ≡ cond b (run known edits (later (content_read (known_rows known) edits suite))) (Needs (Know suite))) [ true ↦ rest | false ↦ refl ]
+      | false ↦ elim (is_met known (Know suite)) as
+          (λ b. heard (cond (not b) (Some (Know suite)) (first_unmet known (needs (known_rows known) edits (later (content_read (known_rows known) edits suite)))))
+          (ending (known_rows known) edits (later (content_read (known_rows known) edits suite))) ≡ cond b (run known edits (later (content_read (known_rows known) edits suite)))
+          (Needs (Know suite))) [ true ↦ rest | false ↦ refl ]
     ]
 followed_runs known edits (Set suite edit later) =
     let rest = followed_runs known ((suite, edit) ∷ edits) later in
-    elim (is_met known (Hold suite Exclusive)) as (λ b. heard (cond (not b) (Some (Hold suite Exclusive)) (first_unmet known (needs (known_rows known) ((suite, edit) ∷ edits) later))) (ending (known_rows known) ((suite, edit) ∷ edits) later) ≡ cond b (run known ((suite, edit) ∷ edits) later) (Needs (Hold suite Exclusive))) [
+    elim (is_met known (Hold suite Exclusive)) as
+    (λ b. heard (cond (not b) (Some (Hold suite Exclusive)) (first_unmet known (needs (known_rows known) ((suite, edit) ∷ edits) later)))
+    (ending (known_rows known) ((suite, edit) ∷ edits) later) ≡ cond b (run known ((suite, edit) ∷ edits) later) (Needs (Hold suite Exclusive))) [
       | true ↦ rest
       | false ↦ refl
     ]

@@ -62,6 +62,7 @@ unmet_found known (first ∷ later) need is =
 pub needs_what_is_unmet : NeedsWhatIsUnmet
 needs_what_is_unmet service known t caller ops need is = of (first_unmet known (needs (known_rows known) [] (transaction service t caller ops))) refl is
   where
-    of : (unmet : Option Need) → first_unmet known (needs (known_rows known) [] (transaction service t caller ops)) ≡ unmet → heard unmet (ending (known_rows known) [] (transaction service t caller ops)) ≡ Needs need → is_met known need ≡ false
+    of : (unmet : Option Need) → first_unmet known (needs (known_rows known) [] (transaction service t caller ops)) ≡ unmet
+        → heard unmet (ending (known_rows known) [] (transaction service t caller ops)) ≡ Needs need → is_met known need ≡ false
     of None was is = cc
     of (Some first) was is = let same : first ≡ need = cc in unmet_found known _ need (was ∙ ap (λ need. Some need) same)

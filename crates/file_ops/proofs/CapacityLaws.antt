@@ -48,7 +48,8 @@ keeps_capacity rows s before row there more = record {
     ap_le q s' same = rw same here
 
 -- a name put in, or taken out
-pub insert_keeps : (old new : Roomy (List ℕ) ℕ) (name : List ℕ) (number : ℕ) (before : Option ℕ) → IsFolder old.pairs → new.pairs ≡ with_name old.pairs name number → before ≡ number_of old.pairs name → old.room ≤ new.room + (if is_some before then 0 else 1) → capacity_in (Names old) ≤ capacity_in (Names new)
+pub insert_keeps : (old new : Roomy (List ℕ) ℕ) (name : List ℕ) (number : ℕ) (before : Option ℕ) → IsFolder old.pairs → new.pairs ≡ with_name old.pairs name number
+    → before ≡ number_of old.pairs name → old.room ≤ new.room + (if is_some before then 0 else 1) → capacity_in (Names old) ≤ capacity_in (Names new)
 insert_keeps old new name number before ordered edit was room =
     let longer = ap length edit ∙ length-with_name old.pairs name number ordered in
     let same = ap is_some was in
@@ -60,7 +61,8 @@ insert_keeps old new name number before ordered edit was room =
     by_test false true n n' r r' same longer room = cc
     by_test false false n n' r r' same longer room = omega arith
 
-pub remove_keeps : (old new : Roomy (List ℕ) ℕ) (name : List ℕ) (before : Option ℕ) → new.pairs ≡ without_name old.pairs name → before ≡ number_of old.pairs name → new.room ≡ old.room + (if is_some before then 1 else 0) → capacity_in (Names old) ≤ capacity_in (Names new)
+pub remove_keeps : (old new : Roomy (List ℕ) ℕ) (name : List ℕ) (before : Option ℕ) → new.pairs ≡ without_name old.pairs name → before ≡ number_of old.pairs name
+    → new.room ≡ old.room + (if is_some before then 1 else 0) → capacity_in (Names old) ≤ capacity_in (Names new)
 remove_keeps old new name before edit was room =
     let shorter = ap length edit in
     let all = length-without_name old.pairs name in
@@ -73,7 +75,8 @@ remove_keeps old new name before edit was room =
     by_test false false n n' m r r' same shorter all room = omega arith
 
 -- a row put over another one, whose capacity waits with it
-pub made_capacity : (old named new : StoredRows) (number : ℕ) (row : StoredRow) (before : Option StoredRow) → KeepsCapacity old named → before ≡ get nat_cmp named number → new ≡ insert nat_cmp named number row → (suite : ℕ) → capacity_at old suite ≤ (if suite == number then capacity_of before else capacity_at new suite)
+pub made_capacity : (old named new : StoredRows) (number : ℕ) (row : StoredRow) (before : Option StoredRow) → KeepsCapacity old named → before ≡ get nat_cmp named number
+    → new ≡ insert nat_cmp named number row → (suite : ℕ) → capacity_at old suite ≤ (if suite == number then capacity_of before else capacity_at new suite)
 made_capacity old named new number row before kept was put suite = ⊎_elim
     (λ same. rw same (omega (arith, kept.kept suite, ap (capacity_at named) (eqb-true suite number same), ap capacity_of was)))
     (λ other. rw other (omega (arith, kept.kept suite, ap (λ rows. capacity_at rows suite) put, capacity_at-insert_apart named number row suite (eqb-false suite number other))))

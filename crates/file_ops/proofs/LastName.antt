@@ -22,6 +22,7 @@ behind rest name =
     rw (places, at_end rest name, take-append_seam rest (name ∷ [])) refl
 
 -- what splitting the last name off gives
-pub last_name-split : (names : List (List ℕ)) (split : Option (Bor (List ℕ) × Bor (List (List ℕ)))) → MatchOption split (length names ≡ 0) (λ p. IsLastAndRest names p.0.now p.1.now) → ok_map plain_named (ok_or split why.BadPath) ≡ last_name names
+pub last_name-split : (names : List (List ℕ)) (split : Option (Bor (List ℕ) × Bor (List (List ℕ))))
+    → MatchOption split (length names ≡ 0) (λ p. IsLastAndRest names p.0.now p.1.now) → ok_map plain_named (ok_or split why.BadPath) ≡ last_name names
 last_name-split names None none = sym (no_last names none)
 last_name-split names (Some parts) is = sym (ap last_name is.0 ∙ behind parts.1.now parts.0.now)

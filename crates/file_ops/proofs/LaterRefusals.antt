@@ -35,7 +35,8 @@ vain : (result : Result (List Answer) ApplyError) (at : ℕ) (outcome : Result P
 vain result at (Ok played) above = tt
 vain result at (Err refusal) above = λ same. absurd (omega arith)
 
-pub first_done : (result : Result (List Answer) ApplyError) (service : Service) (played : Played) (t at : ℕ) (caller : Identity) (op : Op) (later : List Op) → IsOk (operation service played.rows t at caller op) → AnswersFirst result at (play service played t at caller (op ∷ later))
+pub first_done : (result : Result (List Answer) ApplyError) (service : Service) (played : Played) (t at : ℕ) (caller : Identity) (op : Op) (later : List Op)
+    → IsOk (operation service played.rows t at caller op) → AnswersFirst result at (play service played t at caller (op ∷ later))
 first_done result service played t at caller op later ok = cases (operation service played.rows t at caller op) ok
   where
     cases : (done : Result Performed Why) → IsOk done → AnswersFirst result at (◌>>=◌ (after played.answers at done) (λ next. play service next t (at + 1) caller later))
@@ -46,6 +47,7 @@ told : (result : Result (List Answer) ApplyError) (outcome : Result Played Refus
 told result (Ok played) above first = tt
 told result (Err refusal) above first = λ needless. first (grind (arith, common_steps, needless, above))
 
-pub refuses_first : (result : Result (List Answer) ApplyError) (service : Service) (rows : Rows) (t : ℕ) (caller : Identity) (ops : List Op) → is_miscounted ops ≡ false → AnswersFirst result 0 (play service (record { answers = []; rows = rows }) t 0 caller ops) → RefusesFirst result (transaction service rows t caller ops)
+pub refuses_first : (result : Result (List Answer) ApplyError) (service : Service) (rows : Rows) (t : ℕ) (caller : Identity) (ops : List Op) → is_miscounted ops ≡ false
+    → AnswersFirst result 0 (play service (record { answers = []; rows = rows }) t 0 caller ops) → RefusesFirst result (transaction service rows t caller ops)
 refuses_first result service rows t caller ops counted first =
     rw counted (told result (play service (record { answers = []; rows = rows }) t 0 caller ops) (refused_later service (record { answers = []; rows = rows }) t 0 caller ops) first)

@@ -35,7 +35,8 @@ pub reached : (rows : Rows) (caller : Identity) (names : List (List ℕ)) (place
 reached rows caller names place is = walked rows place (walk rows caller root names) is
 
 -- a listing, step by step
-pub listed_is : (rows : Rows) (caller : Identity) (names : List (List ℕ)) (place : Object) (entries : List (List ℕ × ℕ)) (list : List (List ℕ)) → reach rows caller names ≡ Ok place → permit caller place to_read ≡ Ok tt → names_in place.row.content ≡ Ok entries → list ≡ folders.names_in entries
+pub listed_is : (rows : Rows) (caller : Identity) (names : List (List ℕ)) (place : Object) (entries : List (List ℕ × ℕ)) (list : List (List ℕ))
+    → reach rows caller names ≡ Ok place → permit caller place to_read ≡ Ok tt → names_in place.row.content ≡ Ok entries → list ≡ folders.names_in entries
     → names_listed rows caller names ≡ Ok (record { answer = answer.List list; rows = rows })
 listed_is rows caller names place entries list there may holds is = rw (there, may, holds, is) refl
 

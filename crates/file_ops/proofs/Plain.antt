@@ -47,7 +47,8 @@ pub ordered-plain : (rows : StoredRows) → IsOrdered nat_cmp rows → IsOrdered
 ordered-plain rows ordered = subst (IsStrictlySortedBy nat_cmp) (sym (keys_of-map_values plain_row rows)) ordered
 
 -- a row that was there, edited
-pub edited-there : (rows : StoredRows) (suite : ℕ) (before row : StoredRow) (edit : Row → Row) → IsOrdered nat_cmp rows → get nat_cmp rows suite ≡ Some before → plain_row row ≡ edit (plain_row before) → plain (replace nat_cmp rows suite row) ≡ edited (plain rows) suite edit
+pub edited-there : (rows : StoredRows) (suite : ℕ) (before row : StoredRow) (edit : Row → Row) → IsOrdered nat_cmp rows → get nat_cmp rows suite ≡ Some before
+    → plain_row row ≡ edit (plain_row before) → plain (replace nat_cmp rows suite row) ≡ edited (plain rows) suite edit
 edited-there rows suite before row edit ordered there is =
     let seen : row_of (plain rows) suite ≡ Some (plain_row before) = row_of-plain rows suite ∙ ap (option_map plain_row) there in
     plain-replace rows suite row
@@ -66,11 +67,14 @@ unchanged rows suite before row there same =
     plain-replace rows suite row ∙ replace_same nat_cmp_total (plain rows) suite (plain_row row) (row_of-plain rows suite ∙ ap (option_map plain_row) there ∙ ap Some (sym same))
 
 -- a row that holds something else
-pub other_content : (rows : StoredRows) (suite : ℕ) (before : StoredRow) (held : StoredContent) (edit : List (List ℕ × ℕ) → List (List ℕ × ℕ)) → IsOrdered nat_cmp rows → get nat_cmp rows suite ≡ Some before → plain_content held ≡ in_names edit (plain_content before.content) → plain (replace nat_cmp rows suite (record before { content = held })) ≡ edited (plain rows) suite (λ row. with_content row (in_names edit row.content))
+pub other_content : (rows : StoredRows) (suite : ℕ) (before : StoredRow) (held : StoredContent) (edit : List (List ℕ × ℕ) → List (List ℕ × ℕ)) → IsOrdered nat_cmp rows
+    → get nat_cmp rows suite ≡ Some before → plain_content held ≡ in_names edit (plain_content before.content)
+    → plain (replace nat_cmp rows suite (record before { content = held })) ≡ edited (plain rows) suite (λ row. with_content row (in_names edit row.content))
 other_content rows suite before held edit ordered there is =
     edited-there rows suite before (record before { content = held }) (λ row. with_content row (in_names edit row.content)) ordered there (ap (with_content (plain_row before)) is)
 
-pub same_content : (rows : StoredRows) (suite : ℕ) (before : StoredRow) (held : StoredContent) → get nat_cmp rows suite ≡ Some before → plain_content held ≡ plain_content before.content → plain (replace nat_cmp rows suite (record before { content = held })) ≡ plain rows
+pub same_content : (rows : StoredRows) (suite : ℕ) (before : StoredRow) (held : StoredContent) → get nat_cmp rows suite ≡ Some before
+    → plain_content held ≡ plain_content before.content → plain (replace nat_cmp rows suite (record before { content = held })) ≡ plain rows
 same_content rows suite before held there is =
     unchanged rows suite before (record before { content = held }) there (ap (with_content (plain_row before)) is)
 

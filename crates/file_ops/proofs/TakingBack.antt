@@ -44,7 +44,8 @@ exchanged-none : (rows : StoredRows) (s : ℕ) (edit : StoredRow → StoredRow) 
 exchanged-none rows s edit absent = ap (λ found. option_map_or (λ r. replace nat_cmp rows s (edit r)) found rows) absent
 
 -- a row exchanged, as it is seen
-pub plain-exchanged : (rows : StoredRows) (s : ℕ) (edit : StoredRow → StoredRow) (seen : Row → Row) → IsOrdered nat_cmp rows → ((row : StoredRow) → plain_row (edit row) ≡ seen (plain_row row)) → plain (exchanged rows s edit) ≡ edited (plain rows) s seen
+pub plain-exchanged : (rows : StoredRows) (s : ℕ) (edit : StoredRow → StoredRow) (seen : Row → Row) → IsOrdered nat_cmp rows
+    → ((row : StoredRow) → plain_row (edit row) ≡ seen (plain_row row)) → plain (exchanged rows s edit) ≡ edited (plain rows) s seen
 plain-exchanged rows s edit seen ordered same = by_stored (get nat_cmp rows s)
     (λ absent. ap plain (exchanged-none rows s edit absent) ∙ edited-absent rows s seen absent)
     (λ row there. ap plain (exchanged-some rows s edit row there) ∙ edited-there rows s row (edit row) seen ordered there (same row))
@@ -77,7 +78,8 @@ held_back before now s held ordered back =
     }
 
 -- what is exchanged can be taken back
-pub held_taken : (rows : StoredRows) (s : ℕ) (held before : StoredContent) → IsOrdered nat_cmp rows → Some before ≡ option_map (λ row. row.content) (get nat_cmp rows s) → TakesBack (Held s before) rows (exchanged rows s (with_stored_content held))
+pub held_taken : (rows : StoredRows) (s : ℕ) (held before : StoredContent) → IsOrdered nat_cmp rows → Some before ≡ option_map (λ row. row.content) (get nat_cmp rows s)
+    → TakesBack (Held s before) rows (exchanged rows s (with_stored_content held))
 held_taken rows s held before ordered was = by_stored (get nat_cmp rows s)
     (λ absent. absurd (none-some before (sym (ap (option_map (λ row. row.content)) absent) ∙ sym was)))
     (λ row there.
@@ -112,13 +114,15 @@ left_capacity rows s edit seen leaves q = each q s
     (exchanged_apart rows s edit q)
 
 -- it can be taken back
-left_taken : (rows : StoredRows) (s : ℕ) (edit : StoredRow → StoredRow) (seen back : Row → Row) (row : StoredRow) → IsOrdered nat_cmp rows → Leaves edit seen → get nat_cmp rows s ≡ Some row → back (seen (plain_row row)) ≡ plain_row row → edited (plain (exchanged rows s edit)) s back ≡ plain rows
+left_taken : (rows : StoredRows) (s : ℕ) (edit : StoredRow → StoredRow) (seen back : Row → Row) (row : StoredRow) → IsOrdered nat_cmp rows → Leaves edit seen
+    → get nat_cmp rows s ≡ Some row → back (seen (plain_row row)) ≡ plain_row row → edited (plain (exchanged rows s edit)) s back ≡ plain rows
 left_taken rows s edit seen back row ordered leaves there undoes =
     ap (λ r. edited r s back) (plain-exchanged rows s edit seen ordered leaves.plainly)
     ∙ edited-back-at (plain rows) s seen back (plain_row row) (ordered-plain rows ordered) (row_of-plain rows s ∙ ap (option_map plain_row) there) undoes
 
 -- and is what takes another one back
-left_back : (before now : StoredRows) (s : ℕ) (edit : StoredRow → StoredRow) (seen : Row → Row) → IsOrdered nat_cmp now → Leaves edit seen → edited (plain now) s seen ≡ plain before → ((q : ℕ) → capacity_at before q ≤ capacity_at now q) → Restores before (exchanged now s edit)
+left_back : (before now : StoredRows) (s : ℕ) (edit : StoredRow → StoredRow) (seen : Row → Row) → IsOrdered nat_cmp now → Leaves edit seen
+    → edited (plain now) s seen ≡ plain before → ((q : ℕ) → capacity_at before q ≤ capacity_at now q) → Restores before (exchanged now s edit)
 left_back before now s edit seen ordered leaves rows capacity = record {
   rows = plain-exchanged now s edit seen ordered leaves.plainly ∙ rows;
   capacity = λ q. omega (arith, capacity q, left_capacity now s edit seen leaves q);
@@ -144,7 +148,8 @@ listed_back before now s acl ordered back = left_back before now s (with_stored_
 leaves_voted : (votes : Configuration) → Leaves (with_stored_votes votes) (put_votes votes)
 leaves_voted votes = record { plainly = λ row. refl; content = λ row. refl }
 
-pub voted_taken : (rows : StoredRows) (s : ℕ) (votes before : Configuration) → IsOrdered nat_cmp rows → Some before ≡ option_map (λ row. row.votes) (get nat_cmp rows s) → TakesBack (Voted s before) rows (exchanged rows s (with_stored_votes votes))
+pub voted_taken : (rows : StoredRows) (s : ℕ) (votes before : Configuration) → IsOrdered nat_cmp rows → Some before ≡ option_map (λ row. row.votes) (get nat_cmp rows s)
+    → TakesBack (Voted s before) rows (exchanged rows s (with_stored_votes votes))
 voted_taken rows s votes before ordered was = by_stored (get nat_cmp rows s)
     (λ absent. absurd (none-some before (sym (ap (option_map (λ row. row.votes)) absent) ∙ sym was)))
     (λ row there.
@@ -164,7 +169,8 @@ plain-restored : (rows : StoredRows) (s : ℕ) (saved : Option StoredRow) → Is
 plain-restored rows s None ordered = plain-remove rows s
 plain-restored rows s (Some row) ordered = plain-exchanged rows s (λ r. row) (put_row (plain_row row)) ordered (λ r. refl)
 
-restored_capacity : (rows : StoredRows) (s : ℕ) (saved : Option StoredRow) → IsOrdered nat_cmp rows → is_some (row_of (plain rows) s) ≡ true → (q : ℕ) → (if q == s then capacity_of saved else capacity_at rows q) ≤ capacity_at (restored_row rows s saved) q
+restored_capacity : (rows : StoredRows) (s : ℕ) (saved : Option StoredRow) → IsOrdered nat_cmp rows → is_some (row_of (plain rows) s) ≡ true → (q : ℕ)
+    → (if q == s then capacity_of saved else capacity_at rows q) ≤ capacity_at (restored_row rows s saved) q
 restored_capacity rows s None ordered there q = ⊎_elim
     (λ same. rw same (omega arith))
     (λ other. rw other (omega (arith, capacity_at-remove_apart rows s q ordered (eqb-false q s other))))
@@ -176,7 +182,9 @@ restored_capacity rows s (Some row) ordered there q =
     (λ other. rw other (omega (arith, exchanged_apart rows s (λ r. row) q (eqb-false q s other))))
     (cases_Bool (q == s))
 
-pub made_back : (before now after : StoredRows) (folder : ℕ) (name : List ℕ) (number : ℕ) (saved : Option StoredRow) → IsOrdered nat_cmp now → TakesBack (Made folder name number saved) before now → plain after ≡ edited (plain (restored_row now number saved)) folder (drop_name name) → KeepsCapacity (restored_row now number saved) after → Restores before after
+pub made_back : (before now after : StoredRows) (folder : ℕ) (name : List ℕ) (number : ℕ) (saved : Option StoredRow) → IsOrdered nat_cmp now
+    → TakesBack (Made folder name number saved) before now → plain after ≡ edited (plain (restored_row now number saved)) folder (drop_name name)
+    → KeepsCapacity (restored_row now number saved) after → Restores before after
 made_back before now after folder name number saved ordered back dropped kept = record {
   rows = dropped ∙ ap (λ rows. edited rows folder (drop_name name)) (plain-restored now number saved ordered) ∙ back.rows;
   capacity = λ q. omega (arith, back.capacity q, restored_capacity now number saved ordered back.there q, kept.kept q);
@@ -190,7 +198,8 @@ back_to rows number row (Some before) ordered was =
     ∙ insert-insert nat_cmp_total rows number row (plain_row before)
     ∙ insert_same nat_cmp_total rows number (plain_row before) ordered (sym was)
 
-pub made_taken : (old new : StoredRows) (folder : ℕ) (name : List ℕ) (number : ℕ) (row : StoredRow) (saved : Option StoredRow) → number_at (plain old) folder name ≡ None → Makes old new folder name number row saved → TakesBack (Made folder name number saved) old new
+pub made_taken : (old new : StoredRows) (folder : ℕ) (name : List ℕ) (number : ℕ) (row : StoredRow) (saved : Option StoredRow) → number_at (plain old) folder name ≡ None
+    → Makes old new folder name number row saved → TakesBack (Made folder name number saved) old new
 made_taken old new folder name number row saved absent made =
     let ordered = ordered-plain old made.ordered in
     let named = edited (plain old) folder (put_name name number) in
@@ -234,7 +243,8 @@ by_held (Names names) name room = room names refl
 by_held (Bytes bytes) name room = tt
 
 -- once the name is put back
-length_at-put : (now : StoredRows) (folder : ℕ) (name : List ℕ) (number : ℕ) (row : StoredRow) (names : Roomy (List ℕ) ℕ) → get nat_cmp now folder ≡ Some row → row.content ≡ Names names → number_of names.pairs name ≡ None → length_at (edited (plain now) folder (put_name name number)) folder ≡ length names.pairs + 1
+length_at-put : (now : StoredRows) (folder : ℕ) (name : List ℕ) (number : ℕ) (row : StoredRow) (names : Roomy (List ℕ) ℕ) → get nat_cmp now folder ≡ Some row
+    → row.content ≡ Names names → number_of names.pairs name ≡ None → length_at (edited (plain now) folder (put_name name number)) folder ≡ length names.pairs + 1
 length_at-put now folder name number row names there holds absent =
     ap (λ rows. length_at rows folder) (edited-some (plain now) folder (put_name name number) (plain_row row) (row_of-plain now folder ∙ ap (option_map plain_row) there))
     ∙ ap (λ found. option_map_or (λ r. length_in r.content) found 0) (row_of-with_same (plain now) folder (put_name name number (plain_row row)))

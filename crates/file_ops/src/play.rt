@@ -7,7 +7,7 @@ ghost use Rattle.file_ops.specs.Transactions.{max_operations};
 ghost use Rattle.file_ops.specs.code.Acting.{played_from};
 ghost use Rattle.file_ops.specs.code.Performed.{Plays, AnswersFirst};
 
-use crate::act::{Performed, OpError, Transaction, operate};
+use crate::act::{OpError, Performed, Transaction, operate};
 use crate::answer::{Answers, Replies};
 use crate::operation::Op;
 use crate::refusal::{ApplyError, Refusal};

@@ -176,7 +176,12 @@ fn first_named(text: &[u8], side: Side) -> u64 {
 }
 
 /// What is told of entries of which two are of one: of one kind that names somebody, or of those that name nobody.
-fn doubled_told<'a>(above: Above<'_>, text: &'a [u8], side: Side, kind: Option<Kind>) -> Reasoned<'a> {
+fn doubled_told<'a>(
+    above: Above<'_>,
+    text: &'a [u8],
+    side: Side,
+    kind: Option<Kind>,
+) -> Reasoned<'a> {
     for line in Parts::new(text, b'\n') {
         for item in Parts::new(uncommented(line), b',') {
             if let Some(said) = entry_in(item) {

@@ -25,7 +25,8 @@ use Rattle.law_agents.proofs.Words.{ResponseSo, AsksSo, l_response, phase_asks}
 
 -- ---- an agent that is idle stays so
 
-idle_taken : (fixed : Fixed) (agent : Agent) (response : Response) (doing : Option Doing) (asked : Option (ℕ × Request)) → agent.doing ≡ doing → next_in fixed doing ≡ asked → doing ≡ None → (take_in fixed agent response doing asked).agent ≡ agent
+idle_taken : (fixed : Fixed) (agent : Agent) (response : Response) (doing : Option Doing) (asked : Option (ℕ × Request)) → agent.doing ≡ doing → next_in fixed doing ≡ asked
+    → doing ≡ None → (take_in fixed agent response doing asked).agent ≡ agent
 idle_taken fixed agent response None (Some asked) was is none = absurd (none-some asked is)
 idle_taken fixed agent response None None was is none = refl
 idle_taken fixed agent response (Some doing) asked was is none = absurd (none-some doing (sym none))
@@ -155,7 +156,8 @@ module _ (fixed : Fixed) (V : Configuration → Type 0) (S : ℕ → Type 0) (go
   abbrev AskedSo : Option (ℕ × Request) → Response → Type 0
   AskedSo asked response = AllSo (exchange_of asked response)
 
-  take_kept : (agent : Agent) (response : Response) (doing : Option Doing) (asked : Option (ℕ × Request)) → agent.doing ≡ doing → next_in fixed doing ≡ asked → Kept agent → AskedSo asked response → Kept (take_in fixed agent response doing asked).agent
+  take_kept : (agent : Agent) (response : Response) (doing : Option Doing) (asked : Option (ℕ × Request)) → agent.doing ≡ doing → next_in fixed doing ≡ asked → Kept agent
+      → AskedSo asked response → Kept (take_in fixed agent response doing asked).agent
   take_kept agent response (Some (Running running)) (Some asked) was is kept so =
       let leaves = l_response fixed V S goes running.task agent.cache running.suites running.phase asked.0 asked.1 response kept.cached (subst InDoing was kept.doing) is so.0 in
       record { cached = leaves.0; doing = left_so _ leaves.1 }

@@ -113,7 +113,8 @@ module _ (fixed : Fixed) (task : Task) (cache : Cache) (suites : Suites) where
       calm asked heard v (then' (Fetching number) server asked heard) (fetched_as is_decide false task number (suite_of suites number) server asked refl is) so (early_is (Fetching number) server asked heard tt)
   heard_is (Widening [] granted) server asked heard v is so = cc
   heard_is (Widening (number ∷ left) granted) server asked heard v is so =
-      calm asked heard v (then' (Widening (number ∷ left) granted) server asked heard) (asked_as is_decide false task number (suite_of suites number) server asked (λ mode. refl) refl is) so (early_is (Widening (number ∷ left) granted) server asked heard tt)
+      calm asked heard v (then' (Widening (number ∷ left) granted) server asked heard)
+      (asked_as is_decide false task number (suite_of suites number) server asked (λ mode. refl) refl is) so (early_is (Widening (number ∷ left) granted) server asked heard tt)
   heard_is (Preparing [] outcome) server asked heard v is so = cc
   heard_is (Preparing (now ∷ left) outcome) server asked heard v is so =
       let same = asks_same now server (request.Prepare task.t (parts_at suites (changes_of outcome) now)) asked is in
@@ -189,7 +190,8 @@ module _ (fixed : Fixed) (agent : Agent) (caller : Identity) (site : ℕ) (ops :
   ends_so : (events : List Event) → EndsSo (past_of events) (at events).doing
   ends_so events = always fixed agent job EndsSo stays begins events
 
-  ends : (events : List Event) (heard : Response) (ending : Ending) (doing : Option Doing) (asked : Option (ℕ × Request)) → next_in fixed doing ≡ asked → EndsSo (past_of events) doing → (take_in fixed (at events) heard doing asked).ending ≡ Some ending
+  ends : (events : List Event) (heard : Response) (ending : Ending) (doing : Option Doing) (asked : Option (ℕ × Request)) → next_in fixed doing ≡ asked
+      → EndsSo (past_of events) doing → (take_in fixed (at events) heard doing asked).ending ≡ Some ending
       → EndsBy (told_by (past_of events ++ exchange_of asked heard)) ending
   ends events heard ending None (Some asked) is so by = cc
   ends events heard ending None None is so by = cc

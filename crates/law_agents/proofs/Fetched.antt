@@ -66,7 +66,8 @@ module _ (fixed : Fixed) (agent : Agent) (job : Job) (events : List Event) where
   by_phase task suites (Finishing [] v ending) server suite asked stands is kind = cc
   by_phase task suites (Finishing (now ∷ left) v ending) server suite asked stands is kind = other_asked now server suite (request.Finish task.t v) asked refl is kind
 
-  by_sweep : (sweeping : SweepRun) (now : Sweeping) (server suite : ℕ) (asked : Request) → ◌≡◌ {A = Option (ℕ × Request)} (Some (sweep.asked_now fixed.service sweeping now)) (Some (server, asked)) → fetches suite asked ≡ true → IsFetching fixed agent job events server suite
+  by_sweep : (sweeping : SweepRun) (now : Sweeping) (server suite : ℕ) (asked : Request) → ◌≡◌ {A = Option (ℕ × Request)} (Some (sweep.asked_now fixed.service sweeping now))
+      (Some (server, asked)) → fetches suite asked ≡ true → IsFetching fixed agent job events server suite
   by_sweep sweeping Listing server suite asked is kind = other_asked _ server suite request.Locks asked refl is kind
   by_sweep sweeping (Resolving t left) server suite asked is kind = other_asked _ server suite (request.Resolve t) asked refl is kind
   by_sweep sweeping (Telling t v left) server suite asked is kind = other_asked _ server suite (request.Finish t v) asked refl is kind

@@ -11,7 +11,32 @@ use Rattle.rep_core.specs.declared.request.Request.{Request}
 use Rattle.rep_core.specs.declared.request.Request.TheVariants as request
 use Rattle.suite_collect.specs.declared.told.Said.{Said}
 use Rattle.suite_collect.specs.Telling.{newest, has_told}
-use Rattle.suite_collect.specs.Collecting.{Collector, told_since, votes_or, mode_or, all_told, counted, wanted, needed, got, is_member, is_left, asked_of, ask_or_short, version, members_of, request_for, Asked, Poll, Upgrade, Next, Ask, Current, Short, next}
+use Rattle.suite_collect.specs.Collecting.{
+  Collector,
+  told_since,
+  votes_or,
+  mode_or,
+  all_told,
+  counted,
+  wanted,
+  needed,
+  got,
+  is_member,
+  is_left,
+  asked_of,
+  ask_or_short,
+  version,
+  members_of,
+  request_for,
+  Asked,
+  Poll,
+  Upgrade,
+  Next,
+  Ask,
+  Current,
+  Short,
+  next,
+}
 use Rattle.suite_collect.specs.Collecting as collecting
 use Rattle.txn_core.specs.Suites.{GatheredSuite, Suites, suite_of, told_in}
 use Rattle.txn_core.specs.Writing.{parts_at}
@@ -152,17 +177,20 @@ module _ (fixed : Fixed) (agent : Agent) (job : Job) (events : List Event) where
   by_phase task own suites (Finishing [] v ending) server suite asked stands is lock = cc
   by_phase task own suites (Finishing (now ∷ left) v ending) server suite asked stands is lock = no_lock now server suite (request.Finish task.t v) asked refl is lock
 
-  by_sweep : (sweeping : SweepRun) (now : Sweeping) (server suite : ℕ) (asked : Request) → ◌≡◌ {A = Option (ℕ × Request)} (Some (sweep.asked_now fixed.service sweeping now)) (Some (server, asked)) → locks suite asked ≡ true → IsGathering fixed agent job events server suite asked
+  by_sweep : (sweeping : SweepRun) (now : Sweeping) (server suite : ℕ) (asked : Request) → ◌≡◌ {A = Option (ℕ × Request)} (Some (sweep.asked_now fixed.service sweeping now))
+      (Some (server, asked)) → locks suite asked ≡ true → IsGathering fixed agent job events server suite asked
   by_sweep sweeping Listing server suite asked is lock = no_lock _ server suite request.Locks asked refl is lock
   by_sweep sweeping (Resolving t left) server suite asked is lock = no_lock _ server suite (request.Resolve t) asked refl is lock
   by_sweep sweeping (Telling t v left) server suite asked is lock = no_lock _ server suite (request.Finish t v) asked refl is lock
   by_sweep sweeping (Breaking held left) server suite asked is lock = no_lock _ server suite (request.Break held.t held.suite) asked refl is lock
 
-  by_doing : (server suite : ℕ) (asked : Request) (doing : Option Doing) → DoingStands fixed agent job events doing → next_in fixed doing ≡ Some (server, asked) → locks suite asked ≡ true → IsGathering fixed agent job events server suite asked
+  by_doing : (server suite : ℕ) (asked : Request) (doing : Option Doing) → DoingStands fixed agent job events doing → next_in fixed doing ≡ Some (server, asked)
+      → locks suite asked ≡ true → IsGathering fixed agent job events server suite asked
   by_doing server suite asked None stands is lock = cc
   by_doing server suite asked (Some (RunningSweep sweeping)) stands is lock = by_sweep sweeping sweeping.now server suite asked is lock
   by_doing server suite asked (Some (Running running)) stands is lock =
-      by_phase running.task (record { caller = stands.caller; site = stands.site; ops = stands.ops; transaction = stands.transaction; task_is = stands.task }) running.suites running.phase server suite asked (stands.stands_on (server, asked) is) is lock
+      by_phase running.task (record { caller = stands.caller; site = stands.site; ops = stands.ops; transaction = stands.transaction; task_is = stands.task }) running.suites
+      running.phase server suite asked (stands.stands_on (server, asked) is) is lock
 
 pub gathers_in_order : GathersInOrder
 gathers_in_order fixed agent job events server suite asked idle is lock =

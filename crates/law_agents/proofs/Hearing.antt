@@ -18,7 +18,35 @@ use Rattle.txn_core.specs.declared.response.Response.TheVariants.{Replied, Lacke
 use Rattle.txn_core.specs.declared.ending.Cause.{Cause}
 use Rattle.txn_core.specs.declared.ending.Cause.TheVariants.{Lost}
 use Rattle.txn_core.specs.Doing.{Granted, Fixed, Task, Proposal, Phase, Gathering, Fetching, Widening, Preparing, Deciding, Finishing, TransactionRun, After, GoesOn}
-use Rattle.txn_core.specs.Transactions.{Step, Gathered, give_up, prepare, locked_at, short_cause, gather_by, widen_by, widen_one, widened, widen_all, opened, heard_on, raised_or_new, keep_content, heard_of, said_to, proceed, execute, collected, hear, fetched, after_response, asked_for, request_in, given_in, lack_cause}
+use Rattle.txn_core.specs.Transactions.{
+  Step,
+  Gathered,
+  give_up,
+  prepare,
+  locked_at,
+  short_cause,
+  gather_by,
+  widen_by,
+  widen_one,
+  widened,
+  widen_all,
+  opened,
+  heard_on,
+  raised_or_new,
+  keep_content,
+  heard_of,
+  said_to,
+  proceed,
+  execute,
+  collected,
+  hear,
+  fetched,
+  after_response,
+  asked_for,
+  request_in,
+  given_in,
+  lack_cause,
+}
 use Rattle.txn_core.specs.Laws.{Exchange, locks, told_of, told_by, more_told}
 use Rattle.txn_core.proofs.Asks.{fetched_as}
 use Rattle.txn_core.proofs.Locks.{Are, are_with, are_same, are_opened, told_raised, all_told-tell, asks_lock}
@@ -32,7 +60,8 @@ tells past number = told_of number [] past
 abbrev pub push : List Exchange → ℕ → Request → Response → List Exchange
 push past server asked heard = past ++ record { server = server; request = asked; response = heard } ∷ []
 
-told_push : (number : ℕ) (before : List Told) (past : List Exchange) (one : Exchange) → told_of number before (past ++ one ∷ []) ≡ cond (locks number one.request) (told_by (told_of number before past) one one.response) (told_of number before past)
+told_push : (number : ℕ) (before : List Told) (past : List Exchange) (one : Exchange) → told_of number before (past ++ one ∷ []) ≡ cond (locks number one.request)
+    (told_by (told_of number before past) one one.response) (told_of number before past)
 told_push number before [] one = refl
 told_push number before (first ∷ past) one = told_push number (cond (locks number first.request) (told_by before first first.response) before) past one
 
@@ -145,7 +174,8 @@ module _ (task : Task) (past : List Exchange) (server : ℕ) (asked : Request) (
     (early : (suites : Suites) (phase : Phase) → IsEarly phase → Are (tells (push past server asked heard)) suites → Left (GoesOn (record { task = task; suites = suites; phase = phase })))
     (given_up : (cache : Cache) (suites : Suites) (cause : Cause) → Are (tells (push past server asked heard)) suites → Left (give_up task cache suites cause).after)
     (prepares : (cache : Cache) (suites : Suites) (outcome : Proposal) → Are (tells (push past server asked heard)) suites → Left (prepare task cache suites outcome (locked_at suites)).after) where
-  goes_heard : (cache : Cache) (suites : Suites) (phase : Phase) (number : ℕ) (found : Option GatheredSuite) (said : Reply) (go_on : Suites → Step) → heard ≡ Replied said → IsEarly phase → Are (tells past) suites → suite_of suites number ≡ found
+  goes_heard : (cache : Cache) (suites : Suites) (phase : Phase) (number : ℕ) (found : Option GatheredSuite) (said : Reply) (go_on : Suites → Step) → heard ≡ Replied said
+      → IsEarly phase → Are (tells past) suites → suite_of suites number ≡ found
       → asked_for task number found ≡ Some (server, asked) → ((suites : Suites) → Are (tells (push past server asked heard)) suites → Left (go_on suites).after)
       → Left (heard_of task cache suites phase number found server asked said go_on).after
   goes_heard cache suites phase number None said go_on so is are there asks more = cc
@@ -164,9 +194,12 @@ module _ (task : Task) (past : List Exchange) (server : ℕ) (asked : Request) (
   -- what is told in an early phase
   pub goes_on : (fixed : Fixed) (cache : Cache) (suites : Suites) (phase : Phase) → IsEarly phase → Are (tells past) suites → request_in fixed task suites phase ≡ Some (server, asked)
       → (told : Response) → heard ≡ told → Left (after_response fixed (record { task = task; suites = suites; phase = phase }) cache server asked told).after
-  goes_on fixed cache suites (Gathering number) is are asks (Lacked lacked) so = given_up cache suites (lack_cause server lacked) (subst (λ heard. Are (tells (push past server asked heard)) suites) (sym so) (are_lacked past suites server asked lacked are))
-  goes_on fixed cache suites (Fetching number) is are asks (Lacked lacked) so = given_up cache suites (lack_cause server lacked) (subst (λ heard. Are (tells (push past server asked heard)) suites) (sym so) (are_lacked past suites server asked lacked are))
-  goes_on fixed cache suites (Widening left granted) is are asks (Lacked lacked) so = given_up cache suites (lack_cause server lacked) (subst (λ heard. Are (tells (push past server asked heard)) suites) (sym so) (are_lacked past suites server asked lacked are))
+  goes_on fixed cache suites (Gathering number) is are asks (Lacked lacked) so = given_up cache suites (lack_cause server lacked)
+      (subst (λ heard. Are (tells (push past server asked heard)) suites) (sym so) (are_lacked past suites server asked lacked are))
+  goes_on fixed cache suites (Fetching number) is are asks (Lacked lacked) so = given_up cache suites (lack_cause server lacked)
+      (subst (λ heard. Are (tells (push past server asked heard)) suites) (sym so) (are_lacked past suites server asked lacked are))
+  goes_on fixed cache suites (Widening left granted) is are asks (Lacked lacked) so = given_up cache suites (lack_cause server lacked)
+      (subst (λ heard. Are (tells (push past server asked heard)) suites) (sym so) (are_lacked past suites server asked lacked are))
   goes_on fixed cache suites (Preparing left outcome) is are asks told so = absurd is
   goes_on fixed cache suites (Deciding outcome) is are asks told so = absurd is
   goes_on fixed cache suites (Finishing servers v ending) is are asks told so = absurd is

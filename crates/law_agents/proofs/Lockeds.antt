@@ -47,10 +47,11 @@ said_is_held asked said before server who = of said
     of : (said : Reply) → holds Shared (more_told before server asked (said_to asked said)) who ≡ (((server == who) && says_held (Replied said)) || holds Shared before who)
     of (reply.Held prefix dver) = ap (λ b. ((server == who) && b) || holds Shared before who) (serves_shared (mode_of asked))
     of (reply.Busy holder prepared) = refl
-    of reply.Down = elim (is_poll asked) as (λ b. holds Shared (more_told before server asked (cond b (Some Rattle.suite_collect.specs.declared.told.Said.TheVariants.Down) None)) who ≡ (((server == who) && false) || holds Shared before who)) [
-      | true ↦ refl
-      | false ↦ out (server == who) (holds Shared before who)
-    ]
+    of reply.Down = elim (is_poll asked) as (λ b. holds Shared (more_told before server asked (cond b (Some Rattle.suite_collect.specs.declared.told.Said.TheVariants.Down) None))
+        who ≡ (((server == who) && false) || holds Shared before who)) [
+          | true ↦ refl
+          | false ↦ out (server == who) (holds Shared before who)
+        ]
     of reply.Lost = out (server == who) (holds Shared before who)
     of (reply.Given dver content) = out (server == who) (holds Shared before who)
     of reply.Prepared = out (server == who) (holds Shared before who)
@@ -126,7 +127,8 @@ held_locked : (number who : ℕ) (past : List Exchange) → was_held past number
 held_locked number who [] is = cc
 held_locked number who (one ∷ past) is = of (held_locked number who past) (one.server == who) (locks number one.request) refl (says_held one.response) is
   where
-    of : (was_held past number who ≡ true → was_locked past who ≡ true) → (a b : Bool) → locks number one.request ≡ b → (c : Bool) → ((a && b && c) || was_held past number who) ≡ true → ((a && wants_lock one.request && c) || was_locked past who) ≡ true
+    of : (was_held past number who ≡ true → was_locked past who ≡ true) → (a b : Bool) → locks number one.request ≡ b → (c : Bool)
+        → ((a && b && c) || was_held past number who) ≡ true → ((a && wants_lock one.request && c) || was_locked past who) ≡ true
     of rest true true lock true is = ap (λ b. (b && true) || was_locked past who) (locks_wants number one.request lock)
     of rest true true lock false is = or_true (wants_lock one.request && false) (rest is)
     of rest true false lock c is = or_true (wants_lock one.request && c) (rest is)
@@ -138,10 +140,14 @@ locked_held who (one ∷ past) is =
     of (λ is. let rest = locked_held who past is in (rest.0, or_true ((one.server == who) && locks rest.0 one.request && says_held one.response) rest.1))
     (one.server == who) (wants_lock one.request) (says_held one.response) refl refl refl is
   where
-    of : (was_locked past who ≡ true → (number : ℕ) × (was_held (one ∷ past) number who ≡ true)) → (a b c : Bool) → (one.server == who) ≡ a → wants_lock one.request ≡ b → says_held one.response ≡ c → ((a && b && c) || was_locked past who) ≡ true → (number : ℕ) × (was_held (one ∷ past) number who ≡ true)
+    of : (was_locked past who ≡ true → (number : ℕ) × (was_held (one ∷ past) number who ≡ true)) → (a b c : Bool) → (one.server == who) ≡ a → wants_lock one.request ≡ b
+        → says_held one.response ≡ c → ((a && b && c) || was_locked past who) ≡ true → (number : ℕ) × (was_held (one ∷ past) number who ≡ true)
     of later true true true at lock said is =
-        let suite = wants_locks one.request lock in
-        (suite.0, ap (λ a. (a && locks suite.0 one.request && says_held one.response) || was_held past suite.0 who) at ∙ ap (λ b. (b && says_held one.response) || was_held past suite.0 who) suite.1 ∙ ap (λ c. c || was_held past suite.0 who) said)
+        let suite = wants_locks one.request lock in (
+          suite.0,
+          ap (λ a. (a && locks suite.0 one.request && says_held one.response) || was_held past suite.0 who) at ∙ ap
+              (λ b. (b && says_held one.response) || was_held past suite.0 who) suite.1 ∙ ap (λ c. c || was_held past suite.0 who) said,
+        )
     of later true true false at lock said is = later is
     of later true false c at lock said is = later is
     of later false b c at lock said is = later is

@@ -119,7 +119,8 @@ sent_push kind past server asked heard =
     of false = refl
 
 -- one more got it, of those that were to get it
-sent_next : (kind : Request → Bool) (past : List Exchange) (server : ℕ) (asked : Request) (heard : Response) (left all : List ℕ) → kind asked ≡ true → all ≡ sent_to kind past ++ server ∷ left → all ≡ sent_to kind (push past server asked heard) ++ left
+sent_next : (kind : Request → Bool) (past : List Exchange) (server : ℕ) (asked : Request) (heard : Response) (left all : List ℕ) → kind asked ≡ true → all ≡ sent_to kind past ++ server ∷ left
+    → all ≡ sent_to kind (push past server asked heard) ++ left
 sent_next kind past server asked heard left all is so =
     so ∙ sym (ap (λ sent. sent ++ left) (sent_push kind past server asked heard ∙ ap (λ b. sent_to kind past ++ cond b (server ∷ []) []) is) ∙ append_assoc (sent_to kind past) (server ∷ []) left)
 
@@ -205,7 +206,8 @@ module _ (fixed : Fixed) (agent : Agent) (caller : Identity) (site : ℕ) (ops :
     early_stage suites (Deciding outcome) server asked early is = absurd early
     early_stage suites (Finishing servers v ending) server asked early is = absurd early
 
-    early_heard : (past : List Exchange) (cache : Cache) (suites : Suites) (phase : Phase) (server : ℕ) (asked : Request) (heard : Response) → IsEarly phase → Are (tells past) suites → UpTo 0 past → request_in fixed task suites phase ≡ Some (server, asked)
+    early_heard : (past : List Exchange) (cache : Cache) (suites : Suites) (phase : Phase) (server : ℕ) (asked : Request) (heard : Response) → IsEarly phase → Are (tells past) suites → UpTo 0 past
+        → request_in fixed task suites phase ≡ Some (server, asked)
         → LeftIs (push past server asked heard) (after_response fixed (record { task = task; suites = suites; phase = phase }) cache server asked heard).after
     early_heard past cache suites phase server asked heard is are up asks =
         let stage_is = early_stage suites phase server asked is asks in
@@ -292,7 +294,8 @@ module _ (fixed : Fixed) (agent : Agent) (caller : Identity) (site : ℕ) (ops :
     heard_on past cache suites (Widening left granted) server asked heard are locks in' is = early_heard past cache suites (Widening left granted) server asked heard tt (are tt) in' is
     heard_on past cache suites (Preparing [] outcome) server asked heard are locks in' is = cc
     heard_on past cache suites (Preparing (now ∷ left) outcome) server asked heard are locks in' is =
-        subst (Then past cache suites (Preparing (now ∷ left) outcome) heard) (same_Some (now, request.Prepare task.t (parts_at suites (changes_of outcome) now)) (server, asked) is) (prepare_heard past cache suites now left outcome heard locks in')
+        subst (Then past cache suites (Preparing (now ∷ left) outcome) heard) (same_Some (now, request.Prepare task.t (parts_at suites (changes_of outcome) now)) (server, asked) is)
+        (prepare_heard past cache suites now left outcome heard locks in')
     heard_on past cache suites (Deciding outcome) server asked heard are locks in' is =
         subst (Then past cache suites (Deciding outcome) heard) (same_Some (home_of fixed.service task.t, request.Decide task.t (decision_of task outcome)) (server, asked) is) (decide_heard past cache suites outcome heard locks in')
     heard_on past cache suites (Finishing [] v ending) server asked heard are locks in' is = cc
@@ -311,7 +314,8 @@ module _ (fixed : Fixed) (agent : Agent) (caller : Identity) (site : ℕ) (ops :
     locks_heard : (events : List Event) (running : TransactionRun) → (at events).doing ≡ Some (Running running) → HeardOf (past_of events) running.suites
     locks_heard events running was = subst (Keeps (plus_all nothing_held (past_of events))) was (all_keep nothing_held fixed (begin fixed agent job) events (begin_keeps fixed agent job idle))
 
-    are_of : (task : Task) (Old : Base) (Now Loose : ℕ → Rattle.suite_prefix.specs.declared.copies.Prefix.Prefix → Type 0) (past : List Exchange) (suites : Suites) (phase : Phase) → StandsOn fixed task Old Now Loose past suites phase → IsEarly phase → Are (tells past) suites
+    are_of : (task : Task) (Old : Base) (Now Loose : ℕ → Rattle.suite_prefix.specs.declared.copies.Prefix.Prefix → Type 0) (past : List Exchange) (suites : Suites) (phase : Phase) → StandsOn fixed task Old Now Loose past suites phase
+        → IsEarly phase → Are (tells past) suites
     are_of task Old Now Loose past suites (Gathering number) stands is = stands.0
     are_of task Old Now Loose past suites (Fetching number) stands is = stands.0
     are_of task Old Now Loose past suites (Widening left granted) stands is = stands.0
@@ -319,7 +323,8 @@ module _ (fixed : Fixed) (agent : Agent) (caller : Identity) (site : ℕ) (ops :
     are_of task Old Now Loose past suites (Deciding outcome) stands is = absurd is
     are_of task Old Now Loose past suites (Finishing servers v ending) stands is = absurd is
 
-    suites_are : (events : List Event) (running : TransactionRun) (asked : ℕ × Request) → (at events).doing ≡ Some (Running running) → request_of fixed running ≡ Some asked → IsEarly running.phase → Are (tells (past_of events)) running.suites
+    suites_are : (events : List Event) (running : TransactionRun) (asked : ℕ × Request) → (at events).doing ≡ Some (Running running) → request_of fixed running ≡ Some asked → IsEarly running.phase
+        → Are (tells (past_of events)) running.suites
     suites_are events running asked was is =
         let runs = subst (DoingStands fixed agent job events) was (stands_after fixed agent job events idle) in
         are_of running.task (Base_of fixed agent job events events running.task.site) (Started fixed agent job events) (Begins fixed agent job events) (past_of events) running.suites running.phase (runs.stands_on asked is)
@@ -333,7 +338,8 @@ module _ (fixed : Fixed) (agent : Agent) (caller : Identity) (site : ℕ) (ops :
     begins : Orders [] (begin fixed agent job).doing
     begins =
         elim (is_idle agent.doing && has_sense fixed job && nat_lt agent.count max_jobs) as (λ b. Orders [] (cond b (record (started fixed agent job) { count = agent.count + 1 }) agent).doing) [
-          | true ↦ goes_execute (task_of agent caller site ops) [] (LeftIs []) (early (task_of agent caller site ops) refl [] (up_none 0)) (given_up (task_of agent caller site ops) refl [] (up_none 0)) (prepares (task_of agent caller site ops) refl [] (up_none 0)) fixed (record { suites = []; cache = agent.cache }) are_nil
+          | true ↦ goes_execute (task_of agent caller site ops) [] (LeftIs []) (early (task_of agent caller site ops) refl [] (up_none 0)) (given_up (task_of agent caller site ops) refl [] (up_none 0))
+              (prepares (task_of agent caller site ops) refl [] (up_none 0)) fixed (record { suites = []; cache = agent.cache }) are_nil
           | false ↦ of agent.doing idle
         ]
       where
@@ -346,7 +352,8 @@ module _ (fixed : Fixed) (agent : Agent) (caller : Identity) (site : ℕ) (ops :
 
     -- what is so of what a transaction asks
     asks_so : {P : Type 0} (events : List Event) (server : ℕ) (asked : Request) → next_of fixed (at events) ≡ Some (server, asked)
-        → ((running : TransactionRun) → (at events).doing ≡ Some (Running running) → running.task ≡ task_of agent caller site ops → InPhase (past_of events) running.suites running.phase → request_of fixed running ≡ Some (server, asked) → P) → P
+        → ((running : TransactionRun) → (at events).doing ≡ Some (Running running) → running.task ≡ task_of agent caller site ops → InPhase (past_of events) running.suites running.phase → request_of fixed running ≡ Some (server, asked)
+        → P) → P
     asks_so {P = P} events server asked is so = of (at events).doing refl is (orders events)
       where
         of : (doing : Option Doing) → (at events).doing ≡ doing → next_in fixed doing ≡ Some (server, asked) → Orders (past_of events) doing → P
@@ -374,7 +381,8 @@ module _ (fixed : Fixed) (agent : Agent) (caller : Identity) (site : ℕ) (ops :
   number_early task suites (Deciding outcome) server asked early is = absurd early
   number_early task suites (Finishing servers v ending) server asked early is = absurd early
 
-  in_order : (past : List Exchange) (task : Task) (suites : Suites) (phase : Phase) (server : ℕ) (asked : Request) → task ≡ task_of agent caller site ops → InPhase past suites phase → request_in fixed task suites phase ≡ Some (server, asked) → IsInOrder agent past asked
+  in_order : (past : List Exchange) (task : Task) (suites : Suites) (phase : Phase) (server : ℕ) (asked : Request) → task ≡ task_of agent caller site ops → InPhase past suites phase
+      → request_in fixed task suites phase ≡ Some (server, asked) → IsInOrder agent past asked
   in_order past task suites (Gathering number) server asked same in' is =
       rises past asked 0 0 task same (early_stage task same suites (Gathering number) server asked tt is) (omega arith) (omega arith) (number_early task suites (Gathering number) server asked tt is) in'
   in_order past task suites (Fetching number) server asked same in' is =
@@ -466,17 +474,20 @@ stages_rise fixed agent caller site ops events server asked idle is =
 pub prepares_in_order : PreparesInOrder
 prepares_in_order fixed agent caller site ops events server t parts idle is =
     asks_so fixed agent caller site ops idle events server (request.Prepare t parts) is
-    (λ running was same in' asks. preparing fixed agent caller site ops (of_job fixed agent (Transaction caller site ops) events) running.task running.suites running.phase server (request.Prepare t parts) same (locks_heard fixed agent caller site ops idle events running was) in' asks refl)
+    (λ running was same in' asks. preparing fixed agent caller site ops (of_job fixed agent (Transaction caller site ops) events) running.task running.suites running.phase server (request.Prepare t parts) same
+    (locks_heard fixed agent caller site ops idle events running was) in' asks refl)
 
 pub decides_in_order : DecidesInOrder
 decides_in_order fixed agent caller site ops events home t decision idle is =
     asks_so fixed agent caller site ops idle events home (request.Decide t decision) is
-    (λ running was same in' asks. deciding fixed agent caller site ops (of_job fixed agent (Transaction caller site ops) events) running.task running.suites running.phase home (request.Decide t decision) same (locks_heard fixed agent caller site ops idle events running was) in' asks refl)
+    (λ running was same in' asks. deciding fixed agent caller site ops (of_job fixed agent (Transaction caller site ops) events) running.task running.suites running.phase home (request.Decide t decision) same
+    (locks_heard fixed agent caller site ops idle events running was) in' asks refl)
 
 pub finishes_in_order : FinishesInOrder
 finishes_in_order fixed agent caller site ops events server t v idle is =
     asks_so fixed agent caller site ops idle events server (request.Finish t v) is
-    (λ running was same in' asks. finishing fixed agent caller site ops (of_job fixed agent (Transaction caller site ops) events) running.task running.suites running.phase server (request.Finish t v) same (locks_heard fixed agent caller site ops idle events running was) in'
+    (λ running was same in' asks. finishing fixed agent caller site ops (of_job fixed agent (Transaction caller site ops) events) running.task running.suites running.phase server (request.Finish t v) same
+    (locks_heard fixed agent caller site ops idle events running was) in'
     (λ servers v ending phase. finish_carries_the_verdict fixed agent (Transaction caller site ops) events running servers v ending idle was phase) asks refl)
 
 pub all_finish : AllFinish

@@ -21,7 +21,32 @@ use Rattle.txn_core.specs.declared.ending.Ending.{Ending}
 use Rattle.txn_core.specs.declared.ending.Ending.TheVariants.{Undecided}
 use Rattle.txn_core.specs.declared.job.Job.{Job}
 use Rattle.txn_core.specs.declared.job.Job.TheVariants.{Transaction, Sweep}
-use Rattle.txn_core.specs.Doing.{home_of, Fixed, Task, Proposal, Phase, Gathering, Fetching, Widening, Preparing, Deciding, Finishing, TransactionRun, Sweeping, Listing, Resolving, Telling, Breaking, SweepRun, Doing, Running, RunningSweep, After, GoesOn, Ends}
+use Rattle.txn_core.specs.Doing.{
+  home_of,
+  Fixed,
+  Task,
+  Proposal,
+  Phase,
+  Gathering,
+  Fetching,
+  Widening,
+  Preparing,
+  Deciding,
+  Finishing,
+  TransactionRun,
+  Sweeping,
+  Listing,
+  Resolving,
+  Telling,
+  Breaking,
+  SweepRun,
+  Doing,
+  Running,
+  RunningSweep,
+  After,
+  GoesOn,
+  Ends,
+}
 use Rattle.txn_core.specs.Transactions.{tell_end, give_up, prepare, locked_at, after_response, request_in, request_of, changes_of, decision_of, verdict_in, ending_by, cause_of_abort, lack_cause}
 use Rattle.txn_core.specs.Sweeps as sweep
 use Rattle.txn_core.specs.Agents as agents
@@ -119,7 +144,8 @@ module _ (fixed : Fixed) (agent : Agent) (job : Job) (idle : is_idle agent.doing
   abbrev past_of : List Event → List Exchange
   past_of events = of_job fixed agent job events
 
-  are_of : (task : Task) (Old : Base) (Now Loose : ℕ → Rattle.suite_prefix.specs.declared.copies.Prefix.Prefix → Type 0) (past : List Exchange) (suites : Suites) (phase : Phase) → StandsOn fixed task Old Now Loose past suites phase → IsEarly phase → Are (tells past) suites
+  are_of : (task : Task) (Old : Base) (Now Loose : ℕ → Rattle.suite_prefix.specs.declared.copies.Prefix.Prefix → Type 0) (past : List Exchange) (suites : Suites) (phase : Phase)
+      → StandsOn fixed task Old Now Loose past suites phase → IsEarly phase → Are (tells past) suites
   are_of task Old Now Loose past suites (Gathering number) stands is = stands.0
   are_of task Old Now Loose past suites (Fetching number) stands is = stands.0
   are_of task Old Now Loose past suites (Widening left granted) stands is = stands.0
@@ -193,7 +219,8 @@ module _ (fixed : Fixed) (agent : Agent) (job : Job) (events : List Event) (idle
   abbrev now : Agent
   now = after_all fixed (begin fixed agent job) events
 
-  ready_then : (task : Task) (suites : Suites) (outcome : Proposal) (server : ℕ) (left : List ℕ) → now.doing ≡ prepares_yet task suites outcome (server ∷ left) → (number : ℕ) (suite : GatheredSuite) → suite_of suites number ≡ Some suite → IsReady suite number (changes_of outcome)
+  ready_then : (task : Task) (suites : Suites) (outcome : Proposal) (server : ℕ) (left : List ℕ) → now.doing ≡ prepares_yet task suites outcome (server ∷ left)
+      → (number : ℕ) (suite : GatheredSuite) → suite_of suites number ≡ Some suite → IsReady suite number (changes_of outcome)
   ready_then task suites outcome server left was number suite there =
       let then' = if_all fixed task suites outcome server left now was in
       decides_on_quorums fixed agent job (events ++ then'.0) (record { task = task; suites = suites; phase = Deciding outcome }) outcome number suite idle

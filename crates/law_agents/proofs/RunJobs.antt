@@ -328,7 +328,8 @@ module _ (given : Opening) (whole past : List Event) (event : Event) (rest : Lis
   takes (inl idle) = idle_asks (fixed_of given) n agent steps heard asked next idle.0
   takes (inr busy) = of taken.ending refl (told_so (fixed_of given) n agent steps heard asked next).2
     where
-      of : (end' : Option Ending) → taken.ending ≡ end' → ((end' ≡ None) × (is_idle taken.agent.doing ≡ false)) ⊎ ((ending : Ending) × (end' ≡ Some ending) × (is_idle taken.agent.doing ≡ true)) → Has' given (past ++ event ∷ []) n taken.agent (steps_after steps end')
+      of : (end' : Option Ending) → taken.ending ≡ end' → ((end' ≡ None) × (is_idle taken.agent.doing ≡ false))
+          ⊎ ((ending : Ending) × (end' ≡ Some ending) × (is_idle taken.agent.doing ≡ true)) → Has' given (past ++ event ∷ []) n taken.agent (steps_after steps end')
       of None is' (inl on) = inr (on.1, since_more (fixed_of given) n agent steps heard asked next busy.1, stands_more given past event world is n busy.1.before busy.1.job busy.1.told (Take heard ∷ []) told_now busy.2)
       of None is' (inr over) = absurd (none-some over.0 over.1)
       of (Some ending) is' (inl on) = absurd (none-some ending (sym on.0))

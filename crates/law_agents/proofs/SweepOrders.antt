@@ -131,7 +131,8 @@ module _ (service : Service) (swept : ℕ) where
       ap (after_last service swept (left_by (push past server asked heard))) (last_push None past (record { server = server; request = asked; response = heard }))
       ∙ plain (left_by (push past server asked heard))
 
-  told_locks : (past : List Exchange) (sweeping : SweepRun) (said : Reply) → Sweeps past (Some (RunningSweep (record sweeping { now = Listing }))) → LeftSo (told_now past sweeping Listing (Replied said)) (sweep.after_answer service sweeping Listing said)
+  told_locks : (past : List Exchange) (sweeping : SweepRun) (said : Reply) → Sweeps past (Some (RunningSweep (record sweeping { now = Listing })))
+      → LeftSo (told_now past sweeping Listing (Replied said)) (sweep.after_answer service sweeping Listing said)
   told_locks past sweeping (reply.Locked locks) so =
       let one : Exchange = record { server = sweeping.server; request = request.Locks; response = Replied (reply.Locked locks) } in
       on_so (past ++ one ∷ []) sweeping (rising locks) so.0 (record {
@@ -224,7 +225,8 @@ module _ (service : Service) (swept : ℕ) where
   told_resolve past sweeping t left reply.Down so = not_told past sweeping t left reply.Down so refl (λ left. refl)
   told_resolve past sweeping t left reply.Lost so = not_told past sweeping t left reply.Lost so refl (λ left. refl)
 
-  told_answer : (past : List Exchange) (sweeping : SweepRun) (now : Sweeping) (said : Reply) → Sweeps past (Some (RunningSweep (record sweeping { now = now }))) → LeftSo (told_now past sweeping now (Replied said)) (sweep.after_answer service sweeping now said)
+  told_answer : (past : List Exchange) (sweeping : SweepRun) (now : Sweeping) (said : Reply) → Sweeps past (Some (RunningSweep (record sweeping { now = now })))
+      → LeftSo (told_now past sweeping now (Replied said)) (sweep.after_answer service sweeping now said)
   told_answer past sweeping Listing said so = told_locks past sweeping said so
   told_answer past sweeping (Resolving t left) said so = told_resolve past sweeping t left said so
   told_answer past sweeping (Telling t v left) said so = told_finish past sweeping t v left said so
@@ -246,7 +248,8 @@ module _ (fixed : Fixed) (agent : Agent) (server : ℕ) (idle : is_idle agent.do
   abbrev at : List Event → Agent
   at events = after_all fixed (begin fixed agent job) events
 
-  stays : (events : List Event) (heard : Response) (doing : Doing) (who : ℕ) (asked : Request) → (at events).doing ≡ Some doing → next_in fixed (Some doing) ≡ Some (who, asked) → Sweeps fixed.service server (of_job fixed agent job events) (Some doing)
+  stays : (events : List Event) (heard : Response) (doing : Doing) (who : ℕ) (asked : Request) → (at events).doing ≡ Some doing → next_in fixed (Some doing) ≡ Some (who, asked)
+      → Sweeps fixed.service server (of_job fixed agent job events) (Some doing)
       → Sweeps fixed.service server (push (of_job fixed agent job events) who asked heard) (take_in fixed (at events) heard (Some doing) (Some (who, asked))).agent.doing
   stays events heard (Running running) who asked was is so = absurd so
   stays events heard (RunningSweep sweeping) who asked was is so =
@@ -267,7 +270,8 @@ module _ (fixed : Fixed) (agent : Agent) (server : ℕ) (idle : is_idle agent.do
   sweeps : (events : List Event) → Sweeps fixed.service server (of_job fixed agent job events) (at events).doing
   sweeps events = always fixed agent job (Sweeps fixed.service server) stays begins events
 
-  asks_so : (events : List Event) (asked : ℕ × Request) (doing : Option Doing) → next_in fixed doing ≡ Some asked → Sweeps fixed.service server (of_job fixed agent job events) doing → to_sweep fixed.service server (of_job fixed agent job events) ≡ Some asked
+  asks_so : (events : List Event) (asked : ℕ × Request) (doing : Option Doing) → next_in fixed doing ≡ Some asked
+      → Sweeps fixed.service server (of_job fixed agent job events) doing → to_sweep fixed.service server (of_job fixed agent job events) ≡ Some asked
   asks_so events asked None is so = cc
   asks_so events asked (Some (Running running)) is so = absurd so
   asks_so events asked (Some (RunningSweep sweeping)) is so = so.2 ∙ is

@@ -21,7 +21,35 @@ use Rattle.txn_core.specs.declared.response.Response.{Response}
 use Rattle.txn_core.specs.declared.response.Response.TheVariants.{Replied, Lacked}
 use Rattle.txn_core.specs.declared.ending.Cause.TheVariants.{Lost}
 use Rattle.txn_core.specs.Doing.{Granted, Fixed, Task, Proposal, Phase, Gathering, Fetching, Widening as Widens, Preparing, Deciding, Finishing}
-use Rattle.txn_core.specs.Transactions.{Step, tell_end, give_up, prepare, locked_at, short_cause, widen_all, keep_content, heard_of, said_to, execute, collected, hear, fetched, prepared, after_lack, after_response, asked_by, asked_for, given_in, verdict_in, ending_by, cause_of_abort, lack_cause, request_in, changes_of, decision_of}
+use Rattle.txn_core.specs.Transactions.{
+  Step,
+  tell_end,
+  give_up,
+  prepare,
+  locked_at,
+  short_cause,
+  widen_all,
+  keep_content,
+  heard_of,
+  said_to,
+  execute,
+  collected,
+  hear,
+  fetched,
+  prepared,
+  after_lack,
+  after_response,
+  asked_by,
+  asked_for,
+  given_in,
+  verdict_in,
+  ending_by,
+  cause_of_abort,
+  lack_cause,
+  request_in,
+  changes_of,
+  decision_of,
+}
 use Rattle.txn_core.proofs.Gathers.{Each, each_with, but_with}
 use Rattle.txn_core.proofs.Asks.{asks_same}
 use Rattle.law_agents.proofs.Collectors.{IsPlain, asks_shared, current_gives, AllReps, SaysSo, AllTold, AllIn, newest_so, asked_so, given_so}
@@ -290,7 +318,8 @@ module _ (fixed : Fixed) (V : Configuration → Type 0) (S : ℕ → Type 0) (go
         | false ↦ walk.l_give_up fixed V S goes task cache suites (Lost server) cached fine
       ]
 
-  pub l_response : (task : Task) (cache : Cache) (suites : Suites) (phase : Phase) (server : ℕ) (asked : Request) (response : Response) → Cached cache → Phase' suites phase → request_in fixed task suites phase ≡ Some (server, asked) → ResponseSo response
+  pub l_response : (task : Task) (cache : Cache) (suites : Suites) (phase : Phase) (server : ℕ) (asked : Request) (response : Response) → Cached cache → Phase' suites phase
+      → request_in fixed task suites phase ≡ Some (server, asked) → ResponseSo response
       → Left (after_response fixed (record { task = task; suites = suites; phase = phase }) cache server asked response)
   l_response task cache suites (Gathering number) server asked (Replied said') cached in' is so = l_gathered task cache suites number (suite_of suites number) server asked said' refl cached in' is so
   l_response task cache suites (Gathering number) server asked (Lacked lacked) cached in' is so = walk.l_give_up fixed V S goes task cache suites (lack_cause server lacked) cached in'.0

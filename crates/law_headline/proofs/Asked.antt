@@ -125,10 +125,12 @@ module _ (fixed : Fixed) (Q : Task → Type 0) where
   takes : (agent : Agent) (response : Response) → Has agent → Has (take fixed agent response).agent
   takes agent response has = takes_in agent response agent.doing (next_of fixed agent) refl has
 
-  pub becomes_all : (world : World) → AllHave world → (number : ℕ) (change : Agent → Agent) → ((actor : Actor) → actor_at world number ≡ Some actor → Has (change actor.agent)) → (o : Option Actor) → actor_at world number ≡ o → AllHave (becomes world number change o).world
+  pub becomes_all : (world : World) → AllHave world → (number : ℕ) (change : Agent → Agent) → ((actor : Actor) → actor_at world number ≡ Some actor → Has (change actor.agent))
+      → (o : Option Actor) → actor_at world number ≡ o → AllHave (becomes world number change o).world
   becomes_all world all = each_becomes Has world all
 
-  pub event_all : (world : World) → AllHave world → (event : Event) → ((number : ℕ) (job : Job) (actor : Actor) → event ≡ Begin number job → actor_at world number ≡ Some actor → Has (begin fixed actor.agent job)) → AllHave (step fixed world event).world
+  pub event_all : (world : World) → AllHave world → (event : Event) → ((number : ℕ) (job : Job) (actor : Actor) → event ≡ Begin number job → actor_at world number ≡ Some actor
+      → Has (begin fixed actor.agent job)) → AllHave (step fixed world event).world
   event_all world all = each_after Has world all fixed (λ agent site has. has) takes
 
 -- ---- what was begun, was begun however the run goes on

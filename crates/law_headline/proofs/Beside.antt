@@ -90,7 +90,8 @@ module _ (given : Opening) (z : ℕ) (w : World) (inv : Inv (beginning z given) 
   start = beginning z given
 
   module _ (txn_run : TransactionRun) (outcome : Proposal) (well : CameWell (fixed_of given) txn_run outcome) where
-    pub leaves : (suite : GatheredSuite) (first : ReadPoint) (change : executor.Change) → suite_of txn_run.suites z ≡ Some suite → suite.first ≡ Some first → change_of (changes_of outcome) z ≡ Some change → IsKnown (row start w.log) (known_by first suite) → Leaves suite first change
+    pub leaves : (suite : GatheredSuite) (first : ReadPoint) (change : executor.Change) → suite_of txn_run.suites z ≡ Some suite → suite.first ≡ Some first
+        → change_of (changes_of outcome) z ≡ Some change → IsKnown (row start w.log) (known_by first suite) → Leaves suite first change
     leaves suite first change found had set knows =
         came_fair (fixed_of given) txn_run.task txn_run.suites outcome z suite first change found had set c0 well.valid (known_fits start w inv kind first suite knows) (known_valid start w inv kind first suite knows) well.came
 
@@ -196,4 +197,5 @@ module _ (given : Opening) (z : ℕ) (w : World) (world : worlds.World) (now : T
       }
 
   pub row_known : (suite : GatheredSuite) (first : ReadPoint) → OwesKnown (beginning z given) w txn_run.task.t (known_by first suite) → IsKnown (row (beginning z given) w.log) (known_by first suite)
-  row_known suite first owes = all_known (beginning z given) w now.inv txn_run.task.t (showed_to w txn_run.task.t (known_by first suite)) (known_by first suite) is_ready_now (knows_from (beginning z given) w txn_run.task.t (known_by first suite) owes)
+  row_known suite first owes = all_known (beginning z given) w now.inv txn_run.task.t (showed_to w txn_run.task.t (known_by first suite)) (known_by first suite) is_ready_now
+      (knows_from (beginning z given) w txn_run.task.t (known_by first suite) owes)

@@ -54,7 +54,16 @@ begins : (fixed : Fixed) (agent : Agent) (job : Job) → JobGivesValidVotes job 
 begins fixed agent job valid (inl idle) = inr (record { before = agent; job = job; told = []; idle = idle; is = refl; valid = valid })
 begins fixed agent job valid (inr is) =
     elim (is_idle agent.doing) as (λ b. is_idle agent.doing ≡ b → ValidOr fixed (cond (b && has_sense fixed job && nat_lt agent.count max_jobs) (record (started fixed agent job) { count = agent.count + 1 }) agent)) [
-      | true ↦ λ idle. inr (record { before = agent; job = job; told = []; idle = idle; is = ap (λ b. cond (b && has_sense fixed job && nat_lt agent.count max_jobs) (record (started fixed agent job) { count = agent.count + 1 }) agent) (sym idle); valid = valid })
+      | true ↦ λ idle. inr
+          (record {
+            before = agent;
+            job = job;
+            told = [];
+            idle = idle;
+            is = ap
+                (λ b. cond (b && has_sense fixed job && nat_lt agent.count max_jobs) (record (started fixed agent job) { count = agent.count + 1 }) agent) (sym idle);
+            valid = valid;
+          })
       | false ↦ λ _. inr is
     ] refl
 
@@ -116,5 +125,6 @@ came_at fixed agent (inr is) txn_run outcome phase running at came =
 pub came_well : (fixed : Fixed) (agent : Agent) → ValidOr fixed agent → (txn_run : TransactionRun) (outcome : Proposal) → agent.doing ≡ Some (Running txn_run) → txn_run.phase ≡ Deciding outcome → CameWell fixed txn_run outcome
 came_well fixed agent valid txn_run outcome running phase = came_at fixed agent valid txn_run outcome (Deciding outcome) running phase (λ came. came)
 
-pub came_preparing : (fixed : Fixed) (agent : Agent) → ValidOr fixed agent → (txn_run : TransactionRun) (servers : List ℕ) (outcome : Proposal) → agent.doing ≡ Some (Running txn_run) → txn_run.phase ≡ Preparing servers outcome → CameWell fixed txn_run outcome
+pub came_preparing : (fixed : Fixed) (agent : Agent) → ValidOr fixed agent → (txn_run : TransactionRun) (servers : List ℕ) (outcome : Proposal)
+    → agent.doing ≡ Some (Running txn_run) → txn_run.phase ≡ Preparing servers outcome → CameWell fixed txn_run outcome
 came_preparing fixed agent valid txn_run servers outcome running phase = came_at fixed agent valid txn_run outcome (Preparing servers outcome) running phase (λ came. came)

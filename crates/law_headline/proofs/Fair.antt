@@ -70,7 +70,8 @@ module _ (suites : Suites) (z : ℕ) (suite : GatheredSuite) (first : ReadPoint)
 abbrev shown : GatheredSuite → ReadPoint → Option Row
 shown suite first = row_with first.prefix.kind first.prefix suite.content
 
-head_before : (suite : GatheredSuite) (first : ReadPoint) (before : Option KnownSuite) → is_held Exclusive before ≡ true → ((row : Option Row) → IsSo (known_row suite first) row → IsSoAt before row) → head (known.row_in before) ≡ head (shown suite first)
+head_before : (suite : GatheredSuite) (first : ReadPoint) (before : Option KnownSuite) → is_held Exclusive before ≡ true
+    → ((row : Option Row) → IsSo (known_row suite first) row → IsSoAt before row) → head (known.row_in before) ≡ head (shown suite first)
 head_before suite first None held goes = absurd (false≢true held)
 head_before suite first (Some it) held goes = (goes (shown suite first) (record { head = refl; content = λ _. refl })).head
 
@@ -119,8 +120,12 @@ known_content suite first (Some it) row goes opened there = of suite.content ref
     of : (found : Option Content) → suite.content ≡ found → (c : Content) × (found ≡ Some c) × (it.row ≡ row_with first.prefix.kind first.prefix (Some c))
     of (Some c) at = (c, refl, (goes (shown suite first) (record { head = refl; content = λ _. refl })).content opened ∙ ap (row_with first.prefix.kind first.prefix) at)
     of None at =
-        let one = goes (row_with first.prefix.kind first.prefix (Some (one_content first.prefix.kind))) (subst (λ found. SoWith suite first found (one_content first.prefix.kind)) (sym at) (is_so suite.mode first.prefix.kind first.prefix None (one_content first.prefix.kind) (one_fits first.prefix.kind) (λ x is. cc))) in
-        let other = goes (row_with first.prefix.kind first.prefix (Some (other_content first.prefix.kind))) (subst (λ found. SoWith suite first found (other_content first.prefix.kind)) (sym at) (is_so suite.mode first.prefix.kind first.prefix None (other_content first.prefix.kind) (other_fits first.prefix.kind) (λ x is. cc))) in
+        let one = goes (row_with first.prefix.kind first.prefix (Some (one_content first.prefix.kind)))
+        (subst (λ found. SoWith suite first found (one_content first.prefix.kind)) (sym at)
+        (is_so suite.mode first.prefix.kind first.prefix None (one_content first.prefix.kind) (one_fits first.prefix.kind) (λ x is. cc))) in
+        let other = goes (row_with first.prefix.kind first.prefix (Some (other_content first.prefix.kind)))
+        (subst (λ found. SoWith suite first found (other_content first.prefix.kind)) (sym at)
+        (is_so suite.mode first.prefix.kind first.prefix None (other_content first.prefix.kind) (other_fits first.prefix.kind) (λ x is. cc))) in
         let same = one.content opened in
         absurd (apart first.prefix.kind first.prefix row (sym same ∙ there) (sym same ∙ other.content opened))
 
@@ -167,7 +172,8 @@ module _ (fixed : Fixed) (task : Task) (suites : Suites) (outcome : Proposal) (z
         kind = content_kind suite first (known_rows before) z ended.edits from.row fit from.is fits heads;
       })
 
-  by_result : (before : known.Known) → ((rows : ℕ → Option Row) → AgreesWith (known_of suites) rows → AgreesWith before rows) → (result : Result (Ended (List Answer)) Refusal) → exec_of fixed.service before task.t task.caller task.ops ≡ Done result
+  by_result : (before : known.Known) → ((rows : ℕ → Option Row) → AgreesWith (known_of suites) rows → AgreesWith before rows) → (result : Result (Ended (List Answer)) Refusal)
+      → exec_of fixed.service before task.t task.caller task.ops ≡ Done result
       → change_of (set_by before result) z ≡ Some change → Leaves suite first change
   by_result before agrees (Ok ended) done told = by_edits before agrees ended done told
   by_result before agrees (Err refusal) done told = absurd (none-some change told)

@@ -27,7 +27,44 @@ use Rattle.txn_core.specs.declared.ending.Cause.{Cause}
 use Rattle.txn_core.specs.declared.ending.Cause.TheVariants.{Lost}
 use Rattle.txn_core.specs.declared.ending.Ending.{Ending}
 use Rattle.txn_core.specs.Doing.{Granted, Fixed, Task, Proposal, Phase, Gathering, Fetching, Widening, Preparing, Deciding, Finishing, Changes, TransactionRun, SweepRun, Doing, Running, RunningSweep, After, GoesOn, Ends}
-use Rattle.txn_core.specs.Transactions.{Step, Gathered, tell_end, give_up, prepare, locked_at, short_cause, gather_by, widen_by, widen_one, widened, widen_all, opened, or_all, open_needed, open_suite, open_first, opened_with, free_content, heard_on, raised_or_new, keep_content, heard_of, said_to, proceed, execute, collected, hear, fetched, after_lack, after_response, given_in, lack_cause, verdict_in, ending_by, cause_of_abort}
+use Rattle.txn_core.specs.Transactions.{
+  Step,
+  Gathered,
+  tell_end,
+  give_up,
+  prepare,
+  locked_at,
+  short_cause,
+  gather_by,
+  widen_by,
+  widen_one,
+  widened,
+  widen_all,
+  opened,
+  or_all,
+  open_needed,
+  open_suite,
+  open_first,
+  opened_with,
+  free_content,
+  heard_on,
+  raised_or_new,
+  keep_content,
+  heard_of,
+  said_to,
+  proceed,
+  execute,
+  collected,
+  hear,
+  fetched,
+  after_lack,
+  after_response,
+  given_in,
+  lack_cause,
+  verdict_in,
+  ending_by,
+  cause_of_abort,
+}
 use Rattle.txn_core.proofs.Gathers.{Each, each_but, each_with, tell_start}
 -- a suite whose content is fetched has one of a version above 0
 use Rattle.txn_core.specs.declared.job.Job.{Job}
@@ -126,12 +163,14 @@ module _ (fixed : Fixed) (task : Task) where
   first_gather cache suites number (Ask server asked) all = all
   first_gather cache suites number (Current prefix dver members) all = all
 
-  first_widen_by : (cache : Cache) (suites : Suites) (left : List ℕ) (granted : Granted) (number : ℕ) (next : Next) (go_on : Suites → Step) → AllFirst suites → ((suites : Suites) → AllFirst suites → Firsts (go_on suites)) → Firsts (widen_by task cache suites (Widening left granted) number next go_on)
+  first_widen_by : (cache : Cache) (suites : Suites) (left : List ℕ) (granted : Granted) (number : ℕ) (next : Next) (go_on : Suites → Step) → AllFirst suites
+      → ((suites : Suites) → AllFirst suites → Firsts (go_on suites)) → Firsts (widen_by task cache suites (Widening left granted) number next go_on)
   first_widen_by cache suites left granted number (Current prefix dver members) go_on all more = more suites all
   first_widen_by cache suites left granted number (Ask server asked) go_on all more = all
   first_widen_by cache suites left granted number (Short got needed busy) go_on all more = first_give_up cache suites (short_cause number got needed busy) all
 
-  first_widen_one : (cache : Cache) (suites : Suites) (left : List ℕ) (granted : Granted) (number : ℕ) (found : Option GatheredSuite) (go_on : Suites → Step) → suite_of suites number ≡ found → AllFirst suites → ((suites : Suites) → AllFirst suites → Firsts (go_on suites))
+  first_widen_one : (cache : Cache) (suites : Suites) (left : List ℕ) (granted : Granted) (number : ℕ) (found : Option GatheredSuite) (go_on : Suites → Step)
+      → suite_of suites number ≡ found → AllFirst suites → ((suites : Suites) → AllFirst suites → Firsts (go_on suites))
       → Firsts (widen_one task cache suites (Widening left granted) granted.changes number found go_on)
   first_widen_one cache suites left granted number (Some suite) go_on there all more =
       let now = widened granted.changes number suite in
@@ -156,7 +195,8 @@ module _ (fixed : Fixed) (task : Task) where
   first_proceed cache suites (exec.Refused refusal) all = first_prepare cache suites (Err refusal) (locked_at suites) all
 
   module _ (all : Gathered) (firsts : AllFirst all.suites) where
-    with_content : (number : ℕ) (suite : GatheredSuite) (first : ReadPoint) (content : Option Content) (more : Gathered) → suite_of all.suites number ≡ Some suite → opened_with task all number suite first content ≡ Some more → AllFirst more.suites
+    with_content : (number : ℕ) (suite : GatheredSuite) (first : ReadPoint) (content : Option Content) (more : Gathered) → suite_of all.suites number ≡ Some suite
+        → opened_with task all number suite first content ≡ Some more → AllFirst more.suites
     with_content number suite first (Some content) more there is =
         subst (λ (all : Gathered). AllFirst all.suites) (same_Some _ more is) (with_first number (record suite { content = Some content }) all.suites firsts (content_first suite (Some content) (firsts number suite there)))
     with_content number suite first None more there is = cc
@@ -179,7 +219,8 @@ module _ (fixed : Fixed) (task : Task) where
   opened_first zero all firsts = firsts
   opened_first (suc n) all firsts = of (open_needed task all (heard_on fixed task all.suites)) refl (λ more firsts. opened_first n more firsts)
     where
-      of : (found : Option Gathered) → open_needed task all (heard_on fixed task all.suites) ≡ found → ((more : Gathered) → AllFirst more.suites → AllFirst (opened n fixed task more).suites) → AllFirst (or_all all found (λ all. opened n fixed task all)).suites
+      of : (found : Option Gathered) → open_needed task all (heard_on fixed task all.suites) ≡ found
+          → ((more : Gathered) → AllFirst more.suites → AllFirst (opened n fixed task more).suites) → AllFirst (or_all all found (λ all. opened n fixed task all)).suites
       of (Some more) is later = later more (needed_first all firsts (heard_on fixed task all.suites) more is)
       of None is later = firsts
 
@@ -191,7 +232,8 @@ module _ (fixed : Fixed) (task : Task) where
   -- ---- replies
 
   first_heard : (cache : Cache) (suites : Suites) (phase : Phase) (number : ℕ) (found : Option GatheredSuite) (server : ℕ) (asked : Request) (said : Reply) (go_on : Suites → Step) → suite_of suites number ≡ found
-      → ((suite : GatheredSuite) → suite_of suites number ≡ Some suite → IsNarrow suite) → AllFirst suites → ((suites : Suites) → AllFirst suites → Firsts (go_on suites)) → Firsts (heard_of task cache suites phase number found server asked said go_on)
+      → ((suite : GatheredSuite) → suite_of suites number ≡ Some suite → IsNarrow suite) → AllFirst suites → ((suites : Suites) → AllFirst suites → Firsts (go_on suites))
+      → Firsts (heard_of task cache suites phase number found server asked said go_on)
   first_heard cache suites phase number None server asked said go_on there narrow all more = first_give_up cache suites (Lost server) all
   first_heard cache suites phase number (Some suite) server asked said go_on there narrow all more = of (said_to asked said)
     where
@@ -208,7 +250,8 @@ module _ (fixed : Fixed) (task : Task) where
           let now : GatheredSuite = record suite { collector = tell one suite.collector } in
           at now (next now.collector) (told_first one suite (all number suite there)) (λ none. tell_narrow one suite.collector (narrow suite there none)) refl
 
-  first_fetched : (cache : Cache) (suites : Suites) (number : ℕ) (server : ℕ) (found : Option GatheredSuite) (content : Option Content) → suite_of suites number ≡ found → AllFirst suites → Firsts (fetched fixed task cache suites number found server content)
+  first_fetched : (cache : Cache) (suites : Suites) (number : ℕ) (server : ℕ) (found : Option GatheredSuite) (content : Option Content) → suite_of suites number ≡ found
+      → AllFirst suites → Firsts (fetched fixed task cache suites number found server content)
   first_fetched cache suites number server (Some suite) (Some content) there all = keeps suite.first
     where
       keeps : (first : Option ReadPoint) → Firsts (keep_content fixed task cache suites number suite content first server)
@@ -227,7 +270,8 @@ module _ (fixed : Fixed) (task : Task) where
   first_lack cache suites (Finishing [] v ending) server lacked all = tt
   first_lack cache suites (Finishing (now ∷ left) v ending) server lacked all = first_end cache suites v ending left all
 
-  first_word : (cache : Cache) (suites : Suites) (phase : Phase) (server : ℕ) (asked : Request) (response : Response) → ((number : ℕ) → Hears phase number → (suite : GatheredSuite) → suite_of suites number ≡ Some suite → IsNarrow suite) → AllFirst suites
+  first_word : (cache : Cache) (suites : Suites) (phase : Phase) (server : ℕ) (asked : Request) (response : Response)
+      → ((number : ℕ) → Hears phase number → (suite : GatheredSuite) → suite_of suites number ≡ Some suite → IsNarrow suite) → AllFirst suites
       → Firsts (after_response fixed (record { task = task; suites = suites; phase = phase }) cache server asked response)
   first_word cache suites phase server asked (Lacked lacked) narrow all = first_lack cache suites phase server lacked all
   first_word cache suites (Gathering number) server asked (Replied said) narrow all =
@@ -262,7 +306,8 @@ round_first : (after : After SweepRun) → DoingFirst (left RunningSweep after)
 round_first (GoesOn sweep_run) = tt
 round_first (Ends ending) = tt
 
-take_first : (fixed : Fixed) (agent : Agent) (response : Response) → IdleOr fixed agent → (doing : Option Doing) (asked : Option (ℕ × Request)) → agent.doing ≡ doing → next_in fixed doing ≡ asked → DoingFirst doing → DoingFirst agent.doing → DoingFirst (take_in fixed agent response doing asked).agent.doing
+take_first : (fixed : Fixed) (agent : Agent) (response : Response) → IdleOr fixed agent → (doing : Option Doing) (asked : Option (ℕ × Request)) → agent.doing ≡ doing
+    → next_in fixed doing ≡ asked → DoingFirst doing → DoingFirst agent.doing → DoingFirst (take_in fixed agent response doing asked).agent.doing
 take_first fixed agent response job (Some (Running running)) (Some asked) was is all same =
     left_first _ (first_word fixed running.task agent.cache running.suites running.phase asked.0 asked.1 response (narrow_of fixed agent job running was asked is) all)
 take_first fixed agent response job (Some (Running running)) None was is all same = same

@@ -47,14 +47,16 @@ module _ (given : Opening) (c0 : IsValid given.c0) (z : ℕ) (w : World) (world 
     prepared = prepared_left given z w world now beside.prepared number actor txn_run outcome suite there running phase found;
   }
 
-  next_beside : (event : happening.Event) → EventGivesValidVotes event → Together given z (moved given z w world event) (step (fixed_of given) world event).world → Beside given z (moved given z w world event) (step (fixed_of given) world event).world
+  next_beside : (event : happening.Event) → EventGivesValidVotes event → Together given z (moved given z w world event) (step (fixed_of given) world event).world
+      → Beside given z (moved given z w world event) (step (fixed_of given) world event).world
   next_beside event valid later = record {
     prepared = prepared_next given z w world now.linked beside.prepared event;
     valid = event_valid (fixed_of given) world beside.valid event valid;
     kind = kind_after given z w now.inv c0 beside.kind world beside.valid event (decided (fixed_of given) world event) (moved given z w world event).log (event_log given z w world now.shows event) later.inv.logged.plain;
   }
 
-owe_from : (given : Opening) (c0 : IsValid given.c0) (z : ℕ) (w : World) (world : worlds.World) (events : List happening.Event) → AllByRecursion EventGivesValidVotes events → Together given z w world → Beside given z w world → AreOwed given z w world events
+owe_from : (given : Opening) (c0 : IsValid given.c0) (z : ℕ) (w : World) (world : worlds.World) (events : List happening.Event) → AllByRecursion EventGivesValidVotes events
+    → Together given z w world → Beside given z w world → AreOwed given z w world events
 owe_from given c0 z w world [] valid now beside = tt
 owe_from given c0 z w world (event ∷ events) valid now beside =
     let owes = owed given z w world now (left given c0 z w world now beside) in

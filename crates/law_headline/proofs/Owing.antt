@@ -37,11 +37,13 @@ pub record LeftOf (z : ℕ) (w : World) (txn_run : TransactionRun) (outcome : Pr
 -- in one world
 abbrev pub Left : ℕ → World → worlds.World → Type 0
 Left z w world =
-    (number : ℕ) (actor : Actor) (txn_run : TransactionRun) (outcome : Proposal) (suite : GatheredSuite) (first : ReadPoint) → actor_at world number ≡ Some actor → actor.agent.doing ≡ Some (Running txn_run) → txn_run.phase ≡ Deciding outcome
+    (number : ℕ) (actor : Actor) (txn_run : TransactionRun) (outcome : Proposal) (suite : GatheredSuite) (first : ReadPoint) → actor_at world number ≡ Some actor
+    → actor.agent.doing ≡ Some (Running txn_run) → txn_run.phase ≡ Deciding outcome
     → w.verdict txn_run.task.t ≡ None → suite_of txn_run.suites z ≡ Some suite → suite.first ≡ Some first → LeftOf z w txn_run outcome suite first
 
 -- ready to be decided, as every agent of a job
-is_ready : (fixed : Fixed) (agent : Agent) (z : ℕ) → IdleOr fixed agent → (txn_run : TransactionRun) (outcome : Proposal) → agent.doing ≡ Some (Running txn_run) → txn_run.phase ≡ Deciding outcome → (suite : GatheredSuite) → suite_of txn_run.suites z ≡ Some suite → IsReady suite z (changes_of outcome)
+is_ready : (fixed : Fixed) (agent : Agent) (z : ℕ) → IdleOr fixed agent → (txn_run : TransactionRun) (outcome : Proposal) → agent.doing ≡ Some (Running txn_run)
+    → txn_run.phase ≡ Deciding outcome → (suite : GatheredSuite) → suite_of txn_run.suites z ≡ Some suite → IsReady suite z (changes_of outcome)
 is_ready fixed agent z (inl idle) txn_run outcome running phase suite there = absurd (false≢true (ap is_idle (sym running) ∙ idle))
 is_ready fixed agent z (inr is) txn_run outcome running phase suite there =
     decides_on_quorums fixed is.before is.job is.told txn_run outcome z suite is.idle (ap (λ (agent : Agent). agent.doing) (sym is.is) ∙ running) phase there
@@ -70,16 +72,20 @@ module _ (given : Opening) (z : ℕ) (w : World) (world : worlds.World) (now : T
     owes_known suite found first had =
         let was = suite_was z start w actor.agent txn_run suite (now.fits number actor there) running found in
         let prefix = known_prefix z start w t suite was first had in
-        knows_from_a_quorum start w t suite first (valid_was start w first.prefix now.inv prefix) (firsts_given (fixed_of given) actor.agent (now.jobs number actor there) txn_run running z suite found first had) (agrees_on suite found) prefix (known_content z start w t suite was first had)
+        knows_from_a_quorum start w t suite first (valid_was start w first.prefix now.inv prefix)
+        (firsts_given (fixed_of given) actor.agent (now.jobs number actor there) txn_run running z suite found first had) (agrees_on suite found) prefix
+        (known_content z start w t suite was first had)
 
-    owes_written : Left z w world → w.verdict t ≡ None → (suite : GatheredSuite) → suite_of txn_run.suites z ≡ Some suite → (first : ReadPoint) → suite.first ≡ Some first → (change : executor.Change) → change_of (changes_of outcome) z ≡ Some change → OwesWritten start w t (known_by first suite) (change_to first change)
+    owes_written : Left z w world → w.verdict t ≡ None → (suite : GatheredSuite) → suite_of txn_run.suites z ≡ Some suite → (first : ReadPoint) → suite.first ≡ Some first
+        → (change : executor.Change) → change_of (changes_of outcome) z ≡ Some change → OwesWritten start w t (known_by first suite) (change_to first change)
     owes_written left undecided suite found first had change changed =
         let was = suite_was z start w actor.agent txn_run suite (now.fits number actor there) running found in
         let more = left number actor txn_run outcome suite first there running phase undecided found had in
         writes_to_quorums start w t z suite (changes_of outcome) change first (agrees_on suite found) had changed (more.fair change changed) more.prepared (owes_known suite found first had)
         (is_ready (fixed_of given) actor.agent z (now.jobs number actor there) txn_run outcome running phase suite found) (newest_prefix z start w t suite was now.inv)
 
-    on_first : Left z w world → w.verdict t ≡ None → (suite : GatheredSuite) → suite_of txn_run.suites z ≡ Some suite → (o : Option ReadPoint) → suite.first ≡ o → OwesFirst start w t outcome (written_from o (change_of (changes_of outcome) z)) suite o
+    on_first : Left z w world → w.verdict t ≡ None → (suite : GatheredSuite) → suite_of txn_run.suites z ≡ Some suite → (o : Option ReadPoint) → suite.first ≡ o
+        → OwesFirst start w t outcome (written_from o (change_of (changes_of outcome) z)) suite o
     on_first left undecided suite found None had = tt
     on_first left undecided suite found (Some first) had = with_change start w t suite first outcome (change_of (changes_of outcome) z) (owes_known suite found first had) (owes_written left undecided suite found first had)
 

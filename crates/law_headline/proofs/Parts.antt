@@ -72,7 +72,8 @@ parts_same z w later t suites (Fetching number) same is = tt
 parts_same z w later t suites (Widening left granted) same is = tt
 parts_same z w later t suites (Finishing servers v ending) same is = tt
 
-pub doing_same : (z : ℕ) (w later : World) (doing : Option Doing) → ((txn_run : TransactionRun) → doing ≡ Some (Running txn_run) → (i : ℕ) → later.ready i txn_run.task.t ≡ w.ready i txn_run.task.t) → DoingPrepared z w doing → DoingPrepared z later doing
+pub doing_same : (z : ℕ) (w later : World) (doing : Option Doing) → ((txn_run : TransactionRun) → doing ≡ Some (Running txn_run) → (i : ℕ)
+    → later.ready i txn_run.task.t ≡ w.ready i txn_run.task.t) → DoingPrepared z w doing → DoingPrepared z later doing
 doing_same z w later (Some (Running txn_run)) same is = parts_same z w later txn_run.task.t txn_run.suites txn_run.phase (same txn_run refl) is
 doing_same z w later (Some (RunningSweep sweep_run)) same is = tt
 doing_same z w later None same is = tt
@@ -226,7 +227,8 @@ prepared_round z w (GoesOn sweep_run) = tt
 prepared_round z w (Ends ending) = tt
 
 -- whatever it is told
-pub take_prepared : (z : ℕ) (w later : World) (fixed : Fixed) (agent : Agent) (response : Response) (doing : Option Doing) (asked : ℕ × Request) → next_in fixed doing ≡ Some asked → DoingPrepared z w doing → PreparesPart z w later doing response
+pub take_prepared : (z : ℕ) (w later : World) (fixed : Fixed) (agent : Agent) (response : Response) (doing : Option Doing) (asked : ℕ × Request) → next_in fixed doing ≡ Some asked
+    → DoingPrepared z w doing → PreparesPart z w later doing response
     → DoingPrepared z later (take_in fixed agent response doing (Some asked)).agent.doing
 take_prepared z w later fixed agent response (Some (Running txn_run)) asked is parts now =
     parts_response z later txn_run.task w fixed agent response txn_run.suites asked txn_run.phase is parts (λ first left outcome phase said. now txn_run first left outcome refl phase said)

@@ -43,7 +43,25 @@ use Rattle.law_server_moves.specs.Moves.{prepare_of, first_verdict, moves}
 use Rattle.law_server_moves.specs.Laws.{beginning}
 use Rattle.law_runs.specs.Naming.{names, may_sweep}
 use Rattle.law_runs.proofs.Asking.{asks_in_its_name, asks_to_sweep}
-use Rattle.law_run_machine.specs.Deciding.{to_write, decides_with, decides_without, decides_first, decides_on, decision_by, fixed_in, aim_of, aims_once, aims, is_finishing, is_at_an_end, gives_up, tells_aborted, begun_events, own_events, known_by}
+use Rattle.law_run_machine.specs.Deciding.{
+  to_write,
+  decides_with,
+  decides_without,
+  decides_first,
+  decides_on,
+  decision_by,
+  fixed_in,
+  aim_of,
+  aims_once,
+  aims,
+  is_finishing,
+  is_at_an_end,
+  gives_up,
+  tells_aborted,
+  begun_events,
+  own_events,
+  known_by,
+}
 use Rattle.law_run_machine.specs.Machines.{home_in, begin_events, answered_events, asked_at_events, asked_events, step_events, lacks_for_events, lack_events, operated_events, operator_events, moved}
 use Rattle.law_run_machine.proofs.Joining.{run-append}
 use Rattle.law_run_machine.proofs.Linked.{AllLinked, IsDoing, numbered_at, apart}
@@ -237,7 +255,8 @@ module _ (given : Opening) (z : ℕ) (w : World) (world : worlds.World) (linked 
   -- ---- a request of an agent
 
   -- an agent takes a response, and does its own
-  takes : (later : World) (number : ℕ) (actor : Actor) (stamp : ℕ) (asked : ℕ × Request) (response : Response) → actor_at world number ≡ Some actor → next_of (fixed_of given) actor.agent ≡ Some asked → PreparesPart z w later actor.agent.doing response → Elsewhere w later number
+  takes : (later : World) (number : ℕ) (actor : Actor) (stamp : ℕ) (asked : ℕ × Request) (response : Response) → actor_at world number ≡ Some actor
+      → next_of (fixed_of given) actor.agent ≡ Some asked → PreparesPart z w later actor.agent.doing response → Elsewhere w later number
       → (m : ℕ) (x : Actor) → slice_get (slice_set world.agents number (worlds.moved actor stamp (take (fixed_of given) actor.agent response))) m ≡ Some x
       → DoingPrepared z (run start later (own_events z actor.agent.doing (take (fixed_of given) actor.agent response))) x.agent.doing
   takes later number actor stamp asked response there next prepares others =
@@ -251,15 +270,33 @@ module _ (given : Opening) (z : ℕ) (w : World) (world : worlds.World) (linked 
       (λ i u m place at small other. ap (λ ready. ready i u) own ∙ others i u m place at small other)
 
   answered_next : (number : ℕ) (actor : Actor) (asked : ℕ × Request) (st : State) → actor_at world number ≡ Some actor → next_of (fixed_of given) actor.agent ≡ Some asked → (b : Bool)
-      → AllPrepared z (run start w (answered_events given z w actor (cond b None (Some (record { server = asked.0; request = record { stamp = actor.stamp; value = asked.1 }; reply = answer_of st (record { stamp = actor.stamp; value = asked.1 }) })))))
-      (answered (fixed_of given) world number actor st (cond b None (Some (record { server = asked.0; request = record { stamp = actor.stamp; value = asked.1 }; reply = answer_of st (record { stamp = actor.stamp; value = asked.1 }) })))).world
+      → AllPrepared z
+      (run start w
+      (answered_events given z w actor
+      (cond b None
+      (Some (record { server = asked.0; request = record { stamp = actor.stamp; value = asked.1 }; reply = answer_of st (record { stamp = actor.stamp; value = asked.1 }) })))))
+      (answered (fixed_of given) world number actor st
+      (cond b None
+      (Some (record {
+        server = asked.0;
+        request = record { stamp = actor.stamp; value = asked.1 };
+        reply = answer_of st
+            (record { stamp = actor.stamp; value = asked.1 });
+      })))).world
   answered_next number actor asked st there next true = takes w number actor actor.stamp asked (Lacked lack.Full) there next (λ before now left outcome running phase said. absurd cc) (elsewhere_same w w number refl)
   answered_next number actor asked st there next false =
       let said = reply_of st asked.1 in
       let link = linked number actor there in
       let events = moves z (home_in given) (decision_by z w actor.agent.doing) asked.0 w asked.1 said in
       let own = own_events z actor.agent.doing (take (fixed_of given) actor.agent (Replied said)) in
-      subst (λ w. AllPrepared z w (answered (fixed_of given) world number actor st (Some (record { server = asked.0; request = record { stamp = actor.stamp; value = asked.1 }; reply = answer_of st (record { stamp = actor.stamp; value = asked.1 }) }))).world) (sym (run-append start w events own))
+      subst
+      (λ w. AllPrepared z w (answered (fixed_of given) world number actor st
+      (Some (record {
+        server = asked.0;
+        request = record { stamp = actor.stamp; value = asked.1 };
+        reply = answer_of st
+            (record { stamp = actor.stamp; value = asked.1 });
+      }))).world) (sym (run-append start w events own))
       (takes (run start w events) number actor (answer_of st (record { stamp = actor.stamp; value = asked.1 })).stamp asked (Replied said) there next (prepares_part given z w actor.agent.doing asked said next)
       (λ i u m place at small other.
       ready_served start z (home_in given) (decision_by z w actor.agent.doing) asked.0 w (by_decision start z w actor.agent.doing) u asked.1 said
@@ -270,7 +307,8 @@ module _ (given : Opening) (z : ℕ) (w : World) (world : worlds.World) (linked 
   at_next number actor asked there next (Some st) = answered_next number actor asked st there next (is_full st (record { stamp = actor.stamp; value = asked.1 }))
   at_next number actor asked there next None = all
 
-  asks_next : (number : ℕ) (actor : Actor) → actor_at world number ≡ Some actor → (o : Option (ℕ × Request)) → next_of (fixed_of given) actor.agent ≡ o → AllPrepared z (run start w (asked_events given z w world actor o)) (asks (fixed_of given) world number actor o).world
+  asks_next : (number : ℕ) (actor : Actor) → actor_at world number ≡ Some actor → (o : Option (ℕ × Request)) → next_of (fixed_of given) actor.agent ≡ o
+      → AllPrepared z (run start w (asked_events given z w world actor o)) (asks (fixed_of given) world number actor o).world
   asks_next number actor there (Some asked) next = at_next number actor asked there next (server_at world asked.0)
   asks_next number actor there None next = all
 

@@ -145,7 +145,8 @@ kind_held : (k : Kind) (content : Option Content) → ((c : Content) → content
 kind_held k None fits = kind_empty k
 kind_held k (Some c) fits = fits c refl
 
-head_shown : (k : Kind) (prefix : Prefix) (content : Content) (row : Row) → kind_of content ≡ k → emptied row ≡ emptied (record { owner = prefix.owner; group = prefix.group; acl = prefix.acl; votes = prefix.votes; content = content }) → IsHeadOf (prefix_kind k) prefix row
+head_shown : (k : Kind) (prefix : Prefix) (content : Content) (row : Row) → kind_of content ≡ k
+    → emptied row ≡ emptied (record { owner = prefix.owner; group = prefix.group; acl = prefix.acl; votes = prefix.votes; content = content }) → IsHeadOf (prefix_kind k) prefix row
 head_shown k prefix content row fits same = record {
   kind = ap prefix_kind (sym (kind_empty (kind_of row.content)) ∙ ap (λ (row : Row). kind_of row.content) same ∙ kind_empty (kind_of content) ∙ fits);
   owner = ap (λ (row : Row). row.owner) same;
@@ -174,7 +175,8 @@ same_prefix p v k o g a c v_is k_is o_is g_is a_is c_is =
 plus : (n : ℕ) → n + 0 ≡ n
 plus n = omega arith
 
-module _ (suite : GatheredSuite) (first : ReadPoint) (rows : ℕ → Option Row) (z : ℕ) (edits : Edits) (row : Row) (fit : AllFit rows edits) (is : seen edits z (rows z) ≡ Some row) (fits : (c : Content) → suite.content ≡ Some c → FitsAs first.prefix.kind c)
+module _ (suite : GatheredSuite) (first : ReadPoint) (rows : ℕ → Option Row) (z : ℕ) (edits : Edits) (row : Row) (fit : AllFit rows edits) (is : seen edits z (rows z) ≡ Some row)
+    (fits : (c : Content) → suite.content ≡ Some c → FitsAs first.prefix.kind c)
     (heads : head (rows z) ≡ head (row_with first.prefix.kind first.prefix suite.content)) where
   abbrev change : executor.Change
   change = told_as edits z row
@@ -187,7 +189,8 @@ module _ (suite : GatheredSuite) (first : ReadPoint) (rows : ℕ → Option Row)
       of (Some r) at = (r, at)
       of None at = absurd (none-some (kind_of row.content) (sym (ap kind_in at) ∙ kind_stays rows edits z fit none ∙ ap kind_in is))
 
-  part_same : {A : Type 0} (part : Row → A) (kind : Edit → Bool) → ((edit : Edit) (row : Option Row) → kind edit ≡ false → option_map part row ≡ option_map part (changed edit row)) → some kind edits z ≡ false → (r : Row) → rows z ≡ Some r → part row ≡ part r
+  part_same : {A : Type 0} (part : Row → A) (kind : Edit → Bool) → ((edit : Edit) (row : Option Row) → kind edit ≡ false
+      → option_map part row ≡ option_map part (changed edit row)) → some kind edits z ≡ false → (r : Row) → rows z ≡ Some r → part row ≡ part r
   part_same part kind keeps none r at = sym (same_Some (part r) (part row) (sym (ap (option_map part) at) ∙ part_stays part kind keeps edits z (rows z) none ∙ ap (option_map part) is))
 
   head_at : (r : Row) → rows z ≡ Some r → IsHeadOf first.prefix.kind first.prefix r

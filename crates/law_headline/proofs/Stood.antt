@@ -100,7 +100,8 @@ module _ (given : Opening) (z : ℕ) (w : World) (sound : Sound w) (world : worl
       (subst (λ b. IsTold (run start w (cond b (Upgrade i t ∷ []) [])) i) (sym (self z))
       (at2 (ToldMode (is_exclusive mode)) w.told i t (upgraded_told (w.told i t)) i t (λ _. upgraded_now w sound (is_exclusive mode) i t may.0.lock may.0.stands) (λ other. absurd (other (refl, refl)))))
 
-  told_once : (doing : Option Doing) (what : Served) → AsksForLock t z mode what.request.value → what.reply.value ≡ reply.Held prefix dver → Obeys start w (served_events given z w doing what) → IsTold (run start w (served_events given z w doing what)) what.server
+  told_once : (doing : Option Doing) (what : Served) → AsksForLock t z mode what.request.value → what.reply.value ≡ reply.Held prefix dver
+      → Obeys start w (served_events given z w doing what) → IsTold (run start w (served_events given z w doing what)) what.server
   told_once doing what asked said obeys =
       let decision = decision_by z w doing in
       subst (λ said. IsTold (run start w (moves z (home_in given) decision what.server w what.request.value said)) what.server) (sym said)
@@ -121,7 +122,8 @@ module _ (given : Opening) (z : ℕ) (w : World) (sound : Sound w) (world : worl
   at_served : (number : ℕ) (actor : Actor) (st : State) (what : Option Served) → TellsIt (answered (fixed_of given) world number actor st what).done.served (answered_events given z w actor what)
   at_served number actor st (Some this) what is =
       subst
-      (λ (it : Served). AsksForLock t z mode it.request.value → it.reply.value ≡ reply.Held prefix dver → Obeys start w (answered_events given z w actor (Some this)) → IsTold (run start w (answered_events given z w actor (Some this))) it.server)
+      (λ (it : Served). AsksForLock t z mode it.request.value → it.reply.value ≡ reply.Held prefix dver → Obeys start w (answered_events given z w actor (Some this))
+      → IsTold (run start w (answered_events given z w actor (Some this))) it.server)
       (same_Some this what is) (told_served actor.agent.doing this (response_events given z actor (Replied this.reply.value)))
   at_served number actor st None what is = absurd (none-some what is)
 
@@ -175,7 +177,8 @@ told_all given z w world [] i t is = is
 told_all given z w world (event ∷ events) i t is =
     told_all given z (moved given z w world event) (step (fixed_of given) world event).world events i t (told_stays (beginning z given) w (events_of given z w world event) i t is)
 
-mode_all : (given : Opening) (z : ℕ) (w : World) (world : worlds.World) (events : List happening.Event) → Inv (beginning z given) w → Shows z (home_in given) (servers_of given world) w → AllConsistent (servers_of given world) → KeepSides given z w world events
+mode_all : (given : Opening) (z : ℕ) (w : World) (world : worlds.World) (events : List happening.Event) → Inv (beginning z given) w
+    → Shows z (home_in given) (servers_of given world) w → AllConsistent (servers_of given world) → KeepSides given z w world events
     → (wanted : Bool) (i t : ℕ) → ToldMode wanted (w.told i t) → ToldMode wanted ((machine_from given z w world events).told i t)
 mode_all given z w world [] inv shows all keep wanted i t is = is
 mode_all given z w world (event ∷ events) inv shows all keep wanted i t is =
@@ -189,7 +192,8 @@ as_told_all given z w world [] all = all
 as_told_all given z w world (event ∷ events) all =
     as_told_all given z (moved given z w world event) (step (fixed_of given) world event).world events (as_told (beginning z given) w (events_of given z w world event) all)
 
-stood_all : (given : Opening) (z : ℕ) (w : World) (world : worlds.World) (events : List happening.Event) → Inv (beginning z given) w → Shows z (home_in given) (servers_of given world) w → AllConsistent (servers_of given world) → KeepSides given z w world events
+stood_all : (given : Opening) (z : ℕ) (w : World) (world : worlds.World) (events : List happening.Event) → Inv (beginning z given) w
+    → Shows z (home_in given) (servers_of given world) w → AllConsistent (servers_of given world) → KeepSides given z w world events
     → (i t : ℕ) → is_some (w.told i t) ≡ true → is_some ((machine_from given z w world events).lock i t) ≡ true → is_some (w.lock i t) ≡ true
 stood_all given z w world [] inv shows all keep i t told is = is
 stood_all given z w world (event ∷ events) inv shows all keep i t told is =
@@ -199,18 +203,21 @@ stood_all given z w world (event ∷ events) inv shows all keep i t told is =
     stood start w moves one.obeys i t told
     (stood_all given z (run start w moves) (step (fixed_of given) world event).world events (all_steps start w inv moves one.obeys) one.shows one.consistent keep.1 i t (told_stays start w moves i t told) is)
 
-machine_on : (given : Opening) (z : ℕ) (w : World) (world : worlds.World) (events later : List happening.Event) → machine_from given z w world (events ++ later) ≡ machine_from given z (machine_from given z w world events) (runs.after (fixed_of given) world events) later
+machine_on : (given : Opening) (z : ℕ) (w : World) (world : worlds.World) (events later : List happening.Event)
+    → machine_from given z w world (events ++ later) ≡ machine_from given z (machine_from given z w world events) (runs.after (fixed_of given) world events) later
 machine_on given z w world [] later = refl
 machine_on given z w world (event ∷ events) later = machine_on given z (moved given z w world event) (step (fixed_of given) world event).world events later
 
-keeps_later : (given : Opening) (z : ℕ) (w : World) (world : worlds.World) (events later : List happening.Event) → KeepSides given z w world (events ++ later) → KeepSides given z (machine_from given z w world events) (runs.after (fixed_of given) world events) later
+keeps_later : (given : Opening) (z : ℕ) (w : World) (world : worlds.World) (events later : List happening.Event) → KeepSides given z w world (events ++ later)
+    → KeepSides given z (machine_from given z w world events) (runs.after (fixed_of given) world events) later
 keeps_later given z w world [] later keeps = keeps
 keeps_later given z w world (event ∷ events) later keeps = keeps_later given z (moved given z w world event) (step (fixed_of given) world event).world events later keeps.1
 
 -- ---- at the decision
 
 -- its home has no record of it
-module _ (given : Opening) (z : ℕ) (w : World) (world : worlds.World) (shows : Shows z (home_in given) (servers_of given world) w) (number : ℕ) (one : Decided) (is : decided (fixed_of given) world (Step number) ≡ Some one) (so : IsAnsweredAsKnown given world (Step number) one) where
+module _ (given : Opening) (z : ℕ) (w : World) (world : worlds.World) (shows : Shows z (home_in given) (servers_of given world) w) (number : ℕ) (one : Decided)
+    (is : decided (fixed_of given) world (Step number) ≡ Some one) (so : IsAnsweredAsKnown given world (Step number) one) where
   same_number : so.number ≡ number
   same_number = of so.number number (sym so.step)
     where
@@ -239,7 +246,13 @@ module _ (given : Opening) (z : ℕ) (w : World) (world : worlds.World) (shows :
   by_server task (Some st) at is = of (is_full st (record { stamp = so.actor.stamp; value = request.Decide t (decision_of so.txn_run.task so.outcome) })) is
     where
       of : (full : Bool)
-          → decided_by world task (answered (fixed_of given) world number so.actor st (cond full None (Some (record { server = home_in given t; request = record { stamp = so.actor.stamp; value = request.Decide t (decision_of so.txn_run.task so.outcome) }; reply = answer_of st (record { stamp = so.actor.stamp; value = request.Decide t (decision_of so.txn_run.task so.outcome) }) })))).done.served ≡ Some one
+          → decided_by world task (answered (fixed_of given) world number so.actor st
+          (cond full None
+          (Some (record {
+            server = home_in given t;
+            request = record { stamp = so.actor.stamp; value = request.Decide t (decision_of so.txn_run.task so.outcome) };
+            reply = answer_of st (record { stamp = so.actor.stamp; value = request.Decide t (decision_of so.txn_run.task so.outcome) });
+          })))).done.served ≡ Some one
           → w.verdict t ≡ None
       of true is = absurd (none-some one is)
       of false is =
@@ -269,7 +282,8 @@ found_serving p mode (lock ∷ locks) is =
     ] is
 
 -- what it was told then it was told still after some events more
-mode_after : (given : Opening) (events : List happening.Event) (event : happening.Event) (between : List happening.Event) → CanBe given (events ++ event ∷ between) → (t suite : ℕ) (mode : LockMode) (server : ℕ) → TellsOfLock given events event t suite mode server
+mode_after : (given : Opening) (events : List happening.Event) (event : happening.Event) (between : List happening.Event) → CanBe given (events ++ event ∷ between)
+    → (t suite : ℕ) (mode : LockMode) (server : ℕ) → TellsOfLock given events event t suite mode server
     → ToldMode (is_exclusive mode) ((machine_of given suite (events ++ event ∷ between)).told server t)
 mode_after given events event between can t suite mode server tells =
     let z = suite in

@@ -151,7 +151,8 @@ history_more given z w world [] later = refl
 history_more given z w world (event ∷ events) later =
     let next = (step (fixed_of given) world event).world in
     ap (λ rest. events_of given z w world event ++ rest) (history_more given z (moved given z w world event) next events later)
-    ∙ sym (append_assoc (events_of given z w world event) (history_from given z (moved given z w world event) next events) (history_from given z (machine_from given z (moved given z w world event) next events) (runs.after (fixed_of given) next events) later))
+    ∙ sym (append_assoc (events_of given z w world event) (history_from given z (moved given z w world event) next events)
+    (history_from given z (machine_from given z (moved given z w world event) next events) (runs.after (fixed_of given) next events) later))
 
 pub obeys_later : (start : Beginning) (w : World) (first later : List Event) → Obeys start w (first ++ later) → Obeys start (run start w first) later
 obeys_later start w [] later obeys = obeys

@@ -79,7 +79,8 @@ module _ (given : Opening) (z : ℕ) where
   }
 
   -- an event of the machine, after which the register is as after these events
-  happened : (events : List happening.Event) (w : World) (event : Event) → register given z events ≡ row start (happens start w event).log → IsPlain start (happens start w event).log → Had given z events w.log → Had given z events (happens start w event).log
+  happened : (events : List happening.Event) (w : World) (event : Event) → register given z events ≡ row start (happens start w event).log
+      → IsPlain start (happens start w event).log → Had given z events w.log → Had given z events (happens start w event).log
   happened events w (Held i t e) is plain had = had
   happened events w (Upgrade i t) is plain had = had
   happened events w (Aim t new) is plain had = had

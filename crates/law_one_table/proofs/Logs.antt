@@ -87,7 +87,8 @@ begun_log start z (Some doing) None = λ w. refl
 
 own_log : (start : Beginning) (z : ℕ) (before : Option Doing) (taken : Taken) → SameLog start (own_events z before taken)
 own_log start z (Some (Running before)) taken =
-    same_aims start z before.task.t (fixed_in before.phase) taken.agent.doing (gives_up before.task.t (is_finishing before.phase) taken) (same_end start before.task.t (is_finishing before.phase) (is_at_an_end taken.agent.doing taken.ending))
+    same_aims start z before.task.t (fixed_in before.phase) taken.agent.doing (gives_up before.task.t (is_finishing before.phase) taken)
+    (same_end start before.task.t (is_finishing before.phase) (is_at_an_end taken.agent.doing taken.ending))
 own_log start z (Some (RunningSweep sweep_run)) taken = λ w. refl
 own_log start z None taken = λ w. refl
 
@@ -151,7 +152,8 @@ module _ (given : Opening) (z : ℕ) (w : World) (world : worlds.World) (shows :
   decide_log task outcome decision i st there home =
       elim (st.up) as (λ b. LogIs start decision w (decides_at st task (request.Decide task.t (decision_of task outcome)) (cond b (reply.Verdict (recorded (record_of st task.t) (verdict_of (decision_of task outcome)))) reply.Down))
       (run start w (moves z (home_in given) decision i w (request.Decide task.t (decision_of task outcome)) (cond b (reply.Verdict (recorded (record_of st task.t) (verdict_of (decision_of task outcome)))) reply.Down))).log) [
-        | true ↦ subst (λ events. LogIs start decision w (decides_at st task (request.Decide task.t (decision_of task outcome)) (reply.Verdict (recorded (record_of st task.t) (verdict_of (decision_of task outcome))))) (run start w events).log)
+        | true ↦ subst (λ events. LogIs start decision w (decides_at st task (request.Decide task.t (decision_of task outcome))
+            (reply.Verdict (recorded (record_of st task.t) (verdict_of (decision_of task outcome))))) (run start w events).log)
             (sym (ap (λ b. cond b (first_verdict (w.verdict task.t) decision) []) (at_home (home_in given task.t) home) ∙ ap (λ old. first_verdict old decision) recorded_so))
             (by_record task outcome decision (record_of st task.t))
         | false ↦ subst (λ one. LogIs start decision w one w.log) (sym (none_at (Some st) (Some task.t))) refl
@@ -169,10 +171,13 @@ module _ (given : Opening) (z : ℕ) (w : World) (world : worlds.World) (shows :
       → LogIs start (decision_by z w doing) w (decided_at (Some st) (to_decide asked.1) (decided_as (task_of doing) (answer_in (reply_of st asked.1))))
       (run start w (moves z (home_in given) (decision_by z w doing) asked.0 w asked.1 (reply_of st asked.1))).log
   request_log doing asked st next there false other =
-      subst (λ t. LogIs start (decision_by z w doing) w (decided_at (Some st) t (decided_as (task_of doing) (answer_in (reply_of st asked.1)))) (run start w (moves z (home_in given) (decision_by z w doing) asked.0 w asked.1 (reply_of st asked.1))).log) (sym (no_decide asked.1 other))
+      subst (λ t. LogIs start (decision_by z w doing) w (decided_at (Some st) t (decided_as (task_of doing) (answer_in (reply_of st asked.1))))
+      (run start w (moves z (home_in given) (decision_by z w doing) asked.0 w asked.1 (reply_of st asked.1))).log) (sym (no_decide asked.1 other))
       (moves_log start z (home_in given) (decision_by z w doing) asked.0 w asked.1 (reply_of st asked.1) other)
   request_log None asked st next there true decide = absurd (none-some asked next)
-  request_log (Some (RunningSweep sweep_run)) asked st next there true decide = absurd (false≢true (sym (sweep_decides_none (fixed_of given).service sweep_run sweep_run.now) ∙ ap (λ (o : ℕ × Request). is_decide o.1) (asked_same (asked_now (fixed_of given).service sweep_run sweep_run.now) asked next) ∙ decide))
+  request_log (Some (RunningSweep sweep_run)) asked st next there true decide = absurd
+      (false≢true (sym (sweep_decides_none (fixed_of given).service sweep_run sweep_run.now) ∙ ap (λ (o : ℕ × Request). is_decide o.1)
+      (asked_same (asked_now (fixed_of given).service sweep_run sweep_run.now) asked next) ∙ decide))
     where
       asked_same : (a b : ℕ × Request) → Some a ≡ Some b → a ≡ b
       asked_same a b is = cc
@@ -186,8 +191,23 @@ module _ (given : Opening) (z : ℕ) (w : World) (world : worlds.World) (shows :
 
   at_log : (actor : Actor) (asked : ℕ × Request) (st : State) → next_of (fixed_of given) actor.agent ≡ Some asked → server_at world asked.0 ≡ Some st → (full : Bool)
       → LogIs start (decision_by z w actor.agent.doing) w
-      (decided_by world (task_of actor.agent.doing) (answered (fixed_of given) world 0 actor st (cond full None (Some (record { server = asked.0; request = record { stamp = actor.stamp; value = asked.1 }; reply = answer_of st (record { stamp = actor.stamp; value = asked.1 }) })))).done.served)
-      (run start w (answered_events given z w actor (cond full None (Some (record { server = asked.0; request = record { stamp = actor.stamp; value = asked.1 }; reply = answer_of st (record { stamp = actor.stamp; value = asked.1 }) }))))).log
+      (decided_by world (task_of actor.agent.doing) (answered (fixed_of given) world 0 actor st
+      (cond full None
+      (Some (record {
+        server = asked.0;
+        request = record { stamp = actor.stamp; value = asked.1 };
+        reply = answer_of st
+            (record { stamp = actor.stamp; value = asked.1 });
+      })))).done.served)
+      (run start w
+      (answered_events given z w actor
+      (cond full None
+      (Some (record {
+        server = asked.0;
+        request = record { stamp = actor.stamp; value = asked.1 };
+        reply = answer_of st
+            (record { stamp = actor.stamp; value = asked.1 });
+      }))))).log
   at_log actor asked st next there true = own_log start z actor.agent.doing (take (fixed_of given) actor.agent (Lacked lack.Full)) w
   at_log actor asked st next there false =
       let first = moves z (home_in given) (decision_by z w actor.agent.doing) asked.0 w asked.1 (reply_of st asked.1) in
@@ -203,8 +223,21 @@ module _ (given : Opening) (z : ℕ) (w : World) (world : worlds.World) (shows :
   server_log number actor asked next (Some st) there = at_full (is_full st (record { stamp = actor.stamp; value = asked.1 }))
     where
       at_full : (full : Bool) → LogIs start (decision_by z w actor.agent.doing) w
-          (decided_by world (task_of actor.agent.doing) (answered (fixed_of given) world number actor st (cond full None (Some (record { server = asked.0; request = record { stamp = actor.stamp; value = asked.1 }; reply = answer_of st (record { stamp = actor.stamp; value = asked.1 }) })))).done.served)
-          (run start w (answered_events given z w actor (cond full None (Some (record { server = asked.0; request = record { stamp = actor.stamp; value = asked.1 }; reply = answer_of st (record { stamp = actor.stamp; value = asked.1 }) }))))).log
+          (decided_by world (task_of actor.agent.doing) (answered (fixed_of given) world number actor st
+          (cond full None
+          (Some (record {
+            server = asked.0;
+            request = record { stamp = actor.stamp; value = asked.1 };
+            reply = answer_of st (record { stamp = actor.stamp; value = asked.1 });
+          })))).done.served)
+          (run start w
+          (answered_events given z w actor
+          (cond full None
+          (Some (record {
+            server = asked.0;
+            request = record { stamp = actor.stamp; value = asked.1 };
+            reply = answer_of st (record { stamp = actor.stamp; value = asked.1 });
+          }))))).log
       at_full true = at_log actor asked st next there true
       at_full false = at_log actor asked st next there false
 
@@ -213,7 +246,8 @@ module _ (given : Opening) (z : ℕ) (w : World) (world : worlds.World) (shows :
   asked_log number actor None next = refl
   asked_log number actor (Some asked) next = server_log number actor asked next (server_at world asked.0) refl
 
-  step_log : (number : ℕ) (found : Option Actor) → LogIs start (decision_of_actor z w found) w (decided_by world (task_at found) (steps_once (fixed_of given) world number found).done.served) (run start w (step_events given z w world found)).log
+  step_log : (number : ℕ) (found : Option Actor) → LogIs start (decision_of_actor z w found) w
+      (decided_by world (task_at found) (steps_once (fixed_of given) world number found).done.served) (run start w (step_events given z w world found)).log
   step_log number None = refl
   step_log number (Some actor) = asked_log number actor (next_of (fixed_of given) actor.agent) refl
 

@@ -168,7 +168,8 @@ module _ (given : Opening) (events : List happening.Event) (event : happening.Ev
   shown_after (Some one) is = shown_so one is (answers_follow_knowledge given events event one is)
   shown_after None is = λ z.
       subst (λ (table : PlainTable). IsShown (register given z (events ++ event ∷ [])) (row_of table.rows z)) (sym (table_one given events event ∙ ap (λ one. table_after_all (table_of given events) (option_to_list one)) is))
-      (subst (λ log. IsShown (row (beginning z given) log) (row_of (table_of given events).rows z)) (sym (subst (λ one. LogIs (beginning z given) (decision_at z (machine z) world event) (machine z) one (machine_of given z (events ++ event ∷ [])).log) is (log_so z)))
+      (subst (λ log. IsShown (row (beginning z given) log) (row_of (table_of given events).rows z))
+      (sym (subst (λ one. LogIs (beginning z given) (decision_at z (machine z) world event) (machine z) one (machine_of given z (events ++ event ∷ [])).log) is (log_so z)))
       (shown z))
 
 -- ---- all events
@@ -206,7 +207,8 @@ agents_know_the_table given events number one actor txn_run kept is there runnin
     same_number a b is = cc
 
     same_course : (so : IsAnsweredAsKnown given (runs.run given events) (Step number) one) → so.txn_run ≡ txn_run
-    same_course so = of so.txn_run txn_run (sym so.running ∙ ap (λ (actor : worlds.Actor). actor.agent.doing) (same_actor so.actor actor (sym so.there ∙ ap (actor_at (runs.run given events)) (same_number so.number number (sym so.step)) ∙ there)) ∙ running)
+    same_course so = of so.txn_run txn_run (sym so.running ∙ ap (λ (actor : worlds.Actor). actor.agent.doing)
+        (same_actor so.actor actor (sym so.there ∙ ap (actor_at (runs.run given events)) (same_number so.number number (sym so.step)) ∙ there)) ∙ running)
       where
         same_actor : (a b : worlds.Actor) → Some a ≡ Some b → a ≡ b
         same_actor a b is = cc
@@ -215,7 +217,8 @@ agents_know_the_table given events number one actor txn_run kept is there runnin
         of a b is = cc
 
 -- the answer of a decision is the table's
-answered_so : (given : Opening) (events : List happening.Event) (event : happening.Event) (one : Decided) → AllKeepSides given (events ++ event ∷ []) → decided (fixed_of given) (runs.run given events) event ≡ Some one → one.answer ≡ replies (played_on (table_of given events) one)
+answered_so : (given : Opening) (events : List happening.Event) (event : happening.Event) (one : Decided) → AllKeepSides given (events ++ event ∷ [])
+    → decided (fixed_of given) (runs.run given events) event ≡ Some one → one.answer ≡ replies (played_on (table_of given events) one)
 answered_so given events event one kept is =
     let so = answers_follow_knowledge given events event one is in
     so.answered (table_of given events).rows (agrees_so given events event kept (all_shown given events (earlier given events (event ∷ []) kept)) one is so)
@@ -233,7 +236,9 @@ answers_from given (event ∷ later) events kept =
     rest : List Decided
     rest = decisions_from (fixed_of given) (step (fixed_of given) (runs.run given events) event).world later
 
-    of : AllKeepSides given ((events ++ event ∷ []) ++ later) → (one : Option Decided) → decided (fixed_of given) (runs.run given events) event ≡ one → AnswersAreTheTables (table_after_all (table_of given events) (option_to_list (decided (fixed_of given) (runs.run given events) event))) rest → AnswersAreTheTables (table_of given events) (cons_option one rest)
+    of : AllKeepSides given ((events ++ event ∷ []) ++ later) → (one : Option Decided) → decided (fixed_of given) (runs.run given events) event ≡ one
+        → AnswersAreTheTables (table_after_all (table_of given events) (option_to_list (decided (fixed_of given) (runs.run given events) event))) rest
+        → AnswersAreTheTables (table_of given events) (cons_option one rest)
     of goes None is answers = subst (λ one. AnswersAreTheTables (table_after_all (table_of given events) (option_to_list one)) rest) is answers
     of goes (Some one) is answers = (answered_so given events event one (earlier given (events ++ event ∷ []) later goes) is, subst (λ one. AnswersAreTheTables (table_after_all (table_of given events) (option_to_list one)) rest) is answers)
 

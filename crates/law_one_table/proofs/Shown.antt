@@ -169,8 +169,12 @@ module _ (first : ReadPoint) (change : executor.Change) (held : Replica) (before
   pub leads_on : IsShown (changed (change_to first change) held) after
   leads_on = of change.content refl change.votes refl
     where
-      told : (content votes : Bool) → change.content ≡ content → change.votes ≡ votes → IsShown (changed (record { prefix = new_prefix first change; dver = (change_to first change).dver; content = cond (content || votes) (Some change.row.content) None }) held) after → IsShown (changed (change_to first change) held) after
-      told content votes c v is = subst (λ b. IsShown (changed (record { prefix = new_prefix first change; dver = (change_to first change).dver; content = cond b (Some change.row.content) None }) held) after) (sym (ap (λ b. b || change.votes) c ∙ ap (λ b. content || b) v)) is
+      told : (content votes : Bool) → change.content ≡ content → change.votes ≡ votes
+          → IsShown (changed (record { prefix = new_prefix first change; dver = (change_to first change).dver; content = cond (content || votes) (Some change.row.content) None })
+          held) after → IsShown (changed (change_to first change) held) after
+      told content votes c v is = subst
+          (λ b. IsShown (changed (record { prefix = new_prefix first change; dver = (change_to first change).dver; content = cond b (Some change.row.content) None }) held) after)
+          (sym (ap (λ b. b || change.votes) c ∙ ap (λ b. content || b) v)) is
 
       of : (content : Bool) → change.content ≡ content → (votes : Bool) → change.votes ≡ votes → IsShown (changed (change_to first change) held) after
       of true c votes v = told true votes c v (whole (tells.whole (inl c)))

@@ -90,7 +90,8 @@ module _ (start : Beginning) (z : ℕ) (w : World) (fixed : Fixed) (task : Task)
       let set : change_of granted.changes z ≡ None = ap (λ all. change_of all z) (came.set ∙ ap (set_by came.before) result) ∙ is in
       subst (IsShown (row start (happens start w (decision_with z w task suites (Ok granted))).log)) (sym tells)
       (subst (λ held. IsShown held (row_of rows z))
-      (sym (ap (λ new. row start (happens start w (decides_on w task.t (Ok granted) new (suite_of suites z))).log) (ap (written_from (first_of (suite_of suites z))) set ∙ nothing_written (first_of (suite_of suites z))) ∙ read_keeps start w task.t granted (suite_of suites z)))
+      (sym (ap (λ new. row start (happens start w (decides_on w task.t (Ok granted) new (suite_of suites z))).log)
+      (ap (written_from (first_of (suite_of suites z))) set ∙ nothing_written (first_of (suite_of suites z))) ∙ read_keeps start w task.t granted (suite_of suites z)))
       shown)
   by_change granted came ended result (Some change) is tells =
       let set : change_of granted.changes z ≡ Some change = ap (λ all. change_of all z) (came.set ∙ ap (set_by came.before) result) ∙ is in

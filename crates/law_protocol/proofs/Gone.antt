@@ -12,7 +12,36 @@ use Rattle.weak_cache.specs.Entries.{Cache}
 use Rattle.txn_core.specs.Suites.{GatheredSuite, Suites, suite_of, with_suite}
 use Rattle.txn_core.specs.Doing.{Granted, Fixed, Task, Gathering, Fetching, Widening}
 use Rattle.txn_core.specs.Transactions.{Step, Gathered, on_with, gather, gather_by, widen_by, widen_one, widened, widen_all, open_needed, open_suite, or_all, opened, heard_on, raised_or_new, proceed, execute}
-use Rattle.txn_core.specs.Moves.{Stage, Executes, Widens, Asks, Prepares, PreparesAt, GivesUp, Tells, TellsAt, Point, point, EndsIn, is_short, Move, opens, fetches, gathers, lacks_lock, refuses, grants, prepares, passes, widens, widens_by, lacks_wide, Moves, stays, goes}
+use Rattle.txn_core.specs.Moves.{
+  Stage,
+  Executes,
+  Widens,
+  Asks,
+  Prepares,
+  PreparesAt,
+  GivesUp,
+  Tells,
+  TellsAt,
+  Point,
+  point,
+  EndsIn,
+  is_short,
+  Move,
+  opens,
+  fetches,
+  gathers,
+  lacks_lock,
+  refuses,
+  grants,
+  prepares,
+  passes,
+  widens,
+  widens_by,
+  lacks_wide,
+  Moves,
+  stays,
+  goes,
+}
 use Rattle.law_protocol.specs.Protocol.{step_at, step_from, IsEager, Rises, GoesTo}
 use Rattle.law_protocol.proofs.Opened.{missing, missing_few, with_content, next_round, opens_by, round_opens, grows, nothing_opens, one_more}
 
@@ -33,7 +62,8 @@ module _ (fixed : Fixed) (task : Task) where
   abbrev all_at : Cache → Suites → Gathered
   all_at cache suites = record { suites = suites; cache = cache }
 
-  executes_on : (cache : Cache) (suites : Suites) (heard : Executed) → heard_on fixed task suites ≡ heard → open_needed task (all_at cache suites) heard ≡ None → execute fixed task (all_at cache suites) ≡ proceed fixed task cache suites heard
+  executes_on : (cache : Cache) (suites : Suites) (heard : Executed) → heard_on fixed task suites ≡ heard → open_needed task (all_at cache suites) heard ≡ None
+      → execute fixed task (all_at cache suites) ≡ proceed fixed task cache suites heard
   executes_on cache suites heard is none =
       let all = all_at cache suites in
       ap (λ (all : Gathered). proceed fixed task all.cache all.suites (heard_on fixed task all.suites)) (nothing_opens fixed task (length suites) all (ap (open_needed task all) is ∙ none))
@@ -130,13 +160,15 @@ module _ (fixed : Fixed) (task : Task) where
       of (Some suite) there rest = by suite there (next (widened granted.changes number suite).collector) refl rest
       of None there rest = in_front (passes there) (rest suites)
 
-  goes_gather : (cache : Cache) (suites : Suites) (number : ℕ) (mode : LockMode) (suite : GatheredSuite) → heard_on fixed task suites ≡ exec.Need (Hold number mode) → raised_or_new fixed task cache number mode (suite_of suites number) ≡ suite
+  goes_gather : (cache : Cache) (suites : Suites) (number : ℕ) (mode : LockMode) (suite : GatheredSuite) → heard_on fixed task suites ≡ exec.Need (Hold number mode)
+      → raised_or_new fixed task cache number mode (suite_of suites number) ≡ suite
       → (coming : Next) → next suite.collector ≡ coming → GoesTo fixed task (point Executes cache suites) (gather_by task cache (with_suite number suite suites) number coming)
   goes_gather cache suites number mode suite needs new (Short got wanting busy) is = ends_with _ (lacks_lock needs new is) refl (λ number is. cc)
   goes_gather cache suites number mode suite needs new (Ask server asked) is = ends_with _ (gathers needs new (ap is_short is)) refl (λ number is. cc)
   goes_gather cache suites number mode suite needs new (Current prefix dver members) is = ends_with _ (gathers needs new (ap is_short is)) refl (λ number is. cc)
 
-  goes_proceed : (cache : Cache) (suites : Suites) (heard : Executed) → heard_on fixed task suites ≡ heard → open_needed task (all_at cache suites) heard ≡ None → GoesTo fixed task (point Executes cache suites) (proceed fixed task cache suites heard)
+  goes_proceed : (cache : Cache) (suites : Suites) (heard : Executed) → heard_on fixed task suites ≡ heard → open_needed task (all_at cache suites) heard ≡ None
+      → GoesTo fixed task (point Executes cache suites) (proceed fixed task cache suites heard)
   goes_proceed cache suites (exec.Need (Hold number mode)) is none =
       let suite = raised_or_new fixed task cache number mode (suite_of suites number) in goes_gather cache suites number mode suite is refl (next suite.collector) refl
   goes_proceed cache suites (exec.Need (Know number)) is none =

@@ -132,7 +132,8 @@ module _ (fixed : Fixed) (task : Task) where
       of (exec.Done answers changes) needs is = cc
       of (exec.Refused refusal) needs is = cc
 
-  pub round_opens : (all : Gathered) (number : ℕ) (suite : GatheredSuite) (first : ReadPoint) (content : Content) → heard_on fixed task all.suites ≡ exec.Need (Know number) → suite_of all.suites number ≡ Some suite → suite.first ≡ Some first
+  pub round_opens : (all : Gathered) (number : ℕ) (suite : GatheredSuite) (first : ReadPoint) (content : Content) → heard_on fixed task all.suites ≡ exec.Need (Know number)
+      → suite_of all.suites number ≡ Some suite → suite.first ≡ Some first
       → free_content task all.cache number first ≡ Some content → next_round all ≡ Some (with_content task all number suite first content)
   round_opens all number suite first content needs there was free =
       ap (open_needed task all) needs ∙ ap (open_suite task all number) there ∙ ap (open_first task all number suite) was ∙ ap (opened_with task all number suite first) free

@@ -17,7 +17,34 @@ use Rattle.txn_core.specs.declared.ending.Cause.TheVariants.{Lost}
 use Rattle.txn_core.specs.declared.ending.Ending.{Ending}
 use Rattle.txn_core.specs.Doing.{Fixed, Task, Phase, Gathering, Fetching, Widening, Preparing, Deciding, Finishing}
 use Rattle.txn_core.specs.Transactions.{Step, tell_end, give_up, prepare, said_to, collected, hear, keep_content, given_in, fetched, heard_of, after_reply, after_lack, after_response, lack_cause}
-use Rattle.txn_core.specs.Moves.{Stage, Executes, Widens, Asks, Point, point, IsOpen, Collects, gathering, widening, now_told, AsksNothing, Hears, asks_on, falls_short, settles, loses, gets, misses, prepared_by, unprepared, decides, tells_next, told_all, is_lacked, strays}
+use Rattle.txn_core.specs.Moves.{
+  Stage,
+  Executes,
+  Widens,
+  Asks,
+  Point,
+  point,
+  IsOpen,
+  Collects,
+  gathering,
+  widening,
+  now_told,
+  AsksNothing,
+  Hears,
+  asks_on,
+  falls_short,
+  settles,
+  loses,
+  gets,
+  misses,
+  prepared_by,
+  unprepared,
+  decides,
+  tells_next,
+  told_all,
+  is_lacked,
+  strays,
+}
 use Rattle.txn_core.proofs.Moving.{response_moves}
 use Rattle.law_protocol.specs.Protocol.{step_at, step_from, IsEager, Rises, GoesTo, MovesAreTheProtocol}
 use Rattle.law_protocol.proofs.Gone.{comes_to, goes_from}
@@ -67,7 +94,8 @@ module _ (fixed : Fixed) (task : Task) (cache : Cache) (suites : Suites) (server
   lacks (Deciding outcome) lack before = refl
   lacks (Finishing servers v ending) lack before = absurd before
 
-  fetched_none : (number : ℕ) (found : Option GatheredSuite) (given : Option Content) → ((suite : GatheredSuite) → found ≡ Some suite → suite.first ≡ None) → fetched fixed task cache suites number found server given ≡ give_up task cache suites (Lost server)
+  fetched_none : (number : ℕ) (found : Option GatheredSuite) (given : Option Content) → ((suite : GatheredSuite) → found ≡ Some suite → suite.first ≡ None)
+      → fetched fixed task cache suites number found server given ≡ give_up task cache suites (Lost server)
   fetched_none number (Some suite) (Some content) nothing = ap (λ first. keep_content fixed task cache suites number suite content first server) (nothing suite refl)
   fetched_none number (Some suite) None nothing = refl
   fetched_none number None (Some content) nothing = refl
@@ -124,7 +152,8 @@ moves_are_the_protocol = record {
   takes = λ fixed txn_run cache server asked response rises.
       let it = response_moves fixed txn_run.task cache txn_run.suites server asked txn_run.phase response in
       let rest = subst (GoesTo fixed txn_run.task it.heard) (hears_step fixed txn_run.task cache txn_run.suites server asked it.hears)
-      (goes_from fixed txn_run.task it.heard.cache it.heard.suites it.heard.stage (hears_rises fixed txn_run.task cache txn_run.suites server asked it.hears rises) (hears_eager fixed txn_run.task cache txn_run.suites server asked it.hears)) in
+      (goes_from fixed txn_run.task it.heard.cache it.heard.suites it.heard.stage (hears_rises fixed txn_run.task cache txn_run.suites server asked it.hears rises)
+      (hears_eager fixed txn_run.task cache txn_run.suites server asked it.hears)) in
       record { hears = record { heard = it.heard; hears = it.hears; moves = rest.moves }; eager = rest.eager };
   takes_nothing_else = λ fixed txn_run cache server asked response step rises it.
       comes_to fixed txn_run.task step it.hears.moves.moves it.hears.moves.ends (hears_rises fixed txn_run.task cache txn_run.suites server asked it.hears.hears rises) it.eager

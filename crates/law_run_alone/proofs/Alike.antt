@@ -163,7 +163,8 @@ module _ (given : Opening) (agent t : ℕ) where
       more : (step (fixed_of given) world event).world ≡ run given (all ++ event ∷ [])
       more = sym (run_more given all event)
 
-      of : (outcome : Option EndedJob) → (step (fixed_of given) world event).done.outcome ≡ outcome → CanBe given ((all ++ event ∷ []) ++ rest) → ((step (fixed_of given) world event).done.outcome ≡ None → DecidedOrRuns given ((all ++ event ∷ []) ++ rest) t)
+      of : (outcome : Option EndedJob) → (step (fixed_of given) world event).done.outcome ≡ outcome → CanBe given ((all ++ event ∷ []) ++ rest)
+          → ((step (fixed_of given) world event).done.outcome ≡ None → DecidedOrRuns given ((all ++ event ∷ []) ++ rest) t)
           → DecidedOrRuns given ((all ++ event ∷ []) ++ rest) t
       of (Some job) is can later =
           let well = ended_decided given t agent all event can_now reached quiet none job is in
@@ -219,7 +220,9 @@ module _ (given : Opening) where
       (λ has. subst (λ whole. DecidedOrRuns given whole t) (append_assoc front (event ∷ []) rest)
       (each (front ++ event ∷ []) rest (subst (CanBe given) (sym (append_assoc front (event ∷ []) rest)) can)
       (subst (λ world. one_at_a_time_from given world rest ≡ true) more (and_parts (begins_alone given (run given front) event) (one_at_a_time_from given next rest) alone).1)
-      (subst (λ world. all_undisturbed_from given world rest ≡ true) more (two_parts (begins_clear given (run given front) event) (not (some_runs (run given front) && disturbs given (run given front) event)) (all_undisturbed_from given next rest) calm).2)
+      (subst (λ world. all_undisturbed_from given world rest ≡ true) more
+      (two_parts (begins_clear given (run given front) event) (not (some_runs (run given front) && disturbs given (run given front) event))
+      (all_undisturbed_from given next rest) calm).2)
       t caller site ops (subst (λ world. Has (jobs_from given world rest) (t, Transaction caller site ops)) more has)))
     where
       next : World
@@ -234,7 +237,8 @@ module _ (given : Opening) where
           subst (λ event. CanBe given (front ++ event ∷ rest) → one_at_a_time_from given (run given front) (event ∷ rest) ≡ true → all_undisturbed_from given (run given front) (event ∷ rest) ≡ true
           → begins_job given (run given front) event ≡ Some (t, Transaction caller site ops) → DecidedOrRuns given (front ++ event ∷ rest) t) (sym by.is) (begins_here front rest by.agent t caller site ops) can alone calm is
 
-      of : (begun : Option (ℕ × Job)) → begins_job given (run given front) event ≡ begun → Has (cons_option begun (jobs_from given next rest)) (t, Transaction caller site ops) → (Has (jobs_from given next rest) (t, Transaction caller site ops) → DecidedOrRuns given (front ++ event ∷ rest) t)
+      of : (begun : Option (ℕ × Job)) → begins_job given (run given front) event ≡ begun → Has (cons_option begun (jobs_from given next rest)) (t, Transaction caller site ops)
+          → (Has (jobs_from given next rest) (t, Transaction caller site ops) → DecidedOrRuns given (front ++ event ∷ rest) t)
           → DecidedOrRuns given (front ++ event ∷ rest) t
       of None is has later = later has
       of (Some one) is has later = ⊎_elim (λ same. here (is ∙ ap Some same)) later has

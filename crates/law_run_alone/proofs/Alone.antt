@@ -34,7 +34,8 @@ pub record Orderly (world : World) (ds : List Decided) (past : List EndedJob) (j
 joined : {X : Type 0} (xs : List X) (one : Option X) (ys : List X) → (xs ++ option_to_list one) ++ ys ≡ xs ++ cons_option one ys
 joined xs one ys = append_assoc xs (option_to_list one) ys ∙ ap (λ rest. xs ++ rest) (cons_is one ys)
 
-goes_on : (world new : World) (ds : List Decided) (past : List EndedJob) (jobs : List (ℕ × Job)) (orderly : Orderly world ds past jobs) (d : Option Decided) (outcome : Option EndedJob) (begun : Option (ℕ × Job)) → Goes world orderly.turn new d outcome begun
+goes_on : (world new : World) (ds : List Decided) (past : List EndedJob) (jobs : List (ℕ × Job)) (orderly : Orderly world ds past jobs) (d : Option Decided)
+    (outcome : Option EndedJob) (begun : Option (ℕ × Job)) → Goes world orderly.turn new d outcome begun
     → Orderly new (ds ++ option_to_list d) (past ++ option_to_list outcome) (jobs ++ option_to_list begun)
 goes_on world new ds past jobs orderly d outcome begun goes = record {
   turn = goes.next;
@@ -72,7 +73,8 @@ goes_on world new ds past jobs orderly d outcome begun goes = record {
         (subst (λ some. Along some all) (sym (append_none (map asked_of (ds ++ option_to_list d)))) (along_less (map asked_of (ds ++ option_to_list d)) goes.more all with_more)))
         goes.still
 
-run_orderly : (given : Opening) (events : List Event) (world : World) (ds : List Decided) (past : List EndedJob) (jobs : List (ℕ × Job)) → Holds (fixed_of given) world ds past → Orderly world ds past jobs → one_at_a_time_from given world events ≡ true
+run_orderly : (given : Opening) (events : List Event) (world : World) (ds : List Decided) (past : List EndedJob) (jobs : List (ℕ × Job)) → Holds (fixed_of given) world ds past
+    → Orderly world ds past jobs → one_at_a_time_from given world events ≡ true
     → Orderly (after (fixed_of given) world events) (ds ++ decisions_from (fixed_of given) world events) (past ++ outcomes (dones (fixed_of given) world events)) (jobs ++ jobs_from given world events)
 run_orderly given [] world ds past jobs holds orderly alone =
     subst (λ ds. Orderly world ds (past ++ []) (jobs ++ [])) (sym (append_none ds)) (subst (λ past. Orderly world ds past (jobs ++ [])) (sym (append_none past)) (subst (Orderly world ds past) (sym (append_none jobs)) orderly))
@@ -85,7 +87,8 @@ run_orderly given (event ∷ events) world ds past jobs holds orderly alone =
     let jobs' = jobs ++ option_to_list (begins_job given world event) in
     let rest = run_orderly given events next.world ds' past' jobs' (event_holds fixed world event ds past holds)
     (goes_on world next.world ds past jobs orderly (decided fixed world event) next.done.outcome (begins_job given world event) (event_goes given world ds past holds orderly.turn orderly.alone event parts.0)) parts.1 in
-    subst (λ ds. Orderly (after fixed next.world events) ds (past ++ outcomes (dones fixed world (event ∷ events))) (jobs ++ jobs_from given world (event ∷ events))) (joined ds (decided fixed world event) (decisions_from fixed next.world events))
+    subst (λ ds. Orderly (after fixed next.world events) ds (past ++ outcomes (dones fixed world (event ∷ events))) (jobs ++ jobs_from given world (event ∷ events)))
+    (joined ds (decided fixed world event) (decisions_from fixed next.world events))
     (subst (λ past. Orderly (after fixed next.world events) (ds' ++ decisions_from fixed next.world events) past (jobs ++ jobs_from given world (event ∷ events))) (joined past next.done.outcome (outcomes (dones fixed next.world events)))
     (subst (Orderly (after fixed next.world events) (ds' ++ decisions_from fixed next.world events) (past' ++ outcomes (dones fixed next.world events))) (joined jobs (begins_job given world event) (jobs_from given next.world events)) rest))
 

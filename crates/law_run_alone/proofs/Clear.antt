@@ -120,7 +120,8 @@ crash_not (Return server) is = refl
 crash_not (Forget i site) is = refl
 crash_not (Lack i why) is = refl
 
-run_clear : (given : Opening) (t turn : ℕ) (later : List Event) (world : World) (ds : List Decided) (past : List EndedJob) → Holds (fixed_of given) world ds past → Clear world t turn → none_crashes later ≡ true → jobs_from given world later ≡ []
+run_clear : (given : Opening) (t turn : ℕ) (later : List Event) (world : World) (ds : List Decided) (past : List EndedJob) → Holds (fixed_of given) world ds past
+    → Clear world t turn → none_crashes later ≡ true → jobs_from given world later ≡ []
     → (i : ℕ) → IsFree (step (fixed_of given) (after (fixed_of given) world later) (Step i)).done.served
 run_clear given t turn [] world ds past holds clear crashes none i = replies_free given t turn world ds past holds clear i
 run_clear given t turn (event ∷ later) world ds past holds clear crashes none i =
@@ -146,11 +147,13 @@ clear_servers t world up locks s st at =
     (all_at (λ (st : State). st.up) world.servers st up has, none_own t st.locks (all_at (λ (st : State). length st.locks == 0) world.servers st locks has))
 
 -- nobody else begins anything
-begun_alone : (given : Opening) (world : World) (i : ℕ) (job : Job) → all_idle world ≡ true → (found : Option Actor) → actor_at world i ≡ found → (j : ℕ) → j ≢ i → doing_at (becomes world i (λ agent. begin (fixed_of given) agent job) found).world j ≡ None
+begun_alone : (given : Opening) (world : World) (i : ℕ) (job : Job) → all_idle world ≡ true → (found : Option Actor) → actor_at world i ≡ found → (j : ℕ) → j ≢ i
+    → doing_at (becomes world i (λ agent. begin (fixed_of given) agent job) found).world j ≡ None
 begun_alone given world i job idle None is j apart = all_none world.agents idle j
 begun_alone given world i job idle (Some actor) is j apart = ap doing_of ((puts_in world.agents i actor (record actor { agent = begin (fixed_of given) actor.agent job }) is).apart j apart) ∙ all_none world.agents idle j
 
-pub begun_clear : (given : Opening) (world : World) (ds : List Decided) (past : List EndedJob) → Holds (fixed_of given) world ds past → (i t : ℕ) (caller : Identity) (site : ℕ) (ops : List Op) → all_idle world ≡ true → all_up world ≡ true → no_locks world ≡ true
+pub begun_clear : (given : Opening) (world : World) (ds : List Decided) (past : List EndedJob) → Holds (fixed_of given) world ds past
+    → (i t : ℕ) (caller : Identity) (site : ℕ) (ops : List Op) → all_idle world ≡ true → all_up world ≡ true → no_locks world ≡ true
     → (found : Option Actor) → actor_at world i ≡ found → with_job (Transaction caller site ops) (begins_now (fixed_of given) i (Transaction caller site ops) found) ≡ Some (t, Transaction caller site ops)
     → Clear (becomes world i (λ agent. begin (fixed_of given) agent (Transaction caller site ops)) found).world t i
 begun_clear given world ds past holds i t caller site ops idle up locks found is begins = record {

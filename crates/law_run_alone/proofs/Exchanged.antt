@@ -73,7 +73,8 @@ abbrev pub AllValid : Fixed → Agent → List agents.Event → Type 0
 AllValid fixed agent [] = HasValidVotes agent.cache
 AllValid fixed agent (event ∷ events) = HasValidVotes agent.cache × AllValid fixed (after_event fixed agent event) events
 
-valid_more : (fixed : Fixed) (agent : Agent) (events : List agents.Event) (event : agents.Event) → AllValid fixed agent events → HasValidVotes (after_event fixed (after_all fixed agent events) event).cache → AllValid fixed agent (events ++ event ∷ [])
+valid_more : (fixed : Fixed) (agent : Agent) (events : List agents.Event) (event : agents.Event) → AllValid fixed agent events
+    → HasValidVotes (after_event fixed (after_all fixed agent events) event).cache → AllValid fixed agent (events ++ event ∷ [])
 valid_more fixed agent [] event all now = (all, now)
 valid_more fixed agent (first ∷ events) event all now = (all.0, valid_more fixed (after_event fixed agent first) events event all.1 now)
 
@@ -86,7 +87,8 @@ valid_at fixed agent (event ∷ before) later all = valid_at fixed (after_event 
 all_more : (F : Exchange → Type 0) (past more : List Exchange) → ((one : Exchange) → Has past one → F one) → ((one : Exchange) → Has more one → F one) → (one : Exchange) → Has (past ++ more) one → F one
 all_more F past more old new one has = ⊎_elim (λ left. old one left) (λ right. new one right) (has_append past more one has)
 
-module _ (F : Exchange → Type 0) (fixed : Fixed) (before agent : Agent) (job : Job) (told : List agents.Event) (asked : ℕ × Request) (response : Response) (is : agent ≡ after_all fixed (begin fixed before job) told) (next : next_of fixed agent ≡ Some asked)
+module _ (F : Exchange → Type 0) (fixed : Fixed) (before agent : Agent) (job : Job) (told : List agents.Event) (asked : ℕ × Request) (response : Response)
+    (is : agent ≡ after_all fixed (begin fixed before job) told) (next : next_of fixed agent ≡ Some asked)
     (old : (one : Exchange) → Has (of_job fixed before job told) one → F one) (now : F (record { server = asked.0; request = asked.1; response = response })) where
   told_now : (one : Exchange) → Has (exchange_of (next_of fixed agent) response) one → F one
   told_now = subst (λ asked. (one : Exchange) → Has (exchange_of asked response) one → F one) (sym next) (λ one has. ⊎_elim (λ is. subst F is now) (λ none. absurd none) has)
@@ -113,7 +115,8 @@ pub record Since (fixed : Fixed) (agent : Agent) : Type 0 where
   pub caches : AllValid fixed (begin fixed before (Transaction caller site ops)) told
   pub sets : JobGivesValidVotes (Transaction caller site ops)
 
-pub since_begin : (fixed : Fixed) (agent : Agent) (caller : Identity) (site : ℕ) (ops : List Op) → is_idle agent.doing ≡ true → JobGivesValidVotes (Transaction caller site ops) → HasValidVotes (begin fixed agent (Transaction caller site ops)).cache
+pub since_begin : (fixed : Fixed) (agent : Agent) (caller : Identity) (site : ℕ) (ops : List Op) → is_idle agent.doing ≡ true → JobGivesValidVotes (Transaction caller site ops)
+    → HasValidVotes (begin fixed agent (Transaction caller site ops)).cache
     → Since fixed (begin fixed agent (Transaction caller site ops))
 since_begin fixed agent caller site ops idle sets cache = record { before = agent; caller = caller; site = site; ops = ops; told = []; idle = idle; is = refl; free = λ one has. absurd has; caches = cache; sets = sets }
 
@@ -184,7 +187,8 @@ and_false a b c is = grind (arith, nat_tests)
 nobody_refused : (past : List Exchange) (suite server : ℕ) → AllFree all_up past → has_said past suite refusing server ≡ false
 nobody_refused [] suite server free = refl
 nobody_refused (one ∷ past) suite server free =
-    ap (λ b. b || has_said past suite refusing server) (and_false (one.server == server) (locks suite one.request) (is_said refusing one.request (heard_in one.request one.response)) (none_refuses one.request one.response (free one (inl refl))))
+    ap (λ b. b || has_said past suite refusing server) (and_false (one.server == server) (locks suite one.request)
+    (is_said refusing one.request (heard_in one.request one.response)) (none_refuses one.request one.response (free one (inl refl))))
     ∙ nobody_refused past suite server (λ other has. free other (inr has))
 
 -- ---- what was told has valid votes
@@ -412,4 +416,5 @@ never_undecided fixed c0 agent asked said cause next free since cache end' =
     let caches = valid_more fixed (begin fixed since.before job) since.told (Take (Replied said)) since.caches (subst (λ agent. HasValidVotes (take fixed agent (Replied said)).agent.cache) since.is cache) in
     none_caused fixed c0 since.before since.caller since.site since.ops since.sets told' free' caches cause
     (few_causes fixed all_up since.before since.caller since.site since.ops told' free' cause
-    (ends_are_caused fixed since.before job since.told (Replied said) cause since.idle (free_fit all_up (of_job fixed since.before job told') free') (subst (λ agent. (take fixed agent (Replied said)).ending ≡ Some (Undecided cause)) since.is end')))
+    (ends_are_caused fixed since.before job since.told (Replied said) cause since.idle (free_fit all_up (of_job fixed since.before job told') free')
+    (subst (λ agent. (take fixed agent (Replied said)).ending ≡ Some (Undecided cause)) since.is end')))

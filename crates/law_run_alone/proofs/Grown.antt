@@ -78,10 +78,11 @@ pub opens_grown : (given : Opening) (z : ℕ) → Grown z (beginning z given) []
 opens_grown given zero = record { made = inr (inl refl); kinds = λ p _. first p }
   where
     first : (p : ℕ) → ((prefix_at (beginning 0 given) [] p).kind ≡ Absent) ⊎ ((prefix_at (beginning 0 given) [] p).kind ≡ (row (beginning 0 given) []).prefix.kind)
-    first p = elim (p == (beginning 0 given).row.prefix.pver) as (λ b. ((cond b (beginning 0 given).row.prefix (beginning 0 given).never.prefix).kind ≡ Absent) ⊎ ((cond b (beginning 0 given).row.prefix (beginning 0 given).never.prefix).kind ≡ (beginning 0 given).row.prefix.kind)) [
-      | true ↦ inr refl
-      | false ↦ inl refl
-    ]
+    first p = elim (p == (beginning 0 given).row.prefix.pver) as (λ b. ((cond b (beginning 0 given).row.prefix (beginning 0 given).never.prefix).kind ≡ Absent)
+        ⊎ ((cond b (beginning 0 given).row.prefix (beginning 0 given).never.prefix).kind ≡ (beginning 0 given).row.prefix.kind)) [
+          | true ↦ inr refl
+          | false ↦ inl refl
+        ]
 opens_grown given (suc z) = record { made = inl absent; kinds = λ p _. first p }
   where
     not_zero : (suc z == 0) ≡ false
@@ -92,7 +93,8 @@ opens_grown given (suc z) = record { made = inl absent; kinds = λ p _. first p 
 
     first : (p : ℕ) → ((prefix_at (beginning (suc z) given) [] p).kind ≡ Absent) ⊎ ((prefix_at (beginning (suc z) given) [] p).kind ≡ (row (beginning (suc z) given) []).prefix.kind)
     first p = elim (p == (beginning (suc z) given).row.prefix.pver) as
-        (λ b. ((cond b (beginning (suc z) given).row.prefix (beginning (suc z) given).never.prefix).kind ≡ Absent) ⊎ ((cond b (beginning (suc z) given).row.prefix (beginning (suc z) given).never.prefix).kind ≡ (beginning (suc z) given).row.prefix.kind)) [
+        (λ b. ((cond b (beginning (suc z) given).row.prefix (beginning (suc z) given).never.prefix).kind ≡ Absent)
+        ⊎ ((cond b (beginning (suc z) given).row.prefix (beginning (suc z) given).never.prefix).kind ≡ (beginning (suc z) given).row.prefix.kind)) [
           | true ↦ inr refl
           | false ↦ inl refl
         ]
@@ -178,7 +180,8 @@ module _ (given : Opening) (z : ℕ) (w : World) (inv : Inv (beginning z given) 
 
   module _ (txn_run : TransactionRun) (outcome : Proposal) (well : CameWell (fixed_of given) txn_run outcome) where
     -- what it sets of the suite
-    pub own_of : (suite : GatheredSuite) (first : ReadPoint) (change : executor.Change) → suite_of txn_run.suites z ≡ Some suite → suite.first ≡ Some first → change_of (changes_of outcome) z ≡ Some change → IsKnown (row start w.log) (known_by first suite)
+    pub own_of : (suite : GatheredSuite) (first : ReadPoint) (change : executor.Change) → suite_of txn_run.suites z ≡ Some suite → suite.first ≡ Some first
+        → change_of (changes_of outcome) z ≡ Some change → IsKnown (row start w.log) (known_by first suite)
         → IsOwn txn_run.task.t z txn_run.suites first change
     own_of suite first change found had set knows =
         came_own (fixed_of given) txn_run.task txn_run.suites outcome z suite first change found had set c0 well.valid (known_fits start w inv kind first suite knows) well.came

@@ -143,7 +143,8 @@ module _ (given : Opening) (up : ℕ → Bool) (t turn : ℕ) (world : worlds.Wo
   spared events spares = doing_later w (after events) t (stands_all (beginning z given) w events t spares)
 
   -- another agent stands at a number, with the same job
-  same_stands : (events : List machine.Event) → AllSpare events → (i : ℕ) (actor new : Actor) → actor_at world i ≡ Some actor → (i ≡ turn → new.agent.doing ≡ actor.agent.doing) → (found : Actor) → slice_get (slice_set world.agents i new) turn ≡ Some found → DoingStands (after events) t found.agent.doing
+  same_stands : (events : List machine.Event) → AllSpare events → (i : ℕ) (actor new : Actor) → actor_at world i ≡ Some actor → (i ≡ turn → new.agent.doing ≡ actor.agent.doing)
+      → (found : Actor) → slice_get (slice_set world.agents i new) turn ≡ Some found → DoingStands (after events) t found.agent.doing
   same_stands events spares i actor new is same found there =
       elim (at_puts (slice_get world.agents) (slice_get (slice_set world.agents i new)) i actor new (puts_in world.agents i actor new is) turn found there) [
         | inl here ↦
@@ -153,7 +154,8 @@ module _ (given : Opening) (up : ℕ → Bool) (t turn : ℕ) (world : worlds.Wo
       ]
 
   -- an agent took a response of what it asked
-  took_at : (events : List machine.Event) (i : ℕ) (actor : Actor) (asked : ℕ × Request) (response : Response) (stamp : ℕ) → actor_at world i ≡ Some actor → next_of fixed actor.agent ≡ Some asked → (releases asked.1 ≡ false → AllSpare events)
+  took_at : (events : List machine.Event) (i : ℕ) (actor : Actor) (asked : ℕ × Request) (response : Response) (stamp : ℕ) → actor_at world i ≡ Some actor
+      → next_of fixed actor.agent ≡ Some asked → (releases asked.1 ≡ false → AllSpare events)
       → ((i ≡ turn → ⊥) → AllSpare events)
       → (found : Actor) → slice_get (slice_set world.agents i (worlds.moved actor stamp (take fixed actor.agent response))) turn ≡ Some found → DoingStands (after events) t found.agent.doing
   took_at events i actor asked response stamp is next spares apart found there =
@@ -172,7 +174,8 @@ module _ (given : Opening) (up : ℕ → Bool) (t turn : ℕ) (world : worlds.Wo
       → AtStands (after (begin_events given z job found)) (becomes world i (λ agent. begin fixed agent job) found).world t turn
   begin_stands i job None is none = λ found there. stands found there
   begin_stands i job (Some actor) is none = λ found.
-      same_stands (begin_events given z job (Some actor)) (spare_begun z actor.agent.doing (begin fixed actor.agent job).doing) i actor (record actor { agent = begin fixed actor.agent job }) is (λ at. begun_same given i job actor (none at)) found
+      same_stands (begin_events given z job (Some actor)) (spare_begun z actor.agent.doing (begin fixed actor.agent job).doing) i actor
+      (record actor { agent = begin fixed actor.agent job }) is (λ at. begun_same given i job actor (none at)) found
 
   forget_stands : (i site : ℕ) (found : Option Actor) → actor_at world i ≡ found → AtStands w (becomes world i (λ agent. forget agent site) found).world t turn
   forget_stands i site None is = λ found there. stands found there
@@ -184,20 +187,25 @@ module _ (given : Opening) (up : ℕ → Bool) (t turn : ℕ) (world : worlds.Wo
       elim (is_full st stamped) as (λ b. AtStands (after (operated_events given z w (cond b None (Some (record { server = server; request = stamped; reply = answer_of st stamped })))))
       (operated world st (cond b None (Some (record { server = server; request = stamped; reply = answer_of st stamped })))).world t turn) [
         | true ↦ λ found there. stands found there
-        | false ↦ λ found there. spared (moves z (home_in given) (decision_by z w None) server w asked (reply_of st asked)) (spare_moves z (home_in given) (decision_by z w None) tt server w asked (reply_of st asked) none) found.agent.doing (stands found there)
+        | false ↦ λ found there. spared (moves z (home_in given) (decision_by z w None) server w asked (reply_of st asked))
+            (spare_moves z (home_in given) (decision_by z w None) tt server w asked (reply_of st asked) none) found.agent.doing (stands found there)
       ]
     where
       stamped : Stamped Request
       stamped = record { stamp = 0; value = asked }
 
   served_stands : (i : ℕ) (actor : Actor) (asked : ℕ × Request) (st : State) → actor_at world i ≡ Some actor → next_of fixed actor.agent ≡ Some asked → i ≡ turn
-      → AtStands (after (answered_events given z w actor (serve asked.0 st (record { stamp = actor.stamp; value = asked.1 })))) (answered fixed world i actor st (serve asked.0 st (record { stamp = actor.stamp; value = asked.1 }))).world t turn
+      → AtStands (after (answered_events given z w actor (serve asked.0 st (record { stamp = actor.stamp; value = asked.1 }))))
+      (answered fixed world i actor st (serve asked.0 st (record { stamp = actor.stamp; value = asked.1 }))).world t turn
   served_stands i actor asked st is next turns =
       elim (is_full st stamped) as (λ b. AtStands (after (answered_events given z w actor (cond b None (Some (record { server = asked.0; request = stamped; reply = answer_of st stamped })))))
       (answered fixed world i actor st (cond b None (Some (record { server = asked.0; request = stamped; reply = answer_of st stamped })))).world t turn) [
-        | true ↦ λ found. took_at (response_events given z actor (Lacked lack.Full)) i actor asked (Lacked lack.Full) actor.stamp is next (λ _. spare_own z actor.agent.doing (take fixed actor.agent (Lacked lack.Full))) (λ apart. absurd (apart turns)) found
+        | true ↦ λ found. took_at (response_events given z actor (Lacked lack.Full)) i actor asked (Lacked lack.Full) actor.stamp is next
+            (λ _. spare_own z actor.agent.doing (take fixed actor.agent (Lacked lack.Full))) (λ apart. absurd (apart turns)) found
         | false ↦ λ found. took_at (first ++ own) i actor asked (Replied said) (answer_of st stamped).stamp is next
-            (λ none. all_spare-append first own (spare_moves z (home_in given) (decision_by z w actor.agent.doing) (spare_decision z w actor.agent.doing) asked.0 w asked.1 said none) (spare_own z actor.agent.doing (take fixed actor.agent (Replied said)))) (λ apart. absurd (apart turns)) found
+            (λ none. all_spare-append first own (spare_moves z (home_in given) (decision_by z w actor.agent.doing)
+            (spare_decision z w actor.agent.doing) asked.0 w asked.1 said none) (spare_own z actor.agent.doing (take fixed actor.agent (Replied said))))
+            (λ apart. absurd (apart turns)) found
       ]
     where
       stamped : Stamped Request
@@ -212,11 +220,13 @@ module _ (given : Opening) (up : ℕ → Bool) (t turn : ℕ) (world : worlds.Wo
       own : List machine.Event
       own = own_events z actor.agent.doing (take fixed actor.agent (Replied said))
 
-  at_stands : (i : ℕ) (actor : Actor) (asked : ℕ × Request) → actor_at world i ≡ Some actor → next_of fixed actor.agent ≡ Some asked → i ≡ turn → (found : Option State) → AtStands (after (asked_at_events given z w actor asked found)) (asks_at fixed world i actor asked found).world t turn
+  at_stands : (i : ℕ) (actor : Actor) (asked : ℕ × Request) → actor_at world i ≡ Some actor → next_of fixed actor.agent ≡ Some asked → i ≡ turn → (found : Option State)
+      → AtStands (after (asked_at_events given z w actor asked found)) (asks_at fixed world i actor asked found).world t turn
   at_stands i actor asked is next turns None = λ found there. stands found there
   at_stands i actor asked is next turns (Some st) = served_stands i actor asked st is next turns
 
-  asks_stands : (i : ℕ) → IsCalm given up turn world (Step i) → (actor : Actor) → actor_at world i ≡ Some actor → (asked : Option (ℕ × Request)) → next_of fixed actor.agent ≡ asked → AtStands (after (asked_events given z w world actor asked)) (asks fixed world i actor asked).world t turn
+  asks_stands : (i : ℕ) → IsCalm given up turn world (Step i) → (actor : Actor) → actor_at world i ≡ Some actor → (asked : Option (ℕ × Request))
+      → next_of fixed actor.agent ≡ asked → AtStands (after (asked_events given z w world actor asked)) (asks fixed world i actor asked).world t turn
   asks_stands i calm actor is None next = λ found there. stands found there
   asks_stands i calm actor is (Some asked) next = at_stands i actor asked is next (calm actor asked is next) (server_at world asked.0)
 
@@ -224,9 +234,11 @@ module _ (given : Opening) (up : ℕ → Bool) (t turn : ℕ) (world : worlds.Wo
   step_stands i calm None is = λ found there. stands found there
   step_stands i calm (Some actor) is = asks_stands i calm actor is (next_of fixed actor.agent) refl
 
-  lacks_stands : (i : ℕ) (why : Why) (actor : Actor) → actor_at world i ≡ Some actor → (asked : Option (ℕ × Request)) → next_of fixed actor.agent ≡ asked → AtStands (after (lacks_for_events given z actor (Lacked why) asked)) (lacks_for fixed world i actor (Lacked why) asked).world t turn
+  lacks_stands : (i : ℕ) (why : Why) (actor : Actor) → actor_at world i ≡ Some actor → (asked : Option (ℕ × Request)) → next_of fixed actor.agent ≡ asked
+      → AtStands (after (lacks_for_events given z actor (Lacked why) asked)) (lacks_for fixed world i actor (Lacked why) asked).world t turn
   lacks_stands i why actor is None next = λ found there. stands found there
-  lacks_stands i why actor is (Some asked) next = λ found. took_at (response_events given z actor (Lacked why)) i actor asked (Lacked why) actor.stamp is next (λ _. spare_own z actor.agent.doing (take fixed actor.agent (Lacked why))) (λ _. spare_own z actor.agent.doing (take fixed actor.agent (Lacked why))) found
+  lacks_stands i why actor is (Some asked) next = λ found. took_at (response_events given z actor (Lacked why)) i actor asked (Lacked why) actor.stamp is next
+      (λ _. spare_own z actor.agent.doing (take fixed actor.agent (Lacked why))) (λ _. spare_own z actor.agent.doing (take fixed actor.agent (Lacked why))) found
 
   lack_stands : (i : ℕ) (why : Why) (found : Option Actor) → actor_at world i ≡ found → AtStands (after (lack_events given z (Lacked why) found)) (lacks fixed world i (Lacked why) found).world t turn
   lack_stands i why None is = λ found there. stands found there

@@ -53,7 +53,8 @@ showed_told known (Some told) is =
     (told, refl, at_most told.copy.prefix.pver known.prefix.pver parts.0, at_most told.copy.dver known.dver parts.1)
 
 -- a content that goes with the row's prefix at the row's version is the row's
-row_content : (start : Beginning) (log : List Entry) → Logged start log → (prefix : Prefix) (d : ℕ) (content : Content) → prefix ≡ (row start log).prefix → d ≡ (row start log).dver → GoesWith start log prefix d content → content ≡ (row start log).content
+row_content : (start : Beginning) (log : List Entry) → Logged start log → (prefix : Prefix) (d : ℕ) (content : Content) → prefix ≡ (row start log).prefix
+    → d ≡ (row start log).dver → GoesWith start log prefix d content → content ≡ (row start log).content
 row_content start log l prefix d content ep ed (inl was) =
     elim (l.own.1) [
       | inl own ↦ sym was.2 ∙ ap (content_at start log) ed ∙ own.2
@@ -103,7 +104,8 @@ module _ (start : Beginning) (w : World) (inv : Inv start w) (t : ℕ) (stands :
     }
 
 -- what a transaction knows of a suite that had a quorum
-pub known_owed : (given : Opening) (z : ℕ) (w : World) (world : worlds.World) → Together given z w world → (number : ℕ) (actor : Actor) (txn_run : TransactionRun) → actor_at world number ≡ Some actor → actor.agent.doing ≡ Some (Running txn_run)
+pub known_owed : (given : Opening) (z : ℕ) (w : World) (world : worlds.World) → Together given z w world → (number : ℕ) (actor : Actor) (txn_run : TransactionRun)
+    → actor_at world number ≡ Some actor → actor.agent.doing ≡ Some (Running txn_run)
     → (suite : GatheredSuite) (first : ReadPoint) → suite_of txn_run.suites z ≡ Some suite → suite.first ≡ Some first → OwesKnown (beginning z given) w txn_run.task.t (known_by first suite)
 known_owed given z w world now number actor txn_run there running suite first found had =
     let was = suite_was z (beginning z given) w actor.agent txn_run suite (now.fits number actor there) running found in
@@ -125,7 +127,8 @@ sound_valid copy sound =
     let front = and_parts (is_valid_copy copy && not (is_used_up copy.prefix.pver)) (not (is_used_up copy.dver)) sound in
     (and_parts (is_valid_copy copy) (not (is_used_up copy.prefix.pver)) front.0).0
 
-effect_valid : (store : Store) (z : ℕ) (verdict : ℕ → Option Verdict) (o : Option server.Intention) → IsSound store → get nat_cmp store.intentions z ≡ o → is_valid_copy (in_effect verdict (plan_of o (copy_of store z)) (copy_of store z)) ≡ true
+effect_valid : (store : Store) (z : ℕ) (verdict : ℕ → Option Verdict) (o : Option server.Intention) → IsSound store → get nat_cmp store.intentions z ≡ o
+    → is_valid_copy (in_effect verdict (plan_of o (copy_of store z)) (copy_of store z)) ≡ true
 effect_valid store z verdict None sound is = sound_valid (copy_of store z) (sound.copies z)
 effect_valid store z verdict (Some intention) sound is =
     elim (is_answered (verdict intention.t)) as (λ b. is_valid_copy (cond b (left_by intention.take (copy_of store z)) (copy_of store z)) ≡ true) [

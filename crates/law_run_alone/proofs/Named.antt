@@ -228,7 +228,8 @@ module _ (B : ℕ → Type 0) where
   running_in (GoesOn txn_run) = tt
   running_in (Ends ending) = tt
 
-  take_of : (fixed : Fixed) (agent : Agent) (response : Response) (doing : Option Doing) (asked : ℕ × Request) → next_in fixed doing ≡ Some asked → InSweep doing → TellsOf response → InSweep (take_in fixed agent response doing (Some asked)).agent.doing
+  take_of : (fixed : Fixed) (agent : Agent) (response : Response) (doing : Option Doing) (asked : ℕ × Request) → next_in fixed doing ≡ Some asked → InSweep doing
+      → TellsOf response → InSweep (take_in fixed agent response doing (Some asked)).agent.doing
   take_of fixed agent response None asked next all tells = absurd (none-some asked next)
   take_of fixed agent response (Some (Running txn_run)) asked next all tells = running_in (after_response fixed txn_run agent.cache asked.0 asked.1 response).after
   take_of fixed agent response (Some (RunningSweep sweep_run)) asked next all tells = word_of fixed.service sweep_run asked.0 response all tells
@@ -264,7 +265,8 @@ module _ (B : ℕ → Type 0) where
       named request.Locks is = tt
       named request.Crash is = tt
       named request.Return is = tt
-  asks_of fixed (Some (RunningSweep sweep_run)) asked next all own = subst (BringsIn B) (asks_same (sweep.asked_now fixed.service sweep_run sweep_run.now).0 asked.0 (sweep.asked_now fixed.service sweep_run sweep_run.now).1 asked.1 next) (of sweep_run.now all)
+  asks_of fixed (Some (RunningSweep sweep_run)) asked next all own = subst (BringsIn B)
+      (asks_same (sweep.asked_now fixed.service sweep_run sweep_run.now).0 asked.0 (sweep.asked_now fixed.service sweep_run sweep_run.now).1 asked.1 next) (of sweep_run.now all)
     where
       of : (now : Sweeping) → SweepsOf now → BringsIn B (sweep.asked_now fixed.service sweep_run now).1
       of Listing all = tt
@@ -356,7 +358,8 @@ begun_still fixed (event ∷ events) world t begun =
     begun_still fixed events (step fixed world event).world t (still (agent_at world) (agent_at (step fixed world event).world) t (counts_rise fixed world event) begun)
 
 -- what an agent runs was begun
-runs_begun : (fixed : Fixed) (world : World) (ds : List Decided) (past : List EndedJob) → Holds fixed world ds past → (i : ℕ) (actor : Actor) (txn_run : TransactionRun) → actor_at world i ≡ Some actor → actor.agent.doing ≡ Some (Running txn_run) → Begun (agent_at world) txn_run.task.t
+runs_begun : (fixed : Fixed) (world : World) (ds : List Decided) (past : List EndedJob) → Holds fixed world ds past → (i : ℕ) (actor : Actor) (txn_run : TransactionRun)
+    → actor_at world i ≡ Some actor → actor.agent.doing ≡ Some (Running txn_run) → Begun (agent_at world) txn_run.task.t
 runs_begun fixed world ds past holds i actor txn_run is runs =
     let at : IsAt ds i actor.agent.count (Some (Running txn_run)) = subst (IsAt ds i actor.agent.count) runs (holds.agents.at i actor.agent (ap agent_of is)) in
     let last = at.last in

@@ -129,7 +129,8 @@ module _ (given : Opening) (up : ℕ → Bool) (t turn : ℕ) (world : World) (d
   mine_at : (i : ℕ) (actor : Actor) → actor_at world i ≡ Some actor → i ≡ turn → IsMine t actor.agent.doing
   mine_at i actor is at = subst (IsMine t) (ap (doing_at world) (sym at) ∙ ap doing_of is) owns.mine
 
-  mine_takes : (actor : Actor) (asked : ℕ × Request) (response : Response) → actor_at world turn ≡ Some actor → next_of fixed actor.agent ≡ Some asked → IsMine t (take_in fixed actor.agent response actor.agent.doing (Some asked)).agent.doing
+  mine_takes : (actor : Actor) (asked : ℕ × Request) (response : Response) → actor_at world turn ≡ Some actor → next_of fixed actor.agent ≡ Some asked
+      → IsMine t (take_in fixed actor.agent response actor.agent.doing (Some asked)).agent.doing
   mine_takes actor asked response is next = mine_taken fixed ds turn t actor.agent response asked actor.agent.doing next (holds.agents.at turn actor.agent (ap agent_of is)) (mine_at turn actor is refl)
 
   -- what a server may be asked
@@ -179,7 +180,8 @@ begun_owns given up world ds past holds i t caller site ops servers (Some actor)
           let index : actor.agent.index ≡ i = holds.agents.index i actor.agent (ap agent_of is) in
           record {
             mine = subst (λ found. IsMine t (doing_of found)) (sym puts.here)
-                (mine_left t task verdict.Aborted (execute (fixed_of given) task (record { suites = []; cache = actor.agent.cache })).after (leaves_begin (fixed_of given) task actor.agent.cache) (ap (λ index. 64 * actor.agent.count + index) index ∙ number));
+                (mine_left t task verdict.Aborted (execute (fixed_of given) task (record { suites = []; cache = actor.agent.cache })).after
+                (leaves_begin (fixed_of given) task actor.agent.cache) (ap (λ index. 64 * actor.agent.count + index) index ∙ number));
             servers = servers;
           }
       | false ↦ λ begins. absurd (none-some (t, job) begins)

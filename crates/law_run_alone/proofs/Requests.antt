@@ -177,7 +177,8 @@ module _ (given : Opening) (c0 : IsValid given.c0) (world : worlds.World) (event
 
   -- ---- fetching
 
-  fetches : (suite : ℕ) (asked : ℕ × Request) → txn_run.phase ≡ Fetching suite → ((z : ℕ) → Stands (machines z) t) → (found : Option GatheredSuite) → suite_of txn_run.suites suite ≡ found → fetched_for txn_run.task suite found ≡ Some asked → Goal asked
+  fetches : (suite : ℕ) (asked : ℕ × Request) → txn_run.phase ≡ Fetching suite → ((z : ℕ) → Stands (machines z) t) → (found : Option GatheredSuite)
+      → suite_of txn_run.suites suite ≡ found → fetched_for txn_run.task suite found ≡ Some asked → Goal asked
   fetches suite asked phase stands None is same = cc
   fetches suite asked phase stands (Some found) is same = of found.first refl same
     where
@@ -317,7 +318,8 @@ module _ (given : Opening) (c0 : IsValid given.c0) (world : worlds.World) (event
   left_holds (inl idle) = absurd (false≢true (ap is_idle (sym running) ∙ idle))
   left_holds (inr is) = subst HoldsIn (ap (λ (agent : Agent). agent.doing) (sym is.is) ∙ running) (prepares_where_it_holds fixed is.before is.job is.told is.idle)
 
-  prepare_some : (phase : Phase) → LeftHold txn_run.suites phase → PhasesStand phase → (asked : ℕ × Request) → request_in fixed txn_run.task txn_run.suites phase ≡ Some asked → is_prepare asked.1 ≡ true → (st : State) → server_at world asked.0 ≡ Some st → HasSome t st
+  prepare_some : (phase : Phase) → LeftHold txn_run.suites phase → PhasesStand phase → (asked : ℕ × Request) → request_in fixed txn_run.task txn_run.suites phase ≡ Some asked
+      → is_prepare asked.1 ≡ true → (st : State) → server_at world asked.0 ≡ Some st → HasSome t st
   prepare_some (Gathering number) holds stood asked is prepare = absurd (false≢true (sym (asked_as is_prepare false txn_run.task number (suite_of txn_run.suites number) asked.0 asked.1 (λ mode. refl) refl is) ∙ prepare))
   prepare_some (Fetching number) holds stood asked is prepare = absurd (false≢true (sym (fetched_as is_prepare false txn_run.task number (suite_of txn_run.suites number) asked.0 asked.1 refl is) ∙ prepare))
   prepare_some (Widening [] granted) holds stood asked is prepare = cc

@@ -56,7 +56,8 @@ one_begun : (begun : Option ℕ) (job : Job) (later : List ℕ) (jobs : List (�
 one_begun None job later jobs same = same
 one_begun (Some t) job later jobs same = ap (λ later. t ∷ later) same
 
-one_number : (given : Opening) (world : World) (event : Event) (later : List ℕ) (jobs : List (ℕ × Job)) → later ≡ map number_in jobs → cons_option (begins_at given world event) later ≡ map number_in (cons_option (begins_job given world event) jobs)
+one_number : (given : Opening) (world : World) (event : Event) (later : List ℕ) (jobs : List (ℕ × Job)) → later ≡ map number_in jobs
+    → cons_option (begins_at given world event) later ≡ map number_in (cons_option (begins_job given world event) jobs)
 one_number given world (Begin i job) later jobs same = one_begun (begins_now (fixed_of given) i job (actor_at world i)) job later jobs same
 one_number given world (Step i) later jobs same = same
 one_number given world (Crash server) later jobs same = same
@@ -154,8 +155,10 @@ module _ (given : Opening) (accepted : IsAccepted given) (events : List Event) (
       of (verdict.Refused refusal) said is = decided_has one has is.decision is.there (is.of_it ∙ same)
       of verdict.Aborted said is =
           let mine : undecided (doing_at (run given events) now.turn) ≡ asked_by running.task ∷ [] = ap undecided here ∙ ap (left_by (asked_by running.task)) said in
-          let right : Has some (asked_by running.task) = append_has_right (map asked_of (decisions given events)) (undecided (doing_at (run given events) now.turn)) (asked_by running.task) (subst (λ all. Has all (asked_by running.task)) (sym mine) (inl refl)) in
-          subst (Has some) (same_asked (transactions_of (jobs_of given events)) (begun_apart given accepted events) (asked_by running.task) one (along_has some (transactions_of (jobs_of given events)) now.along (asked_by running.task) right) has same) right
+          let right : Has some (asked_by running.task) = append_has_right (map asked_of (decisions given events)) (undecided (doing_at (run given events) now.turn))
+          (asked_by running.task) (subst (λ all. Has all (asked_by running.task)) (sym mine) (inl refl)) in
+          subst (Has some) (same_asked (transactions_of (jobs_of given events)) (begun_apart given accepted events) (asked_by running.task) one
+          (along_has some (transactions_of (jobs_of given events)) now.along (asked_by running.task) right) has same) right
 
   -- the course of a task
   record HasCourse (doing : Option Doing) (task : Task) : Type 0 where
@@ -211,7 +214,8 @@ module _ (given : Opening) (accepted : IsAccepted given) (events : List Event) (
       (sym (ap (λ (agent : Agent). agent.doing) agents ∙ over.idle (ap (λ n. n + 1) (sym places.0) ∙ at.last ∙ ap (λ (agent : Agent). agent.count) agents)) ∙ found.runs.is)
 
   -- a transaction that ended stands among the decisions, with its ending
-  pub ended_so : AllAreDecided given events → (job : EndedJob) → Has (ended given events) job → IsTransaction (jobs_of given events) (number_of job) → (answer : Answer') × (job.ending ≡ ending_of answer) × In (decisions given events) (number_of job) answer
+  pub ended_so : AllAreDecided given events → (job : EndedJob) → Has (ended given events) job → IsTransaction (jobs_of given events) (number_of job)
+      → (answer : Answer') × (job.ending ≡ ending_of answer) × In (decisions given events) (number_of job) answer
   ended_so decided job has is = of job.ending refl
     where
       stands : (ending : Ending) → job.ending ≡ ending → EndStands (decisions given events) (number_of job) ending
@@ -255,7 +259,8 @@ unfolding tail_of
 same_tail a b xs ys same = ap tail_of same
 
 -- the same transactions one after the other are answered the same
-same_answers : (table : PlainTable) (ds es : List Decided) (more others : List Asked) → worlds.AreApart ds → worlds.AreApart es → AnswersAreTheTables table ds → AnswersAreTheTables table es → map asked_of ds ++ more ≡ map asked_of es ++ others
+same_answers : (table : PlainTable) (ds es : List Decided) (more others : List Asked) → worlds.AreApart ds → worlds.AreApart es → AnswersAreTheTables table ds
+    → AnswersAreTheTables table es → map asked_of ds ++ more ≡ map asked_of es ++ others
     → (d e : Decided) → Has ds d → Has es e → d.t ≡ e.t → d.answer ≡ e.answer
 same_answers table [] es more others apart apart' answers answers' same d e has has' number = absurd has
 same_answers table (a ∷ ds) [] more others apart apart' answers answers' same d e has has' number = absurd has'

@@ -104,7 +104,8 @@ module _ (fixed : Fixed) (task : Task) (suites : Suites) (outcome : Proposal) (z
         lists = λ valid. seen_fit (known_rows before) ended.edits z fit met.2 (shown_fit suite first (known_rows before z) fits heads valid) from.row from.is;
       })
 
-  by_result : (before : Known) → ((rows : ℕ → Option Row) → AgreesWith (known_of suites) rows → AgreesWith before rows) → (result : Result (Ended (List Answer)) Refusal) → exec_of fixed.service before task.t task.caller task.ops ≡ Done result
+  by_result : (before : Known) → ((rows : ℕ → Option Row) → AgreesWith (known_of suites) rows → AgreesWith before rows) → (result : Result (Ended (List Answer)) Refusal)
+      → exec_of fixed.service before task.t task.caller task.ops ≡ Done result
       → change_of (set_by before result) z ≡ Some change → IsOwn task.t z suites first change
   by_result before agrees (Ok ended) done told = by_edits before agrees ended done told
   by_result before agrees (Err refusal) done told = absurd (none-some change told)
@@ -128,7 +129,8 @@ row_small kind.Folder prefix content small r is = subst (λ (r : Row). is_within
     of None small = refl
 
 -- where each content is, so is each row that is known
-pub known_small : (suites : Suites) → IsOrdered nat_cmp suites → ((n : ℕ) (suite : GatheredSuite) (first : ReadPoint) (c : Content) → suite_of suites n ≡ Some suite → suite.first ≡ Some first → suite.content ≡ Some c → is_within_limits c ≡ true)
+pub known_small : (suites : Suites) → IsOrdered nat_cmp suites → ((n : ℕ) (suite : GatheredSuite) (first : ReadPoint) (c : Content) → suite_of suites n ≡ Some suite
+    → suite.first ≡ Some first → suite.content ≡ Some c → is_within_limits c ≡ true)
     → AreSmall (known_rows (known_of suites))
 known_small suites ordered small n r = of (known.known_of (known_of suites) n) refl
   where

@@ -133,7 +133,8 @@ outcome_as number t actor same None = refl
 outcome_as number t actor same (Some ending) =
     ap (λ t. option_to_list (option_map (λ answer. (t, answer)) (answer_by ending))) (sym same) ∙ sym (cons_is (option_map (λ answer. (64 * (actor.agent.count - 1) + number, answer)) (answer_by ending)))
 
-takes_course : (number : ℕ) (actor : Actor) (txn_run : TransactionRun) (v new : Verdict) (d : Option Decided) (step : Taking) → 64 * (actor.agent.count - 1) + number ≡ txn_run.task.t → Tells v txn_run.phase → Turns txn_run.task v new d → Leaves txn_run.task new step.after
+takes_course : (number : ℕ) (actor : Actor) (txn_run : TransactionRun) (v new : Verdict) (d : Option Decided) (step : Taking)
+    → 64 * (actor.agent.count - 1) + number ≡ txn_run.task.t → Tells v txn_run.phase → Turns txn_run.task v new d → Leaves txn_run.task new step.after
     → Takes number actor (Some (Running txn_run)) d (record { agent = record actor.agent { cache = step.cache; doing = left Running step.after }; ending = end_of step.after })
 takes_course number actor txn_run v new d step same tells turns leaves = record {
   answers =
@@ -161,13 +162,15 @@ pub record Decides' (ds : List Decided) (response : Response) (doing : Option Do
   pub txn_run : (txn_run : TransactionRun) (v : Verdict) → doing ≡ Some (Running txn_run) → Tells v txn_run.phase → Stands ds txn_run.task.t v → Turns txn_run.task v (cond (is_decide asked) (said_by response v) v) d
   pub sweep_run : (sweep_run : SweepRun) → doing ≡ Some (RunningSweep sweep_run) → d ≡ None
 
-takes_response : (fixed : Fixed) (ds : List Decided) (number : ℕ) (actor : Actor) (response : Response) (asked : ℕ × Request) (d : Option Decided) (doing : Option Doing) → next_in fixed doing ≡ Some asked → IsAt ds number actor.agent.count doing
+takes_response : (fixed : Fixed) (ds : List Decided) (number : ℕ) (actor : Actor) (response : Response) (asked : ℕ × Request) (d : Option Decided) (doing : Option Doing)
+    → next_in fixed doing ≡ Some asked → IsAt ds number actor.agent.count doing
     → Decides' ds response doing asked.1 d → Takes number actor doing d (take_in fixed actor.agent response doing (Some asked))
 takes_response fixed ds number actor response asked d None next at decides = cc
 takes_response fixed ds number actor response asked d (Some (Running running)) next at decides =
     let last = at.last in
     let numbered = at.numbered in
-    takes_course number actor running at.said (cond (is_decide asked.1) (said_by response at.said) at.said) d (after_response fixed running actor.agent.cache asked.0 asked.1 response) (omega (arith, last, numbered)) at.tells (decides.txn_run running at.said refl at.tells at.stands)
+    takes_course number actor running at.said (cond (is_decide asked.1) (said_by response at.said) at.said) d
+    (after_response fixed running actor.agent.cache asked.0 asked.1 response) (omega (arith, last, numbered)) at.tells (decides.txn_run running at.said refl at.tells at.stands)
     (leaves_response fixed running.task actor.agent.cache running.suites running.phase asked.0 asked.1 response at.said next at.tells)
 takes_response fixed ds number actor response asked d (Some (RunningSweep sweep_run)) next at decides =
     subst (λ d. Takes number actor (Some (RunningSweep sweep_run)) d (take_in fixed actor.agent response (Some (RunningSweep sweep_run)) (Some asked))) (sym (decides.sweep_run sweep_run refl))
@@ -272,9 +275,11 @@ module _ (given : Opening) (world : World) (ds : List Decided) (past : List Ende
       → Goes world turn (operates world server asked found).world (decided_by world None (operates world server asked found).done.served) (operates world server asked found).done.outcome None
   operator_goes server asked none None = quiet_goes
   operator_goes server asked none (Some st) =
-      elim (is_full st stamped) as (λ b. Goes world turn (operated world st (cond b None (Some what))).world (decided_by world None (operated world st (cond b None (Some what))).done.served) (operated world st (cond b None (Some what))).done.outcome None) [
+      elim (is_full st stamped) as (λ b. Goes world turn (operated world st (cond b None (Some what))).world
+      (decided_by world None (operated world st (cond b None (Some what))).done.served) (operated world st (cond b None (Some what))).done.outcome None) [
         | true ↦ quiet_goes
-        | false ↦ subst (λ t. Goes world turn (after_serving st what world) (decided_at (server_at world server) t (decided_as None (answer_in (reply_of st asked)))) None None) (sym none) (same_goes (after_serving st what world) (λ i. refl))
+        | false ↦ subst (λ t. Goes world turn (after_serving st what world) (decided_at (server_at world server) t (decided_as None (answer_in (reply_of st asked)))) None None)
+            (sym none) (same_goes (after_serving st what world) (λ i. refl))
       ]
     where
       stamped : Stamped Request
@@ -309,7 +314,8 @@ module _ (given : Opening) (world : World) (ds : List Decided) (past : List Ende
         still = subst (λ doing. (undecided doing ≡ more) ⊎ (undecided doing ≡ [])) (sym here) still;
       }
 
-  took_goes : (servers : List State) (i : ℕ) (actor : Actor) (asked : ℕ × Request) (response : Response) (stamp : ℕ) (d : Option Decided) → actor_at world i ≡ Some actor → next_of fixed actor.agent ≡ Some asked → Decides' ds response actor.agent.doing asked.1 d
+  took_goes : (servers : List State) (i : ℕ) (actor : Actor) (asked : ℕ × Request) (response : Response) (stamp : ℕ) (d : Option Decided) → actor_at world i ≡ Some actor
+      → next_of fixed actor.agent ≡ Some asked → Decides' ds response actor.agent.doing asked.1 d
       → Goes world turn (with_actor i (moved actor stamp (take fixed actor.agent response)) (record world { servers = servers })) d (outcome_of i actor (take fixed actor.agent response).ending) None
   took_goes servers i actor asked response stamp d is next decides =
       let takes : Takes i actor actor.agent.doing d (take fixed actor.agent response) =
@@ -337,8 +343,10 @@ module _ (given : Opening) (world : World) (ds : List Decided) (past : List Ende
   served_decides s st asked (Some (Running running)) next recorded_so = record {
     txn_run = λ other v is tells stands.
         let same : running ≡ other = ap (course_in running) is in
-        let mine = λ (txn_run : TransactionRun). Turns txn_run.task v (cond (is_decide asked) (said_by (Replied (reply_of st asked)) v) v) (decided_at (Some st) (to_decide asked) (decided_as (Some running.task) (answer_in (reply_of st asked)))) in
-        subst mine same (turns_served fixed running ds s st asked v (subst (λ (txn_run : TransactionRun). Tells v txn_run.phase) (sym same) tells) (subst (λ (txn_run : TransactionRun). Stands ds txn_run.task.t v) (sym same) stands) next recorded_so (is_decide asked) refl);
+        let mine = λ (txn_run : TransactionRun). Turns txn_run.task v (cond (is_decide asked) (said_by (Replied (reply_of st asked)) v) v)
+        (decided_at (Some st) (to_decide asked) (decided_as (Some running.task) (answer_in (reply_of st asked)))) in
+        subst mine same (turns_served fixed running ds s st asked v (subst (λ (txn_run : TransactionRun). Tells v txn_run.phase) (sym same) tells)
+        (subst (λ (txn_run : TransactionRun). Stands ds txn_run.task.t v) (sym same) stands) next recorded_so (is_decide asked) refl);
     sweep_run = λ sweep_run is. absurd (running_round running sweep_run is);
   }
     where
@@ -363,7 +371,8 @@ module _ (given : Opening) (world : World) (ds : List Decided) (past : List Ende
       → let stepped = answered fixed world i actor st (serve asked.0 st (record { stamp = actor.stamp; value = asked.1 })) in
       Goes world turn stepped.world (decided_by world (task_of actor.agent.doing) stepped.done.served) stepped.done.outcome None
   served_goes i actor asked st is next at =
-      elim (is_full st stamped) as (λ b. let stepped = answered fixed world i actor st (cond b None (Some what)) in Goes world turn stepped.world (decided_by world (task_of actor.agent.doing) stepped.done.served) stepped.done.outcome None) [
+      elim (is_full st stamped) as (λ b. let stepped = answered fixed world i actor st (cond b None (Some what)) in
+      Goes world turn stepped.world (decided_by world (task_of actor.agent.doing) stepped.done.served) stepped.done.outcome None) [
         | true ↦ lacked_goes i actor asked lack.Full is next
         | false ↦
             subst (λ found. Goes world turn (with_actor i (moved actor (answer_of st stamped).stamp (take fixed actor.agent (Replied (reply_of st asked.1)))) (after_serving st what world))

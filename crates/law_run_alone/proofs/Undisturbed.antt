@@ -106,11 +106,13 @@ module _ (given : Opening) (c0 : IsValid given.c0) (t turn : ℕ) (all : List Ev
       of (Some (RunningSweep sweep_run)) next own stands = absurd own
       of (Some (Running txn_run)) next own stands = let numbered = stands.numbered in let last = stands.last in omega (arith, numbered, last, own)
 
-  take_decided : (asked : ℕ × Request) (said : Reply) → next_of fixed at.actor.agent ≡ Some asked → (ending : Ending) → (take fixed at.actor.agent (Replied said)).ending ≡ Some ending → ((cause : Cause) → ending ≡ Undecided cause → ⊥) → is_decided ending ≡ true
+  take_decided : (asked : ℕ × Request) (said : Reply) → next_of fixed at.actor.agent ≡ Some asked → (ending : Ending)
+      → (take fixed at.actor.agent (Replied said)).ending ≡ Some ending → ((cause : Cause) → ending ≡ Undecided cause → ⊥) → is_decided ending ≡ true
   take_decided asked said next ending is none' =
       of at.actor.agent.doing next mine (facts.holds.agents.at turn at.actor.agent (ap agent_of at.there)) (subst (λ o. (take_in fixed at.actor.agent (Replied said) at.actor.agent.doing o).ending ≡ Some ending) next is)
     where
-      of : (doing : Option Doing) → next_in fixed doing ≡ Some asked → IsMine t doing → IsAt facts.ds turn at.actor.agent.count doing → (take_in fixed at.actor.agent (Replied said) doing (Some asked)).ending ≡ Some ending → is_decided ending ≡ true
+      of : (doing : Option Doing) → next_in fixed doing ≡ Some asked → IsMine t doing → IsAt facts.ds turn at.actor.agent.count doing
+          → (take_in fixed at.actor.agent (Replied said) doing (Some asked)).ending ≡ Some ending → is_decided ending ≡ true
       of None next own stands is = absurd (none-some asked next)
       of (Some (RunningSweep sweep_run)) next own stands is = absurd own
       of (Some (Running txn_run)) next own stands is =
@@ -164,7 +166,8 @@ module _ (given : Opening) (events : List Event) (agent t : ℕ) (caller : Ident
   abbrev pub begun : World
   begun = (step (fixed_of given) (run given events) begins).world
 
-  module _ (can : CanBe given (events ++ begins ∷ [])) (begins_so : begins_job given (run given events) begins ≡ Some (t, job)) (idle : all_idle (run given events) ≡ true) (up : every_up (run given events) ≡ true) (locks : no_locks (run given events) ≡ true) where
+  module _ (can : CanBe given (events ++ begins ∷ [])) (begins_so : begins_job given (run given events) begins ≡ Some (t, job)) (idle : all_idle (run given events) ≡ true)
+      (up : every_up (run given events) ≡ true) (locks : no_locks (run given events) ≡ true) where
     can_before : CanBe given events
     can_before = can_front given events (begins ∷ []) can
 
@@ -189,7 +192,12 @@ module _ (given : Opening) (events : List Event) (agent t : ℕ) (caller : Ident
         → Begun (becomes (run given events) agent (λ agent. begin (fixed_of given) agent job) found).world
     agent_begun None is begins' valid = absurd (none-some (t, job) begins')
     agent_begun (Some actor) is begins' valid =
-        record { actor = new; there = there; since = since_begin (fixed_of given) actor.agent caller site ops idle' valid_job (valid agent new there); runs = runs (is_idle actor.agent.doing && has_sense (fixed_of given) job && nat_lt actor.agent.count max_jobs) begins' }
+        record {
+          actor = new;
+          there = there;
+          since = since_begin (fixed_of given) actor.agent caller site ops idle' valid_job (valid agent new there);
+          runs = runs (is_idle actor.agent.doing && has_sense (fixed_of given) job && nat_lt actor.agent.count max_jobs) begins';
+        }
       where
         new : Actor
         new = record actor { agent = begin (fixed_of given) actor.agent job }
@@ -203,7 +211,8 @@ module _ (given : Opening) (events : List Event) (agent t : ℕ) (caller : Ident
         task : Task
         task = record { t = 64 * actor.agent.count + actor.agent.index; caller = caller; site = site; ops = ops }
 
-        runs : (b : Bool) → with_job job (cond b (Some (64 * actor.agent.count + agent)) None) ≡ Some (t, job) → is_idle (cond b (record (started (fixed_of given) actor.agent job) { count = actor.agent.count + 1 }) actor.agent).doing ≡ false
+        runs : (b : Bool) → with_job job (cond b (Some (64 * actor.agent.count + agent)) None) ≡ Some (t, job)
+            → is_idle (cond b (record (started (fixed_of given) actor.agent job) { count = actor.agent.count + 1 }) actor.agent).doing ≡ false
         runs true begins' = starts (fixed_of given) task actor.agent.cache can.c0 (facts.caches agent actor is)
         runs false begins' = absurd (none-some (t, job) begins')
 

@@ -99,7 +99,8 @@ tells_valid_at true st asked other up valid = tells_valid st asked up valid
 tells_valid_at false st asked other down valid = subst TellsValid (sym (replies_down st asked other down)) tt
 
 -- a reply to a transaction is free, where it is not Lost and what stands on a lock is asked where the server is up
-pub free_reply : (b : Bool) (t : ℕ) (st : State) (asked : Request) → names t asked ≡ true → IsOwnAt b t st → IsConsistent st → ((suite : ℕ) → IsValid (copy_of st.store suite).prefix.votes) → Unswept t st → is_lost (reply_of st asked) ≡ false
+pub free_reply : (b : Bool) (t : ℕ) (st : State) (asked : Request) → names t asked ≡ true → IsOwnAt b t st → IsConsistent st
+    → ((suite : ℕ) → IsValid (copy_of st.store suite).prefix.votes) → Unswept t st → is_lost (reply_of st asked) ≡ false
     → (stands_on_locks asked ≡ true → b ≡ true) → IsFree b asked (reply_of st asked)
 free_reply b t st asked named own sound valid unswept kept stood = record {
   busy = not_busy_at b t st asked (never_returns t asked named) (polls_named t asked named) own;
@@ -119,7 +120,8 @@ decided_by (verdict.Refused refusal) cause none = refl
 decided_by verdict.Aborted cause none = absurd (none cause refl)
 
 -- a transaction that does not end undecided is decided
-pub after_decided : (txn_run : TransactionRun) (v : Verdict) (after : After TransactionRun) (ending : Ending) → Leaves txn_run.task v after → end_of after ≡ Some ending → ((cause : Cause) → ending ≡ Undecided cause → ⊥) → is_decided ending ≡ true
+pub after_decided : (txn_run : TransactionRun) (v : Verdict) (after : After TransactionRun) (ending : Ending) → Leaves txn_run.task v after → end_of after ≡ Some ending
+    → ((cause : Cause) → ending ≡ Undecided cause → ⊥) → is_decided ending ≡ true
 after_decided txn_run v (GoesOn more) ending leaves is none = absurd (none-some ending is)
 after_decided txn_run v (Ends other) ending leaves is none =
     let as' : ending ≡ ending_by v leaves.0 = sym (same_Some other ending is) ∙ leaves.1 in

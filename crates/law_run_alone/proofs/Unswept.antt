@@ -72,7 +72,9 @@ ways t st unswept = record {
     recorded_so : (named : ℕ) (decision : Decision) → Unswept t (recording named (verdict_of decision) (audit_of named decision) st)
     recorded_so named decision is =
         ⊎_elim
-        (λ same. decides decision (same_Some (verdict_of decision) verdict.Aborted (sym (record_here st named (verdict_of decision) (audit_of named decision)) ∙ ap (record_of (recording named (verdict_of decision) (audit_of named decision) st)) (sym same) ∙ is)))
+        (λ same. decides decision (same_Some (verdict_of decision) verdict.Aborted
+        (sym (record_here st named (verdict_of decision) (audit_of named decision)) ∙ ap (record_of (recording named (verdict_of decision) (audit_of named decision) st))
+        (sym same) ∙ is)))
         (λ apart. unswept (sym (record_apart st named t (verdict_of decision) (audit_of named decision) apart) ∙ is))
         (same_or t named)
 

@@ -50,7 +50,8 @@ begun_stands given machines world later t turn mine now none z actor there = of 
 
 pub started_untold : (given : Opening) (world : worlds.World) (i t : ℕ) (caller : Identity) (site : ℕ) (ops : List Op) (found : Option Actor) → actor_at world i ≡ found
     → with_job (Transaction caller site ops) (begins_now (fixed_of given) i (Transaction caller site ops) found) ≡ Some (t, Transaction caller site ops)
-    → (actor : Actor) (txn_run : TransactionRun) → actor_at (becomes world i (λ agent. begin (fixed_of given) agent (Transaction caller site ops)) found).world i ≡ Some actor → actor.agent.doing ≡ Some (Running txn_run) → (z : ℕ) → told_at txn_run.suites z ≡ []
+    → (actor : Actor) (txn_run : TransactionRun) → actor_at (becomes world i (λ agent. begin (fixed_of given) agent (Transaction caller site ops)) found).world i ≡ Some actor
+    → actor.agent.doing ≡ Some (Running txn_run) → (z : ℕ) → told_at txn_run.suites z ≡ []
 started_untold given world i t caller site ops None is begins actor txn_run there running z = absurd (none-some (t, Transaction caller site ops) begins)
 started_untold given world i t caller site ops (Some old) is begins actor txn_run there running z =
     elim (is_idle old.agent.doing && has_sense fixed job && nat_lt old.agent.count max_jobs) as

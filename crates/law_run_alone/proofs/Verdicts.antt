@@ -157,7 +157,8 @@ module _ (task : Task) (ds : List Decided) (st : State) (new' : NotIn ds task.t)
   })
 
   pub turns_decide : (outcome : Proposal)
-      → Turns task verdict.Aborted (said_by (Replied (reply_of st (request.Decide task.t (decision_of task outcome)))) verdict.Aborted) (decided_at (Some st) (Some task.t) (decided_as (Some task) (answer_in (reply_of st (request.Decide task.t (decision_of task outcome))))))
+      → Turns task verdict.Aborted (said_by (Replied (reply_of st (request.Decide task.t (decision_of task outcome)))) verdict.Aborted)
+      (decided_at (Some st) (Some task.t) (decided_as (Some task) (answer_in (reply_of st (request.Decide task.t (decision_of task outcome))))))
   turns_decide outcome =
       elim (st.up) as (λ b. Turns task verdict.Aborted
       (said_by (Replied (cond b (reply.Verdict (recorded (record_of st task.t) (verdict_of (decision_of task outcome)))) reply.Down)) verdict.Aborted)
@@ -182,7 +183,8 @@ turns_served fixed txn_run ds s st asked v tells stands is recorded_so true deci
     let aborted : v ≡ verdict.Aborted = subst (Tells v) does.deciding tells in
     let t = txn_run.task.t in
     subst (λ asked. Turns txn_run.task v (cond (is_decide asked) (said_by (Replied (reply_of st asked)) v) v) (decided_at (Some st) (to_decide asked) (decided_as (Some txn_run.task) (answer_in (reply_of st asked))))) (sym does.decide)
-    (subst (λ v. Turns txn_run.task v (said_by (Replied (reply_of st (request.Decide t (decision_of txn_run.task does.outcome)))) v) (decided_at (Some st) (Some t) (decided_as (Some txn_run.task) (answer_in (reply_of st (request.Decide t (decision_of txn_run.task does.outcome))))))) (sym aborted)
+    (subst (λ v. Turns txn_run.task v (said_by (Replied (reply_of st (request.Decide t (decision_of txn_run.task does.outcome)))) v)
+    (decided_at (Some st) (Some t) (decided_as (Some txn_run.task) (answer_in (reply_of st (request.Decide t (decision_of txn_run.task does.outcome))))))) (sym aborted)
     (turns_decide txn_run.task ds st (subst (Stands ds t) aborted stands) (recorded_so t) does.outcome))
 
 -- ---- what a response leaves

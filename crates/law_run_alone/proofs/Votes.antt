@@ -149,12 +149,14 @@ IsOf change one = change one.0 ≡ Some one.1
 tied : (a b : ℕ) → nat_cmp a b ≡ Equal → a ≡ b
 tied a b is = eqb-true a b (sym (unsigned_tied a b) ∙ ap is_eq is)
 
-inserted : (change : ℕ → Option Change) (all : List (ℕ × Change)) (suite : ℕ) (made : Change) → change suite ≡ Some made → ((one : ℕ × Change) → Has all one → IsOf change one) → (one : ℕ × Change) → Has (insert nat_cmp all suite made) one → IsOf change one
+inserted : (change : ℕ → Option Change) (all : List (ℕ × Change)) (suite : ℕ) (made : Change) → change suite ≡ Some made → ((one : ℕ × Change) → Has all one → IsOf change one)
+    → (one : ℕ × Change) → Has (insert nat_cmp all suite made) one → IsOf change one
 inserted change [] suite made is each one has = ⊎_elim (λ same. subst (IsOf change) same is) (λ none. absurd none) has
 inserted change (e ∷ all) suite made is each one has =
     of (nat_cmp suite e.0) refl (subst (λ all. Has all one) (insert_step nat_cmp e all suite made (nat_cmp suite e.0) refl) has) (λ rest. inserted change all suite made is (λ one has. each one (inr has)) one rest)
   where
-    of : (answer : Ordering) → nat_cmp suite e.0 ≡ answer → Has (match_ordering answer ((suite, made) ∷ e ∷ all) ((e.0, made) ∷ all) (e ∷ insert nat_cmp all suite made)) one → (Has (insert nat_cmp all suite made) one → IsOf change one) → IsOf change one
+    of : (answer : Ordering) → nat_cmp suite e.0 ≡ answer → Has (match_ordering answer ((suite, made) ∷ e ∷ all) ((e.0, made) ∷ all) (e ∷ insert nat_cmp all suite made)) one
+        → (Has (insert nat_cmp all suite made) one → IsOf change one) → IsOf change one
     of Less at has later = ⊎_elim (λ same. subst (IsOf change) same is) (λ rest. each one rest) has
     of Equal at has later = ⊎_elim (λ same. subst (IsOf change) same (ap change (sym (tied suite e.0 at)) ∙ is)) (λ rest. each one (inr rest)) has
     of Greater at has later = ⊎_elim (λ same. each one (inl same)) later has
@@ -190,7 +192,8 @@ touched : (b : Bool) (found : Option Change) (change : Change) → cond b found 
 touched true found change is = is
 touched false found change is = absurd (none-some change is)
 
-module _ (fixed : Fixed) (c0 : IsValid fixed.service.c0) (before : Agent) (job : Job) (valid : JobGivesValidVotes job) (told' : List agents.Event) (suite : ℕ) (votes : Configuration) (sets : SetsVotes fixed before job told' suite votes) where
+module _ (fixed : Fixed) (c0 : IsValid fixed.service.c0) (before : Agent) (job : Job) (valid : JobGivesValidVotes job) (told' : List agents.Event) (suite : ℕ)
+    (votes : Configuration) (sets : SetsVotes fixed before job told' suite votes) where
   abbrev known : Known
   known = known_of sets.suites
 

@@ -45,7 +45,8 @@ MayAsk fixed C world (Lack i why) = Unit {0}
 
 -- what every request of a kind keeps of a server
 module _ (fixed : Fixed) (Q : ℕ → State → Type 0) (C : ℕ → Request → Type 0) (keeps : (s : ℕ) (st : State) (asked : Stamped Request) → C s asked.value → Q s st → Q s (serving.step st asked)) (world : World) (all : AllAt Q world) where
-  all_served : (s : ℕ) (st : State) (asked : Stamped Request) → server_at world s ≡ Some st → is_full st asked ≡ false → C s asked.value → (s' : ℕ) (st' : State) → slice_get (slice_set world.servers s (served st asked)) s' ≡ Some st' → Q s' st'
+  all_served : (s : ℕ) (st : State) (asked : Stamped Request) → server_at world s ≡ Some st → is_full st asked ≡ false → C s asked.value → (s' : ℕ) (st' : State)
+      → slice_get (slice_set world.servers s (served st asked)) s' ≡ Some st' → Q s' st'
   all_served s st asked at room of_kind s' st' is = elim (at_puts (slice_get world.servers) (slice_get (slice_set world.servers s (served st asked))) s st (served st asked) (puts_in world.servers s st (served st asked) at) s' st' is) [
     | inl here ↦ subst (λ s. Q s st') (sym here.at) (subst (Q s) (step_is st asked room ∙ sym here.is) (keeps s st asked of_kind (all s st at)))
     | inr there ↦ all s' st' there.was
@@ -62,7 +63,8 @@ module _ (fixed : Fixed) (Q : ℕ → State → Type 0) (C : ℕ → Request →
       stamped : Stamped Request
       stamped = record { stamp = 0; value = asked }
 
-  answered_all : (i : ℕ) (actor : Actor) (asked : ℕ × Request) (st : State) → C asked.0 asked.1 → server_at world asked.0 ≡ Some st → AllAt Q (answered fixed world i actor st (serve asked.0 st (record { stamp = actor.stamp; value = asked.1 }))).world
+  answered_all : (i : ℕ) (actor : Actor) (asked : ℕ × Request) (st : State) → C asked.0 asked.1 → server_at world asked.0 ≡ Some st
+      → AllAt Q (answered fixed world i actor st (serve asked.0 st (record { stamp = actor.stamp; value = asked.1 }))).world
   answered_all i actor asked st of_kind at =
       elim (is_full st stamped) as (λ b. is_full st stamped ≡ b → AllAt Q (answered fixed world i actor st (cond b None (Some (record { server = asked.0; request = stamped; reply = answer_of st stamped })))).world) [
         | true ↦ λ _. all
@@ -148,7 +150,8 @@ none_begins given j world (Lack i why) none = tt
 
 -- What holds of what an agent does after each response that it takes, as long as it begins nothing.
 module _ (given : Opening) (P : Option Doing → Type 0) (j : ℕ) (world : World)
-    (takes : (actor : Actor) (asked : ℕ × Request) (response : Response) → actor_at world j ≡ Some actor → next_of (fixed_of given) actor.agent ≡ Some asked → P (take_in (fixed_of given) actor.agent response actor.agent.doing (Some asked)).agent.doing)
+    (takes : (actor : Actor) (asked : ℕ × Request) (response : Response) → actor_at world j ≡ Some actor → next_of (fixed_of given) actor.agent ≡ Some asked
+    → P (take_in (fixed_of given) actor.agent response actor.agent.doing (Some asked)).agent.doing)
     (now : P (doing_at world j)) where
   put_doing : (servers : List State) (i : ℕ) (actor new : Actor) → actor_at world i ≡ Some actor → (i ≡ j → P new.agent.doing) → P (doing_at (with_actor i new (record world { servers = servers })) j)
   put_doing servers i actor new is here =
@@ -161,7 +164,8 @@ module _ (given : Opening) (P : Option Doing → Type 0) (j : ℕ) (world : Worl
   same_doing : (i : ℕ) (actor new : Actor) → actor_at world i ≡ Some actor → (i ≡ j → new.agent.doing ≡ actor.agent.doing) → P (doing_at (with_actor i new world) j)
   same_doing i actor new is same = put_doing world.servers i actor new is (λ at. subst P (ap (doing_at world) (sym at) ∙ ap doing_of is ∙ sym (same at)) now)
 
-  begin_doing : (i : ℕ) (job : Job) (found : Option Actor) → actor_at world i ≡ found → (i ≡ j → with_job job (begins_now (fixed_of given) i job found) ≡ None) → P (doing_at (becomes world i (λ agent. begin (fixed_of given) agent job) found).world j)
+  begin_doing : (i : ℕ) (job : Job) (found : Option Actor) → actor_at world i ≡ found → (i ≡ j → with_job job (begins_now (fixed_of given) i job found) ≡ None)
+      → P (doing_at (becomes world i (λ agent. begin (fixed_of given) agent job) found).world j)
   begin_doing i job None is none = now
   begin_doing i job (Some actor) is none = same_doing i actor (record actor { agent = begin (fixed_of given) actor.agent job }) is (λ at. begun_same given i job actor (none at))
 

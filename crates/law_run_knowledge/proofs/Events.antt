@@ -54,7 +54,24 @@ use Rattle.law_server_moves.specs.Laws.{beginning}
 use Rattle.law_server_moves.proofs.Opening.{opening_shows}
 use Rattle.law_server_moves.proofs.Replies.{replies_tell}
 use Rattle.law_run_machine.specs.Deciding.{decision_by}
-use Rattle.law_run_machine.specs.Machines.{servers_of, home_in, response_events, events_of, answered_events, asked_at_events, asked_events, step_events, lacks_for_events, lack_events, operated_events, operator_events, begin_events, moved, machine_from, machine_of}
+use Rattle.law_run_machine.specs.Machines.{
+  servers_of,
+  home_in,
+  response_events,
+  events_of,
+  answered_events,
+  asked_at_events,
+  asked_events,
+  step_events,
+  lacks_for_events,
+  lack_events,
+  operated_events,
+  operator_events,
+  begin_events,
+  moved,
+  machine_from,
+  machine_of,
+}
 use Rattle.law_run_machine.specs.Sides.{AnsweredWell, AsksAtWell, AsksWell, StepsWell, LacksForWell, LacksWell, KeepsSide, KeepSides}
 use Rattle.law_run_machine.proofs.Servers.{server_there, servers_set, servers_open}
 use Rattle.law_run_machine.proofs.Consistent.{AllConsistent, served_is, opening_consistent}
@@ -77,7 +94,8 @@ Hears phase number = (phase ≡ Gathering number) ⊎ ((left : List ℕ) × (gra
 had_none : (first : ReadPoint) (o : Option ReadPoint) → o ≡ Some first → o ≡ None → ⊥
 had_none first o is none = none-some first (sym none ∙ is)
 
-stands_narrow : (fixed : Fixed) (task : Task) (Old Now Loose : ℕ → Prefix → Type 0) (past : List Exchange) (suites : Suites) (phase : Phase) (number : ℕ) → Hears phase number → Stands fixed task Old Now Loose past suites phase → (suite : GatheredSuite) → suite_of suites number ≡ Some suite → IsNarrow suite
+stands_narrow : (fixed : Fixed) (task : Task) (Old Now Loose : ℕ → Prefix → Type 0) (past : List Exchange) (suites : Suites) (phase : Phase) (number : ℕ) → Hears phase number
+    → Stands fixed task Old Now Loose past suites phase → (suite : GatheredSuite) → suite_of suites number ≡ Some suite → IsNarrow suite
 stands_narrow fixed task Old Now Loose past suites (Gathering n) number (inl same) stands suite there none =
     let e : n ≡ number = cc in
     elim ((stands.2 suite (ap (suite_of suites) e ∙ there)).first) [ inl kept ↦ absurd (had_none kept.first suite.first kept.was none) | inr asks ↦ asks.1 ]
@@ -93,13 +111,15 @@ stands_narrow fixed task Old Now Loose past suites (Deciding outcome) number (in
 stands_narrow fixed task Old Now Loose past suites (Finishing servers v ending) number (inl same) stands suite there none = absurd cc
 stands_narrow fixed task Old Now Loose past suites (Finishing servers v ending) number (inr widens) stands suite there none = absurd (let same = widens.2 in cc)
 
-pub narrow_of : (fixed : Fixed) (agent : Agent) → IdleOr fixed agent → (txn_run : TransactionRun) → agent.doing ≡ Some (Running txn_run) → (asked : ℕ × Request) → request_of fixed txn_run ≡ Some asked → (number : ℕ) → Hears txn_run.phase number → (suite : GatheredSuite)
+pub narrow_of : (fixed : Fixed) (agent : Agent) → IdleOr fixed agent → (txn_run : TransactionRun) → agent.doing ≡ Some (Running txn_run) → (asked : ℕ × Request)
+    → request_of fixed txn_run ≡ Some asked → (number : ℕ) → Hears txn_run.phase number → (suite : GatheredSuite)
     → suite_of txn_run.suites number ≡ Some suite → IsNarrow suite
 narrow_of fixed agent (inl idle) txn_run running asked is number hears suite there none = absurd (let busy : is_idle (Some (Running txn_run)) ≡ true = ap is_idle (sym running) ∙ idle in cc)
 narrow_of fixed agent (inr job) txn_run running asked is number hears suite there none =
     let runs' : Runs fixed job.before job.job job.told txn_run =
     subst (DoingStands fixed job.before job.job job.told) (ap (λ (agent : Agent). agent.doing) (sym job.is) ∙ running) (stands_after fixed job.before job.job job.told job.idle) in
-    stands_narrow fixed txn_run.task (Started fixed job.before job.job job.told) (Started fixed job.before job.job job.told) (Begins fixed job.before job.job job.told) (of_job fixed job.before job.job job.told) txn_run.suites txn_run.phase number hears (runs'.stands asked is) suite there none
+    stands_narrow fixed txn_run.task (Started fixed job.before job.job job.told) (Started fixed job.before job.job job.told) (Begins fixed job.before job.job job.told)
+    (of_job fixed job.before job.job job.told) txn_run.suites txn_run.phase number hears (runs'.stands asked is) suite there none
 
 -- ---- a response
 
@@ -125,7 +145,8 @@ module _ (start : Beginning) (z : ℕ) (w : World) (inv : Inv start w) (fixed : 
   SaysDoing (Some (RunningSweep sweep_run)) asked response = Unit {0}
   SaysDoing None asked response = Unit {0}
 
-  take_fits : (agent : Agent) (response : Response) (doing : Option Doing) (asked : ℕ × Request) → agent.doing ≡ doing → next_in fixed doing ≡ Some asked → SaysDoing doing asked response → AgentFits z start w agent → AgentFits z start w (take_in fixed agent response doing (Some asked)).agent
+  take_fits : (agent : Agent) (response : Response) (doing : Option Doing) (asked : ℕ × Request) → agent.doing ≡ doing → next_in fixed doing ≡ Some asked
+      → SaysDoing doing asked response → AgentFits z start w agent → AgentFits z start w (take_in fixed agent response doing (Some asked)).agent
   take_fits agent response (Some (Running txn_run)) asked was is says fits =
       let doing : DoingFits z start w (Some (Running txn_run)) = subst (DoingFits z start w) was fits.doing in
       step_fits agent txn_run.task (after_response fixed txn_run agent.cache asked.0 asked.1 response)
@@ -164,11 +185,13 @@ module _ (start : Beginning) (z : ℕ) (w : World) (inv : Inv start w) (fixed : 
 abbrev pub AllFit : ℕ → Beginning → World → worlds.World → Type 0
 AllFit z start w world = (number : ℕ) (actor : Actor) → actor_at world number ≡ Some actor → AgentFits z start w actor.agent
 
-gathers_for : (fixed : Fixed) (task : Task) (suites : Suites) (phase : Phase) (number server : ℕ) (asked : Request) → Hears phase number → request_in fixed task suites phase ≡ Some (server, asked) → asked_for task number (suite_of suites number) ≡ Some (server, asked)
+gathers_for : (fixed : Fixed) (task : Task) (suites : Suites) (phase : Phase) (number server : ℕ) (asked : Request) → Hears phase number
+    → request_in fixed task suites phase ≡ Some (server, asked) → asked_for task number (suite_of suites number) ≡ Some (server, asked)
 gathers_for fixed task suites phase number server asked (inl same) is = ap (request_in fixed task suites) (sym same) ∙ is
 gathers_for fixed task suites phase number server asked (inr widens) is = ap (request_in fixed task suites) (sym widens.2) ∙ is
 
-module _ (given : Opening) (z : ℕ) (w : World) (world : worlds.World) (inv : Inv (beginning z given) w) (shows : Shows z (home_in given) (servers_of given world) w) (all : AllConsistent (servers_of given world)) (jobs : All (fixed_of given) world) where
+module _ (given : Opening) (z : ℕ) (w : World) (world : worlds.World) (inv : Inv (beginning z given) w) (shows : Shows z (home_in given) (servers_of given world) w)
+    (all : AllConsistent (servers_of given world)) (jobs : All (fixed_of given) world) where
   abbrev start : Beginning
   start = beginning z given
 
@@ -178,7 +201,8 @@ module _ (given : Opening) (z : ℕ) (w : World) (world : worlds.World) (inv : I
   tells : (i : ℕ) (st : State) (sent : Stamped Request) (later : World) → server_at world i ≡ Some st → is_full st sent ≡ false → Shows z (home_in given) (servers_of given (with_server i (served st sent) world)) later
       → steps.Tells z (home_in given) i w later sent.value (reply_of st sent.value)
   tells i st sent later there none shows_later =
-      subst (λ st. is_full st sent ≡ false → Shows z (home_in given) (set1 (servers_of given world) i (serving.step st sent)) later → steps.Tells z (home_in given) i w later sent.value (reply_of st sent.value)) (server_there given world i st there)
+      subst (λ st. is_full st sent ≡ false → Shows z (home_in given) (set1 (servers_of given world) i (serving.step st sent)) later
+      → steps.Tells z (home_in given) i w later sent.value (reply_of st sent.value)) (server_there given world i st there)
       (λ none shows_later. replies_tell z (home_in given) (servers_of given world) i w later sent shows none shows_later)
       none
       (subst (λ new. Shows z (home_in given) (set1 (servers_of given world) i new) later) (sym (served_is st sent none))
@@ -234,7 +258,8 @@ module _ (given : Opening) (z : ℕ) (w : World) (world : worlds.World) (inv : I
             (subst (λ n. asked_for txn_run.task n (suite_of txn_run.suites n) ≡ Some asked) here asks) obeys told heard (ap (said_to asked.1) (answers answer same) ∙ hears_so));
         gives = λ answer same t dver version content fetch given_so of_t some shown.
             let tells_so : steps.Tells z (home_in given) asked.0 w (run start w first) (request.Fetch t z) (reply.Given version content) =
-            subst (λ said. steps.Tells z (home_in given) asked.0 w (run start w first) (request.Fetch t z) said) (answers answer same ∙ given_so) (subst (λ request. steps.Tells z (home_in given) asked.0 w (run start w first) request said) fetch told) in
+            subst (λ said. steps.Tells z (home_in given) asked.0 w (run start w first) (request.Fetch t z) said) (answers answer same ∙ given_so)
+            (subst (λ request. steps.Tells z (home_in given) asked.0 w (run start w first) request said) fetch told) in
             gives_so start z (home_in given) (decision_by z w actor.agent.doing) asked.0 w inv later from_first t dver version content (tells_so refl) some (subst (λ t. ToldVersion later t asked.0 dver) (sym of_t) shown);
       }
       of (Some (RunningSweep sweep_run)) doing is = tt
@@ -243,20 +268,40 @@ module _ (given : Opening) (z : ℕ) (w : World) (world : worlds.World) (inv : I
   module _ (fits : AllFit z start w world) where
     -- ---- a request of an agent
 
-    lacked_fits : (number : ℕ) (actor : Actor) (why : Why) (asked : ℕ × Request) (stamp : ℕ) → actor_at world number ≡ Some actor → next_of (fixed_of given) actor.agent ≡ Some asked → Obeys start w (response_events given z actor (Lacked why))
-        → (m : ℕ) (x : Actor) → slice_get (slice_set world.agents number (worlds.moved actor stamp (take (fixed_of given) actor.agent (Lacked why)))) m ≡ Some x → AgentFits z start (run start w (response_events given z actor (Lacked why))) x.agent
+    lacked_fits : (number : ℕ) (actor : Actor) (why : Why) (asked : ℕ × Request) (stamp : ℕ) → actor_at world number ≡ Some actor
+        → next_of (fixed_of given) actor.agent ≡ Some asked → Obeys start w (response_events given z actor (Lacked why))
+        → (m : ℕ) (x : Actor) → slice_get (slice_set world.agents number (worlds.moved actor stamp (take (fixed_of given) actor.agent (Lacked why)))) m ≡ Some x
+        → AgentFits z start (run start w (response_events given z actor (Lacked why))) x.agent
     lacked_fits number actor why asked stamp there next well =
         let own = response_events given z actor (Lacked why) in
         let later = run start w own in
         let inv_later = all_steps start w inv own well in
         let l = lasts start w own inv well in
         set later l fits number actor (worlds.moved actor stamp (take (fixed_of given) actor.agent (Lacked why))) there
-        (taken_fits start z later inv_later (fixed_of given) (never later inv_later) actor.agent (Lacked why) asked next (lacked_says later inv_later number actor there why asked next) (agent_later z start w later l actor.agent (fits number actor there)))
+        (taken_fits start z later inv_later (fixed_of given) (never later inv_later) actor.agent (Lacked why) asked next
+        (lacked_says later inv_later number actor there why asked next) (agent_later z start w later l actor.agent (fits number actor there)))
 
-    answered_fits : (number : ℕ) (actor : Actor) (asked : ℕ × Request) (st : State) → actor_at world number ≡ Some actor → next_of (fixed_of given) actor.agent ≡ Some asked → server_at world asked.0 ≡ Some st → (b : Bool) → is_full st (record { stamp = actor.stamp; value = asked.1 }) ≡ b
+    answered_fits : (number : ℕ) (actor : Actor) (asked : ℕ × Request) (st : State) → actor_at world number ≡ Some actor → next_of (fixed_of given) actor.agent ≡ Some asked
+        → server_at world asked.0 ≡ Some st → (b : Bool) → is_full st (record { stamp = actor.stamp; value = asked.1 }) ≡ b
         → AnsweredWell given z w actor st (cond b None (Some (record { server = asked.0; request = record { stamp = actor.stamp; value = asked.1 }; reply = answer_of st (record { stamp = actor.stamp; value = asked.1 }) })))
-        → AllFit z start (run start w (answered_events given z w actor (cond b None (Some (record { server = asked.0; request = record { stamp = actor.stamp; value = asked.1 }; reply = answer_of st (record { stamp = actor.stamp; value = asked.1 }) })))))
-        (answered (fixed_of given) world number actor st (cond b None (Some (record { server = asked.0; request = record { stamp = actor.stamp; value = asked.1 }; reply = answer_of st (record { stamp = actor.stamp; value = asked.1 }) })))).world
+        → AllFit z start
+        (run start w
+        (answered_events given z w actor
+        (cond b None
+        (Some (record {
+          server = asked.0;
+          request = record { stamp = actor.stamp; value = asked.1 };
+          reply = answer_of st
+              (record { stamp = actor.stamp; value = asked.1 });
+        })))))
+        (answered (fixed_of given) world number actor st
+        (cond b None
+        (Some (record {
+          server = asked.0;
+          request = record { stamp = actor.stamp; value = asked.1 };
+          reply = answer_of st
+              (record { stamp = actor.stamp; value = asked.1 });
+        })))).world
     answered_fits number actor asked st there next at true is well = lacked_fits number actor lack.Full asked actor.stamp there next well
     answered_fits number actor asked st there next at false is well =
         let sent : Stamped Request = record { stamp = actor.stamp; value = asked.1 } in
@@ -276,7 +321,8 @@ module _ (given : Opening) (z : ℕ) (w : World) (world : worlds.World) (inv : I
         (taken_fits start z later inv_later (fixed_of given) (never later inv_later) actor.agent (Replied said) asked next
         (replied_says later inv_later number actor there asked said next follows.obeys told l (lasts start middle own inv_middle well.does)) (agent_later z start w later l actor.agent (fits number actor there))))
 
-    at_fits : (number : ℕ) (actor : Actor) (asked : ℕ × Request) → actor_at world number ≡ Some actor → next_of (fixed_of given) actor.agent ≡ Some asked → (o : Option State) → server_at world asked.0 ≡ o → AsksAtWell given z w actor asked o
+    at_fits : (number : ℕ) (actor : Actor) (asked : ℕ × Request) → actor_at world number ≡ Some actor → next_of (fixed_of given) actor.agent ≡ Some asked → (o : Option State)
+        → server_at world asked.0 ≡ o → AsksAtWell given z w actor asked o
         → AllFit z start (run start w (asked_at_events given z w actor asked o)) (asks_at (fixed_of given) world number actor asked o).world
     at_fits number actor asked there next (Some st) at well = answered_fits number actor asked st there next at (is_full st (record { stamp = actor.stamp; value = asked.1 })) refl well
     at_fits number actor asked there next None at well = fits
@@ -295,13 +341,16 @@ module _ (given : Opening) (z : ℕ) (w : World) (world : worlds.World) (inv : I
     lacks_fits number actor why there (Some asked) next well = lacked_fits number actor why asked actor.stamp there next well
     lacks_fits number actor why there None next well = fits
 
-    lack_fits : (number : ℕ) (why : Why) (o : Option Actor) → actor_at world number ≡ o → LacksWell given z w (Lacked why) o → AllFit z start (run start w (lack_events given z (Lacked why) o)) (lacks (fixed_of given) world number (Lacked why) o).world
+    lack_fits : (number : ℕ) (why : Why) (o : Option Actor) → actor_at world number ≡ o → LacksWell given z w (Lacked why) o
+        → AllFit z start (run start w (lack_events given z (Lacked why) o)) (lacks (fixed_of given) world number (Lacked why) o).world
     lack_fits number why (Some actor) there well = lacks_fits number actor why there (next_of (fixed_of given) actor.agent) refl well
     lack_fits number why None there well = fits
 
     -- ---- the operator
 
-    operated_fits : (i : ℕ) (asked : Request) (st : State) (b : Bool) → Obeys start w (operated_events given z w (cond b None (Some (record { server = i; request = record { stamp = 0; value = asked }; reply = answer_of st (record { stamp = 0; value = asked }) }))))
+    operated_fits : (i : ℕ) (asked : Request) (st : State) (b : Bool) → Obeys start w
+        (operated_events given z w
+        (cond b None (Some (record { server = i; request = record { stamp = 0; value = asked }; reply = answer_of st (record { stamp = 0; value = asked }) }))))
         → AllFit z start (run start w (operated_events given z w (cond b None (Some (record { server = i; request = record { stamp = 0; value = asked }; reply = answer_of st (record { stamp = 0; value = asked }) })))))
         (operated world st (cond b None (Some (record { server = i; request = record { stamp = 0; value = asked }; reply = answer_of st (record { stamp = 0; value = asked }) })))).world
     operated_fits i asked st true may = fits
@@ -313,7 +362,8 @@ module _ (given : Opening) (z : ℕ) (w : World) (world : worlds.World) (inv : I
 
     -- ---- what changes agents alone
 
-    begin_fits : (number : ℕ) (job : Job) (o : Option Actor) → actor_at world number ≡ o → Obeys start w (begin_events given z job o) → AllFit z start (run start w (begin_events given z job o)) (becomes world number (λ agent. begin (fixed_of given) agent job) o).world
+    begin_fits : (number : ℕ) (job : Job) (o : Option Actor) → actor_at world number ≡ o → Obeys start w (begin_events given z job o)
+        → AllFit z start (run start w (begin_events given z job o)) (becomes world number (λ agent. begin (fixed_of given) agent job) o).world
     begin_fits number job (Some actor) there may =
         let events = begin_events given z job (Some actor) in
         let later = run start w events in
@@ -339,12 +389,14 @@ module _ (given : Opening) (z : ℕ) (w : World) (world : worlds.World) (inv : I
 
 -- ---- runs
 
-fit_from : (given : Opening) (z : ℕ) (w : World) (world : worlds.World) (events : List happening.Event) → Inv (beginning z given) w → Shows z (home_in given) (servers_of given world) w → AllConsistent (servers_of given world) → All (fixed_of given) world
+fit_from : (given : Opening) (z : ℕ) (w : World) (world : worlds.World) (events : List happening.Event) → Inv (beginning z given) w
+    → Shows z (home_in given) (servers_of given world) w → AllConsistent (servers_of given world) → All (fixed_of given) world
     → AllFit z (beginning z given) w world → KeepSides given z w world events → AllFit z (beginning z given) (machine_from given z w world events) (runs.after (fixed_of given) world events)
 fit_from given z w world [] inv shows all jobs fits keep = fits
 fit_from given z w world (event ∷ events) inv shows all jobs fits keep =
     let comes = event_comes given z w world inv shows all event keep.0 in
-    fit_from given z (moved given z w world event) (step (fixed_of given) world event).world events (all_steps (beginning z given) w inv (events_of given z w world event) comes.obeys) comes.shows comes.consistent (event_all (fixed_of given) world jobs event)
+    fit_from given z (moved given z w world event) (step (fixed_of given) world event).world events
+    (all_steps (beginning z given) w inv (events_of given z w world event) comes.obeys) comes.shows comes.consistent (event_all (fixed_of given) world jobs event)
     (event_fits given z w world inv shows all jobs fits event keep.0) keep.1
 
 actor_fits : (z : ℕ) (begin' : Beginning) (w : World) (from count n : ℕ) (actor : Actor) → slice_get (actors_from from count) n ≡ Some actor → AgentFits z begin' w actor.agent

@@ -70,7 +70,8 @@ opens_one (e ∷ es) number suite content ordered there none =
 
 -- ---- what the executor needs is not there
 
-away : (fixed : Fixed) (task : Task) (suites : Suites) (number : ℕ) → heard_on fixed task suites ≡ exec.Need (Know number) → (suite : GatheredSuite) (first : ReadPoint) → suite_of suites number ≡ Some suite → suite.first ≡ Some first → is_some suite.content ≡ false
+away : (fixed : Fixed) (task : Task) (suites : Suites) (number : ℕ) → heard_on fixed task suites ≡ exec.Need (Know number) → (suite : GatheredSuite) (first : ReadPoint)
+    → suite_of suites number ≡ Some suite → suite.first ≡ Some first → is_some suite.content ≡ false
 away fixed task suites number is suite first there was =
     sym (ap known.is_opened (known_at suites number suite first there was))
     ∙ needs_what_is_unmet fixed.service (known_of suites) task.t task.caller task.ops (Know number)
@@ -88,13 +89,15 @@ record OneMore (all more : Gathered) : Type 0 where
   fewer : closed more.suites + 1 ≡ closed all.suites
 
 module _ (fixed : Fixed) (task : Task) (all : Gathered) (ordered : IsOrdered nat_cmp all.suites) where
-  with_content : (number : ℕ) (suite : GatheredSuite) (first : ReadPoint) (content : Option Content) (more : Gathered) → suite_of all.suites number ≡ Some suite → is_some suite.content ≡ false → opened_with task all number suite first content ≡ Some more → OneMore all more
+  with_content : (number : ℕ) (suite : GatheredSuite) (first : ReadPoint) (content : Option Content) (more : Gathered) → suite_of all.suites number ≡ Some suite
+      → is_some suite.content ≡ false → opened_with task all number suite first content ≡ Some more → OneMore all more
   with_content number suite first (Some content) more there none is =
       subst (λ (more : Gathered). OneMore all more) (same_Some _ more is)
       (record { ordered = IsOrdered-insert nat_cmp_total all.suites number (record suite { content = Some content }) ordered; fewer = opens_one all.suites number suite content ordered there none })
   with_content number suite first None more there none is = cc
 
-  at_first : (number : ℕ) (suite : GatheredSuite) (first : Option ReadPoint) (more : Gathered) → heard_on fixed task all.suites ≡ exec.Need (Know number) → suite_of all.suites number ≡ Some suite → suite.first ≡ first → open_first task all number suite first ≡ Some more → OneMore all more
+  at_first : (number : ℕ) (suite : GatheredSuite) (first : Option ReadPoint) (more : Gathered) → heard_on fixed task all.suites ≡ exec.Need (Know number)
+      → suite_of all.suites number ≡ Some suite → suite.first ≡ first → open_first task all number suite first ≡ Some more → OneMore all more
   at_first number suite (Some first) more needs there was is = with_content number suite first (free_content task all.cache number first) more there (away fixed task all.suites number needs suite first there was) is
   at_first number suite None more needs there was is = cc
 
@@ -124,7 +127,9 @@ all_opened : (n : ℕ) (fixed : Fixed) (task : Task) (all : Gathered) → IsOrde
 all_opened zero fixed task all ordered few = none_left fixed task all ordered few
 all_opened (suc n) fixed task all ordered few = of (open_needed task all (heard_on fixed task all.suites)) refl (λ more ordered few. all_opened n fixed task more ordered few)
   where
-    of : (found : Option Gathered) → open_needed task all (heard_on fixed task all.suites) ≡ found → ((more : Gathered) → IsOrdered nat_cmp more.suites → closed more.suites ≤ n → IsAsked fixed task (opened n fixed task more)) → IsAsked fixed task (or_all all found (λ all. opened n fixed task all))
+    of : (found : Option Gathered) → open_needed task all (heard_on fixed task all.suites) ≡ found
+        → ((more : Gathered) → IsOrdered nat_cmp more.suites → closed more.suites ≤ n → IsAsked fixed task (opened n fixed task more))
+        → IsAsked fixed task (or_all all found (λ all. opened n fixed task all))
     of (Some more) is later = let one = opens_more fixed task all ordered (heard_on fixed task all.suites) more refl is in later more one.ordered (let fewer = one.fewer in omega (arith, fewer, few))
     of None is later = λ number needs. sym (ap (open_needed task all) needs) ∙ is
 

@@ -75,7 +75,8 @@ module _ (start : Beginning) (z : ℕ) (home : ℕ → ℕ) (decision : Event) (
       (λ obeys. upgraded t prefix dver obeys.0 (tells refl)) obeys
 
   -- what asks for a lock of the suite
-  asked_tells : (P : Request → Type 0) (task : Task) (found : Option GatheredSuite) (server : ℕ) (asked : Request) → asked_for task z found ≡ Some (server, asked) → ((mode : LockMode) → P (request.Poll task.t z mode)) → P (request.Upgrade task.t z) → P asked
+  asked_tells : (P : Request → Type 0) (task : Task) (found : Option GatheredSuite) (server : ℕ) (asked : Request) → asked_for task z found ≡ Some (server, asked)
+      → ((mode : LockMode) → P (request.Poll task.t z mode)) → P (request.Upgrade task.t z) → P asked
   asked_tells P task None server asked is poll upgrade = cc
   asked_tells P task (Some suite) server asked is poll upgrade = of (next suite.collector) is
     where
@@ -90,11 +91,13 @@ module _ (start : Beginning) (z : ℕ) (home : ℕ → ℕ) (decision : Event) (
       asked_tells (HeldTells task.t prefix dver) task found server asked is (λ mode. poll_tells task.t mode prefix dver) (upgrade_tells task.t prefix dver)
 
   -- what a collector hears is what the machine told
-  pub says_so : (task : Task) (found : Option GatheredSuite) (server : ℕ) (asked : Request) (answer : Reply) → asked_for task z found ≡ Some (server, asked) → Obeys start w (moves z home decision i w asked answer) → Tells z home i w (run start w (moves z home decision i w asked answer)) asked answer
+  pub says_so : (task : Task) (found : Option GatheredSuite) (server : ℕ) (asked : Request) (answer : Reply) → asked_for task z found ≡ Some (server, asked)
+      → Obeys start w (moves z home decision i w asked answer) → Tells z home i w (run start w (moves z home decision i w asked answer)) asked answer
       → (heard : Said) → said_to asked answer ≡ Some heard → SaidIs ((run start w (moves z home decision i w asked answer)).told i task.t) heard
   says_so task found server asked (reply.Held prefix dver) is obeys tells heard says =
       subst (SaidIs ((run start w (moves z home decision i w asked (reply.Held prefix dver))).told i task.t)) (same_Some (said.Held prefix dver) heard says) (held_tells task found server asked prefix dver is obeys tells)
-  says_so task found server asked (reply.Busy holder prepared) is obeys tells heard says = subst (SaidIs ((run start w (moves z home decision i w asked (reply.Busy holder prepared))).told i task.t)) (same_Some (said.Busy holder) heard says) tt
+  says_so task found server asked (reply.Busy holder prepared) is obeys tells heard says = subst
+      (SaidIs ((run start w (moves z home decision i w asked (reply.Busy holder prepared))).told i task.t)) (same_Some (said.Busy holder) heard says) tt
   says_so task found server asked reply.Down is obeys tells heard says = of (is_poll asked) says
     where
       of : (b : Bool) → cond b (Some said.Down) None ≡ Some heard → SaidIs ((run start w (moves z home decision i w asked reply.Down)).told i task.t) heard

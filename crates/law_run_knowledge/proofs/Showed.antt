@@ -40,7 +40,8 @@ module _ (w : World) (t : ℕ) where
   showed [] server dver are some is = absurd (omega (arith, some, is))
   showed (last ∷ told) server dver are some is =
       elim (last.server == server) as (λ b. (last.server == server) ≡ b → cond b (version_in last.said (shown told server)) (shown told server) ≡ dver → ToldVersion w t server dver) [
-        | true ↦ λ same is. subst (λ server. ToldVersion w t server dver) (eqb-true last.server server same) (of last.said are.0 (λ is. subst (λ server. ToldVersion w t server dver) (sym (eqb-true last.server server same)) (showed told server dver are.1 some is)) is)
+        | true ↦ λ same is. subst (λ server. ToldVersion w t server dver) (eqb-true last.server server same)
+            (of last.said are.0 (λ is. subst (λ server. ToldVersion w t server dver) (sym (eqb-true last.server server same)) (showed told server dver are.1 some is)) is)
         | false ↦ λ _ is. showed told server dver are.1 some is
       ] refl is
     where
@@ -79,9 +80,11 @@ narrow_version c prefix dver members same is =
 -- ---- one more
 
 -- a reply is of the widening, once there is one
-pub told_one : (w : World) (t : ℕ) (one : collect.Told) (c : Collector) → SaidIs (w.told one.server t) one.said → AreTold (told_to w t) c.told → AreTold (told_to w t) (told_since c.widening) → AreTold (told_to w t) (tell one c).told × AreTold (told_to w t) (told_since (tell one c).widening)
+pub told_one : (w : World) (t : ℕ) (one : collect.Told) (c : Collector) → SaidIs (w.told one.server t) one.said → AreTold (told_to w t) c.told
+    → AreTold (told_to w t) (told_since c.widening) → AreTold (told_to w t) (tell one c).told × AreTold (told_to w t) (told_since (tell one c).widening)
 told_one w t one c said told since = of c.widening since
   where
-    of : (widening : Option Widening) → AreTold (told_to w t) (told_since widening) → AreTold (told_to w t) (tell_at widening one (record c { widening = widening })).told × AreTold (told_to w t) (told_since (tell_at widening one (record c { widening = widening })).widening)
+    of : (widening : Option Widening) → AreTold (told_to w t) (told_since widening) → AreTold (told_to w t)
+        (tell_at widening one (record c { widening = widening })).told × AreTold (told_to w t) (told_since (tell_at widening one (record c { widening = widening })).widening)
     of None since = ((said, told), tt)
     of (Some widening) since = (told, (said, since))

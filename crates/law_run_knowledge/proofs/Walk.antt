@@ -39,7 +39,49 @@ use Rattle.txn_core.specs.declared.ending.Cause.{Cause}
 use Rattle.txn_core.specs.declared.ending.Cause.TheVariants.{Lost}
 use Rattle.txn_core.specs.declared.ending.Ending.{Ending}
 use Rattle.txn_core.specs.Doing.{Granted, Fixed, Task, Proposal, Phase, Gathering, Fetching, Widening, Preparing, Deciding, Finishing, TransactionRun, After, GoesOn, Ends}
-use Rattle.txn_core.specs.Transactions.{Step, Gathered, tell_end, give_up, prepare, locked_at, short_cause, gather_by, start_from, widen_by, widen_one, widened, widen_all, opened, or_all, open_needed, open_suite, open_first, opened_with, free_content, after_search, heard_on, raised_or_new, keep_content, heard_of, said_to, proceed, execute, collected, hear, fetched, fetched_at, fetched_for, after_lack, after_response, given_in, lack_cause, verdict_in, ending_by, cause_of_abort, request_in}
+use Rattle.txn_core.specs.Transactions.{
+  Step,
+  Gathered,
+  tell_end,
+  give_up,
+  prepare,
+  locked_at,
+  short_cause,
+  gather_by,
+  start_from,
+  widen_by,
+  widen_one,
+  widened,
+  widen_all,
+  opened,
+  or_all,
+  open_needed,
+  open_suite,
+  open_first,
+  opened_with,
+  free_content,
+  after_search,
+  heard_on,
+  raised_or_new,
+  keep_content,
+  heard_of,
+  said_to,
+  proceed,
+  execute,
+  collected,
+  hear,
+  fetched,
+  fetched_at,
+  fetched_for,
+  after_lack,
+  after_response,
+  given_in,
+  lack_cause,
+  verdict_in,
+  ending_by,
+  cause_of_abort,
+  request_in,
+}
 use Rattle.txn_core.proofs.Asks.{asks_same}
 use Rattle.txn_core.proofs.Gathers.{Each, each_but, each_with, tell_start}
 use Rattle.txn_core.proofs.Cached.{given_is}
@@ -151,12 +193,14 @@ module _ (start : Beginning) (z : ℕ) (w : World) (copies : CopiesWere start w)
   fits_gather cache suites number (Ask server asked) kept fit = (kept, (refl, fit, tt))
   fits_gather cache suites number (Current prefix dver members) kept fit = (kept, (refl, fit, tt))
 
-  fits_widen_by : (cache : Cache) (suites : Suites) (left : List ℕ) (granted : Granted) (number : ℕ) (next : Next) (go_on : Suites → Step) → Kept cache → Fit suites → ((suites : Suites) → Fit suites → Fits (go_on suites)) → Fits (widen_by task cache suites (Widening left granted) number next go_on)
+  fits_widen_by : (cache : Cache) (suites : Suites) (left : List ℕ) (granted : Granted) (number : ℕ) (next : Next) (go_on : Suites → Step) → Kept cache → Fit suites
+      → ((suites : Suites) → Fit suites → Fits (go_on suites)) → Fits (widen_by task cache suites (Widening left granted) number next go_on)
   fits_widen_by cache suites left granted number (Current prefix dver members) go_on kept fit more = more suites fit
   fits_widen_by cache suites left granted number (Ask server asked) go_on kept fit more = (kept, (refl, fit, tt))
   fits_widen_by cache suites left granted number (Short got needed busy) go_on kept fit more = fits_give_up cache suites (short_cause number got needed busy) kept fit
 
-  fits_widen_one : (cache : Cache) (suites : Suites) (left : List ℕ) (granted : Granted) (number : ℕ) (found : Option GatheredSuite) (go_on : Suites → Step) → suite_of suites number ≡ found → Kept cache → Fit suites → ((suites : Suites) → Fit suites → Fits (go_on suites))
+  fits_widen_one : (cache : Cache) (suites : Suites) (left : List ℕ) (granted : Granted) (number : ℕ) (found : Option GatheredSuite) (go_on : Suites → Step)
+      → suite_of suites number ≡ found → Kept cache → Fit suites → ((suites : Suites) → Fit suites → Fits (go_on suites))
       → Fits (widen_one task cache suites (Widening left granted) granted.changes number found go_on)
   fits_widen_one cache suites left granted number (Some suite) go_on there kept fit more =
       let now = widened granted.changes number suite in
@@ -201,7 +245,8 @@ module _ (start : Beginning) (z : ℕ) (w : World) (copies : CopiesWere start w)
   AllFit all = Kept all.cache × Fit all.suites
 
   module _ (all : Gathered) (fits : AllFit all) where
-    with_content : (number : ℕ) (suite : GatheredSuite) (first : ReadPoint) (content : Option Content) (more : Gathered) → suite_of all.suites number ≡ Some suite → suite.first ≡ Some first → free_content task all.cache number first ≡ content → opened_with task all number suite first content ≡ Some more → AllFit more
+    with_content : (number : ℕ) (suite : GatheredSuite) (first : ReadPoint) (content : Option Content) (more : Gathered) → suite_of all.suites number ≡ Some suite
+        → suite.first ≡ Some first → free_content task all.cache number first ≡ content → opened_with task all number suite first content ≡ Some more → AllFit more
     with_content number suite first (Some content) more there was free is =
         let new : GatheredSuite = record suite { content = Some content } in
         let own : K number new = λ is.
@@ -246,7 +291,8 @@ module _ (start : Beginning) (z : ℕ) (w : World) (copies : CopiesWere start w)
 
   -- ---- replies
 
-  settled_was : (prefix : Prefix) (dver : ℕ) (members : List ℕ) (suite : GatheredSuite) → IsNarrow suite → next suite.collector ≡ Current prefix dver members → SuiteWas start w task.t suite → SuiteWas start w task.t (settled prefix dver members suite)
+  settled_was : (prefix : Prefix) (dver : ℕ) (members : List ℕ) (suite : GatheredSuite) → IsNarrow suite → next suite.collector ≡ Current prefix dver members
+      → SuiteWas start w task.t suite → SuiteWas start w task.t (settled prefix dver members suite)
   settled_was prefix dver members suite narrow is was = of suite.first refl
     where
       new : ReadPoint
@@ -286,7 +332,8 @@ module _ (start : Beginning) (z : ℕ) (w : World) (copies : CopiesWere start w)
   abbrev pub SaysTo : ℕ → Request → Reply → Type 0
   SaysTo server asked said = (heard : Said) → said_to asked said ≡ Some heard → SaidIs (w.told server task.t) heard
 
-  fits_heard : (cache : Cache) (suites : Suites) (phase : Phase) (number : ℕ) (found : Option GatheredSuite) (server : ℕ) (asked : Request) (said : Reply) (go_on : Suites → Step) → ((suites : Suites) → InPhase suites phase) → suite_of suites number ≡ found
+  fits_heard : (cache : Cache) (suites : Suites) (phase : Phase) (number : ℕ) (found : Option GatheredSuite) (server : ℕ) (asked : Request) (said : Reply) (go_on : Suites → Step)
+      → ((suites : Suites) → InPhase suites phase) → suite_of suites number ≡ found
       → (number ≡ z → (suite : GatheredSuite) → suite_of suites number ≡ Some suite → IsNarrow suite) → (number ≡ z → SaysTo server asked said) → Kept cache → Fit suites → ((suites : Suites) → Fit suites → Fits (go_on suites))
       → Fits (heard_of task cache suites phase number found server asked said go_on)
   fits_heard cache suites phase number None server asked said go_on any there narrow says kept fit more = fits_give_up cache suites (Lost server) kept fit
@@ -309,11 +356,13 @@ module _ (start : Beginning) (z : ℕ) (w : World) (copies : CopiesWere start w)
   abbrev pub Gives : ℕ → Request → Reply → Type 0
   Gives server asked said = (t dver given : ℕ) (content : Content) → asked ≡ request.Fetch t z → said ≡ reply.Given given content → t ≡ task.t → 0 < dver → ToldVersion w task.t server dver → WasContent start w.log dver content
 
-  fits_fetched : (cache : Cache) (suites : Suites) (number : ℕ) (server : ℕ) (asked : Request) (said : Reply) → request_in fixed task suites (Fetching number) ≡ Some (server, asked) → InPhase suites (Fetching number) → Gives server asked said → Kept cache → Fit suites
+  fits_fetched : (cache : Cache) (suites : Suites) (number : ℕ) (server : ℕ) (asked : Request) (said : Reply)
+      → request_in fixed task suites (Fetching number) ≡ Some (server, asked) → InPhase suites (Fetching number) → Gives server asked said → Kept cache → Fit suites
       → Fits (fetched fixed task cache suites number (suite_of suites number) server (given_in said))
   fits_fetched cache suites number server asked said is above gives kept fit = of (suite_of suites number) refl is (given_in said) refl
     where
-      keeps : (suite : GatheredSuite) (content : Content) (first : Option ReadPoint) → suite_of suites number ≡ Some suite → suite.first ≡ first → fetched_at task number first ≡ Some (server, asked) → given_in said ≡ Some content → Fits (keep_content fixed task cache suites number suite content first server)
+      keeps : (suite : GatheredSuite) (content : Content) (first : Option ReadPoint) → suite_of suites number ≡ Some suite → suite.first ≡ first
+          → fetched_at task number first ≡ Some (server, asked) → given_in said ≡ Some content → Fits (keep_content fixed task cache suites number suite content first server)
       keeps suite content None there was is told = fits_give_up cache suites (Lost server) kept fit
       keeps suite content (Some first) there was is told =
           let new : GatheredSuite = record suite { content = Some content } in
@@ -334,7 +383,8 @@ module _ (start : Beginning) (z : ℕ) (w : World) (copies : CopiesWere start w)
           } in
           fits_execute _ (put_kept number first content cache (λ here. ((fit.1 number suite there here).first first was, λ _. had here)) kept) (with_fit number new suites fit own)
 
-      of : (found : Option GatheredSuite) → suite_of suites number ≡ found → fetched_for task number found ≡ Some (server, asked) → (content : Option Content) → given_in said ≡ content → Fits (fetched fixed task cache suites number found server content)
+      of : (found : Option GatheredSuite) → suite_of suites number ≡ found → fetched_for task number found ≡ Some (server, asked) → (content : Option Content)
+          → given_in said ≡ content → Fits (fetched fixed task cache suites number found server content)
       of (Some suite) there is (Some content) told = keeps suite content suite.first there refl is told
       of (Some suite) there is None told = fits_give_up cache suites (Lost server) kept fit
       of None there is (Some content) told = fits_give_up cache suites (Lost server) kept fit
@@ -355,7 +405,8 @@ module _ (start : Beginning) (z : ℕ) (w : World) (copies : CopiesWere start w)
     pub says : (number : ℕ) → (phase ≡ Gathering number) ⊎ ((left : List ℕ) × (granted : Granted) × (phase ≡ Widening (number ∷ left) granted)) → number ≡ z → (said : Reply) → response ≡ Replied said → SaysTo server asked said
     pub gives : (said : Reply) → response ≡ Replied said → Gives server asked said
 
-  pub fits_response : (cache : Cache) (suites : Suites) (phase : Phase) (server : ℕ) (asked : Request) (response : Response) → request_in fixed task suites phase ≡ Some (server, asked) → InPhase suites phase → Says suites phase server asked response → Kept cache → Fit suites
+  pub fits_response : (cache : Cache) (suites : Suites) (phase : Phase) (server : ℕ) (asked : Request) (response : Response)
+      → request_in fixed task suites phase ≡ Some (server, asked) → InPhase suites phase → Says suites phase server asked response → Kept cache → Fit suites
       → Fits (after_response fixed (record { task = task; suites = suites; phase = phase }) cache server asked response)
   fits_response cache suites phase server asked (Lacked lacked) is above says kept fit = fits_lack cache suites phase server lacked kept fit
   fits_response cache suites (Gathering number) server asked (Replied said) is above says kept fit =
@@ -364,7 +415,8 @@ module _ (start : Beginning) (z : ℕ) (w : World) (copies : CopiesWere start w)
   fits_response cache suites (Fetching number) server asked (Replied said) is above says kept fit = fits_fetched cache suites number server asked said is above (says.gives said refl) kept fit
   fits_response cache suites (Widening [] granted) server asked (Replied said) is above says kept fit = fits_give_up cache suites (Lost server) kept fit
   fits_response cache suites (Widening (number ∷ left) granted) server asked (Replied said) is above says kept fit =
-      fits_heard cache suites (Widening (number ∷ left) granted) number (suite_of suites number) server asked said _ (λ suites. tt) refl (says.narrow number (inr (left, granted, refl))) (λ here. says.says number (inr (left, granted, refl)) here said refl) kept fit
+      fits_heard cache suites (Widening (number ∷ left) granted) number (suite_of suites number) server asked said _ (λ suites. tt) refl
+      (says.narrow number (inr (left, granted, refl))) (λ here. says.says number (inr (left, granted, refl)) here said refl) kept fit
       (λ suites fit. fits_widen cache suites granted left kept fit)
   fits_response cache suites (Preparing [] outcome) server asked (Replied said) is above says kept fit = fits_give_up cache suites (Lost server) kept fit
   fits_response cache suites (Preparing (now ∷ left) outcome) server asked (Replied said) is above says kept fit = of (is_prepared said)

@@ -29,7 +29,10 @@ ServingKeeps given P = (world : World) (i : ℕ) (st : State) (asked : Stamped R
 module _ (given : Opening) (P : (ℕ → State) → Type 0) (keeps : ServingKeeps given P) where
   module _ (world : World) (holds : P (servers_of given world)) where
     at : (number : ℕ) (actor : Actor) (i : ℕ) (asked : Request) (st : State) → server_at world i ≡ Some st → (b : Bool) → is_full st (record { stamp = actor.stamp; value = asked }) ≡ b
-        → P (servers_of given (answered (fixed_of given) world number actor st (cond b None (Some (record { server = i; request = record { stamp = actor.stamp; value = asked }; reply = answer_of st (record { stamp = actor.stamp; value = asked }) })))).world)
+        → P
+        (servers_of given (answered (fixed_of given) world number actor st
+        (cond b None
+        (Some (record { server = i; request = record { stamp = actor.stamp; value = asked }; reply = answer_of st (record { stamp = actor.stamp; value = asked }) })))).world)
     at number actor i asked st there true is = holds
     at number actor i asked st there false is = keeps world i st (record { stamp = actor.stamp; value = asked }) there is holds
 

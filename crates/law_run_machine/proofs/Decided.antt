@@ -72,11 +72,14 @@ module _ (start : Beginning) (w : World) (t : ℕ) (undecided : w.verdict t ≡ 
   without (Ok granted) untold = record { undecided = undecided; going = going; untold = untold }
   without (Err refusal) untold = record { undecided = undecided; going = going; untold = untold }
 
-  by_first : (outcome : Proposal) (new : Option Change) (suite : GatheredSuite) (first : Option ReadPoint) → (first ≡ None → ⊥) → w.aim t ≡ new → ((refusal : _) → outcome ≡ Err refusal → new ≡ None) → OwesFirst start w t outcome new suite first → May start w (decides_first w t outcome new suite first)
+  by_first : (outcome : Proposal) (new : Option Change) (suite : GatheredSuite) (first : Option ReadPoint) → (first ≡ None → ⊥) → w.aim t ≡ new
+      → ((refusal : _) → outcome ≡ Err refusal → new ≡ None) → OwesFirst start w t outcome new suite first → May start w (decides_first w t outcome new suite first)
   by_first outcome new suite (Some first) had aimed none owes = with_known (known_by first suite) outcome new aimed none owes
   by_first outcome new suite None had aimed none owes = absurd (had refl)
 
-  by_suite : (outcome : Proposal) (new : Option Change) (found : Option GatheredSuite) → ((suite : GatheredSuite) → found ≡ Some suite → suite.first ≡ None → ⊥) → w.aim t ≡ new → ((refusal : _) → outcome ≡ Err refusal → new ≡ None) → ((i : ℕ) → is_some (w.told i t) ≡ holds Shared (told_in found) i) → Owes start w t outcome new found → May start w (decides_on w t outcome new found)
+  by_suite : (outcome : Proposal) (new : Option Change) (found : Option GatheredSuite) → ((suite : GatheredSuite) → found ≡ Some suite → suite.first ≡ None → ⊥) → w.aim t ≡ new
+      → ((refusal : _) → outcome ≡ Err refusal → new ≡ None) → ((i : ℕ) → is_some (w.told i t) ≡ holds Shared (told_in found) i) → Owes start w t outcome new found
+      → May start w (decides_on w t outcome new found)
   by_suite outcome new (Some suite) had aimed none told owes = by_first outcome new suite suite.first (had suite refl) aimed none owes
   by_suite outcome new None had aimed none told owes = without outcome (λ i. told_none (w.told i t) (told i))
 
@@ -89,7 +92,8 @@ writes_none : (z : ℕ) (suites : Suites) (outcome : Proposal) (refusal : _) →
 writes_none z suites (Err other) refusal is = refused_none (first_of (suite_of suites z))
 writes_none z suites (Ok granted) refusal is = cc
 
-pub may_decide : (start : Beginning) (z : ℕ) (w : World) (task : Task) (suites : Suites) (outcome : Proposal) → Going w task.t → w.aim task.t ≡ to_write z suites outcome → ToldAs z w task.t suites → w.verdict task.t ≡ None → ((i : ℕ) (told : Told) → w.told i task.t ≡ Some told → (left : Option Replica) × (w.ready i task.t ≡ Some left))
+pub may_decide : (start : Beginning) (z : ℕ) (w : World) (task : Task) (suites : Suites) (outcome : Proposal) → Going w task.t → w.aim task.t ≡ to_write z suites outcome
+    → ToldAs z w task.t suites → w.verdict task.t ≡ None → ((i : ℕ) (told : Told) → w.told i task.t ≡ Some told → (left : Option Replica) × (w.ready i task.t ≡ Some left))
     → ((suite : GatheredSuite) → suite_of suites z ≡ Some suite → suite.first ≡ None → ⊥) → Owes start w task.t outcome (to_write z suites outcome) (suite_of suites z) → May start w (decision_with z w task suites outcome)
 may_decide start z w task suites outcome going aimed told undecided prepared had owes =
     by_suite start w task.t undecided going.gave_up prepared outcome (to_write z suites outcome) (suite_of suites z) had aimed (writes_none z suites outcome) told owes
@@ -99,7 +103,10 @@ pub some_of : {X : Type 0} (o : Option X) → is_some o ≡ true → (x : X) × 
 some_of None is = absurd (false≢true is)
 some_of (Some x) is = (x, refl)
 
-pub may_of : (start : Beginning) (z : ℕ) (w : World) (n count : ℕ) (doing : Option Doing) → IsDoing z w n count doing → IsReadying z w doing → ToldBelow w → ((txn_run : TransactionRun) (outcome : Proposal) → doing ≡ Some (Running txn_run) → txn_run.phase ≡ Deciding outcome → (suite : GatheredSuite) → suite_of txn_run.suites z ≡ Some suite → suite.first ≡ None → ⊥) → (txn_run : TransactionRun) (outcome : Proposal) → doing ≡ Some (Running txn_run) → txn_run.phase ≡ Deciding outcome → w.verdict txn_run.task.t ≡ None
+pub may_of : (start : Beginning) (z : ℕ) (w : World) (n count : ℕ) (doing : Option Doing) → IsDoing z w n count doing → IsReadying z w doing → ToldBelow w
+    → ((txn_run : TransactionRun) (outcome : Proposal) → doing ≡ Some (Running txn_run) → txn_run.phase ≡ Deciding outcome → (suite : GatheredSuite)
+    → suite_of txn_run.suites z ≡ Some suite → suite.first ≡ None → ⊥) → (txn_run : TransactionRun) (outcome : Proposal) → doing ≡ Some (Running txn_run)
+    → txn_run.phase ≡ Deciding outcome → w.verdict txn_run.task.t ≡ None
     → Owes start w txn_run.task.t outcome (to_write z txn_run.suites outcome) (suite_of txn_run.suites z) → May start w (decision_with z w txn_run.task txn_run.suites outcome)
 may_of start z w n count doing is readying below had txn_run outcome same phase undecided owes =
     let in' : InCourse z w n count txn_run = subst (IsDoing z w n count) same is in

@@ -33,7 +33,23 @@ use Rattle.law_server_moves.specs.Laws.{beginning}
 use Rattle.law_server_moves.proofs.Steps.{each_step_moves}
 use Rattle.law_server_moves.proofs.Opening.{opening_shows}
 use Rattle.law_run_machine.specs.Deciding.{decision_by}
-use Rattle.law_run_machine.specs.Machines.{servers_of, home_in, response_events, begin_events, answered_events, asked_at_events, asked_events, step_events, lacks_for_events, lack_events, operated_events, operator_events, events_of, machine_from, history_from}
+use Rattle.law_run_machine.specs.Machines.{
+  servers_of,
+  home_in,
+  response_events,
+  begin_events,
+  answered_events,
+  asked_at_events,
+  asked_events,
+  step_events,
+  lacks_for_events,
+  lack_events,
+  operated_events,
+  operator_events,
+  events_of,
+  machine_from,
+  history_from,
+}
 use Rattle.law_run_machine.specs.Sides.{AnsweredWell, AsksAtWell, AsksWell, StepsWell, LacksForWell, LacksWell, KeepsSide, KeepSides}
 use Rattle.law_run_machine.specs.Laws.{MachinesFollow}
 use Rattle.law_run_machine.proofs.Servers.{servers_set, server_there, servers_open}
@@ -66,7 +82,9 @@ module _ (given : Opening) (z : ℕ) (w : World) (world : worlds.World) (inv : I
       at_state : (st : State) → servers_of given world i ≡ st → AgentSide (beginning z given) z (home_in given) (decision_by z w doing) i st.locks w asked.value → is_full st asked ≡ false
           → steps.Follows (beginning z given) z (home_in given) (set1 (servers_of given world) i (serving.step st asked)) w (moves z (home_in given) (decision_by z w doing) i w asked.value (reply_of st asked.value))
       at_state st here agent none =
-          subst (λ st. AgentSide (beginning z given) z (home_in given) (decision_by z w doing) i st.locks w asked.value → is_full st asked ≡ false → steps.Follows (beginning z given) z (home_in given) (set1 (servers_of given world) i (serving.step st asked)) w (moves z (home_in given) (decision_by z w doing) i w asked.value (reply_of st asked.value))) here
+          subst (λ st. AgentSide (beginning z given) z (home_in given) (decision_by z w doing) i st.locks w asked.value → is_full st asked ≡ false
+          → steps.Follows (beginning z given) z (home_in given) (set1 (servers_of given world) i (serving.step st asked)) w
+          (moves z (home_in given) (decision_by z w doing) i w asked.value (reply_of st asked.value))) here
           (λ agent none. each_step_moves (beginning z given) z (home_in given) (servers_of given world) i w (decision_by z w doing) asked shows (all i) (λ t untold. inv.sound.asked i t untold) agent none)
           agent none
 
@@ -89,11 +107,13 @@ module _ (given : Opening) (z : ℕ) (w : World) (world : worlds.World) (inv : I
       record {
         obeys = obeys-append (beginning z given) w first own moved.obeys well.does;
         shows = subst (Shows z (home_in given) (servers_of given (with_server i (served st sent) world))) (sym (run-append (beginning z given) w first own))
-            (own_shows (beginning z given) z (home_in given) (servers_of given (with_server i (served st sent) world)) actor.agent.doing (take (fixed_of given) actor.agent (Replied (reply_of st asked))) (run (beginning z given) w first) moved.shows);
+            (own_shows (beginning z given) z (home_in given) (servers_of given (with_server i (served st sent) world)) actor.agent.doing
+            (take (fixed_of given) actor.agent (Replied (reply_of st asked))) (run (beginning z given) w first) moved.shows);
         consistent = consistent_serving given world i st sent there is all;
       }
 
-  at_comes : (number : ℕ) (actor : Actor) (asked : ℕ × Request) (o : Option State) → server_at world asked.0 ≡ o → AsksAtWell given z w actor asked o → Comes given z w (asked_at_events given z w actor asked o) (asks_at (fixed_of given) world number actor asked o).world
+  at_comes : (number : ℕ) (actor : Actor) (asked : ℕ × Request) (o : Option State) → server_at world asked.0 ≡ o → AsksAtWell given z w actor asked o
+      → Comes given z w (asked_at_events given z w actor asked o) (asks_at (fixed_of given) world number actor asked o).world
   at_comes number actor asked (Some st) there well = answered_comes number actor asked.0 asked.1 st there (is_full st (record { stamp = actor.stamp; value = asked.1 })) refl well
   at_comes number actor asked None there well = nothing
 
@@ -107,7 +127,8 @@ module _ (given : Opening) (z : ℕ) (w : World) (world : worlds.World) (inv : I
 
   -- ---- a request that is not served
 
-  lacks_for_comes : (number : ℕ) (actor : Actor) (response : Response) (o : Option (ℕ × Request)) → LacksForWell given z w actor response o → Comes given z w (lacks_for_events given z actor response o) (lacks_for (fixed_of given) world number actor response o).world
+  lacks_for_comes : (number : ℕ) (actor : Actor) (response : Response) (o : Option (ℕ × Request)) → LacksForWell given z w actor response o
+      → Comes given z w (lacks_for_events given z actor response o) (lacks_for (fixed_of given) world number actor response o).world
   lacks_for_comes number actor response (Some asked) well = record {
     obeys = well;
     shows = own_shows (beginning z given) z (home_in given) (servers_of given world) actor.agent.doing (take (fixed_of given) actor.agent response) w shows;
@@ -121,7 +142,8 @@ module _ (given : Opening) (z : ℕ) (w : World) (world : worlds.World) (inv : I
 
   -- ---- the operator
 
-  operated_comes : (i : ℕ) (asked : Request) (st : State) → server_at world i ≡ Some st → AgentSide (beginning z given) z (home_in given) (decision_by z w None) i st.locks w asked → (b : Bool) → is_full st (record { stamp = 0; value = asked }) ≡ b
+  operated_comes : (i : ℕ) (asked : Request) (st : State) → server_at world i ≡ Some st → AgentSide (beginning z given) z (home_in given) (decision_by z w None) i st.locks w asked
+      → (b : Bool) → is_full st (record { stamp = 0; value = asked }) ≡ b
       → Comes given z w (operated_events given z w (cond b None (Some (record { server = i; request = record { stamp = 0; value = asked }; reply = answer_of st (record { stamp = 0; value = asked }) }))))
       (operated world st (cond b None (Some (record { server = i; request = record { stamp = 0; value = asked }; reply = answer_of st (record { stamp = 0; value = asked }) })))).world
   operated_comes i asked st there agent true is = nothing
@@ -166,7 +188,8 @@ pub record All (given : Opening) (z : ℕ) (w : World) (world : worlds.World) (e
   pub is : machine_from given z w world events ≡ run (beginning z given) w (history_from given z w world events)
   pub shows : Shows z (home_in given) (servers_of given (after (fixed_of given) world events)) (machine_from given z w world events)
 
-pub all_come : (given : Opening) (z : ℕ) (w : World) (world : worlds.World) (events : List happening.Event) → Inv (beginning z given) w → Shows z (home_in given) (servers_of given world) w → AllConsistent (servers_of given world) → KeepSides given z w world events → All given z w world events
+pub all_come : (given : Opening) (z : ℕ) (w : World) (world : worlds.World) (events : List happening.Event) → Inv (beginning z given) w
+    → Shows z (home_in given) (servers_of given world) w → AllConsistent (servers_of given world) → KeepSides given z w world events → All given z w world events
 all_come given z w world [] inv shows all keep = record { obeys = tt; is = refl; shows = shows }
 all_come given z w world (event ∷ events) inv shows all keep =
     let first = events_of given z w world event in

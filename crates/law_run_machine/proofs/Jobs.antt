@@ -47,7 +47,15 @@ begins : (fixed : Fixed) (agent : Agent) (job : Job) → IdleOr fixed agent → 
 begins fixed agent job (inl idle) = inr (record { before = agent; job = job; told = []; idle = idle; is = refl })
 begins fixed agent job (inr is) =
     elim (is_idle agent.doing) as (λ b. is_idle agent.doing ≡ b → IdleOr fixed (cond (b && has_sense fixed job && nat_lt agent.count max_jobs) (record (started fixed agent job) { count = agent.count + 1 }) agent)) [
-      | true ↦ λ idle. inr (record { before = agent; job = job; told = []; idle = idle; is = ap (λ b. cond (b && has_sense fixed job && nat_lt agent.count max_jobs) (record (started fixed agent job) { count = agent.count + 1 }) agent) (sym idle) })
+      | true ↦ λ idle. inr
+          (record {
+            before = agent;
+            job = job;
+            told = [];
+            idle = idle;
+            is = ap
+                (λ b. cond (b && has_sense fixed job && nat_lt agent.count max_jobs) (record (started fixed agent job) { count = agent.count + 1 }) agent) (sym idle);
+          })
       | false ↦ λ _. inr is
     ] refl
 
@@ -84,7 +92,8 @@ agents_are_of_jobs given events number actor there busy =
 none_first : (first : ReadPoint) (o : Option ReadPoint) → o ≡ Some first → o ≡ None → ⊥
 none_first first o is none = none-some first (sym none ∙ is)
 
-pub firsts : (fixed : Fixed) (agent : Agent) (z : ℕ) → IdleOr fixed agent → (txn_run : TransactionRun) (outcome : Proposal) → agent.doing ≡ Some (Running txn_run) → txn_run.phase ≡ Deciding outcome → (suite : GatheredSuite) → suite_of txn_run.suites z ≡ Some suite → suite.first ≡ None → ⊥
+pub firsts : (fixed : Fixed) (agent : Agent) (z : ℕ) → IdleOr fixed agent → (txn_run : TransactionRun) (outcome : Proposal) → agent.doing ≡ Some (Running txn_run)
+    → txn_run.phase ≡ Deciding outcome → (suite : GatheredSuite) → suite_of txn_run.suites z ≡ Some suite → suite.first ≡ None → ⊥
 firsts fixed agent z (inl idle) txn_run outcome running phase suite there none = absurd (false≢true (ap is_idle (sym running) ∙ idle))
 firsts fixed agent z (inr is) txn_run outcome running phase suite there none =
     let ready = decides_on_quorums fixed is.before is.job is.told txn_run outcome z suite is.idle (ap (λ (agent : Agent). agent.doing) (sym is.is) ∙ running) phase there in

@@ -68,7 +68,9 @@ returned_of : (t z : ℕ) (home : ℕ → ℕ) (decision : Event) (i : ℕ) (w :
 returned_of t z home decision i w reply.Done = tt
 returned_of t z home decision i w _ = tt
 
-module _ (given : Opening) (z : ℕ) (w : World) (world : worlds.World) (inv : Inv (beginning z given) w) (shows : Shows z (home_in given) (servers_of given world) w) (all : AllConsistent (servers_of given world)) (linked : AllLinked z w world) (owed : Owed given z w world) (waiting : AllWaiting given world) (readied : Readied z w world) (jobs : All (fixed_of given) world) where
+module _ (given : Opening) (z : ℕ) (w : World) (world : worlds.World) (inv : Inv (beginning z given) w) (shows : Shows z (home_in given) (servers_of given world) w)
+    (all : AllConsistent (servers_of given world)) (linked : AllLinked z w world) (owed : Owed given z w world) (waiting : AllWaiting given world) (readied : Readied z w world)
+    (jobs : All (fixed_of given) world) where
   abbrev first : Beginning
   first = beginning z given
 
@@ -83,10 +85,22 @@ module _ (given : Opening) (z : ℕ) (w : World) (world : worlds.World) (inv : I
 
   -- ---- a request of an agent
 
-  answered_next : (number : ℕ) (actor : Actor) (asked : ℕ × Request) (st : State) → actor_at world number ≡ Some actor → next_of (fixed_of given) actor.agent ≡ Some asked → server_at world asked.0 ≡ Some st → (b : Bool) → is_full st (record { stamp = actor.stamp; value = asked.1 }) ≡ b
+  answered_next : (number : ℕ) (actor : Actor) (asked : ℕ × Request) (st : State) → actor_at world number ≡ Some actor → next_of (fixed_of given) actor.agent ≡ Some asked
+      → server_at world asked.0 ≡ Some st → (b : Bool) → is_full st (record { stamp = actor.stamp; value = asked.1 }) ≡ b
       → AnsweredWell given z w actor st (cond b None (Some (record { server = asked.0; request = record { stamp = actor.stamp; value = asked.1 }; reply = answer_of st (record { stamp = actor.stamp; value = asked.1 }) })))
-      × AllLinked z (run first w (answered_events given z w actor (cond b None (Some (record { server = asked.0; request = record { stamp = actor.stamp; value = asked.1 }; reply = answer_of st (record { stamp = actor.stamp; value = asked.1 }) })))))
-      (answered (fixed_of given) world number actor st (cond b None (Some (record { server = asked.0; request = record { stamp = actor.stamp; value = asked.1 }; reply = answer_of st (record { stamp = actor.stamp; value = asked.1 }) })))).world
+      × AllLinked z
+      (run first w
+      (answered_events given z w actor
+      (cond b None
+      (Some (record { server = asked.0; request = record { stamp = actor.stamp; value = asked.1 }; reply = answer_of st (record { stamp = actor.stamp; value = asked.1 }) })))))
+      (answered (fixed_of given) world number actor st
+      (cond b None
+      (Some (record {
+        server = asked.0;
+        request = record { stamp = actor.stamp; value = asked.1 };
+        reply = answer_of st
+            (record { stamp = actor.stamp; value = asked.1 });
+      })))).world
   answered_next number actor asked st there next at true is =
       let was = linked number actor there in
       let it = turn first z w w number actor.agent.count (fixed_of given) actor.agent asked (Lacked lack.Full) next was.1.doing (lacked_concerns given z w world inv shows all number actor.agent.count actor.agent.doing asked lack.Full) in
@@ -102,9 +116,12 @@ module _ (given : Opening) (z : ℕ) (w : World) (world : worlds.World) (inv : I
       let said = reply_of st asked.1 in
       let events = served_at given z w world inv shows all number actor.agent.count actor.agent.doing asked st in
       let side = asks_well given z w world inv shows all number actor.agent.count actor.agent.doing asked st.locks next was.1.doing
-      (λ txn_run outcome doing phase undecided. may_of first z w number actor.agent.count actor.agent.doing was.1.doing (readied.agents number actor there) readied.below (firsts (fixed_of given) actor.agent z (jobs number actor there)) txn_run outcome doing phase undecided (owed.decides number actor txn_run outcome there doing phase undecided))
+      (λ txn_run outcome doing phase undecided. may_of first z w number actor.agent.count actor.agent.doing was.1.doing (readied.agents number actor there) readied.below
+      (firsts (fixed_of given) actor.agent z (jobs number actor there)) txn_run outcome doing phase undecided
+      (owed.decides number actor txn_run outcome there doing phase undecided))
       (λ txn_run now left outcome doing phase same.
-      subst (λ (st : State). has_prepared txn_run.task.t st.locks ≡ false) (ap (servers_of given world) same ∙ server_there given world asked.0 st at) (waits_first (servers_of given world) actor.agent.doing (waiting number actor there).now txn_run doing now left outcome phase)) in
+      subst (λ (st : State). has_prepared txn_run.task.t st.locks ≡ false) (ap (servers_of given world) same ∙ server_there given world asked.0 st at)
+      (waits_first (servers_of given world) actor.agent.doing (waiting number actor there).now txn_run doing now left outcome phase)) in
       let follows = serves given z w world inv shows all actor.agent.doing asked.0 st (record { stamp = actor.stamp; value = asked.1 }) at is side in
       let later = run first w events in
       let concerns = served_concerns given z w world inv shows all number actor.agent.count actor.agent.doing asked actor.stamp st next was.1.doing at is follows.obeys follows.shows in
@@ -112,7 +129,14 @@ module _ (given : Opening) (z : ℕ) (w : World) (world : worlds.World) (inv : I
       let taken = take (fixed_of given) actor.agent (Replied said) in
       let own = own_events z actor.agent.doing taken in (
         record { asks = side; does = it.does },
-        subst (λ w. AllLinked z w (answered (fixed_of given) world number actor st (Some (record { server = asked.0; request = record { stamp = actor.stamp; value = asked.1 }; reply = answer_of st (record { stamp = actor.stamp; value = asked.1 }) }))).world) (sym (run-append first w events own))
+        subst
+            (λ w. AllLinked z w (answered (fixed_of given) world number actor st
+            (Some (record {
+              server = asked.0;
+              request = record { stamp = actor.stamp; value = asked.1 };
+              reply = answer_of st
+                  (record { stamp = actor.stamp; value = asked.1 });
+            }))).world) (sym (run-append first w events own))
             (all_linked z w (run first later own) world number actor (worlds.moved actor (answer_of st (record { stamp = actor.stamp; value = asked.1 })).stamp taken) there was.0 linked
             (turned first z w later number (fixed_of given) actor.agent (Replied said) was.0 was.1 it)
             (subst (Stays w) (run-append first w events own) (stays_for (events ++ own) (obeys-append first w events own follows.obeys it.does)))
@@ -149,7 +173,8 @@ module _ (given : Opening) (z : ℕ) (w : World) (world : worlds.World) (inv : I
       )
   lacks_for_next number actor why there None next = (tt, linked)
 
-  lack_next : (number : ℕ) (why : _) (o : Option Actor) → actor_at world number ≡ o → LacksWell given z w (Lacked why) o × AllLinked z (run first w (lack_events given z (Lacked why) o)) (lacks (fixed_of given) world number (Lacked why) o).world
+  lack_next : (number : ℕ) (why : _) (o : Option Actor) → actor_at world number ≡ o → LacksWell given z w (Lacked why) o × AllLinked z
+      (run first w (lack_events given z (Lacked why) o)) (lacks (fixed_of given) world number (Lacked why) o).world
   lack_next number why (Some actor) there = lacks_for_next number actor why there (next_of (fixed_of given) actor.agent) refl
   lack_next number why None there = (tt, linked)
 
@@ -158,8 +183,17 @@ module _ (given : Opening) (z : ℕ) (w : World) (world : worlds.World) (inv : I
   crash_next : (i : ℕ) (o : Option State) → Obeys first w (operator_events given z w i request.Crash o) → AllLinked z (run first w (operator_events given z w i request.Crash o)) (operates world i request.Crash o).world
   crash_next i None obeys = linked
   crash_next i (Some st) obeys =
-      elim (is_full st (record { stamp = 0; value = request.Crash })) as (λ b. Obeys first w (operated_events given z w (cond b None (Some (record { server = i; request = record { stamp = 0; value = request.Crash }; reply = answer_of st (record { stamp = 0; value = request.Crash }) }))))
-      → AllLinked z (run first w (operated_events given z w (cond b None (Some (record { server = i; request = record { stamp = 0; value = request.Crash }; reply = answer_of st (record { stamp = 0; value = request.Crash }) }))))) (operated world st (cond b None (Some (record { server = i; request = record { stamp = 0; value = request.Crash }; reply = answer_of st (record { stamp = 0; value = request.Crash }) })))).world) [
+      elim (is_full st (record { stamp = 0; value = request.Crash })) as
+      (λ b. Obeys first w
+      (operated_events given z w
+      (cond b None (Some (record { server = i; request = record { stamp = 0; value = request.Crash }; reply = answer_of st (record { stamp = 0; value = request.Crash }) }))))
+      → AllLinked z
+      (run first w
+      (operated_events given z w
+      (cond b None (Some (record { server = i; request = record { stamp = 0; value = request.Crash }; reply = answer_of st (record { stamp = 0; value = request.Crash }) })))))
+      (operated world st
+      (cond b None
+      (Some (record { server = i; request = record { stamp = 0; value = request.Crash }; reply = answer_of st (record { stamp = 0; value = request.Crash }) })))).world) [
         | true ↦ λ _. linked
         | false ↦ λ obeys. nobodys (moves z (home_in given) (decision_by z w None) i w request.Crash (reply_of st request.Crash)) obeys (λ t. crashed_of t z (home_in given) (decision_by z w None) i w (reply_of st request.Crash))
       ] obeys
@@ -167,8 +201,18 @@ module _ (given : Opening) (z : ℕ) (w : World) (world : worlds.World) (inv : I
   return_next : (i : ℕ) (o : Option State) → Obeys first w (operator_events given z w i request.Return o) → AllLinked z (run first w (operator_events given z w i request.Return o)) (operates world i request.Return o).world
   return_next i None obeys = linked
   return_next i (Some st) obeys =
-      elim (is_full st (record { stamp = 0; value = request.Return })) as (λ b. Obeys first w (operated_events given z w (cond b None (Some (record { server = i; request = record { stamp = 0; value = request.Return }; reply = answer_of st (record { stamp = 0; value = request.Return }) }))))
-      → AllLinked z (run first w (operated_events given z w (cond b None (Some (record { server = i; request = record { stamp = 0; value = request.Return }; reply = answer_of st (record { stamp = 0; value = request.Return }) }))))) (operated world st (cond b None (Some (record { server = i; request = record { stamp = 0; value = request.Return }; reply = answer_of st (record { stamp = 0; value = request.Return }) })))).world) [
+      elim (is_full st (record { stamp = 0; value = request.Return })) as
+      (λ b. Obeys first w
+      (operated_events given z w
+      (cond b None (Some (record { server = i; request = record { stamp = 0; value = request.Return }; reply = answer_of st (record { stamp = 0; value = request.Return }) }))))
+      → AllLinked z
+      (run first w
+      (operated_events given z w
+      (cond b None
+      (Some (record { server = i; request = record { stamp = 0; value = request.Return }; reply = answer_of st (record { stamp = 0; value = request.Return }) })))))
+      (operated world st
+      (cond b None
+      (Some (record { server = i; request = record { stamp = 0; value = request.Return }; reply = answer_of st (record { stamp = 0; value = request.Return }) })))).world) [
         | true ↦ λ _. linked
         | false ↦ λ obeys. nobodys (moves z (home_in given) (decision_by z w None) i w request.Return (reply_of st request.Return)) obeys (λ t. returned_of t z (home_in given) (decision_by z w None) i w (reply_of st request.Return))
       ] obeys
@@ -205,12 +249,18 @@ module _ (given : Opening) (z : ℕ) (w : World) (world : worlds.World) (inv : I
 
 -- ---- all events
 
-sides_from : (given : Opening) (z : ℕ) (w : World) (world : worlds.World) (events : List happening.Event) → Inv (beginning z given) w → Shows z (home_in given) (servers_of given world) w → AllConsistent (servers_of given world) → AllLinked z w world → AllWaiting given world → Readied z w world → All (fixed_of given) world → AreOwed given z w world events → KeepSides given z w world events
+sides_from : (given : Opening) (z : ℕ) (w : World) (world : worlds.World) (events : List happening.Event) → Inv (beginning z given) w
+    → Shows z (home_in given) (servers_of given world) w → AllConsistent (servers_of given world) → AllLinked z w world → AllWaiting given world → Readied z w world
+    → All (fixed_of given) world → AreOwed given z w world events → KeepSides given z w world events
 sides_from given z w world [] inv shows all linked waiting readied jobs owed = tt
 sides_from given z w world (event ∷ events) inv shows all linked waiting readied jobs owed =
     let one = next given z w world inv shows all linked owed.0 waiting readied jobs event in
-    let comes = event_comes given z w world inv shows all event one.0 in
-    (one.0, sides_from given z (moved given z w world event) (step (fixed_of given) world event).world events (all_steps (beginning z given) w inv (events_of given z w world event) comes.obeys) comes.shows comes.consistent one.1 (waits_next given z w world linked waiting event) (ready_next given z w world readied event) (event_all (fixed_of given) world jobs event) owed.1)
+    let comes = event_comes given z w world inv shows all event one.0 in (
+      one.0,
+      sides_from given z (moved given z w world event) (step (fixed_of given) world event).world events
+          (all_steps (beginning z given) w inv (events_of given z w world event) comes.obeys) comes.shows comes.consistent one.1 (waits_next given z w world linked waiting event)
+          (ready_next given z w world readied event) (event_all (fixed_of given) world jobs event) owed.1,
+    )
 
 -- ---- at the opening
 

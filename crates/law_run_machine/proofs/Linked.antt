@@ -90,7 +90,8 @@ pub numbered_at : (t n count : ℕ) → t + 64 ≡ 64 * count + n → n < 64 →
 numbered_at t n zero is small = absurd (omega arith)
 numbered_at t n (suc place) is small = (place, omega arith)
 
-pub doing_later : (z : ℕ) (w later : World) (n count : ℕ) (doing : Option Doing) → n < 64 → ((t : ℕ) (v : _) → w.verdict t ≡ Some v → later.verdict t ≡ Some v) → ((u : ℕ) (place : ℕ) → u ≡ 64 * place + n → Quiet w later u) → IsDoing z w n count doing → IsDoing z later n count doing
+pub doing_later : (z : ℕ) (w later : World) (n count : ℕ) (doing : Option Doing) → n < 64 → ((t : ℕ) (v : _) → w.verdict t ≡ Some v → later.verdict t ≡ Some v)
+    → ((u : ℕ) (place : ℕ) → u ≡ 64 * place + n → Quiet w later u) → IsDoing z w n count doing → IsDoing z later n count doing
 doing_later z w later n count (Some (Running txn_run)) small stays others is =
     let at = numbered_at txn_run.task.t n count is.numbered small in
     let quiet = others txn_run.task.t at.0 at.1 in
@@ -103,7 +104,8 @@ doing_later z w later n count (Some (Running txn_run)) small stays others is =
 doing_later z w later n count (Some (RunningSweep sweep_run)) small stays others is = round_later w later sweep_run.now stays is
 doing_later z w later n count None small stays others is = tt
 
-pub linked_later : (z : ℕ) (w later : World) (n : ℕ) (agent : Agent) → n < 64 → ((t : ℕ) (v : _) → w.verdict t ≡ Some v → later.verdict t ≡ Some v) → ((u : ℕ) (place : ℕ) → u ≡ 64 * place + n → Quiet w later u) → Linked z w n agent → Linked z later n agent
+pub linked_later : (z : ℕ) (w later : World) (n : ℕ) (agent : Agent) → n < 64 → ((t : ℕ) (v : _) → w.verdict t ≡ Some v → later.verdict t ≡ Some v)
+    → ((u : ℕ) (place : ℕ) → u ≡ 64 * place + n → Quiet w later u) → Linked z w n agent → Linked z later n agent
 linked_later z w later n agent small stays others is = record {
   index = is.index;
   fresh = λ place past. untouched_quiet w later (64 * place + n) (others (64 * place + n) place refl) (is.fresh place past);

@@ -51,7 +51,8 @@ begun_own z (Some doing) (Some (RunningSweep sweep_run)) = tt
 begun_own z (Some doing) None = tt
 
 all_own : (z : ℕ) (before : Option Doing) (taken : Taken) → AllOwn (own_events z before taken)
-all_own z (Some (Running before)) taken = own_aims z before.task.t (fixed_in before.phase) taken.agent.doing (gives_up before.task.t (is_finishing before.phase) taken) (own_end before.task.t (is_finishing before.phase) (is_at_an_end taken.agent.doing taken.ending))
+all_own z (Some (Running before)) taken = own_aims z before.task.t (fixed_in before.phase) taken.agent.doing (gives_up before.task.t (is_finishing before.phase) taken)
+    (own_end before.task.t (is_finishing before.phase) (is_at_an_end taken.agent.doing taken.ending))
 all_own z (Some (RunningSweep sweep_run)) taken = tt
 all_own z None taken = tt
 

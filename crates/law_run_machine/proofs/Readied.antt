@@ -98,7 +98,8 @@ more_ready : (start : Beginning) (w : World) (events : List Event) (i u : ℕ) �
 more_ready start w events i u is = ready_stays start w events i u is
 
 -- one agent changes, and the machine
-set_readying : (z : ℕ) (w later : World) (world : worlds.World) (n : ℕ) (was now : Actor) → actor_at world n ≡ Some was → AllReadying z w world → ((i u : ℕ) → is_some (w.ready i u) ≡ true → is_some (later.ready i u) ≡ true) → IsReadying z later now.agent.doing
+set_readying : (z : ℕ) (w later : World) (world : worlds.World) (n : ℕ) (was now : Actor) → actor_at world n ≡ Some was → AllReadying z w world
+    → ((i u : ℕ) → is_some (w.ready i u) ≡ true → is_some (later.ready i u) ≡ true) → IsReadying z later now.agent.doing
     → (m : ℕ) (x : Actor) → slice_get (slice_set world.agents n now) m ≡ Some x → IsReadying z later x.agent.doing
 set_readying z w later world n was now there all more here m x is =
     same_or (IsReadying z later x.agent.doing) m n
@@ -131,8 +132,19 @@ module _ (given : Opening) (z : ℕ) (w : World) (world : worlds.World) (is : Re
   first = beginning z given
 
   answered_ready : (number : ℕ) (actor : Actor) (asked : ℕ × Request) (st : State) → actor_at world number ≡ Some actor → next_of (fixed_of given) actor.agent ≡ Some asked → server_at world asked.0 ≡ Some st → (b : Bool)
-      → Readied z (run first w (answered_events given z w actor (cond b None (Some (record { server = asked.0; request = record { stamp = actor.stamp; value = asked.1 }; reply = answer_of st (record { stamp = actor.stamp; value = asked.1 }) })))))
-      (answered (fixed_of given) world number actor st (cond b None (Some (record { server = asked.0; request = record { stamp = actor.stamp; value = asked.1 }; reply = answer_of st (record { stamp = actor.stamp; value = asked.1 }) })))).world
+      → Readied z
+      (run first w
+      (answered_events given z w actor
+      (cond b None
+      (Some (record { server = asked.0; request = record { stamp = actor.stamp; value = asked.1 }; reply = answer_of st (record { stamp = actor.stamp; value = asked.1 }) })))))
+      (answered (fixed_of given) world number actor st
+      (cond b None
+      (Some (record {
+        server = asked.0;
+        request = record { stamp = actor.stamp; value = asked.1 };
+        reply = answer_of st
+            (record { stamp = actor.stamp; value = asked.1 });
+      })))).world
   answered_ready number actor asked st there next at true =
       let taken = take (fixed_of given) actor.agent (Lacked lack.Full) in
       let own = own_events z actor.agent.doing taken in
@@ -152,7 +164,14 @@ module _ (given : Opening) (z : ℕ) (w : World) (world : worlds.World) (is : Re
       let later = run first w events in
       let small : asked.0 < max_servers = by (slice_get_within world.servers asked.0 st at) is.few in
       let below = below_served first z (home_in given) (decision_by z w actor.agent.doing) asked.0 w small is.below (decision_keeps first z w actor.agent.doing) asked.1 said in
-      subst (λ w. Readied z w (answered (fixed_of given) world number actor st (Some (record { server = asked.0; request = record { stamp = actor.stamp; value = asked.1 }; reply = answer_of st (record { stamp = actor.stamp; value = asked.1 }) }))).world) (sym (run-append first w events own)) (record {
+      subst
+      (λ w. Readied z w (answered (fixed_of given) world number actor st
+      (Some (record {
+        server = asked.0;
+        request = record { stamp = actor.stamp; value = asked.1 };
+        reply = answer_of st
+            (record { stamp = actor.stamp; value = asked.1 });
+      }))).world) (sym (run-append first w events own)) (record {
         agents = set_readying z w (run first later own) world number actor (worlds.moved actor (answer_of st (record { stamp = actor.stamp; value = asked.1 })).stamp taken) there is.agents
             (λ i u ready. more_ready first later own i u (more_ready first w events i u ready))
             (readying_later z later (run first later own) taken.agent.doing (more_ready first later own)
@@ -170,7 +189,8 @@ module _ (given : Opening) (z : ℕ) (w : World) (world : worlds.World) (is : Re
   at_ready number actor asked there next (Some st) at = answered_ready number actor asked st there next at (is_full st (record { stamp = actor.stamp; value = asked.1 }))
   at_ready number actor asked there next None at = is
 
-  asks_ready : (number : ℕ) (actor : Actor) → actor_at world number ≡ Some actor → (o : Option (ℕ × Request)) → next_of (fixed_of given) actor.agent ≡ o → Readied z (run first w (asked_events given z w world actor o)) (asks (fixed_of given) world number actor o).world
+  asks_ready : (number : ℕ) (actor : Actor) → actor_at world number ≡ Some actor → (o : Option (ℕ × Request)) → next_of (fixed_of given) actor.agent ≡ o
+      → Readied z (run first w (asked_events given z w world actor o)) (asks (fixed_of given) world number actor o).world
   asks_ready number actor there (Some asked) next = at_ready number actor asked there next (server_at world asked.0) refl
   asks_ready number actor there None next = is
 
@@ -178,7 +198,8 @@ module _ (given : Opening) (z : ℕ) (w : World) (world : worlds.World) (is : Re
   step_ready number (Some actor) there = asks_ready number actor there (next_of (fixed_of given) actor.agent) refl
   step_ready number None there = is
 
-  lacks_ready : (number : ℕ) (actor : Actor) (why : _) → actor_at world number ≡ Some actor → (o : Option (ℕ × Request)) → next_of (fixed_of given) actor.agent ≡ o → Readied z (run first w (lacks_for_events given z actor (Lacked why) o)) (lacks_for (fixed_of given) world number actor (Lacked why) o).world
+  lacks_ready : (number : ℕ) (actor : Actor) (why : _) → actor_at world number ≡ Some actor → (o : Option (ℕ × Request)) → next_of (fixed_of given) actor.agent ≡ o
+      → Readied z (run first w (lacks_for_events given z actor (Lacked why) o)) (lacks_for (fixed_of given) world number actor (Lacked why) o).world
   lacks_ready number actor why there (Some asked) next =
       let taken = take (fixed_of given) actor.agent (Lacked why) in
       let own = own_events z actor.agent.doing taken in
@@ -239,7 +260,12 @@ module _ (given : Opening) (z : ℕ) (w : World) (world : worlds.World) (is : Re
   begin_ready number job None there = is
 
   forget_ready : (number site : ℕ) (o : Option Actor) → actor_at world number ≡ o → Readied z w (becomes world number (λ agent. forget agent site) o).world
-  forget_ready number site (Some actor) there = record { agents = set_readying z w w world number actor (record actor { agent = forget actor.agent site }) there is.agents (λ i u ready. ready) (is.agents number actor there); below = is.below; few = is.few }
+  forget_ready number site (Some actor) there = record {
+    agents = set_readying z w w world number actor (record actor { agent = forget actor.agent site }) there is.agents
+        (λ i u ready. ready) (is.agents number actor there);
+    below = is.below;
+    few = is.few;
+  }
   forget_ready number site None there = is
 
   pub ready_next : (event : happening.Event) → Readied z (moved given z w world event) (step (fixed_of given) world event).world

@@ -118,7 +118,8 @@ part_there suites changes z i is =
     (map_has (part_of changes i) (filter (λ one. holds_lock one.1 i) suites) one.0 (filter_has (λ one. holds_lock one.1 i) suites one.0 one.1 one.3)) (itself z one.0.0 one.2)
 
 -- and so it is prepared in the books
-pub prepared_now : (start : Beginning) (w : World) (suites : Suites) (changes : Changes) (z i t : ℕ) → holds Shared (told_at suites z) i ≡ true → is_some ((run start w (prepare_of i t w (preparing.part_of z (parts_at suites changes i)))).ready i t) ≡ true
+pub prepared_now : (start : Beginning) (w : World) (suites : Suites) (changes : Changes) (z i t : ℕ) → holds Shared (told_at suites z) i ≡ true
+    → is_some ((run start w (prepare_of i t w (preparing.part_of z (parts_at suites changes i)))).ready i t) ≡ true
 prepared_now start w suites changes z i t is = by (preparing.part_of z (parts_at suites changes i)) (part_there suites changes z i is)
   where
     by : (o : Option Part) → is_some o ≡ true → is_some ((run start w (prepare_of i t w o)).ready i t) ≡ true
@@ -156,7 +157,9 @@ module _ (z : ℕ) (w : World) (task : Task) where
   ready_give_up : (cache : Cache) (suites : Suites) (cause : Cause) → ReadyLeft z w task.t (give_up task cache suites cause).after
   ready_give_up cache suites cause = ready_end cache suites verdict.Aborted (Undecided cause) (locked_at suites)
 
-  ready_prepare : (cache : Cache) (suites : Suites) (outcome : Proposal) (left : List ℕ) → ((i : ℕ) → i < max_servers → holds Shared (told_at suites z) i ≡ true → Has left i ⊎ (is_some (w.ready i task.t) ≡ true)) → ReadyLeft z w task.t (prepare task cache suites outcome left).after
+  ready_prepare : (cache : Cache) (suites : Suites) (outcome : Proposal) (left : List ℕ)
+      → ((i : ℕ) → i < max_servers → holds Shared (told_at suites z) i ≡ true → Has left i ⊎ (is_some (w.ready i task.t) ≡ true))
+      → ReadyLeft z w task.t (prepare task cache suites outcome left).after
   ready_prepare cache suites outcome [] is = (refl, λ i small held. elim (is i small held) [ inl none ↦ absurd none | inr ready ↦ ready ])
   ready_prepare cache suites outcome (server ∷ left) is = (refl, is)
 
@@ -189,7 +192,8 @@ prepared_is reply.Done is = absurd (false≢true is)
 prepared_is (reply.Locked listed) is = absurd (false≢true is)
 prepared_is reply.Down is = absurd (false≢true is)
 
-module _ (z : ℕ) (w later : World) (fixed : Fixed) (task : Task) (cache : Cache) (suites : Suites) (server : ℕ) (asked : Request) (response : Response) (more : (i : ℕ) → is_some (w.ready i task.t) ≡ true → is_some (later.ready i task.t) ≡ true) where
+module _ (z : ℕ) (w later : World) (fixed : Fixed) (task : Task) (cache : Cache) (suites : Suites) (server : ℕ) (asked : Request) (response : Response)
+    (more : (i : ℕ) → is_some (w.ready i task.t) ≡ true → is_some (later.ready i task.t) ≡ true) where
   ready_response : (phase : Phase) → request_in fixed task suites phase ≡ Some (server, asked) → ReadyIn z w task.t suites phase
       → ((now : ℕ) (left : List ℕ) (outcome : Proposal) → phase ≡ Preparing (now ∷ left) outcome → response ≡ Replied reply.Prepared → holds Shared (told_at suites z) now ≡ true → is_some (later.ready now task.t) ≡ true)
       → ReadyLeft z later task.t (after_response fixed (record { task = task; suites = suites; phase = phase }) cache server asked response).after
@@ -252,9 +256,11 @@ PreparesNow z later doing response =
     (before : TransactionRun) (now : ℕ) (left : List ℕ) (outcome : Proposal) → doing ≡ Some (Running before) → before.phase ≡ Preparing (now ∷ left) outcome → response ≡ Replied reply.Prepared
     → holds Shared (told_at before.suites z) now ≡ true → is_some (later.ready now before.task.t) ≡ true
 
-pub take_readying : (z : ℕ) (w later : World) (fixed : Fixed) (agent : Agent) (response : Response) (doing : Option Doing) (asked : ℕ × Request) → ((i u : ℕ) → is_some (w.ready i u) ≡ true → is_some (later.ready i u) ≡ true) → next_in fixed doing ≡ Some asked → IsReadying z w doing → PreparesNow z later doing response
+pub take_readying : (z : ℕ) (w later : World) (fixed : Fixed) (agent : Agent) (response : Response) (doing : Option Doing) (asked : ℕ × Request)
+    → ((i u : ℕ) → is_some (w.ready i u) ≡ true → is_some (later.ready i u) ≡ true) → next_in fixed doing ≡ Some asked → IsReadying z w doing → PreparesNow z later doing response
     → IsReadying z later (take_in fixed agent response doing (Some asked)).agent.doing
 take_readying z w later fixed agent response (Some (Running txn_run)) asked more is ready now =
-    readying_left z later txn_run.task.t _ (ready_response z w later fixed txn_run.task agent.cache txn_run.suites asked.0 asked.1 response (λ i. more i txn_run.task.t) txn_run.phase is ready (λ first left outcome phase said held. now txn_run first left outcome refl phase said held))
+    readying_left z later txn_run.task.t _ (ready_response z w later fixed txn_run.task agent.cache txn_run.suites asked.0 asked.1 response
+    (λ i. more i txn_run.task.t) txn_run.phase is ready (λ first left outcome phase said held. now txn_run first left outcome refl phase said held))
 take_readying z w later fixed agent response (Some (RunningSweep sweep_run)) asked more is ready now = readying_round z later (sweep.after_response fixed.service sweep_run asked.0 response)
 take_readying z w later fixed agent response None asked more is ready now = absurd cc

@@ -113,7 +113,8 @@ module _ (z : ℕ) (w : World) (fixed : Fixed) (task : Task) (suites : Suites) (
       let asks = asks_for task suites number server (request.Upgrade t s) (suite_of suites number) refl is in
       by asks asks.question asks.comes asks.is
     where
-      by : (asks : AsksFor task suites number server (request.Upgrade t s)) (question : Asked) → question ≡ asked_of asks.suite.collector server → request_for task.t number question ≡ request.Upgrade t s → is_some (w.told server task.t) ≡ true
+      by : (asks : AsksFor task suites number server (request.Upgrade t s)) (question : Asked) → question ≡ asked_of asks.suite.collector server
+          → request_for task.t number question ≡ request.Upgrade t s → is_some (w.told server task.t) ≡ true
       by asks (Poll mode) comes is = absurd cc
       by asks Upgrade comes is =
           told server
@@ -149,15 +150,20 @@ whole_content change server is =
 
 goes_by : (first : ReadPoint) (change : executor.Change) (server : ℕ) → is_keep (take_of_changed first change server) ≡ false → GoesBy (take_of_changed first change server) (change_to first change)
 goes_by first change server changes =
-    elim (takes_whole change server) as (λ b. takes_whole change server ≡ b → is_keep (cond b (take.Whole (new_copy first change)) (cond (sets_prefix change) (take.Prefix (new_prefix first change)) take.Keep)) ≡ false → GoesBy (cond b (take.Whole (new_copy first change)) (cond (sets_prefix change) (take.Prefix (new_prefix first change)) take.Keep)) (change_to first change)) [
+    elim (takes_whole change server) as (λ b. takes_whole change server ≡ b
+    → is_keep (cond b (take.Whole (new_copy first change)) (cond (sets_prefix change) (take.Prefix (new_prefix first change)) take.Keep)) ≡ false
+    → GoesBy (cond b (take.Whole (new_copy first change)) (cond (sets_prefix change) (take.Prefix (new_prefix first change)) take.Keep)) (change_to first change)) [
       | true ↦ λ is _. record { prefix = refl; dver = refl; content = whole_content change server is }
-      | false ↦ λ _ changes. elim (sets_prefix change) as (λ b. is_keep (cond b (take.Prefix (new_prefix first change)) take.Keep) ≡ false → GoesBy (cond b (take.Prefix (new_prefix first change)) take.Keep) (change_to first change)) [ true ↦ λ _. refl | false ↦ λ no. absurd (false≢true (sym no)) ] changes
+      | false ↦ λ _ changes. elim (sets_prefix change) as (λ b. is_keep (cond b (take.Prefix (new_prefix first change)) take.Keep) ≡ false
+          → GoesBy (cond b (take.Prefix (new_prefix first change)) take.Keep) (change_to first change)) [ true ↦ λ _. refl | false ↦ λ no. absurd (false≢true (sym no)) ] changes
     ] refl changes
 
 -- of a suite of which that much is known
-writes : (suite : GatheredSuite) (server : ℕ) (first : Option ReadPoint) (change : Option executor.Change) → is_keep (take_from suite server first change) ≡ false → (new : Change) × (written_from first change ≡ Some new) × GoesBy (take_from suite server first change) new
+writes : (suite : GatheredSuite) (server : ℕ) (first : Option ReadPoint) (change : Option executor.Change) → is_keep (take_from suite server first change) ≡ false
+    → (new : Change) × (written_from first change ≡ Some new) × GoesBy (take_from suite server first change) new
 writes suite server (Some first) (Some change) changes =
-    elim (holds_exclusively suite server) as (λ b. is_keep (cond b (take_of_changed first change server) take.Keep) ≡ false → (new : Change) × (Some (change_to first change) ≡ Some new) × GoesBy (cond b (take_of_changed first change server) take.Keep) new) [
+    elim (holds_exclusively suite server) as (λ b. is_keep (cond b (take_of_changed first change server) take.Keep) ≡ false
+    → (new : Change) × (Some (change_to first change) ≡ Some new) × GoesBy (cond b (take_of_changed first change server) take.Keep) new) [
       | true ↦ λ changes. (change_to first change, refl, goes_by first change server changes)
       | false ↦ λ no. absurd (false≢true (sym no))
     ] changes
@@ -266,7 +272,8 @@ module _ (start : Beginning) (z : ℕ) (home : ℕ → ℕ) (locks : List Lock) 
   agent_side (Preparing [] outcome) asked is stage may first = absurd cc
   agent_side (Preparing (now ∷ left) outcome) asked is stage may first =
       let same = asks_same now server (request.Prepare task.t (parts_at suites (changes_of outcome) now)) asked is in
-      subst (AgentSide start z home _ server locks w) same (sends z w task suites outcome now locks ordered stage.0 stage.1 (first now left outcome refl (asks_there now server (request.Prepare task.t (parts_at suites (changes_of outcome) now)) asked is)))
+      subst (AgentSide start z home _ server locks w) same (sends z w task suites outcome now locks ordered stage.0 stage.1
+      (first now left outcome refl (asks_there now server (request.Prepare task.t (parts_at suites (changes_of outcome) now)) asked is)))
   agent_side (Deciding outcome) asked is stage may first =
       let same = asks_same (home_of fixed.service task.t) server (request.Decide task.t (decision_of task outcome)) asked is in
       subst (AgentSide start z home _ server locks w) same (λ _. decides start z w task suites outcome (may outcome refl))

@@ -21,7 +21,9 @@ servers_set given world i old new is = λ k j. at_each j k
       where
         by : (j : ℕ) → set1 (servers_of given world) i new j ≡ servers_of given (with_server i new world) j
         by j = at1 (λ x. x ≡ unwrap_or (slice_get (slice_set world.servers i new) j) (state.opening j given)) (servers_of given world) i new j
-            (λ same. sym (unwrap_or-slice_get (slice_set world.servers i new) j (state.opening j given) ∙ ap (λ n. get_or (slice_set world.servers i new) n (state.opening j given)) same ∙ get_or-set_same world.servers i new (state.opening j given) (slice_get_within world.servers i old is)))
+            (λ same. sym (unwrap_or-slice_get (slice_set world.servers i new) j (state.opening j given) ∙ ap
+            (λ n. get_or (slice_set world.servers i new) n (state.opening j given)) same ∙ get_or-set_same world.servers i new (state.opening j given)
+            (slice_get_within world.servers i old is)))
             (λ apart. unwrap_or-slice_get world.servers j (state.opening j given) ∙ sym (unwrap_or-slice_get (slice_set world.servers i new) j (state.opening j given) ∙ get_or-set_other world.servers i j new (state.opening j given) apart))
 
 pub server_there : (given : Opening) (world : worlds.World) (i : ℕ) (st : State) → server_at world i ≡ Some st → servers_of given world i ≡ st

@@ -87,7 +87,9 @@ module _ (start : Beginning) (z : ℕ) (agent : Agent) (w : World) (task : Task)
     early suites (Finishing servers v ending) is = absurd is
 
     -- it fixes what it is to write
-    aims_at : (suites : Suites) (outcome : Proposal) (new : Option Change) → to_write z suites outcome ≡ new → Obeys start w (aim_of task.t new ++ []) × Going (run start w (aim_of task.t new ++ [])) task.t × ((run start w (aim_of task.t new ++ [])).aim task.t ≡ to_write z suites outcome)
+    aims_at : (suites : Suites) (outcome : Proposal) (new : Option Change) → to_write z suites outcome ≡ new
+        → Obeys start w (aim_of task.t new ++ []) × Going (run start w (aim_of task.t new ++ [])) task.t
+        × ((run start w (aim_of task.t new ++ [])).aim task.t ≡ to_write z suites outcome)
     aims_at suites outcome (Some new) is = ((record { unaimed = unaimed }, tt), record { gave_up = going.gave_up; verdict = going.verdict }, here1 w.aim task.t (Some new) ∙ sym is)
     aims_at suites outcome None is = (tt, going, unaimed ∙ sym is)
 
@@ -109,7 +111,8 @@ module _ (start : Beginning) (z : ℕ) (agent : Agent) (w : World) (task : Task)
 
   -- ---- later responses
 
-  prepare_on : (cache : Cache) (suites : Suites) (outcome : Proposal) (servers : List ℕ) → Going w task.t → w.aim task.t ≡ to_write z suites outcome → Does start z task.t w (Some outcome) false agent (prepare task cache suites outcome servers).after
+  prepare_on : (cache : Cache) (suites : Suites) (outcome : Proposal) (servers : List ℕ) → Going w task.t → w.aim task.t ≡ to_write z suites outcome
+      → Does start z task.t w (Some outcome) false agent (prepare task cache suites outcome servers).after
   prepare_on cache suites outcome [] going aimed = record { does = tt; stage = (refl, (going, aimed)) }
   prepare_on cache suites outcome (server ∷ servers) going aimed = record { does = tt; stage = (refl, (going, aimed)) }
 
@@ -122,7 +125,8 @@ module _ (start : Beginning) (z : ℕ) (agent : Agent) (w : World) (task : Task)
       ]
 
   -- the home has said how it ended, or nothing
-  decided_as : (cache : Cache) (suites : Suites) (outcome : Proposal) (v : replied.Verdict) (cause : Cause) (servers : List ℕ) → w.verdict task.t ≡ Some (ended_as v) → Does start z task.t w (Some outcome) false agent (tell_end task cache suites v (ending_by v cause) servers).after
+  decided_as : (cache : Cache) (suites : Suites) (outcome : Proposal) (v : replied.Verdict) (cause : Cause) (servers : List ℕ) → w.verdict task.t ≡ Some (ended_as v)
+      → Does start z task.t w (Some outcome) false agent (tell_end task cache suites v (ending_by v cause) servers).after
   decided_as cache suites outcome verdict.Aborted cause servers is = gives_up_at (Some outcome) cache suites cause servers (inr is)
   decided_as cache suites outcome (verdict.Answered answers) cause [] is = record { does = tt; stage = tt }
   decided_as cache suites outcome (verdict.Answered answers) cause (server ∷ servers) is = record { does = tt; stage = (refl, record { ended = inl is }) }
@@ -152,7 +156,8 @@ finish_on w later t v same may = record {
   ended = elim (may.ended) [ inl is ↦ inl (ap (λ f. f t) same.verdict ∙ is) | inr gave ↦ inr (gave.0, ap (λ f. f t) same.gave_up ∙ gave.1) ];
 }
 
-module _ (start : Beginning) (z : ℕ) (agent : Agent) (w later : World) (fixed : Fixed) (task : Task) (cache : Cache) (suites : Suites) (server : ℕ) (asked : Request) (response : Response) (leaves : Leaves w later task.t asked response) where
+module _ (start : Beginning) (z : ℕ) (agent : Agent) (w later : World) (fixed : Fixed) (task : Task) (cache : Cache) (suites : Suites) (server : ℕ) (asked : Request)
+    (response : Response) (leaves : Leaves w later task.t asked response) where
   by_early : (phase : Phase) → IsEarly phase → rules asked ≡ false → Going w task.t × (w.aim task.t ≡ None)
       → Does start z task.t later None false agent (after_response fixed (record { task = task; suites = suites; phase = phase }) cache server asked response).after
   by_early phase is calm stage =
@@ -170,7 +175,9 @@ module _ (start : Beginning) (z : ℕ) (agent : Agent) (w later : World) (fixed 
       let same = leaves.calm (ap rules (sym (asks_same now server (request.Prepare task.t (parts_at suites (changes_of outcome) now)) asked is))) in
       of (going_on w later task.t same stage.0) (ap (λ f. f task.t) same.aim ∙ stage.1) response
     where
-      of : Going later task.t → later.aim task.t ≡ to_write z suites outcome → (response : Response) → Does start z task.t later (Some outcome) false agent (after_response fixed (record { task = task; suites = suites; phase = Preparing (now ∷ left) outcome }) cache server asked response).after
+      of : Going later task.t → later.aim task.t ≡ to_write z suites outcome → (response : Response)
+          → Does start z task.t later (Some outcome) false agent
+          (after_response fixed (record { task = task; suites = suites; phase = Preparing (now ∷ left) outcome }) cache server asked response).after
       of going aimed (Replied said) = prepared_word start z agent later task cache suites outcome server left said going aimed
       of going aimed (Lacked lacked) = given_up start z agent later task (Some outcome) cache suites (lack_cause server lacked) going.verdict
   does_response (Deciding outcome) is stage =
@@ -195,15 +202,20 @@ module _ (start : Beginning) (z : ℕ) (agent : Agent) (w later : World) (fixed 
       of (Replied reply.Lost) ruled silent = gives_up_at start z agent later task (Some outcome) cache suites (cause_of_abort reply.Lost) (locked_at suites) (silent (λ v same. absurd (let e = replied_same _ _ same in cc)))
       of (Replied reply.Prepared) ruled silent = gives_up_at start z agent later task (Some outcome) cache suites (cause_of_abort reply.Prepared) (locked_at suites) (silent (λ v same. absurd (let e = replied_same _ _ same in cc)))
       of (Replied reply.Done) ruled silent = gives_up_at start z agent later task (Some outcome) cache suites (cause_of_abort reply.Done) (locked_at suites) (silent (λ v same. absurd (let e = replied_same _ _ same in cc)))
-      of (Replied (reply.Held prefix dver)) ruled silent = gives_up_at start z agent later task (Some outcome) cache suites (cause_of_abort (reply.Held prefix dver)) (locked_at suites) (silent (λ v same. absurd (let e = replied_same _ _ same in cc)))
-      of (Replied (reply.Busy holder p)) ruled silent = gives_up_at start z agent later task (Some outcome) cache suites (cause_of_abort (reply.Busy holder p)) (locked_at suites) (silent (λ v same. absurd (let e = replied_same _ _ same in cc)))
-      of (Replied (reply.Given dver content)) ruled silent = gives_up_at start z agent later task (Some outcome) cache suites (cause_of_abort (reply.Given dver content)) (locked_at suites) (silent (λ v same. absurd (let e = replied_same _ _ same in cc)))
-      of (Replied (reply.Locked listed)) ruled silent = gives_up_at start z agent later task (Some outcome) cache suites (cause_of_abort (reply.Locked listed)) (locked_at suites) (silent (λ v same. absurd (let e = replied_same _ _ same in cc)))
+      of (Replied (reply.Held prefix dver)) ruled silent = gives_up_at start z agent later task (Some outcome) cache suites (cause_of_abort (reply.Held prefix dver))
+          (locked_at suites) (silent (λ v same. absurd (let e = replied_same _ _ same in cc)))
+      of (Replied (reply.Busy holder p)) ruled silent = gives_up_at start z agent later task (Some outcome) cache suites (cause_of_abort (reply.Busy holder p)) (locked_at suites)
+          (silent (λ v same. absurd (let e = replied_same _ _ same in cc)))
+      of (Replied (reply.Given dver content)) ruled silent = gives_up_at start z agent later task (Some outcome) cache suites (cause_of_abort (reply.Given dver content))
+          (locked_at suites) (silent (λ v same. absurd (let e = replied_same _ _ same in cc)))
+      of (Replied (reply.Locked listed)) ruled silent = gives_up_at start z agent later task (Some outcome) cache suites (cause_of_abort (reply.Locked listed)) (locked_at suites)
+          (silent (λ v same. absurd (let e = replied_same _ _ same in cc)))
   does_response (Finishing [] v ending) is stage = cc
   does_response (Finishing (now ∷ left) v ending) is stage =
       let same = leaves.calm (ap rules (sym (asks_same now server (request.Finish task.t v) asked is))) in
       of (finish_on w later task.t (ended_as v) same stage) response
     where
-      of : MayFinish later task.t (ended_as v) → (response : Response) → Does start z task.t later None true agent (after_response fixed (record { task = task; suites = suites; phase = Finishing (now ∷ left) v ending }) cache server asked response).after
+      of : MayFinish later task.t (ended_as v) → (response : Response) → Does start z task.t later None true agent
+          (after_response fixed (record { task = task; suites = suites; phase = Finishing (now ∷ left) v ending }) cache server asked response).after
       of may (Replied said) = finishing_on start z agent later task cache suites v ending left may
       of may (Lacked lacked) = finishing_on start z agent later task cache suites v ending left may

@@ -23,7 +23,32 @@ use Rattle.txn_core.specs.declared.response.Response.{Response}
 use Rattle.txn_core.specs.declared.response.Response.TheVariants.{Replied, Lacked}
 use Rattle.txn_core.specs.declared.job.Job.{Job}
 use Rattle.txn_core.specs.declared.job.Job.TheVariants.{Transaction, Sweep}
-use Rattle.txn_core.specs.Doing.{Fixed, Task, Proposal, Phase, Gathering, Fetching, Widening, Preparing, Deciding, Finishing, TransactionRun, Sweeping, Listing, Resolving, Telling, Breaking, SweepRun, Doing, Running, RunningSweep, After, GoesOn, Ends, home_of}
+use Rattle.txn_core.specs.Doing.{
+  Fixed,
+  Task,
+  Proposal,
+  Phase,
+  Gathering,
+  Fetching,
+  Widening,
+  Preparing,
+  Deciding,
+  Finishing,
+  TransactionRun,
+  Sweeping,
+  Listing,
+  Resolving,
+  Telling,
+  Breaking,
+  SweepRun,
+  Doing,
+  Running,
+  RunningSweep,
+  After,
+  GoesOn,
+  Ends,
+  home_of,
+}
 use Rattle.txn_core.specs.Transactions.{execute, decision_of}
 use Rattle.txn_core.specs.Sweeps.{asked_now}
 use Rattle.txn_core.specs.Agents.{Agent, fixed_of, next_in, next_of, take, take_in, begin, started, is_idle, has_sense, max_jobs, left}
@@ -60,7 +85,8 @@ use Rattle.law_run_machine.proofs.Turns.{Turn, Concerns, of_aims}
 
 -- ---- what an agent asks is its side
 
-round_side : (start : Beginning) (z : ℕ) (home : ℕ → ℕ) (decision : Event) (i : ℕ) (held : List Lock) (w : World) (fixed : Fixed) (sweep_run : SweepRun) (now : Sweeping) → InRound w now → AgentSide start z home decision i held w (asked_now fixed.service sweep_run now).1
+round_side : (start : Beginning) (z : ℕ) (home : ℕ → ℕ) (decision : Event) (i : ℕ) (held : List Lock) (w : World) (fixed : Fixed) (sweep_run : SweepRun) (now : Sweeping)
+    → InRound w now → AgentSide start z home decision i held w (asked_now fixed.service sweep_run now).1
 round_side start z home decision i held w fixed sweep_run Listing in' = tt
 round_side start z home decision i held w fixed sweep_run (Resolving t left) in' = tt
 round_side start z home decision i held w fixed sweep_run (Telling t v left) in' = record { ended = inl in' }
@@ -71,7 +97,8 @@ pair_parts a b same = same_Some a b same
 
 -- ---- a request that is served, as it concerns what its agent is doing
 
-silent_moves : (start : Beginning) (z : ℕ) (home : ℕ → ℕ) (decision : Event) (i : ℕ) (w : World) (asked : Request) (said : Reply) → is_decide asked ≡ true → ((v : replied.Verdict) → said ≡ reply.Verdict v → ⊥) → run start w (moves z home decision i w asked said) ≡ w
+silent_moves : (start : Beginning) (z : ℕ) (home : ℕ → ℕ) (decision : Event) (i : ℕ) (w : World) (asked : Request) (said : Reply) → is_decide asked ≡ true
+    → ((v : replied.Verdict) → said ≡ reply.Verdict v → ⊥) → run start w (moves z home decision i w asked said) ≡ w
 silent_moves start z home decision i w (request.Decide t decided) (reply.Verdict v) is none = absurd (none v refl)
 silent_moves start z home decision i w (request.Poll t s m) said is none = absurd (false≢true is)
 silent_moves start z home decision i w (request.Upgrade t s) said is none = absurd (false≢true is)
@@ -139,13 +166,15 @@ module _ (given : Opening) (z : ℕ) (w : World) (world : worlds.World) (inv : I
   tells : (i : ℕ) (st : State) (sent : Stamped Request) (later : World) → server_at world i ≡ Some st → is_full st sent ≡ false → Shows z (home_in given) (servers_of given (with_server i (served st sent) world)) later
       → steps.Tells z (home_in given) i w later sent.value (reply_of st sent.value)
   tells i st sent later there none shows_later =
-      subst (λ st. is_full st sent ≡ false → Shows z (home_in given) (set1 (servers_of given world) i (serving.step st sent)) later → steps.Tells z (home_in given) i w later sent.value (reply_of st sent.value)) (server_there given world i st there)
+      subst (λ st. is_full st sent ≡ false → Shows z (home_in given) (set1 (servers_of given world) i (serving.step st sent)) later
+      → steps.Tells z (home_in given) i w later sent.value (reply_of st sent.value)) (server_there given world i st there)
       (λ none shows_later. replies_tell z (home_in given) (servers_of given world) i w later sent shows none shows_later)
       none
       (subst (λ new. Shows z (home_in given) (set1 (servers_of given world) i new) later) (sym (served_is st sent none))
       (subst (λ servers. Shows z (home_in given) servers later) (sym (servers_set given world i st (served st sent) there)) shows_later))
 
-  pub served_concerns : (doing : Option Doing) (asked : ℕ × Request) (stamp : ℕ) (st : State) → next_in (fixed_of given) doing ≡ Some asked → IsDoing z w n count doing → server_at world asked.0 ≡ Some st → is_full st (record { stamp = stamp; value = asked.1 }) ≡ false
+  pub served_concerns : (doing : Option Doing) (asked : ℕ × Request) (stamp : ℕ) (st : State) → next_in (fixed_of given) doing ≡ Some asked → IsDoing z w n count doing
+      → server_at world asked.0 ≡ Some st → is_full st (record { stamp = stamp; value = asked.1 }) ≡ false
       → Obeys start w (served_at doing asked st)
       → Shows z (home_in given) (servers_of given (with_server asked.0 (served st (record { stamp = stamp; value = asked.1 })) world)) (run start w (served_at doing asked st))
       → Concerns start z w (run start w (served_at doing asked st)) n count (fixed_of given) doing asked (Replied (reply_of st asked.1))
@@ -209,7 +238,8 @@ module _ (given : Opening) (z : ℕ) (w : World) (world : worlds.World) (inv : I
       → ((txn_run : TransactionRun) (now : ℕ) (left : List ℕ) (outcome : Proposal) → doing ≡ Some (Running txn_run) → txn_run.phase ≡ Preparing (now ∷ left) outcome → now ≡ asked.0 → has_prepared txn_run.task.t held ≡ false)
       → AgentSide start z (home_in given) (decision_by z w doing) asked.0 held w asked.1
   asks_well (Some (Running before)) asked held is in' may first =
-      agent_side start z (home_in given) held w (fixed_of given) before.task before.suites asked.0 in'.ordered in'.told before.phase asked.1 is in'.stage (λ outcome phase. may before outcome refl phase) (λ now left outcome phase at. first before now left outcome refl phase at)
+      agent_side start z (home_in given) held w (fixed_of given) before.task before.suites asked.0 in'.ordered in'.told before.phase asked.1 is in'.stage
+      (λ outcome phase. may before outcome refl phase) (λ now left outcome phase at. first before now left outcome refl phase at)
   asks_well (Some (RunningSweep sweep_run)) asked held is in' may first =
       subst (λ (asked : ℕ × Request). AgentSide start z (home_in given) (GiveUp 0) asked.0 held w asked.1) (pair_parts (asked_now (fixed_of given).service sweep_run sweep_run.now) asked is)
       (round_side start z (home_in given) (GiveUp 0) _ held w (fixed_of given) sweep_run sweep_run.now in')
@@ -254,7 +284,8 @@ all_linked z w later world n old new there small linked now stays others m x is 
 
 -- ---- the agent whose turn it was
 
-pub take_same : (fixed : Fixed) (agent : Agent) (response : Response) (doing : Option Doing) (asked : Option (ℕ × Request)) → ((take_in fixed agent response doing asked).agent.index ≡ agent.index) × ((take_in fixed agent response doing asked).agent.count ≡ agent.count)
+pub take_same : (fixed : Fixed) (agent : Agent) (response : Response) (doing : Option Doing) (asked : Option (ℕ × Request))
+    → ((take_in fixed agent response doing asked).agent.index ≡ agent.index) × ((take_in fixed agent response doing asked).agent.count ≡ agent.count)
 take_same fixed agent response (Some (Running txn_run)) (Some asked) = (refl, refl)
 take_same fixed agent response (Some (Running txn_run)) None = (refl, refl)
 take_same fixed agent response (Some (RunningSweep sweep_run)) (Some asked) = (refl, refl)
@@ -266,7 +297,8 @@ numbered_of z w n count (Some (Running before)) is txn_run same = only before (�
 numbered_of z w n count (Some (RunningSweep sweep_run)) is txn_run same = absurd cc
 numbered_of z w n count None is txn_run same = absurd cc
 
-module _ (start : Beginning) (z : ℕ) (w later : World) (n : ℕ) (fixed : Fixed) (agent : Agent) (response : Response) (small : n < 64) (linked : Linked z w n agent) (it : Turn start z w later n agent.count agent.doing (take fixed agent response)) where
+module _ (start : Beginning) (z : ℕ) (w later : World) (n : ℕ) (fixed : Fixed) (agent : Agent) (response : Response) (small : n < 64) (linked : Linked z w n agent)
+    (it : Turn start z w later n agent.count agent.doing (take fixed agent response)) where
   pub turned : Linked z (run start later (own_events z agent.doing (take fixed agent response))) n (take fixed agent response).agent
   turned =
       let same = take_same fixed agent response agent.doing (next_of fixed agent) in
@@ -316,7 +348,9 @@ module _ (start : Beginning) (z : ℕ) (w : World) (n : ℕ) (fixed : Fixed) (ag
 
   -- what it does at once is of its transaction
   begun_of : (t : ℕ) (after : Option Doing) → ((txn_run : TransactionRun) → after ≡ Some (Running txn_run) → txn_run.task.t ≡ t) → AreOf t (begun_events z None after)
-  begun_of t (Some (Running txn_run)) is = of-append t (aims z txn_run.task.t None (Some (Running txn_run))) _ (subst (λ u. AreOf t (aims z u None (Some (Running txn_run)))) (sym (is txn_run refl)) (of_aims z t None (Some (Running txn_run)))) (of_end' (is txn_run refl) (tells_aborted txn_run.phase))
+  begun_of t (Some (Running txn_run)) is = of-append t (aims z txn_run.task.t None (Some (Running txn_run))) _
+      (subst (λ u. AreOf t (aims z u None (Some (Running txn_run)))) (sym (is txn_run refl)) (of_aims z t None (Some (Running txn_run))))
+      (of_end' (is txn_run refl) (tells_aborted txn_run.phase))
     where
       of_end' : {u : ℕ} → u ≡ t → (b : Bool) → AreOf t (cond b (GiveUp u ∷ []) [])
       of_end' same true = (same, tt)
@@ -325,7 +359,8 @@ module _ (start : Beginning) (z : ℕ) (w : World) (n : ℕ) (fixed : Fixed) (ag
   begun_of t None is = tt
 
   abbrev Began : Option Doing → Type 0
-  Began after = Obeys start w (begun_events z None after) × IsDoing z (run start w (begun_events z None after)) n (agent.count + 1) after × ((u : ℕ) → (u ≡ 64 * agent.count + agent.index → ⊥) → Quiet w (run start w (begun_events z None after)) u)
+  Began after = Obeys start w (begun_events z None after) × IsDoing z (run start w (begun_events z None after)) n
+      (agent.count + 1) after × ((u : ℕ) → (u ≡ 64 * agent.count + agent.index → ⊥) → Quiet w (run start w (begun_events z None after)) u)
 
   began_left : (task : Task) (after : After TransactionRun) → task.t ≡ 64 * agent.count + agent.index → Untouched w task.t → Keeps nothing_held (left Running after) → Does start z task.t w None false agent after → Began (left Running after)
   began_left task (Ends ending) at untouched keeps does = (tt, tt, λ u _. quiet_same w u)
@@ -379,7 +414,11 @@ module _ (start : Beginning) (z : ℕ) (w : World) (n : ℕ) (fixed : Fixed) (ag
 
   pub begun_so : (job : Job) → Begun start z w n agent.doing (begin fixed agent job)
   begun_so job =
-      elim (is_idle agent.doing && has_sense fixed job && nat_lt agent.count max_jobs) as (λ b. (is_idle agent.doing && has_sense fixed job && nat_lt agent.count max_jobs) ≡ b → (is_idle agent.doing ≡ true → Keeps nothing_held (cond b (record (started fixed agent job) { count = agent.count + 1 }) agent).doing) → Begun start z w n agent.doing (cond b (record (started fixed agent job) { count = agent.count + 1 }) agent)) [
-        | true ↦ λ is keeps. let idle = (and_parts (is_idle agent.doing) (has_sense fixed job) (and_parts (is_idle agent.doing && has_sense fixed job) (nat_lt agent.count max_jobs) is).0).0 in begins_so job (idle_none agent.doing idle) (keeps idle)
+      elim (is_idle agent.doing && has_sense fixed job && nat_lt agent.count max_jobs) as
+      (λ b. (is_idle agent.doing && has_sense fixed job && nat_lt agent.count max_jobs) ≡ b
+      → (is_idle agent.doing ≡ true → Keeps nothing_held (cond b (record (started fixed agent job) { count = agent.count + 1 }) agent).doing)
+      → Begun start z w n agent.doing (cond b (record (started fixed agent job) { count = agent.count + 1 }) agent)) [
+        | true ↦ λ is keeps. let idle = (and_parts (is_idle agent.doing) (has_sense fixed job)
+            (and_parts (is_idle agent.doing && has_sense fixed job) (nat_lt agent.count max_jobs) is).0).0 in begins_so job (idle_none agent.doing idle) (keeps idle)
         | false ↦ λ _ _. stays_so
       ] refl (begin_keeps fixed agent job)

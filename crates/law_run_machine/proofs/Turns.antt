@@ -77,7 +77,8 @@ pub record Turn (start : Beginning) (z : ℕ) (w later : World) (n count : ℕ) 
 told_response : (fixed : Fixed) (agent : Agent) (before : TransactionRun) (asked : ℕ × Request) (response : Response) → request_of fixed before ≡ Some asked → IsOrdered nat_cmp before.suites
     → Keeps (plus_all (λ number who. holds Shared (told_at before.suites number) who) (exchange_of (Some asked) response ++ [])) (left Running (txn_run.after_response fixed before agent.cache asked.0 asked.1 response).after)
 told_response fixed agent before asked response is ordered =
-    subst (λ o. Keeps (plus_all (λ number who. holds Shared (told_at before.suites number) who) (exchange_of o response ++ [])) (take_in fixed (record agent { doing = Some (Running before) }) response (Some (Running before)) o).agent.doing) is
+    subst (λ o. Keeps (plus_all (λ number who. holds Shared (told_at before.suites number) who) (exchange_of o response ++ []))
+    (take_in fixed (record agent { doing = Some (Running before) }) response (Some (Running before)) o).agent.doing) is
     (all_keep (λ number who. holds Shared (told_at before.suites number) who) fixed (record agent { doing = Some (Running before) }) (Take response ∷ []) (ordered, λ number who. refl))
 
 or_none : (a : Bool) → (a || false) ≡ a
@@ -141,9 +142,14 @@ module _ (start : Beginning) (z : ℕ) (w later : World) (n count : ℕ) where
   swept_answer service sweep_run (Breaking lock locks) reply.Done ruled = swept_on service (record sweep_run { broken = sweep_run.broken + 1 }) locks
   swept_answer service sweep_run (Breaking lock locks) other ruled = tt
 
-  round_turn : (fixed : Fixed) (agent : Agent) (sweep_run : SweepRun) (server : ℕ) (response : Response) → ((t : ℕ) (locks : List Lock) (v : replied.Verdict) → sweep_run.now ≡ Resolving t locks → response ≡ Replied (reply.Verdict v) → later.verdict t ≡ Some (ended_as v))
+  round_turn : (fixed : Fixed) (agent : Agent) (sweep_run : SweepRun) (server : ℕ) (response : Response)
+      → ((t : ℕ) (locks : List Lock) (v : replied.Verdict) → sweep_run.now ≡ Resolving t locks → response ≡ Replied (reply.Verdict v) → later.verdict t ≡ Some (ended_as v))
       → ((u : ℕ) → Quiet w later u)
-      → Turn start z w later n count (Some (RunningSweep sweep_run)) (record { agent = record agent { doing = left RunningSweep (sweep.after_response fixed.service sweep_run server response) }; ending = end_of (sweep.after_response fixed.service sweep_run server response) })
+      → Turn start z w later n count (Some (RunningSweep sweep_run))
+      (record {
+        agent = record agent { doing = left RunningSweep (sweep.after_response fixed.service sweep_run server response) };
+        ending = end_of (sweep.after_response fixed.service sweep_run server response);
+      })
   round_turn fixed agent sweep_run server (Replied said) ruled quiet = record {
     does = tt;
     goes_on = swept_answer fixed.service sweep_run sweep_run.now said (λ t locks v is same. ruled t locks v is (ap Replied same));
@@ -157,7 +163,8 @@ module _ (start : Beginning) (z : ℕ) (w later : World) (n count : ℕ) where
   pub record Concerns (fixed : Fixed) (doing : Option Doing) (asked : ℕ × Request) (response : Response) : Type 0 where
     pub told : (before : TransactionRun) → doing ≡ Some (Running before) → (who : ℕ) → is_some (later.told who before.task.t) ≡ (is_some (w.told who before.task.t) || ((asked.0 == who) && locks z asked.1 && says_held response))
     pub leaves : (before : TransactionRun) → doing ≡ Some (Running before) → Leaves w later before.task.t asked.1 response
-    pub ruled : (sweep_run : SweepRun) → doing ≡ Some (RunningSweep sweep_run) → (t : ℕ) (locks : List Lock) (v : replied.Verdict) → sweep_run.now ≡ Resolving t locks → response ≡ Replied (reply.Verdict v) → later.verdict t ≡ Some (ended_as v)
+    pub ruled : (sweep_run : SweepRun) → doing ≡ Some (RunningSweep sweep_run) → (t : ℕ) (locks : List Lock) (v : replied.Verdict) → sweep_run.now ≡ Resolving t locks
+        → response ≡ Replied (reply.Verdict v) → later.verdict t ≡ Some (ended_as v)
     pub quiet : (u : ℕ) → ((before : TransactionRun) → doing ≡ Some (Running before) → u ≡ before.task.t → ⊥) → Quiet w later u
 
   same_course : (a b : TransactionRun) → ◌≡◌ {A = Option Doing} (Some (Running a)) (Some (Running b)) → b ≡ a
@@ -166,7 +173,8 @@ module _ (start : Beginning) (z : ℕ) (w later : World) (n count : ℕ) where
   turn_at : (fixed : Fixed) (agent : Agent) (doing : Option Doing) (asked : ℕ × Request) (response : Response) → next_of fixed (record agent { doing = doing }) ≡ Some asked → IsDoing z w n count doing → Concerns fixed doing asked response
       → Turn start z w later n count doing (take_in fixed agent response doing (Some asked))
   turn_at fixed agent (Some (Running before)) asked response is in' concerns =
-      running_turn fixed agent before asked response is in' (concerns.told before refl) (concerns.leaves before refl) (λ u apart. concerns.quiet u (λ other same at. apart (at ∙ ap (λ (c : TransactionRun). c.task.t) (same_course before other same))))
+      running_turn fixed agent before asked response is in' (concerns.told before refl) (concerns.leaves before refl)
+      (λ u apart. concerns.quiet u (λ other same at. apart (at ∙ ap (λ (c : TransactionRun). c.task.t) (same_course before other same))))
   turn_at fixed agent (Some (RunningSweep sweep_run)) asked response is in' concerns = round_turn fixed agent sweep_run asked.0 response (concerns.ruled sweep_run refl) (λ u. concerns.quiet u (λ before same at. absurd cc))
   turn_at fixed agent None asked response is in' concerns = absurd cc
 

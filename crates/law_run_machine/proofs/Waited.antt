@@ -34,19 +34,23 @@ abbrev pub AllWaiting : Opening → worlds.World → Type 0
 AllWaiting given world = (n : ℕ) (actor : Actor) → actor_at world n ≡ Some actor → Waiting (servers_of given world) n actor.agent
 
 -- where it is to prepare
-pub waits_first : (servers : ℕ → State) (doing : Option Doing) → IsWaiting servers doing → (txn_run : TransactionRun) → doing ≡ Some (Running txn_run) → (now : ℕ) (left : List ℕ) (outcome : Proposal) → txn_run.phase ≡ Preparing (now ∷ left) outcome → has_prepared txn_run.task.t (servers now).locks ≡ false
+pub waits_first : (servers : ℕ → State) (doing : Option Doing) → IsWaiting servers doing → (txn_run : TransactionRun) → doing ≡ Some (Running txn_run)
+    → (now : ℕ) (left : List ℕ) (outcome : Proposal) → txn_run.phase ≡ Preparing (now ∷ left) outcome → has_prepared txn_run.task.t (servers now).locks ≡ false
 waits_first servers doing waiting txn_run is now left outcome phase =
     (subst (Waits txn_run.task.t servers) phase (subst (IsWaiting servers) is waiting)).0 now (inl refl)
 
 -- what is asked prepares no other transaction
-asked_prepare : (fixed : Fixed) (doing : Option Doing) (asked : ℕ × Request) → next_in fixed doing ≡ Some asked → (u : ℕ) → ((txn_run : TransactionRun) → doing ≡ Some (Running txn_run) → u ≡ txn_run.task.t → ⊥) → is_prepare u asked.1 ≡ false
+asked_prepare : (fixed : Fixed) (doing : Option Doing) (asked : ℕ × Request) → next_in fixed doing ≡ Some asked → (u : ℕ)
+    → ((txn_run : TransactionRun) → doing ≡ Some (Running txn_run) → u ≡ txn_run.task.t → ⊥) → is_prepare u asked.1 ≡ false
 asked_prepare fixed (Some (Running txn_run)) asked is u other = named_prepare txn_run.task.t u asked.1 (asks_in_its_name fixed txn_run.task txn_run.suites txn_run.phase asked.0 asked.1 is) (other txn_run refl)
 asked_prepare fixed (Some (RunningSweep sweep_run)) asked is u other =
     swept_prepare u asked.1 (ap (λ (asked : ℕ × Request). may_sweep asked.1) (sym (same_Some (asked_now fixed.service sweep_run sweep_run.now) asked is)) ∙ asks_to_sweep fixed.service sweep_run sweep_run.now)
 asked_prepare fixed None asked is u other = absurd cc
 
 -- of an agent's transactions no lock became prepared
-waiting_on : (old new : ℕ → State) (n count : ℕ) (agent : Agent) → agent.count ≡ count → n < 64 → ((txn_run : TransactionRun) → agent.doing ≡ Some (Running txn_run) → txn_run.task.t + 64 ≡ 64 * count + n) → ((u place j : ℕ) → u ≡ 64 * place + n → has_prepared u (old j).locks ≡ false → has_prepared u (new j).locks ≡ false) → Waiting old n agent → Waiting new n agent
+waiting_on : (old new : ℕ → State) (n count : ℕ) (agent : Agent) → agent.count ≡ count → n < 64
+    → ((txn_run : TransactionRun) → agent.doing ≡ Some (Running txn_run) → txn_run.task.t + 64 ≡ 64 * count + n)
+    → ((u place j : ℕ) → u ≡ 64 * place + n → has_prepared u (old j).locks ≡ false → has_prepared u (new j).locks ≡ false) → Waiting old n agent → Waiting new n agent
 waiting_on old new n count agent same small numbered keeps waiting = record {
   fresh = λ place past j. keeps (64 * place + n) place j refl (waiting.fresh place past j);
   now = by agent.doing numbered waiting.now;
@@ -72,7 +76,8 @@ module _ (given : Opening) (z : ℕ) (w : World) (world : worlds.World) (linked 
       (λ apart. others m x (sym (set_apart world.agents n m now apart) ∙ is) apart)
 
   -- after a turn
-  turn_waiting : (new : ℕ → State) (number : ℕ) (actor : Actor) (asked : ℕ × Request) (response : Response) (stamp : ℕ) → actor_at world number ≡ Some actor → next_of (fixed_of given) actor.agent ≡ Some asked → Keeps (servers_of given world) new asked.0 asked.1
+  turn_waiting : (new : ℕ → State) (number : ℕ) (actor : Actor) (asked : ℕ × Request) (response : Response) (stamp : ℕ) → actor_at world number ≡ Some actor
+      → next_of (fixed_of given) actor.agent ≡ Some asked → Keeps (servers_of given world) new asked.0 asked.1
       → (m : ℕ) (x : Actor) → slice_get (slice_set world.agents number (worlds.moved actor stamp (take (fixed_of given) actor.agent response))) m ≡ Some x → Waiting new m x.agent
   turn_waiting new number actor asked response stamp there next keeps =
       let was = linked number actor there in
@@ -91,17 +96,27 @@ module _ (given : Opening) (z : ℕ) (w : World) (world : worlds.World) (linked 
       (λ m x at other.
       let there' = linked m x at in
       waiting_on (servers_of given world) new m x.agent.count x.agent refl there'.0 (numbered_at' m x at)
-      (λ u place j is. keeps.unprepared u j (asked_prepare fixed actor.agent.doing asked next u (λ txn_run running same. apart u txn_run.task.t number m place actor.agent.count is (numbered_at' number actor there txn_run running) was.0 there'.0 other same)))
+      (λ u place j is. keeps.unprepared u j (asked_prepare fixed actor.agent.doing asked next u
+      (λ txn_run running same. apart u txn_run.task.t number m place actor.agent.count is (numbered_at' number actor there txn_run running) was.0 there'.0 other same)))
       (waiting m x at))
 
-  answered_waiting : (number : ℕ) (actor : Actor) (asked : ℕ × Request) (st : State) → actor_at world number ≡ Some actor → next_of (fixed_of given) actor.agent ≡ Some asked → server_at world asked.0 ≡ Some st → (b : Bool) → is_full st (record { stamp = actor.stamp; value = asked.1 }) ≡ b
-      → AllWaiting given (answered (fixed_of given) world number actor st (cond b None (Some (record { server = asked.0; request = record { stamp = actor.stamp; value = asked.1 }; reply = answer_of st (record { stamp = actor.stamp; value = asked.1 }) })))).world
+  answered_waiting : (number : ℕ) (actor : Actor) (asked : ℕ × Request) (st : State) → actor_at world number ≡ Some actor → next_of (fixed_of given) actor.agent ≡ Some asked
+      → server_at world asked.0 ≡ Some st → (b : Bool) → is_full st (record { stamp = actor.stamp; value = asked.1 }) ≡ b
+      → AllWaiting given (answered (fixed_of given) world number actor st
+      (cond b None
+      (Some (record {
+        server = asked.0;
+        request = record { stamp = actor.stamp; value = asked.1 };
+        reply = answer_of st
+            (record { stamp = actor.stamp; value = asked.1 });
+      })))).world
   answered_waiting number actor asked st there next at true is = turn_waiting (servers_of given world) number actor asked (Lacked lack.Full) actor.stamp there next (keeps_same (servers_of given world) asked.0 asked.1)
   answered_waiting number actor asked st there next at false is =
       let sent : Stamped Request = record { stamp = actor.stamp; value = asked.1 } in
       turn_waiting (servers_of given (worlds.with_server asked.0 (served st sent) world)) number actor asked (Replied (reply_of st asked.1)) (answer_of st sent).stamp there next (keeps_served given world asked.0 st sent at is)
 
-  at_waiting : (number : ℕ) (actor : Actor) (asked : ℕ × Request) → actor_at world number ≡ Some actor → next_of (fixed_of given) actor.agent ≡ Some asked → (o : Option State) → server_at world asked.0 ≡ o → AllWaiting given (asks_at (fixed_of given) world number actor asked o).world
+  at_waiting : (number : ℕ) (actor : Actor) (asked : ℕ × Request) → actor_at world number ≡ Some actor → next_of (fixed_of given) actor.agent ≡ Some asked → (o : Option State)
+      → server_at world asked.0 ≡ o → AllWaiting given (asks_at (fixed_of given) world number actor asked o).world
   at_waiting number actor asked there next (Some st) at = answered_waiting number actor asked st there next at (is_full st (record { stamp = actor.stamp; value = asked.1 })) refl
   at_waiting number actor asked there next None at = waiting
 
@@ -113,7 +128,8 @@ module _ (given : Opening) (z : ℕ) (w : World) (world : worlds.World) (linked 
   step_waiting number (Some actor) there = asks_waiting number actor there (next_of (fixed_of given) actor.agent) refl
   step_waiting number None there = waiting
 
-  lacks_waiting : (number : ℕ) (actor : Actor) (why : _) → actor_at world number ≡ Some actor → (o : Option (ℕ × Request)) → next_of (fixed_of given) actor.agent ≡ o → AllWaiting given (lacks_for (fixed_of given) world number actor (Lacked why) o).world
+  lacks_waiting : (number : ℕ) (actor : Actor) (why : _) → actor_at world number ≡ Some actor → (o : Option (ℕ × Request)) → next_of (fixed_of given) actor.agent ≡ o
+      → AllWaiting given (lacks_for (fixed_of given) world number actor (Lacked why) o).world
   lacks_waiting number actor why there (Some asked) next = turn_waiting (servers_of given world) number actor asked (Lacked why) actor.stamp there next (keeps_same (servers_of given world) asked.0 asked.1)
   lacks_waiting number actor why there None next = waiting
 

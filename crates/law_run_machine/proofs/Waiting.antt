@@ -80,7 +80,8 @@ pub record Keeps (old new : ℕ → State) (server : ℕ) (asked : Request) : Ty
 pub keeps_same : (servers : ℕ → State) (server : ℕ) (asked : Request) → Keeps servers servers server asked
 keeps_same servers server asked = record { unprepared = λ u j other none. none; away = λ j apart. refl }
 
-pub keeps_served : (given : Opening) (world : worlds.World) (i : ℕ) (st : State) (asked : Stamped Request) → server_at world i ≡ Some st → is_full st asked ≡ false → Keeps (servers_of given world) (servers_of given (with_server i (served st asked) world)) i asked.value
+pub keeps_served : (given : Opening) (world : worlds.World) (i : ℕ) (st : State) (asked : Stamped Request) → server_at world i ≡ Some st → is_full st asked ≡ false
+    → Keeps (servers_of given world) (servers_of given (with_server i (served st asked) world)) i asked.value
 keeps_served given world i st asked there none =
     subst (λ servers. Keeps (servers_of given world) servers i asked.value) (servers_set given world i st (served st asked) there) (record {
       unprepared = λ u j other was. at1 (λ (st : State). has_prepared u st.locks ≡ false) (servers_of given world) i (served st asked) j
@@ -146,7 +147,8 @@ module _ (task : Task) (servers : ℕ → State) where
   waits_give_up : (cache : Cache) (suites : Suites) (cause : Cause) → WaitsLeft task.t servers (give_up task cache suites cause).after
   waits_give_up cache suites cause = waits_end cache suites verdict.Aborted (Undecided cause) (locked_at suites)
 
-  waits_prepare : (cache : Cache) (suites : Suites) (outcome : Proposal) (left : List ℕ) → ((j : ℕ) → Has left j → has_prepared task.t (servers j).locks ≡ false) → AreApart left → WaitsLeft task.t servers (prepare task cache suites outcome left).after
+  waits_prepare : (cache : Cache) (suites : Suites) (outcome : Proposal) (left : List ℕ) → ((j : ℕ) → Has left j → has_prepared task.t (servers j).locks ≡ false) → AreApart left
+      → WaitsLeft task.t servers (prepare task cache suites outcome left).after
   waits_prepare cache suites outcome [] none apart = (refl, tt)
   waits_prepare cache suites outcome (server ∷ left) none apart = (refl, (none, apart))
 
@@ -170,14 +172,17 @@ module _ (task : Task) (servers : ℕ → State) where
     waits_begin fixed cache = goes_execute task (WaitsLeft task.t servers) waits_early waits_give_up waits_prepares fixed (record { suites = []; cache = cache })
 
 module _ (fixed : Fixed) (task : Task) (cache : Cache) (suites : Suites) (server : ℕ) (asked : Request) (response : Response) (old new : ℕ → State) (keeps : Keeps old new server asked) where
-  waits_response : (phase : Phase) → request_in fixed task suites phase ≡ Some (server, asked) → Waits task.t old phase → WaitsLeft task.t new (after_response fixed (record { task = task; suites = suites; phase = phase }) cache server asked response).after
+  waits_response : (phase : Phase) → request_in fixed task suites phase ≡ Some (server, asked) → Waits task.t old phase
+      → WaitsLeft task.t new (after_response fixed (record { task = task; suites = suites; phase = phase }) cache server asked response).after
   waits_response (Gathering number) is waits =
-      waits_early_response task new (λ j. keeps.unprepared task.t j (asked_as (is_prepare task.t) false task number (suite_of suites number) server asked (λ mode. refl) refl is) (waits j)) fixed cache suites (Gathering number) server asked response tt
+      waits_early_response task new (λ j. keeps.unprepared task.t j (asked_as (is_prepare task.t) false task number (suite_of suites number) server asked (λ mode. refl) refl is)
+      (waits j)) fixed cache suites (Gathering number) server asked response tt
   waits_response (Fetching number) is waits =
       waits_early_response task new (λ j. keeps.unprepared task.t j (fetched_as (is_prepare task.t) false task number (suite_of suites number) server asked refl is) (waits j)) fixed cache suites (Fetching number) server asked response tt
   waits_response (Widening [] granted) is waits = cc
   waits_response (Widening (number ∷ left) granted) is waits =
-      waits_early_response task new (λ j. keeps.unprepared task.t j (asked_as (is_prepare task.t) false task number (suite_of suites number) server asked (λ mode. refl) refl is) (waits j)) fixed cache suites (Widening (number ∷ left) granted) server asked response tt
+      waits_early_response task new (λ j. keeps.unprepared task.t j (asked_as (is_prepare task.t) false task number (suite_of suites number) server asked (λ mode. refl) refl is)
+      (waits j)) fixed cache suites (Widening (number ∷ left) granted) server asked response tt
   waits_response (Preparing [] outcome) is waits = cc
   waits_response (Preparing (now ∷ left) outcome) is waits = of response
     where
@@ -232,7 +237,8 @@ waiting_round : (servers : ℕ → State) (after : After SweepRun) → IsWaiting
 waiting_round servers (GoesOn sweep_run) = tt
 waiting_round servers (Ends ending) = tt
 
-pub take_waiting : (fixed : Fixed) (agent : Agent) (response : Response) (doing : Option Doing) (asked : ℕ × Request) (old new : ℕ → State) → Keeps old new asked.0 asked.1 → next_in fixed doing ≡ Some asked → IsWaiting old doing → IsWaiting new (take_in fixed agent response doing (Some asked)).agent.doing
+pub take_waiting : (fixed : Fixed) (agent : Agent) (response : Response) (doing : Option Doing) (asked : ℕ × Request) (old new : ℕ → State) → Keeps old new asked.0 asked.1
+    → next_in fixed doing ≡ Some asked → IsWaiting old doing → IsWaiting new (take_in fixed agent response doing (Some asked)).agent.doing
 take_waiting fixed agent response (Some (Running txn_run)) asked old new keeps is waits =
     waiting_left new txn_run.task.t _ (waits_response fixed txn_run.task agent.cache txn_run.suites asked.0 asked.1 response old new keeps txn_run.phase is waits)
 take_waiting fixed agent response (Some (RunningSweep sweep_run)) asked old new keeps is waits = waiting_round new (sweep.after_response fixed.service sweep_run asked.0 response)
@@ -240,7 +246,8 @@ take_waiting fixed agent response None asked old new keeps is waits = absurd cc
 
 pub started_waiting : (fixed : Fixed) (agent : Agent) (n : ℕ) (servers : ℕ → State) (job : Job) → agent.index ≡ n → Waiting servers n agent → IsWaiting servers (started fixed agent job).doing
 started_waiting fixed agent n servers (Transaction caller site ops) index waiting =
-    waiting_left servers (64 * agent.count + agent.index) _ (waits_begin (record { t = 64 * agent.count + agent.index; caller = caller; site = site; ops = ops }) servers (λ j. ap (λ i. has_prepared (64 * agent.count + i) (servers j).locks) index ∙ waiting.fresh agent.count (omega arith) j) fixed agent.cache)
+    waiting_left servers (64 * agent.count + agent.index) _ (waits_begin (record { t = 64 * agent.count + agent.index; caller = caller; site = site; ops = ops }) servers
+    (λ j. ap (λ i. has_prepared (64 * agent.count + i) (servers j).locks) index ∙ waiting.fresh agent.count (omega arith) j) fixed agent.cache)
 started_waiting fixed agent n servers (Sweep server) index waiting = tt
 
 pub begin_waiting : (fixed : Fixed) (agent : Agent) (n : ℕ) (servers : ℕ → State) (job : Job) → agent.index ≡ n → Waiting servers n agent → Waiting servers n (begin fixed agent job)

@@ -59,7 +59,8 @@ running_left z w later n count fixed agent before asked response is in' agrees d
     let hears = hears_response (told_at before.suites) fixed before.task agent.cache before.suites before.phase asked.0 asked.1 response (in'.ordered, λ number. refl) is in
     of (after_response fixed before agent.cache asked.0 asked.1 response).after hears.lists hears.leaves (hears.are z) doing
   where
-    of : (after : After TransactionRun) (lists : ℕ → List collect.Told) → Leaves lists after → lists z ≡ heard_by z (told_at before.suites z) asked.0 asked.1 response → IsDoing z later n count (left Running after) → DoingAgrees z later (left Running after)
+    of : (after : After TransactionRun) (lists : ℕ → List collect.Told) → Leaves lists after → lists z ≡ heard_by z (told_at before.suites z) asked.0 asked.1 response
+        → IsDoing z later n count (left Running after) → DoingAgrees z later (left Running after)
     of (GoesOn txn_run) lists leaves are doing =
         subst (λ t. Agrees (told_to later t) (told_at txn_run.suites z)) (same_number before.task.t txn_run.task.t count n in'.numbered doing.numbered)
         (subst (λ list. Agrees (told_to later before.task.t) list) (sym (leaves.1 z ∙ are)) agrees)

@@ -73,33 +73,40 @@ numbered_so t n count is = omega arith
 same_only : (before other : TransactionRun) → ◌≡◌ {A = Option Doing} (Some (Running before)) (Some (Running other)) → before ≡ other
 same_only before other same = cc
 
-module _ (given : Opening) (z : ℕ) (w : World) (world : worlds.World) (inv : Inv (beginning z given) w) (shows : Shows z (home_in given) (servers_of given world) w) (all : AllConsistent (servers_of given world)) (linked : AllLinked z w world) (agree : AllAgree z w world) where
+module _ (given : Opening) (z : ℕ) (w : World) (world : worlds.World) (inv : Inv (beginning z given) w) (shows : Shows z (home_in given) (servers_of given world) w)
+    (all : AllConsistent (servers_of given world)) (linked : AllLinked z w world) (agree : AllAgree z w world) where
   abbrev first : Beginning
   first = beginning z given
 
   tells : (i : ℕ) (st : State) (sent : Stamped Request) (later : World) → server_at world i ≡ Some st → is_full st sent ≡ false → Shows z (home_in given) (servers_of given (with_server i (served st sent) world)) later
       → steps.Tells z (home_in given) i w later sent.value (reply_of st sent.value)
   tells i st sent later there none shows_later =
-      subst (λ st. is_full st sent ≡ false → Shows z (home_in given) (set1 (servers_of given world) i (serving.step st sent)) later → steps.Tells z (home_in given) i w later sent.value (reply_of st sent.value)) (server_there given world i st there)
+      subst (λ st. is_full st sent ≡ false → Shows z (home_in given) (set1 (servers_of given world) i (serving.step st sent)) later
+      → steps.Tells z (home_in given) i w later sent.value (reply_of st sent.value)) (server_there given world i st there)
       (λ none shows_later. replies_tell z (home_in given) (servers_of given world) i w later sent shows none shows_later)
       none
       (subst (λ new. Shows z (home_in given) (set1 (servers_of given world) i new) later) (sym (served_is st sent none))
       (subst (λ servers. Shows z (home_in given) servers later) (sym (servers_set given world i st (served st sent) there)) shows_later))
 
   -- what a request that was served told the agent
-  heard : (doing : Option Doing) (asked : ℕ × Request) (stamp : ℕ) (st : State) (n count : ℕ) → next_in (fixed_of given) doing ≡ Some asked → DoingAgrees z w doing → server_at world asked.0 ≡ Some st → is_full st (record { stamp = stamp; value = asked.1 }) ≡ false
+  heard : (doing : Option Doing) (asked : ℕ × Request) (stamp : ℕ) (st : State) (n count : ℕ) → next_in (fixed_of given) doing ≡ Some asked → DoingAgrees z w doing
+      → server_at world asked.0 ≡ Some st → is_full st (record { stamp = stamp; value = asked.1 }) ≡ false
       → Obeys first w (served_at given z w world inv shows all n count doing asked st)
       → Shows z (home_in given) (servers_of given (with_server asked.0 (served st (record { stamp = stamp; value = asked.1 })) world)) (run first w (served_at given z w world inv shows all n count doing asked st))
-      → (before : TransactionRun) → doing ≡ Some (Running before) → Agrees (told_to (run first w (served_at given z w world inv shows all n count doing asked st)) before.task.t) (heard_by z (told_at before.suites z) asked.0 asked.1 (Replied (reply_of st asked.1)))
+      → (before : TransactionRun) → doing ≡ Some (Running before) → Agrees (told_to (run first w (served_at given z w world inv shows all n count doing asked st)) before.task.t)
+      (heard_by z (told_at before.suites z) asked.0 asked.1 (Replied (reply_of st asked.1)))
   heard (Some (Running before)) asked stamp st n count is agrees there none obeys shows_later other same =
-      subst (λ (other : TransactionRun). Agrees (told_to (run first w (served_at given z w world inv shows all n count (Some (Running before)) asked st)) other.task.t) (heard_by z (told_at other.suites z) asked.0 asked.1 (Replied (reply_of st asked.1)))) (same_only before other same)
-      (served_agrees first z (home_in given) (decision_in z w before.task before.suites before.phase) asked.0 w inv.sound (decision_told first z w before.task before.suites before.phase) before.task.t asked.1 (reply_of st asked.1) (told_at before.suites z)
+      subst (λ (other : TransactionRun). Agrees (told_to (run first w (served_at given z w world inv shows all n count (Some (Running before)) asked st)) other.task.t)
+      (heard_by z (told_at other.suites z) asked.0 asked.1 (Replied (reply_of st asked.1)))) (same_only before other same)
+      (served_agrees first z (home_in given) (decision_in z w before.task before.suites before.phase) asked.0 w inv.sound
+      (decision_told first z w before.task before.suites before.phase) before.task.t asked.1 (reply_of st asked.1) (told_at before.suites z)
       (asks_in_its_name (fixed_of given) before.task before.suites before.phase asked.0 asked.1 is) obeys
       (tells asked.0 st (record { stamp = stamp; value = asked.1 }) (run first w (served_at given z w world inv shows all n count (Some (Running before)) asked st)) there none shows_later) agrees)
   heard (Some (RunningSweep sweep_run)) asked stamp st n count is agrees there none obeys shows_later other same = absurd cc
   heard None asked stamp st n count is agrees there none obeys shows_later other same = absurd cc
 
-  lacked : (doing : Option Doing) (asked : ℕ × Request) (why : _) → DoingAgrees z w doing → (before : TransactionRun) → doing ≡ Some (Running before) → Agrees (told_to w before.task.t) (heard_by z (told_at before.suites z) asked.0 asked.1 (Lacked why))
+  lacked : (doing : Option Doing) (asked : ℕ × Request) (why : _) → DoingAgrees z w doing → (before : TransactionRun) → doing ≡ Some (Running before)
+      → Agrees (told_to w before.task.t) (heard_by z (told_at before.suites z) asked.0 asked.1 (Lacked why))
   lacked (Some (Running before)) asked why agrees other same =
       subst (λ (other : TransactionRun). Agrees (told_to w other.task.t) (heard_by z (told_at other.suites z) asked.0 asked.1 (Lacked why))) (same_only before other same)
       (lacked_agrees z asked.0 (told_to w before.task.t) asked.1 why (told_at before.suites z) agrees)
@@ -132,10 +139,22 @@ module _ (given : Opening) (z : ℕ) (w : World) (world : worlds.World) (inv : I
       (takes w number actor asked (Lacked why) next was.1.doing (lacked actor.agent.doing asked why (agree number actor there)) it.goes_on)
       (others_turned first z w w number (fixed_of given) actor.agent (Lacked why) was.0 was.1 it)
 
-  answered_next : (number : ℕ) (actor : Actor) (asked : ℕ × Request) (st : State) → actor_at world number ≡ Some actor → next_of (fixed_of given) actor.agent ≡ Some asked → server_at world asked.0 ≡ Some st → (b : Bool) → is_full st (record { stamp = actor.stamp; value = asked.1 }) ≡ b
+  answered_next : (number : ℕ) (actor : Actor) (asked : ℕ × Request) (st : State) → actor_at world number ≡ Some actor → next_of (fixed_of given) actor.agent ≡ Some asked
+      → server_at world asked.0 ≡ Some st → (b : Bool) → is_full st (record { stamp = actor.stamp; value = asked.1 }) ≡ b
       → AnsweredWell given z w actor st (cond b None (Some (record { server = asked.0; request = record { stamp = actor.stamp; value = asked.1 }; reply = answer_of st (record { stamp = actor.stamp; value = asked.1 }) })))
-      → AllAgree z (run first w (answered_events given z w actor (cond b None (Some (record { server = asked.0; request = record { stamp = actor.stamp; value = asked.1 }; reply = answer_of st (record { stamp = actor.stamp; value = asked.1 }) })))))
-      (answered (fixed_of given) world number actor st (cond b None (Some (record { server = asked.0; request = record { stamp = actor.stamp; value = asked.1 }; reply = answer_of st (record { stamp = actor.stamp; value = asked.1 }) })))).world
+      → AllAgree z
+      (run first w
+      (answered_events given z w actor
+      (cond b None
+      (Some (record { server = asked.0; request = record { stamp = actor.stamp; value = asked.1 }; reply = answer_of st (record { stamp = actor.stamp; value = asked.1 }) })))))
+      (answered (fixed_of given) world number actor st
+      (cond b None
+      (Some (record {
+        server = asked.0;
+        request = record { stamp = actor.stamp; value = asked.1 };
+        reply = answer_of st
+            (record { stamp = actor.stamp; value = asked.1 });
+      })))).world
   answered_next number actor asked st there next at true is well = lacked_turn number actor asked lack.Full there next
   answered_next number actor asked st there next at false is well =
       let was = linked number actor there in
@@ -147,7 +166,14 @@ module _ (given : Opening) (z : ℕ) (w : World) (world : worlds.World) (inv : I
       (served_concerns given z w world inv shows all number actor.agent.count actor.agent.doing asked actor.stamp st next was.1.doing at is follows.obeys follows.shows) in
       let taken = take (fixed_of given) actor.agent (Replied said) in
       let own = own_events z actor.agent.doing taken in
-      subst (λ w. AllAgree z w (answered (fixed_of given) world number actor st (Some (record { server = asked.0; request = record { stamp = actor.stamp; value = asked.1 }; reply = answer_of st (record { stamp = actor.stamp; value = asked.1 }) }))).world) (sym (run-append first w events own))
+      subst
+      (λ w. AllAgree z w (answered (fixed_of given) world number actor st
+      (Some (record {
+        server = asked.0;
+        request = record { stamp = actor.stamp; value = asked.1 };
+        reply = answer_of st
+            (record { stamp = actor.stamp; value = asked.1 });
+      }))).world) (sym (run-append first w events own))
       (all_agree z w (run first later own) world number actor (worlds.moved actor (answer_of st (record { stamp = actor.stamp; value = asked.1 })).stamp taken) there linked agree
       (takes later number actor asked (Replied said) next was.1.doing (heard actor.agent.doing asked actor.stamp st number actor.agent.count next (agree number actor there) at is follows.obeys follows.shows) it.goes_on)
       (others_turned first z w later number (fixed_of given) actor.agent (Replied said) was.0 was.1 it))
@@ -194,23 +220,28 @@ module _ (given : Opening) (z : ℕ) (w : World) (world : worlds.World) (inv : I
   operated_next i asked st true same = agree
   operated_next i asked st false same = all_same (run first w (moves z (home_in given) (decision_by z w None) i w asked (reply_of st asked))) (same (reply_of st asked))
 
-  operator_next : (i : ℕ) (asked : Request) (o : Option State) → ((said : Reply) → (run first w (moves z (home_in given) (decision_by z w None) i w asked said)).told ≡ w.told) → AllAgree z (run first w (operator_events given z w i asked o)) (operates world i asked o).world
+  operator_next : (i : ℕ) (asked : Request) (o : Option State) → ((said : Reply) → (run first w (moves z (home_in given) (decision_by z w None) i w asked said)).told ≡ w.told)
+      → AllAgree z (run first w (operator_events given z w i asked o)) (operates world i asked o).world
   operator_next i asked (Some st) same = operated_next i asked st (is_full st (record { stamp = 0; value = asked })) same
   operator_next i asked None same = agree
 
   -- ---- what changes agents alone
 
   -- a job that begins was told of nothing
-  begun_left : (later : World) (n count : ℕ) (after : After TransactionRun) → ((i : ℕ) → w.told i (64 * count + n) ≡ None) → Leaves (λ number. []) after → IsDoing z later n (count + 1) (left Running after) → DoingAgrees z w (left Running after)
+  begun_left : (later : World) (n count : ℕ) (after : After TransactionRun) → ((i : ℕ) → w.told i (64 * count + n) ≡ None) → Leaves (λ number. []) after
+      → IsDoing z later n (count + 1) (left Running after) → DoingAgrees z w (left Running after)
   begun_left later n count (GoesOn txn_run) untold leaves doing =
       let at : txn_run.task.t ≡ 64 * count + n = numbered_so txn_run.task.t n count doing.numbered in
       subst (λ list. Agrees (told_to w txn_run.task.t) list) (sym (leaves.1 z)) (agrees_nil (told_to w txn_run.task.t) (λ i. ap (w.told i) at ∙ untold i))
   begun_left later n count (Ends ending) untold leaves doing = tt
 
-  began : (later : World) (number : ℕ) (agent : Agent) (job : Job) → ((i : ℕ) → w.told i (64 * agent.count + number) ≡ None) → DoingAgrees z w agent.doing → IsDoing z later number (begin (fixed_of given) agent job).count (begin (fixed_of given) agent job).doing
+  began : (later : World) (number : ℕ) (agent : Agent) (job : Job) → ((i : ℕ) → w.told i (64 * agent.count + number) ≡ None) → DoingAgrees z w agent.doing
+      → IsDoing z later number (begin (fixed_of given) agent job).count (begin (fixed_of given) agent job).doing
       → DoingAgrees z w (begin (fixed_of given) agent job).doing
   began later number agent job untold agrees =
-      elim (is_idle agent.doing && has_sense (fixed_of given) job && nat_lt agent.count max_jobs) as (λ b. IsDoing z later number (cond b (record (started (fixed_of given) agent job) { count = agent.count + 1 }) agent).count (cond b (record (started (fixed_of given) agent job) { count = agent.count + 1 }) agent).doing
+      elim (is_idle agent.doing && has_sense (fixed_of given) job && nat_lt agent.count max_jobs) as
+      (λ b. IsDoing z later number (cond b (record (started (fixed_of given) agent job) { count = agent.count + 1 }) agent).count
+      (cond b (record (started (fixed_of given) agent job) { count = agent.count + 1 }) agent).doing
       → DoingAgrees z w (cond b (record (started (fixed_of given) agent job) { count = agent.count + 1 }) agent).doing) [
         | true ↦ of job
         | false ↦ λ _. agrees

@@ -40,7 +40,8 @@ module _ (told : ℕ → List Told) (fixed : Fixed) (task : Task) (cache : Cache
   quiet : (phase : Phase) (response : Response) → IsQuiet phase → request_in fixed task suites phase ≡ Some (server, asked) → (z : ℕ) → told z ≡ heard_by z (told z) server asked response
   quiet phase response none is z = sym (ap (λ b. cond b (told_by (told z) (record { server = server; request = asked; response = response }) response) (told z)) (quiet_asks fixed task suites phase server asked none is z))
 
-  one_more : {phase : Phase} {number : ℕ} {stage : Stage} (suite new : GatheredSuite) (reply : Reply) (said : Said) → request_in fixed task suites phase ≡ Some (server, asked) → Collects phase number stage → suite_of suites number ≡ Some suite
+  one_more : {phase : Phase} {number : ℕ} {stage : Stage} (suite new : GatheredSuite) (reply : Reply) (said : Said) → request_in fixed task suites phase ≡ Some (server, asked)
+      → Collects phase number stage → suite_of suites number ≡ Some suite
       → said_to asked reply ≡ Some said → new.collector ≡ (now_told server asked said suite).collector → (stage' : Stage) (cache' : Cache) → At told server asked (Replied reply) (point stage' cache' (with_suite number new suites))
   one_more {number = number} suite new reply said is collects there says same stage' cache' =
       let one : Told = record { server = server; mode = mode_of asked; said = said } in

@@ -73,14 +73,16 @@ showed_on f start mode (last ∷ list) i are held =
       dver = rest.dver ∙ sym (ap (λ b. cond b (version_in last.said (shown list i)) (shown list i)) e ∙ same);
     }
 
-    here : (last.server == i) ≡ true → (said : Said) → last.said ≡ said → SaidIs (f last.server) last.said → ((is_held last.said && serves last.mode mode) || holds mode list i) ≡ true → (holds mode list i ≡ true → Showed f start list i) → Showed f start (last ∷ list) i
+    here : (last.server == i) ≡ true → (said : Said) → last.said ≡ said → SaidIs (f last.server) last.said
+        → ((is_held last.said && serves last.mode mode) || holds mode list i) ≡ true → (holds mode list i ≡ true → Showed f start list i) → Showed f start (last ∷ list) i
     here e (Held prefix dver) same told held rest =
         let of : ToldOf (f last.server) prefix dver = subst (SaidIs (f last.server)) same told in
         let at : last.server ≡ i = eqb-true last.server i e in
         record {
           one = of.one;
           is = ap f (sym at) ∙ of.is;
-          prefix = subst (λ said. of.one.copy.prefix.pver ≤ (newer (newest start list) said).pver) (sym same) (subst (λ (p : Prefix). p.pver ≤ (newer (newest start list) (Held prefix dver)).pver) (sym of.prefix_is) (newer_least (newest start list) prefix dver));
+          prefix = subst (λ said. of.one.copy.prefix.pver ≤ (newer (newest start list) said).pver) (sym same)
+              (subst (λ (p : Prefix). p.pver ≤ (newer (newest start list) (Held prefix dver)).pver) (sym of.prefix_is) (newer_least (newest start list) prefix dver));
           dver = of.dver_is ∙ sym (ap (λ b. cond b (version_in last.said (shown list i)) (shown list i)) e ∙ ap (λ said. version_in said (shown list i)) same);
         }
     here e (Busy holder) same told held rest =
@@ -184,7 +186,8 @@ module _ (f : ℕ → Option Told) (suite : GatheredSuite) (first : ReadPoint) (
     where
       of : (members : List ℕ) → from.members ≡ members → (i : ℕ) × (one : Told) × (f i ≡ Some one) × (one.copy.dver ≡ first.dver)
       of [] same =
-          let enough : needed_of from.mode first.prefix.votes ≤ votes_in first.prefix.votes.reps (among []) = subst (λ members. needed_of from.mode first.prefix.votes ≤ votes_in first.prefix.votes.reps (among members)) same is_current.quorum in
+          let enough : needed_of from.mode first.prefix.votes ≤ votes_in first.prefix.votes.reps (among []) = subst
+          (λ members. needed_of from.mode first.prefix.votes ≤ votes_in first.prefix.votes.reps (among members)) same is_current.quorum in
           let none = no_votes first.prefix.votes.reps in
           let some = some_needed from.mode first.prefix.votes valid in
           absurd (omega arith)

@@ -27,13 +27,17 @@ use Rattle.law_run_quorums.specs.Telling.{DoingAgrees, AllAgree}
 use Rattle.law_run_quorums.specs.Laws.{CollectorsAgree}
 use Rattle.law_run_quorums.proofs.Events.{event_agrees}
 
-agree_from : (given : Opening) (z : ℕ) (w : World) (world : worlds.World) (events : List happening.Event) → Inv (beginning z given) w → Shows z (home_in given) (servers_of given world) w → AllConsistent (servers_of given world) → AllLinked z w world → AllWaiting given world → Readied z w world → All (fixed_of given) world → AllAgree z w world → AreOwed given z w world events
+agree_from : (given : Opening) (z : ℕ) (w : World) (world : worlds.World) (events : List happening.Event) → Inv (beginning z given) w
+    → Shows z (home_in given) (servers_of given world) w → AllConsistent (servers_of given world) → AllLinked z w world → AllWaiting given world → Readied z w world
+    → All (fixed_of given) world → AllAgree z w world → AreOwed given z w world events
     → AllAgree z (machine_from given z w world events) (after (fixed_of given) world events)
 agree_from given z w world [] inv shows all linked waiting readied jobs agree owed = agree
 agree_from given z w world (event ∷ events) inv shows all linked waiting readied jobs agree owed =
     let one = next given z w world inv shows all linked owed.0 waiting readied jobs event in
     let comes = event_comes given z w world inv shows all event one.0 in
-    agree_from given z (moved given z w world event) (step (fixed_of given) world event).world events (all_steps (beginning z given) w inv (events_of given z w world event) comes.obeys) comes.shows comes.consistent one.1 (waits_next given z w world linked waiting event) (ready_next given z w world readied event) (event_all (fixed_of given) world jobs event)
+    agree_from given z (moved given z w world event) (step (fixed_of given) world event).world events
+    (all_steps (beginning z given) w inv (events_of given z w world event) comes.obeys) comes.shows comes.consistent one.1 (waits_next given z w world linked waiting event)
+    (ready_next given z w world readied event) (event_all (fixed_of given) world jobs event)
     (event_agrees given z w world inv shows all linked agree event one.0) owed.1
 
 pub opens_agree : (given : Opening) (z : ℕ) → AllAgree z (begun (beginning z given)) (worlds.opening given)

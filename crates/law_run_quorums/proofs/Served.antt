@@ -209,16 +209,23 @@ module _ (start : Beginning) (z : ℕ) (home : ℕ → ℕ) (decision : Event) (
       of false = agrees
 
   -- whatever is asked in the transaction's name and replied
-  pub served_agrees : (t : ℕ) (asked : Request) (said : Reply) (list : List collect.Told) → names t asked ≡ true → Obeys start w (moves z home decision i w asked said) → Tells z home i w (Later asked said) asked said → Agrees (told_to w t) list
+  pub served_agrees : (t : ℕ) (asked : Request) (said : Reply) (list : List collect.Told) → names t asked ≡ true → Obeys start w (moves z home decision i w asked said)
+      → Tells z home i w (Later asked said) asked said → Agrees (told_to w t) list
       → Agrees (told_to (Later asked said) t) (heard_by z list i asked (Replied said))
   served_agrees t (request.Poll u s m) (reply.Held prefix dver) list is obeys tells agrees =
-      elim (z == s) as (λ b. (z == s) ≡ b → Obeys start w (cond b (machine.Held i u (modes.is_exclusive m) ∷ []) []) → Agrees (told_to (run start w (cond b (machine.Held i u (modes.is_exclusive m) ∷ []) [])) t) (heard_by z list i (request.Poll u s m) (Replied (reply.Held prefix dver)))) [
-        | true ↦ λ e obeys. subst (λ b. Agrees (told_to (machine.held w i u (modes.is_exclusive m)) t) (cond b (record { server = i; mode = m; said = Held prefix dver } ∷ list) list)) (sym (same_test z s e)) (new_lock t list agrees prefix dver (tells (one_is s z e)) u m (one_is t u is) obeys.0.untold)
+      elim (z == s) as (λ b. (z == s) ≡ b → Obeys start w (cond b (machine.Held i u (modes.is_exclusive m) ∷ []) [])
+      → Agrees (told_to (run start w (cond b (machine.Held i u (modes.is_exclusive m) ∷ []) [])) t)
+      (heard_by z list i (request.Poll u s m) (Replied (reply.Held prefix dver)))) [
+        | true ↦ λ e obeys. subst (λ b. Agrees (told_to (machine.held w i u (modes.is_exclusive m)) t)
+            (cond b (record { server = i; mode = m; said = Held prefix dver } ∷ list) list)) (sym (same_test z s e))
+            (new_lock t list agrees prefix dver (tells (one_is s z e)) u m (one_is t u is) obeys.0.untold)
         | false ↦ λ e _. subst (λ b. Agrees (told_to w t) (cond b (record { server = i; mode = m; said = Held prefix dver } ∷ list) list)) (sym (other_test z s e)) agrees
       ] refl obeys
   served_agrees t (request.Upgrade u s) (reply.Held prefix dver) list is obeys tells agrees =
-      elim (z == s) as (λ b. (z == s) ≡ b → Obeys start w (cond b (machine.Upgrade i u ∷ []) []) → Agrees (told_to (run start w (cond b (machine.Upgrade i u ∷ []) [])) t) (heard_by z list i (request.Upgrade u s) (Replied (reply.Held prefix dver)))) [
-        | true ↦ λ e obeys. subst (λ b. Agrees (told_to (machine.upgraded w i u) t) (cond b (record { server = i; mode = Exclusive; said = Held prefix dver } ∷ list) list)) (sym (same_test z s e)) (upgraded_lock t list agrees prefix dver (tells (one_is s z e)) u obeys.0.lock (one_is t u is) obeys.0.stands)
+      elim (z == s) as (λ b. (z == s) ≡ b → Obeys start w (cond b (machine.Upgrade i u ∷ []) [])
+      → Agrees (told_to (run start w (cond b (machine.Upgrade i u ∷ []) [])) t) (heard_by z list i (request.Upgrade u s) (Replied (reply.Held prefix dver)))) [
+        | true ↦ λ e obeys. subst (λ b. Agrees (told_to (machine.upgraded w i u) t) (cond b (record { server = i; mode = Exclusive; said = Held prefix dver } ∷ list) list))
+            (sym (same_test z s e)) (upgraded_lock t list agrees prefix dver (tells (one_is s z e)) u obeys.0.lock (one_is t u is) obeys.0.stands)
         | false ↦ λ e _. subst (λ b. Agrees (told_to w t) (cond b (record { server = i; mode = Exclusive; said = Held prefix dver } ∷ list) list)) (sym (other_test z s e)) agrees
       ] refl obeys
   served_agrees t (request.Prepare u parts) reply.Prepared list is obeys tells agrees = same_list t (Later (request.Prepare u parts) reply.Prepared) list (told_prepare u _) agrees

@@ -112,7 +112,14 @@ module _ (start : Beginning) (w : World) (t : ℕ) (z : ℕ) (suite : GatheredSu
       of : (c v : Bool) → change.content ≡ c → change.votes ≡ v → CoversContent w t (known_by first suite) new
       of true v content votes = inr (inr (ap (λ b. first.dver + one_if b) content), whole (ap (λ b. b || change.votes) content))
       of false true content votes = inr (inl (keeps_content content votes), whole (ap (λ b. b || change.votes) content ∙ votes))
-      of false false content votes = inl ((ap (λ b. first.dver + one_if b) content ∙ plus first.dver, inl (ap (λ b. cond (b || change.votes) (Some change.row.content) None) content ∙ ap (λ b. cond b (Some change.row.content) None) votes)), fair.votes votes)
+      of false false content votes = inl (
+        (
+          ap (λ b. first.dver + one_if b) content ∙ plus first.dver,
+          inl
+              (ap (λ b. cond (b || change.votes) (Some change.row.content) None) content ∙ ap (λ b. cond b (Some change.row.content) None) votes),
+        ),
+        fair.votes votes,
+      )
 
   -- a kind changes only with a content
   kind : new.dver ≡ 0 → new.prefix.kind ≡ first.prefix.kind

@@ -80,7 +80,8 @@ module _ (given : Opening) (events later : List Event) (agent t : ℕ) (caller :
       can_front given (events ++ Begin agent (Transaction caller site ops) ∷ so_far) rest
       (subst (CanBe given) (ap (λ later. events ++ Begin agent (Transaction caller site ops) ∷ later) split ∙ sym (append_assoc events (Begin agent (Transaction caller site ops) ∷ so_far) rest)) goes.can)
 
-  module _ (so_far rest : List Event) (split : later ≡ so_far ++ Step agent ∷ rest) (work : IsAtWork (world_after given events agent caller site ops so_far) agent t) (spared : IsSpared so_far) (locks : HasWhereOpen (world_after given events agent caller site ops so_far))
+  module _ (so_far rest : List Event) (split : later ≡ so_far ++ Step agent ∷ rest) (work : IsAtWork (world_after given events agent caller site ops so_far) agent t)
+      (spared : IsSpared so_far) (locks : HasWhereOpen (world_after given events agent caller site ops so_far))
       (server : ℕ) (st : State) (at : server_at (world_after given events agent caller site ops so_far) server ≡ Some st) where
     abbrev w : World
     w = world_after given events agent caller site ops so_far
@@ -101,11 +102,13 @@ module _ (given : Opening) (events later : List Event) (agent t : ℕ) (caller :
       module _ (question : Request) (next : next_of (fixed_of given) here.agent ≡ Some (server, question)) where
         its_finds : Finds st question
         its_finds =
-            finds_then given events so_far agent t caller site ops actor (can_so_far so_far (Step agent ∷ rest) split) goes.there goes.begins spared so_far [] (sym (append-nil so_far)) work here txn_run there running number (server, question) next st at
+            finds_then given events so_far agent t caller site ops actor (can_so_far so_far (Step agent ∷ rest) split) goes.there goes.begins spared so_far []
+            (sym (append-nil so_far)) work here txn_run there running number (server, question) next st at
 
         pub on_locks : stands_on_locks question ≡ true → answers given events later agent t caller site ops actor goes server ≡ true
         on_locks on =
-            let some = stands_then given events so_far agent t caller site ops actor (can_so_far so_far (Step agent ∷ rest) split) goes.there goes.begins spared so_far [] (sym (append-nil so_far)) work here txn_run there running number (server, question) next st at on in
+            let some = stands_then given events so_far agent t caller site ops actor (can_so_far so_far (Step agent ∷ rest) split) goes.there goes.begins spared so_far []
+            (sym (append-nil so_far)) work here txn_run there running number (server, question) next st at on in
             opens_up given events later agent t caller site ops actor goes some.lock.suite (first_asked given events later agent t caller site ops actor goes some.lock.suite) server
             (locks server some.lock.suite (record { lock = some.lock; has = subst (λ locks. Has locks some.lock) (sym (ap locks_in at)) some.has; of_it = some.of_it ∙ number; on_it = refl }))
 
@@ -138,7 +141,8 @@ module _ (given : Opening) (events later : List Event) (agent t : ℕ) (caller :
           met : (holder : ℕ) → way_in t z (mode_asked question) (Some st) ≡ Some (Some holder) → met_by given events later agent t caller site ops actor goes z server holder ≡ true
           met holder way =
               and_from (goes.near server) (list_any (λ (one : ℕ × LockMode). (one.0 == z) && is_holder given events later agent t caller site ops actor goes holder (way_at (run given events) t one.0 one.1 server)) asked) near
-              (has_any (λ (one : ℕ × LockMode). (one.0 == z) && is_holder given events later agent t caller site ops actor goes holder (way_at (run given events) t one.0 one.1 server)) asked (z, mode_asked question) (has_from asked (z, mode_asked question) has)
+              (has_any (λ (one : ℕ × LockMode). (one.0 == z) && is_holder given events later agent t caller site ops actor goes holder
+              (way_at (run given events) t one.0 one.1 server)) asked (z, mode_asked question) (has_from asked (z, mode_asked question) has)
               (and_from (z == z) (is_holder given events later agent t caller site ops actor goes holder (way_at (run given events) t z (mode_asked question) server)) (eq-eqb z z refl)
               (ap (is_holder given events later agent t caller site ops actor goes holder) (sym way_same ∙ way) ∙ eq-eqb holder holder refl)))
 

@@ -169,7 +169,8 @@ module _ (given : Opening) (events later : List Event) (agent t : ℕ) (caller :
 
   -- where it was told of a lock, the server was open to it
   abbrev pub NewOpen : List Event → Event → Type 0
-  NewOpen so_far event = (server z : ℕ) (told : Told (fixed_of given) (world_after given events agent caller site ops so_far) event t server) → told.told.suite ≡ z → opens given events later agent t caller site ops actor goes z (first_asked given events later agent t caller site ops actor goes z) server ≡ true
+  NewOpen so_far event = (server z : ℕ) (told : Told (fixed_of given) (world_after given events agent caller site ops so_far) event t server) → told.told.suite ≡ z
+      → opens given events later agent t caller site ops actor goes z (first_asked given events later agent t caller site ops actor goes z) server ≡ true
 
   -- and it shows what it showed
   abbrev pub NewShown : List Event → Event → Type 0
@@ -213,7 +214,8 @@ module _ (given : Opening) (events later : List Event) (agent t : ℕ) (caller :
     -- and what is stored there is what it was told
     pub shown_on : NewShown so_far event → ShowsWhereLocked given events later agent t caller site ops actor goes (world_after given events agent caller site ops (so_far ++ event ∷ []))
     shown_on new server z on =
-        ⊎_elim (λ old. of old (server_at (world_after given events agent caller site ops so_far) server) (server_at (world_after given events agent caller site ops (so_far ++ event ∷ [])) server) (server_at first server) refl refl refl (c.shown server z old))
+        ⊎_elim (λ old. of old (server_at (world_after given events agent caller site ops so_far) server)
+        (server_at (world_after given events agent caller site ops (so_far ++ event ∷ [])) server) (server_at first server) refl refl refl (c.shown server z old))
         (λ told. new server z told.0 told.1)
         (told_on (fixed_of given) (world_after given events agent caller site ops so_far) event server t z (subst (λ w. On (locks_at w server) t z) (next_is so_far event) on))
       where

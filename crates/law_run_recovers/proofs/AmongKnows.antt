@@ -115,7 +115,8 @@ module _ (given : Opening) (events later : List Event) (agent t : ℕ) (caller :
 
   module _ (locks : HasWhereOpen given events later agent t caller site ops actor goes (world_after given events agent caller site ops (so_far ++ Step agent ∷ [])))
       (shown : ShowsWhereLocked given events later agent t caller site ops actor goes (world_after given events agent caller site ops (so_far ++ Step agent ∷ []))) (new : Actor) (more : TransactionRun)
-      (there_new : actor_at (world_after given events agent caller site ops (so_far ++ Step agent ∷ [])) agent ≡ Some new) (running : new.agent.doing ≡ Some (Running more)) (number : more.task.t ≡ t) (ordered : IsOrdered nat_cmp more.suites) where
+      (there_new : actor_at (world_after given events agent caller site ops (so_far ++ Step agent ∷ [])) agent ≡ Some new) (running : new.agent.doing ≡ Some (Running more))
+      (number : more.task.t ≡ t) (ordered : IsOrdered nat_cmp more.suites) where
     there_run : actor_at (run given all) agent ≡ Some new
     there_run = ap (λ w. actor_at w agent) (sym is_run) ∙ there_new
 
@@ -147,9 +148,11 @@ module _ (given : Opening) (events later : List Event) (agent t : ℕ) (caller :
               let here : On st.locks t z = record { lock = on.lock; has = subst (λ found. Has (locks_in found) on.lock) at on.has; of_it = on.of_it; on_it = on.on_it } in
               let now = stored_effect given z (machine_of given z all) (run given all) (effects.follows given all (all_keep given all can) z).shows (all_consistent given all) t Shared (none_then z) i st there
               (free_beside st (all_consistent given all i st there) t z here) in
-              let begun = stored_effect given z (machine_of given z events) (run given events) (effects.follows given events (all_keep given events (can_first given events later agent t caller site ops actor goes)) z).shows (all_consistent given events) t
+              let begun = stored_effect given z (machine_of given z events) (run given events)
+              (effects.follows given events (all_keep given events (can_first given events later agent t caller site ops actor goes)) z).shows (all_consistent given events) t
               (first_asked given events later agent t caller site ops actor goes z) (none_first z) i old before
-              (free_where t z (first_asked given events later agent t caller site ops actor goes z) old (ap (λ found. is_open_way (way_in t z (first_asked given events later agent t caller site ops actor goes z) found)) (sym before) ∙ was_open)) in
+              (free_where t z (first_asked given events later agent t caller site ops actor goes z) old
+              (ap (λ found. is_open_way (way_in t z (first_asked given events later agent t caller site ops actor goes z) found)) (sym before) ∙ was_open)) in
               let same : shows_same (Some st) (Some old) z = subst (λ found. shows_same found (Some old) z) at (subst (λ found. shows_same (server_at (world_at next) i) found z) before (shown i z on)) in (
                 ap (λ (copy : Replica). copy.prefix.pver) now ∙ ap (λ (prefix : Prefix). prefix.pver) same.0 ∙ sym (ap (λ (copy : Replica). copy.prefix.pver) begun),
                 ap (λ (copy : Replica). copy.dver) now ∙ same.1 ∙ sym (ap (λ (copy : Replica). copy.dver) begun),

@@ -217,7 +217,8 @@ module _ (given : Opening) (events later : List Event) (agent t : ℕ) (caller :
         from = right.from;
         ends = openly right.start right.from job.ending (first_wanting (run given events) t (all_wants right.start)) refl
             (subst (EndsAsAt t job.ending) (first_same right.start right.from)
-            (subst (λ n. EndsAsAt n job.ending (find (unmet (sight given events later agent t caller site ops actor goes)) (wants_of (fixed_of given) (run given events) (sight given events later agent t caller site ops actor goes) (table_of given events) n caller ops right.start)))
+            (subst (λ n. EndsAsAt n job.ending (find (unmet (sight given events later agent t caller site ops actor goes))
+            (wants_of (fixed_of given) (run given events) (sight given events later agent t caller site ops actor goes) (table_of given events) n caller ops right.start)))
             (number given events later agent t caller site ops actor goes) right.ends));
       }
 
@@ -259,7 +260,8 @@ module _ (given : Opening) (events later : List Event) (agent t : ℕ) (caller :
     pub led_first : (one : ℕ × LockMode) → Contains (asks_for given events t caller ops) one → (start : Prefix) → MayStart (fixed_of given) actor.agent.cache site one.0 start → (found_by one start).votes ≡ given.c0
     led_first one has start may =
         let can = can_first given events later agent t caller site ops actor goes in
-        let end = led given one.0 (machine_of given one.0 events) (run given events) (effects.inv given events (all_keep given events can) one.0) (its_sight one.0 (first_mode asked one.0)) (answering given events later agent t caller site ops actor goes one.0) start
+        let end = led given one.0 (machine_of given one.0 events) (run given events) (effects.inv given events (all_keep given events can) one.0)
+        (its_sight one.0 (first_mode asked one.0)) (answering given events later agent t caller site ops actor goes one.0) start
         (start_was given events can one.0 agent site actor start goes.there may) in
         ap (λ (prefix : Prefix). prefix.votes) (found_near one has start may).0
         ∙ first_votes_at given events can one.0 (λ before later' parts. unmoved before later' one parts has) (led_to_by (fixed_of given) (run given events) (its_sight one.0 (first_mode asked one.0)) one.0 start) end.was

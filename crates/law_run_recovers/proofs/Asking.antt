@@ -159,7 +159,8 @@ known_in None = None
 pub known_is : (suites : Suites) → IsOrdered nat_cmp suites → (number : ℕ) → known.known_of (known_of suites) number ≡ known_in (suite_of suites number)
 known_is suites ordered number = of (suite_of suites number) refl
   where
-    none_but : (found : Option GatheredSuite) → suite_of suites number ≡ found → ((suite : GatheredSuite) (first : ReadPoint) → found ≡ Some suite → suite.first ≡ Some first → ⊥) → (it : Option KnownSuite) → known.known_of (known_of suites) number ≡ it → it ≡ None
+    none_but : (found : Option GatheredSuite) → suite_of suites number ≡ found → ((suite : GatheredSuite) (first : ReadPoint) → found ≡ Some suite → suite.first ≡ Some first → ⊥)
+        → (it : Option KnownSuite) → known.known_of (known_of suites) number ≡ it → it ≡ None
     none_but found is none None was = refl
     none_but found is none (Some it) was =
         let from = known_from suites number it ordered was in

@@ -101,7 +101,8 @@ module _ (given : Opening) (accepted : IsAccepted given) (all : List Event) (age
   abbrev Spared : Event → Type 0
   Spared event = (hinders_itself given agent w event || (robs given agent t w event || bereaves given agent t w event)) ≡ false
 
-  of_value : (event : Event) (asked : Request) (what : Served) (st : State) → what.request.value ≡ asked → (takes t st asked ≡ false) × (drops t st asked ≡ false) → (takes t st what.request.value ≡ false) × (drops t st what.request.value ≡ false)
+  of_value : (event : Event) (asked : Request) (what : Served) (st : State) → what.request.value ≡ asked → (takes t st asked ≡ false) × (drops t st asked ≡ false)
+      → (takes t st what.request.value ≡ false) × (drops t st what.request.value ≡ false)
   of_value event asked what st is none = subst (λ asked. (takes t st asked ≡ false) × (drops t st asked ≡ false)) (sym is) none
 
   pub takes_nothing : (event : Event) → Spared event → TakesNothing given t w event
@@ -192,7 +193,8 @@ module _ (given : Opening) (events later : List Event) (agent t : ℕ) (caller :
       (begun_stands given (λ z. machine_of given z (all_of [])) (world_at []) later t agent (subst (IsMine t) (sym (ap doing_of here.there)) (mine_where t here.actor.agent.doing here.runs_it)) carried
       (started_untold given (run given events) agent t caller site ops (actor_at (run given events) agent) refl begins_so) z here.actor here.there)
 
-  pub stands_next : (so_far rest : List Event) (event : Event) → later ≡ so_far ++ event ∷ rest → IsAtWork (world_at so_far) agent t → (z : ℕ) → Stands (machine_of given z (all_of so_far)) t → Stands (machine_of given z (all_of (so_far ++ event ∷ []))) t
+  pub stands_next : (so_far rest : List Event) (event : Event) → later ≡ so_far ++ event ∷ rest → IsAtWork (world_at so_far) agent t → (z : ℕ)
+      → Stands (machine_of given z (all_of so_far)) t → Stands (machine_of given z (all_of (so_far ++ event ∷ []))) t
   stands_next so_far rest event is at z stands =
       let can' = can_front given (all_of so_far) (event ∷ rest) (can_then so_far (event ∷ rest) is) in
       let at' = subst (λ w. IsAtWork w agent t) (is_run so_far) at in
@@ -201,7 +203,8 @@ module _ (given : Opening) (events later : List Event) (agent t : ℕ) (caller :
       (subst (λ w. Stands w t) (sym (machine_one given z (all_of so_far) event))
       (untaken_stands given z t (machine_of given z (all_of so_far)) (run given (all_of so_far)) (holds_after given (all_of so_far) can' z).shows stands event (takes_nothing given can.accepted (all_of so_far) agent t at' event calm)))
 
-  stands_along : (todo so_far rest : List Event) → later ≡ (so_far ++ todo) ++ rest → IsAtWork (world_at (so_far ++ todo)) agent t → (z : ℕ) → Stands (machine_of given z (all_of so_far)) t → Stands (machine_of given z (all_of (so_far ++ todo))) t
+  stands_along : (todo so_far rest : List Event) → later ≡ (so_far ++ todo) ++ rest → IsAtWork (world_at (so_far ++ todo)) agent t → (z : ℕ)
+      → Stands (machine_of given z (all_of so_far)) t → Stands (machine_of given z (all_of (so_far ++ todo))) t
   stands_along [] so_far rest is at z stands = subst (λ so_far. Stands (machine_of given z (all_of so_far)) t) (sym (append-nil so_far)) stands
   stands_along (event ∷ todo) so_far rest is at z stands =
       let more : (so_far ++ event ∷ []) ++ todo ≡ so_far ++ event ∷ todo = append_assoc so_far (event ∷ []) todo in

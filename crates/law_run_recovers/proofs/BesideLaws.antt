@@ -67,7 +67,8 @@ module _ (given : Opening) (events later : List Event) (go : GoSideBySide given 
 
   -- at a step of it
   kind_at : (so_far rest : List Event) → one.after ≡ so_far ++ Step one.agent ∷ rest → is_running (run given (events ++ (one.before ++ Begin one.agent (Transaction one.caller one.site one.ops) ∷ so_far))) one.agent one.t ≡ true
-      → (what : Served) → (step (fixed_of given) (run given (events ++ (one.before ++ Begin one.agent (Transaction one.caller one.site one.ops) ∷ so_far))) (Step one.agent)).done.served ≡ Some what → IsKind what.request.value what.reply.value
+      → (what : Served) → (step (fixed_of given) (run given (events ++ (one.before ++ Begin one.agent (Transaction one.caller one.site one.ops) ∷ so_far)))
+      (Step one.agent)).done.served ≡ Some what → IsKind what.request.value what.reply.value
   kind_at so_far rest split running what is =
       let w = then_is given events one.before one.agent one.t one.caller one.site one.ops so_far in
       let c = ran given events one.before one.agent one.t one.caller one.site one.ops one.after its_unmet its_can so_far (Step one.agent ∷ rest) split []

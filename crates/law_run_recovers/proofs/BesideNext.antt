@@ -51,7 +51,8 @@ mine_left : (t : ℕ) (task : Task) (after : After TransactionRun) → ((more : 
 mine_left t task (GoesOn more) same number = ap (λ (task : Task). task.t) (same more refl) ∙ number
 mine_left t task (Ends ended) same number = tt
 
-pub mine_taken : (given : Opening) (ds : List Decided) (i t : ℕ) (agent : Agent) (response : Response) (asked : ℕ × Request) (doing : Option Doing) → next_in (fixed_of given) doing ≡ Some asked → IsAt ds i agent.count doing → runs t doing ≡ true
+pub mine_taken : (given : Opening) (ds : List Decided) (i t : ℕ) (agent : Agent) (response : Response) (asked : ℕ × Request) (doing : Option Doing)
+    → next_in (fixed_of given) doing ≡ Some asked → IsAt ds i agent.count doing → runs t doing ≡ true
     → IsMine t (take_in (fixed_of given) agent response doing (Some asked)).agent.doing
 mine_taken given ds i t agent response asked None next at is = absurd (false≢true is)
 mine_taken given ds i t agent response asked (Some (RunningSweep sweep_run)) next at is = absurd (false≢true is)
@@ -148,7 +149,8 @@ module _ (given : Opening) (events later : List Event) (go : GoSideBySide given 
 
             by : (b : Bool) → (i == one.agent) ≡ b
                 → (((i == one.agent) && not (is_some (step (fixed_of given) (run given (events ++ so_far)) (Step i)).done.served))
-                || (not (i == one.agent) && not (is_telling (run given (events ++ so_far)) one.agent) && of_up (takes one.t) (run given (events ++ so_far)) (step (fixed_of given) (run given (events ++ so_far)) (Step i)).done.served)) ≡ false
+                || (not (i == one.agent) && not (is_telling (run given (events ++ so_far)) one.agent) && of_up (takes one.t) (run given (events ++ so_far))
+                (step (fixed_of given) (run given (events ++ so_far)) (Step i)).done.served)) ≡ false
             by true same =
                 own_served (i == one.agent) (is_some (step (fixed_of given) w (Step i)).done.served) (not (is_telling w one.agent)) (of_up (takes one.t) w (step (fixed_of given) w (Step i)).done.served) same
                 (not_both (has_no_job (actor_at w i)) (is_some (step (fixed_of given) w (Step i)).done.served) quiet (ap (λ i. has_no_job (actor_at w i)) (eqb-true i one.agent same) ∙ has_job))
@@ -157,7 +159,8 @@ module _ (given : Opening) (events later : List Event) (go : GoSideBySide given 
 
   -- in the words of its own world
   pub its_hand : (one : Begun given events so_far) → is_running (world_then given events one.before one.agent one.t one.caller one.site one.ops one.after) one.agent one.t ≡ true
-      → (hinders_itself given one.agent (world_then given events one.before one.agent one.t one.caller one.site one.ops one.after) event || robs given one.agent one.t (world_then given events one.before one.agent one.t one.caller one.site one.ops one.after) event) ≡ false
+      → (hinders_itself given one.agent (world_then given events one.before one.agent one.t one.caller one.site one.ops one.after) event || robs given one.agent one.t
+      (world_then given events one.before one.agent one.t one.caller one.site one.ops one.after) event) ≡ false
   its_hand one =
       subst (λ w. is_running w one.agent one.t ≡ true → (hinders_itself given one.agent w event || robs given one.agent one.t w event) ≡ false) (sym (last_is given events later go so_far one)) (free_hand one)
 
@@ -172,7 +175,8 @@ module _ (given : Opening) (events later : List Event) (go : GoSideBySide given 
   may_ask (Lack i why) = tt
 
   locks_were : (server : ℕ) (st : State) → server_at (step (fixed_of given) (run given (events ++ so_far)) event).world server ≡ Some st → AllOwned (Owned given events later go so_far) st.locks
-  locks_were = asks_servers (fixed_of given) (λ s st. AllOwned (Owned given events later go so_far) st.locks) (λ s asked. MayLock (Owned given events later go so_far) asked) (λ s st asked may all. owned_stays (Owned given events later go so_far) st asked may all) w sides.locks event (may_ask event)
+  locks_were = asks_servers (fixed_of given) (λ s st. AllOwned (Owned given events later go so_far) st.locks) (λ s asked. MayLock (Owned given events later go so_far) asked)
+      (λ s st asked may all. owned_stays (Owned given events later go so_far) st asked may all) w sides.locks event (may_ask event)
 
   -- one that runs no more has left none
   module _ (one : Begun given events so_far) (runs_not : is_running (run given (events ++ (so_far ++ event ∷ []))) one.agent one.t ≡ false) where
@@ -203,7 +207,8 @@ module _ (given : Opening) (events later : List Event) (go : GoSideBySide given 
       let was = locks_were server st (ap (λ w. server_at w server) (sym (run_next given events later go so_far event)) ∙ at) lock has in
       of was (is_running (run given (events ++ (so_far ++ event ∷ []))) was.one.agent was.one.t) refl
     where
-      of : (was : Owned given events later go so_far lock.t lock.suite lock.mode) (b : Bool) → is_running (run given (events ++ (so_far ++ event ∷ []))) was.one.agent was.one.t ≡ b → Owned given events later go (so_far ++ event ∷ []) lock.t lock.suite lock.mode
+      of : (was : Owned given events later go so_far lock.t lock.suite lock.mode) (b : Bool)
+          → is_running (run given (events ++ (so_far ++ event ∷ []))) was.one.agent was.one.t ≡ b → Owned given events later go (so_far ++ event ∷ []) lock.t lock.suite lock.mode
       of was true running = record { one = onward given events later go so_far (event ∷ []) was.one; number = was.number; running = running; asks = was.asks }
       of was false runs_not = absurd (left_none was.one runs_not server st at lock has (sym was.number))
 
@@ -299,7 +304,8 @@ module _ (given : Opening) (events later : List Event) (go : GoSideBySide given 
   }
 
   pub stands_then : (other : BegunNow) → is_running (world_then given events other.before other.agent other.t other.caller other.site other.ops other.after) other.agent other.t ≡ true
-      → StandsOpen (run given (events ++ other.before)) (world_then given events other.before other.agent other.t other.caller other.site other.ops other.after) other.t (asks_for given (events ++ other.before) other.t other.caller other.ops) everywhere
+      → StandsOpen (run given (events ++ other.before)) (world_then given events other.before other.agent other.t other.caller other.site other.ops other.after) other.t
+      (asks_for given (events ++ other.before) other.t other.caller other.ops) everywhere
   stands_then other =
       subst (λ w. is_running w other.agent other.t ≡ true → StandsOpen (run given (events ++ other.before)) w other.t (asks_for given (events ++ other.before) other.t other.caller other.ops) everywhere)
       (sym (last_is given events later go (so_far ++ event ∷ []) other)) (stands_now other)

@@ -65,19 +65,22 @@ module _ (given : Opening) (events later : List Event) (go : GoSideBySide given 
               begins = other.begins;
               unmet = λ mid more is.
                   subst (λ mid. is_running (world_then given events other.before other.agent other.t other.caller other.site other.ops mid) other.agent other.t ≡ true
-                  → StandsOpen (run given (events ++ other.before)) (world_then given events other.before other.agent other.t other.caller other.site other.ops mid) other.t (asks_for given (events ++ other.before) other.t other.caller other.ops) everywhere)
+                  → StandsOpen (run given (events ++ other.before)) (world_then given events other.before other.agent other.t other.caller other.site other.ops mid) other.t
+                  (asks_for given (events ++ other.before) other.t other.caller other.ops) everywhere)
                   (here.2 ∙ sym (nil_front mid more (sym here.2 ∙ is)))
                   (stands_then given events later go so_far rest event split sides other);
               free_hand = λ mid more one is. absurd (nil_cons mid one more (sym here.2 ∙ is));
             }
 
-        old : ((front : List Event) × (so_far ≡ other.before ++ Begin other.agent (Transaction other.caller other.site other.ops) ∷ front) × (other.after ≡ front ++ event ∷ [])) → IsUnmet given events other.before other.agent other.t other.caller other.site other.ops other.after
+        old : ((front : List Event) × (so_far ≡ other.before ++ Begin other.agent (Transaction other.caller other.site other.ops) ∷ front) × (other.after ≡ front ++ event ∷ []))
+            → IsUnmet given events other.before other.agent other.t other.caller other.site other.ops other.after
         old was =
             let one : Begun given events so_far = record { before = other.before; after = was.0; agent = other.agent; t = other.t; caller = other.caller; site = other.site; ops = other.ops; parts = was.1; begins = other.begins } in
             subst (λ after. IsUnmet given events other.before other.agent other.t other.caller other.site other.ops after) (sym was.2)
             (unmet_more given events other.before other.agent other.t other.caller other.site other.ops was.0 event (sides.unmet one) (its_hand given events later go so_far rest event split sides one)
             (subst (λ after. is_running (world_then given events other.before other.agent other.t other.caller other.site other.ops after) other.agent other.t ≡ true
-            → StandsOpen (run given (events ++ other.before)) (world_then given events other.before other.agent other.t other.caller other.site other.ops after) other.t (asks_for given (events ++ other.before) other.t other.caller other.ops) everywhere)
+            → StandsOpen (run given (events ++ other.before)) (world_then given events other.before other.agent other.t other.caller other.site other.ops after) other.t
+            (asks_for given (events ++ other.before) other.t other.caller other.ops) everywhere)
             was.2 (stands_then given events later go so_far rest event split sides other)))
 
     -- ---- each that is busy runs one
@@ -109,11 +112,13 @@ module _ (given : Opening) (events later : List Event) (go : GoSideBySide given 
         now (Some actor) at busy = on_busy i actor.agent.doing (sides.busy i actor at busy)
 
     -- who begins a transaction runs it
-    begins_it : (k : ℕ) (caller : Identity) (site : ℕ) (ops : List Op) → event ≡ Begin k (Transaction caller site ops) → (t : ℕ) → begins_job given (run given (events ++ so_far)) (Begin k (Transaction caller site ops)) ≡ Some (t, Transaction caller site ops)
+    begins_it : (k : ℕ) (caller : Identity) (site : ℕ) (ops : List Op) → event ≡ Begin k (Transaction caller site ops) → (t : ℕ)
+        → begins_job given (run given (events ++ so_far)) (Begin k (Transaction caller site ops)) ≡ Some (t, Transaction caller site ops)
         → (i : ℕ) (here : Actor) → actor_at (step (fixed_of given) (run given (events ++ so_far)) event).world i ≡ Some here → i ≡ k → Busy given events later go (so_far ++ event ∷ []) i here.agent.doing
     begins_it k caller site ops is t begins i here there same =
         let actor = begins_there given w k t (Transaction caller site ops) begins in
-        let can = subst (λ all. CanBe given all) (sym (append_assoc events so_far (event ∷ [])) ∙ ap (λ event. (events ++ so_far) ++ event ∷ []) is) (can_at given events later go (so_far ++ event ∷ []) rest (split ∙ sym (append_assoc so_far (event ∷ []) rest))) in
+        let can = subst (λ all. CanBe given all) (sym (append_assoc events so_far (event ∷ [])) ∙ ap (λ event. (events ++ so_far) ++ event ∷ []) is)
+        (can_at given events later go (so_far ++ event ∷ []) rest (split ∙ sym (append_assoc so_far (event ∷ []) rest))) in
         let runs_now = begun_runs given (events ++ so_far) [] k t caller site ops actor.0 can actor.1 begins in
         record {
           one = record { before = so_far; after = []; agent = k; t = t; caller = caller; site = site; ops = ops; parts = ap (λ event. so_far ++ event ∷ []) is; begins = begins };
@@ -160,7 +165,9 @@ module _ (given : Opening) (events later : List Event) (go : GoSideBySide given 
     unmet = λ one. absurd (nil_cons one.before (Begin one.agent (Transaction one.caller one.site one.ops)) one.after one.parts);
     busy = λ i here there busy.
         absurd (false≢true (sym busy ∙ ap is_idle (sym (ap doing_of (ap (λ all. actor_at (run given all) i) (sym (append-nil events)) ∙ there)) ∙ all_none (run given events).agents go.idle i)));
-    locks = λ server st at lock has. absurd (none st.locks (all_at (λ (st : State). length st.locks == 0) (run given events).servers st go.free (at_has (run given events).servers server st (ap (λ all. server_at (run given all) server) (sym (append-nil events)) ∙ at))) lock has);
+    locks = λ server st at lock has. absurd
+        (none st.locks (all_at (λ (st : State). length st.locks == 0) (run given events).servers st go.free
+        (at_has (run given events).servers server st (ap (λ all. server_at (run given all) server) (sym (append-nil events)) ∙ at))) lock has);
   }
     where
       none : (locks : List Lock) → (length locks == 0) ≡ true → (lock : Lock) → Has locks lock → ⊥

@@ -71,7 +71,8 @@ module _ (given : Opening) (events before : List Event) (agent t : ℕ) (caller 
       → IsUnmet (after ++ event ∷ [])
   unmet_more after event u calm stands = record { actor = u.actor; there = u.there; begins = u.begins; unmet = unmet_so; free_hand = free_so }
     where
-      unmet_so : (mid rest : List Event) → after ++ event ∷ [] ≡ mid ++ rest → is_running (world_then mid) agent t ≡ true → StandsOpen (run given (events ++ before)) (world_then mid) t (asks_for given (events ++ before) t caller ops) everywhere
+      unmet_so : (mid rest : List Event) → after ++ event ∷ [] ≡ mid ++ rest → is_running (world_then mid) agent t ≡ true
+          → StandsOpen (run given (events ++ before)) (world_then mid) t (asks_for given (events ++ before) t caller ops) everywhere
       unmet_so mid [] is running =
           let whole : after ++ event ∷ [] ≡ mid = is ∙ append-nil mid in
           subst (λ mid. StandsOpen (run given (events ++ before)) (world_then mid) t (asks_for given (events ++ before) t caller ops) everywhere) whole

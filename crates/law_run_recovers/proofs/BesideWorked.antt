@@ -73,11 +73,13 @@ not_true : (x : Bool) → not x ≡ true → x ≡ false
 not_true true is = sym is
 not_true false is = refl
 
-pub none_spoils_it : (later before : List Event) (event : Event) (rest : List Event) (world : World) → none_spoils world later ≡ true → later ≡ before ++ event ∷ rest → spoils with_caches (after (fixed_of with_caches) world before) event ≡ false
+pub none_spoils_it : (later before : List Event) (event : Event) (rest : List Event) (world : World) → none_spoils world later ≡ true → later ≡ before ++ event ∷ rest
+    → spoils with_caches (after (fixed_of with_caches) world before) event ≡ false
 none_spoils_it [] [] event rest world calm is = cc
 none_spoils_it [] (x ∷ before) event rest world calm is = cc
 none_spoils_it (one ∷ later) [] event rest world calm is =
-    subst (λ event. spoils with_caches world event ≡ false) (ap (head_or one) is) (not_true (spoils with_caches world one) (and_parts (not (spoils with_caches world one)) (none_spoils (step (fixed_of with_caches) world one).world later) calm).0)
+    subst (λ event. spoils with_caches world event ≡ false) (ap (head_or one) is)
+    (not_true (spoils with_caches world one) (and_parts (not (spoils with_caches world one)) (none_spoils (step (fixed_of with_caches) world one).world later) calm).0)
 none_spoils_it (one ∷ later) (x ∷ before) event rest world calm is =
     subst (λ x. spoils with_caches (after (fixed_of with_caches) (step (fixed_of with_caches) world x).world before) event ≡ false) (ap (head_or one) is)
     (none_spoils_it later before event rest (step (fixed_of with_caches) world one).world (and_parts (not (spoils with_caches world one)) (none_spoils (step (fixed_of with_caches) world one).world later) calm).1 (ap tail_or is))
@@ -105,7 +107,8 @@ pub none_begins : (before : List Event) (agent : ℕ) (job : Job) (rest : List E
 none_begins [] agent job rest is = false≢true is
 none_begins (x ∷ before) agent job rest is = none_begins before agent job rest (and_parts (is_step x) (list_all is_step (before ++ Begin agent job ∷ rest)) is).1
 
-number_is : (before : List Event) (begin : Event) (u t : ℕ) (job : Job) → begins_job with_caches (run with_caches (two_made ++ before)) begin ≡ Some (u, job) → (other : Job) → begins_job with_caches (run with_caches (two_made ++ before)) begin ≡ Some (t, other) → t ≡ u
+number_is : (before : List Event) (begin : Event) (u t : ℕ) (job : Job) → begins_job with_caches (run with_caches (two_made ++ before)) begin ≡ Some (u, job) → (other : Job)
+    → begins_job with_caches (run with_caches (two_made ++ before)) begin ≡ Some (t, other) → t ≡ u
 number_is before begin u t job is other also = sym (ap (λ (pair : ℕ × Job). pair.0) (same_Some (u, job) (t, other) (sym is ∙ also)))
 
 abbrev spot_of : Begun with_caches two_made two_write → Spot
@@ -122,7 +125,8 @@ where_it_is one = of one.before refl one.parts
     at before begin u job same is begins =
         ap (λ before. spot before (Begin one.agent (Transaction one.caller one.site one.ops)) one.t) same ∙ ap (λ begin. spot before begin one.t) is
         ∙ ap (spot before begin) (number_is before begin u one.t job begins (Transaction one.caller one.site one.ops)
-        (sym (ap (λ before. begins_job with_caches (run with_caches (two_made ++ before)) (Begin one.agent (Transaction one.caller one.site one.ops))) same ∙ ap (begins_job with_caches (run with_caches (two_made ++ before))) is) ∙ one.begins))
+        (sym (ap (λ before. begins_job with_caches (run with_caches (two_made ++ before)) (Begin one.agent (Transaction one.caller one.site one.ops))) same ∙ ap
+        (begins_job with_caches (run with_caches (two_made ++ before))) is) ∙ one.begins))
 
     of : (before : List Event) → one.before ≡ before → two_write ≡ before ++ Begin one.agent (Transaction one.caller one.site one.ops) ∷ one.after → (spot_of one ≡ spot [] first 64) ⊎ (spot_of one ≡ spot (first ∷ []) second 1)
     of [] same parts = inl (at [] first 64 (Transaction owner 0 (puts a 0 ∷ [])) same (sym (ap (head_or first) parts)) refl)
@@ -172,7 +176,8 @@ none_clash one other =
 apart : (one other : Begun with_caches two_made two_write) → is_running (run with_caches (two_made ++ other.before)) one.agent one.t ≡ true
     → clash (its_asks with_caches two_made two_write one) (its_asks with_caches two_made two_write other) ≡ false
 unfolding spot
-apart one other running = no (clash (its_asks with_caches two_made two_write one) (its_asks with_caches two_made two_write other)) (sym (ap (λ x. x && clash (its_asks with_caches two_made two_write one) (its_asks with_caches two_made two_write other)) running) ∙ none_clash one other)
+apart one other running = no (clash (its_asks with_caches two_made two_write one) (its_asks with_caches two_made two_write other))
+    (sym (ap (λ x. x && clash (its_asks with_caches two_made two_write one) (its_asks with_caches two_made two_write other)) running) ∙ none_clash one other)
   where
     no : (x : Bool) → (true && x) ≡ false → x ≡ false
     no true is = is

@@ -222,7 +222,8 @@ one_crash_blocks given events server agent sweep_run up sweeps_all t want accept
     same_votes : block.server ≡ server → has_vote want.votes server ≡ true
     same_votes same = subst (λ at. has_vote want.votes at ≡ true) same block.votes
 
-    of : (is_up (run given (events ++ Crash server ∷ [])) block.server ≡ false) ⊎ DoubtedAt given (run given (events ++ Crash server ∷ [])) t want block.server → (has_vote want.votes server ≡ true) ⊎ WasItsHome given (run given events) t want server
+    of : (is_up (run given (events ++ Crash server ∷ [])) block.server ≡ false) ⊎ DoubtedAt given (run given (events ++ Crash server ∷ [])) t want block.server
+        → (has_vote want.votes server ≡ true) ⊎ WasItsHome given (run given events) t want server
     of (inl down) = inl (same_votes (it_is given events server up block.server (voter_known given.servers want.votes accepted block.server block.votes) down))
     of (inr doubt) = ⊎_elim
         (λ same. inl (same_votes same))

@@ -106,7 +106,8 @@ module _ (given : Opening) (agent : ℕ) where
 
   -- ---- events
 
-  pub calm_more : (w : World) (event : Event) (later : List Event) → ((z : ℕ) (m : machine.World) → AllQuiet (events_of given z m w event)) → task_in w event ≡ None → Calm given (step fixed w event).world later → Calm given w (event ∷ later)
+  pub calm_more : (w : World) (event : Event) (later : List Event) → ((z : ℕ) (m : machine.World) → AllQuiet (events_of given z m w event)) → task_in w event ≡ None
+      → Calm given (step fixed w event).world later → Calm given w (event ∷ later)
   calm_more w event later quiet none calm = record {
     quiet = λ z m. all_both (events_of given z m w event) (history_from given z (moved given z m w event) (step fixed w event).world later) (quiet z m) (calm.quiet z (moved given z m w event));
     none = ap (λ one. cons_option one (decisions_from fixed (step fixed w event).world later)) (decides_none w event none) ∙ calm.none;

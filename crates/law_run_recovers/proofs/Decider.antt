@@ -97,7 +97,15 @@ module _ (fixed : Fixed) (w : World) (i : ℕ) (actor : Actor) (job : Outcome') 
   server_count asked None is = absurd (none-some job is)
   server_count asked (Some st) is' =
       elim (is_full st (record { stamp = actor.stamp; value = asked.1 })) as
-      (λ b. (answered fixed w i actor st (cond b None (Some (record { server = asked.0; request = record { stamp = actor.stamp; value = asked.1 }; reply = answer_of st (record { stamp = actor.stamp; value = asked.1 }) })))).done.outcome ≡ Some job → job.count ≡ actor.agent.count - 1) [
+      (λ b.
+      (answered fixed w i actor st
+      (cond b None
+      (Some (record {
+        server = asked.0;
+        request = record { stamp = actor.stamp; value = asked.1 };
+        reply = answer_of st
+            (record { stamp = actor.stamp; value = asked.1 });
+      })))).done.outcome ≡ Some job → job.count ≡ actor.agent.count - 1) [
         | true ↦ λ is. outcome_count i actor _ job is
         | false ↦ λ is. outcome_count i actor _ job is
       ] is'

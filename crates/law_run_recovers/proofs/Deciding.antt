@@ -38,12 +38,15 @@ module _ (fixed : Fixed) (w : World) (i : ℕ) (actor : Actor) (task : Task) (ou
 
   of_state : (st : State) → decided_at (Some st) (Some task.t) (decided_as (Some task) (answer_in (reply_of st asked))) ≡ Some one → one.answer ≡ answer_as outcome
   of_state st =
-      elim (st.up) as (λ b. decided_at (Some st) (Some task.t) (decided_as (Some task) (answer_in (cond b (reply.Verdict (recorded (record_of st task.t) (verdict_of (decision_of task outcome)))) reply.Down))) ≡ Some one → one.answer ≡ answer_as outcome) [
+      elim (st.up) as (λ b. decided_at (Some st) (Some task.t)
+      (decided_as (Some task) (answer_in (cond b (reply.Verdict (recorded (record_of st task.t) (verdict_of (decision_of task outcome)))) reply.Down))) ≡ Some one
+      → one.answer ≡ answer_as outcome) [
         | true ↦ λ is. by_record (record_of st task.t) is
         | false ↦ λ is. absurd (none-some one (sym (decided_none (Some st) (Some task.t) (Some task)) ∙ is))
       ]
 
-  pub decides_answer : (server : ℕ) (found : Option State) → server_at w server ≡ found → decided_by w (Some task) (asks_at fixed w i actor (server, request.Decide task.t (decision_of task outcome)) found).done.served ≡ Some one → one.answer ≡ answer_as outcome
+  pub decides_answer : (server : ℕ) (found : Option State) → server_at w server ≡ found → decided_by w (Some task)
+      (asks_at fixed w i actor (server, request.Decide task.t (decision_of task outcome)) found).done.served ≡ Some one → one.answer ≡ answer_as outcome
   decides_answer server None at is = absurd (none-some one is)
   decides_answer server (Some st) at is' =
       elim (is_full st stamped) as (λ b. decided_by w (Some task) (answered fixed w i actor st (cond b None (Some what))).done.served ≡ Some one → one.answer ≡ answer_as outcome) [

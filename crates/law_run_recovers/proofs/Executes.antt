@@ -38,7 +38,27 @@ use Rattle.weak_cache.specs.Cache.{hint, searched}
 use Rattle.weak_cache.proofs.Origins.{search_keeps_all}
 use Rattle.txn_core.specs.Suites.{ReadPoint, GatheredSuite, Suites, suite_of, with_suite, known_of}
 use Rattle.txn_core.specs.Doing.{Fixed, Task, Granted}
-use Rattle.txn_core.specs.Transactions.{Step, Gathered, start_from, raised_or_new, gather, widen_all, heard_on, after_search, free_content, opened_with, open_first, open_suite, open_needed, or_all, opened, proceed, execute, prepare, locked_at}
+use Rattle.txn_core.specs.Transactions.{
+  Step,
+  Gathered,
+  start_from,
+  raised_or_new,
+  gather,
+  widen_all,
+  heard_on,
+  after_search,
+  free_content,
+  opened_with,
+  open_first,
+  open_suite,
+  open_needed,
+  or_all,
+  opened,
+  proceed,
+  execute,
+  prepare,
+  locked_at,
+}
 use Rattle.txn_core.proofs.Gathers.{self, with_at, each_but, each_with, but_with}
 use Rattle.txn_core.proofs.Locks.{are_nil}
 use Rattle.run_core.specs.Worlds.{World}
@@ -48,7 +68,31 @@ use Rattle.law_run_recovers.proofs.Asking.{onto, any_onto, first_hold, first_new
 use Rattle.law_run_recovers.proofs.Led.{reached_first, reached_raise}
 use Rattle.law_run_recovers.proofs.VotesSet.{as_set, sets, votes_of, same_votes, changes_ordered, IsSet, set_by}
 use Rattle.law_run_recovers.proofs.Polled.{Sight, serves_all}
-use Rattle.law_run_recovers.proofs.Stands.{Ground, asks_of, of_lock, demand_of, needed_on, result_on, locks_on, answer_to, IsRight, starts, may_start, had_met, none_short, SameStart, asked_with, Hints, IsFound, found_right, IsWhole, IsReady, IsGathering, StepStands, prepare_stands}
+use Rattle.law_run_recovers.proofs.Stands.{
+  Ground,
+  asks_of,
+  of_lock,
+  demand_of,
+  needed_on,
+  result_on,
+  locks_on,
+  answer_to,
+  IsRight,
+  starts,
+  may_start,
+  had_met,
+  none_short,
+  SameStart,
+  asked_with,
+  Hints,
+  IsFound,
+  found_right,
+  IsWhole,
+  IsReady,
+  IsGathering,
+  StepStands,
+  prepare_stands,
+}
 use Rattle.law_run_recovers.proofs.Widens.{numbers, widen_stands}
 use Rattle.law_run_recovers.proofs.Gathered.{gather_by_stands}
 
@@ -286,7 +330,15 @@ module _ (fixed : Fixed) (world : World) (sight : Sight) (table : PlainTable) (t
               let start = start_from fixed task now number in
               let may = may_from number none in
               let new : GatheredSuite = record { collector = collect mode start; first = None; mode = Shared; content = None } in
-              let g = gathers new (record { start = start; may = may; asked = asked_for_it; reached = reached_first fixed world sight number (Was number) start (ground.rules number start asked_for_it may) mode (first_of none); led = λ first had. absurd (none-some first had); version = λ first had. absurd (none-some first had) }) refl
+              let g = gathers new (record {
+                start = start;
+                may = may;
+                asked = asked_for_it;
+                reached = reached_first fixed world sight number (Was number) start
+                    (ground.rules number start asked_for_it may) mode (first_of none);
+                led = λ first had. absurd (none-some first had);
+                version = λ first had. absurd (none-some first had);
+              }) refl
               (λ old there. absurd (none-some old (sym none ∙ there))) (λ other. ap (held_in other) (sym none))
               (λ other had. absurd (false≢true (sym (ap (held_in other) none) ∙ ready.asks.modes number other ∙ had))) in
               gather_by_stands fixed world sight table task cache Was ground (with_suite number new suites) number g now (hinted_with suites number new now hints)
@@ -297,7 +349,15 @@ module _ (fixed : Fixed) (world : World) (sight : Sight) (table : PlainTable) (t
               let raised_mode : new.collector.mode ≡ Exclusive = ap (λ (c : Collector). (raise c).mode) found.reached.is in
               let weak : serves suite.mode mode ≡ false = sym (by_first suite.first whole.had) ∙ ap (held_in mode) (sym there) ∙ ready.asks.modes number mode ∙ is_new in
               let exclusive : mode ≡ Exclusive = weak_or_not suite.mode mode weak in
-              let g = gathers new (record { start = found.start; may = found.may; asked = found.asked; reached = reached_raise fixed world sight number (Was number) found.start (ground.rules number found.start found.asked found.may) suite.collector found.reached whole.none_newer; led = found.led; version = found.version })
+              let g = gathers new (record {
+                start = found.start;
+                may = found.may;
+                asked = found.asked;
+                reached = reached_raise fixed world sight number (Was number) found.start
+                    (ground.rules number found.start found.asked found.may) suite.collector found.reached whole.none_newer;
+                led = found.led;
+                version = found.version;
+              })
               (raised_mode ∙ sym exclusive)
               (λ old is. ap (λ (suite : GatheredSuite). suite.collector.start) (same_Some suite old (sym there ∙ is)))
               (λ other. held other suite.first ∙ ap (held_in other) (sym there))

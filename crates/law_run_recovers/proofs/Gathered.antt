@@ -30,7 +30,33 @@ use Rattle.law_run_recovers.proofs.Asking.{onto, held_in, held_if}
 use Rattle.law_run_recovers.proofs.Led.{EndsShort, reached_short, reached_current, reached_settled}
 use Rattle.law_run_recovers.proofs.Polled.{Sight, finds_at, AllBelow, greatest_below, Refusing, gathering, at_current}
 use Rattle.law_run_recovers.proofs.Downs.{holds_shared}
-use Rattle.law_run_recovers.proofs.Stands.{Ground, locks_on, of_lock, unmet, EndsRight, ends_short, short_lock, IsRight, IsHad, start_of, starts, may_start, had_met, SameStart, had_with, Hints, IsFound, found_start, found_right, HasLock, IsWhole, IsReady, IsGathering, StepStands, told_stands}
+use Rattle.law_run_recovers.proofs.Stands.{
+  Ground,
+  locks_on,
+  of_lock,
+  unmet,
+  EndsRight,
+  ends_short,
+  short_lock,
+  IsRight,
+  IsHad,
+  start_of,
+  starts,
+  may_start,
+  had_met,
+  SameStart,
+  had_with,
+  Hints,
+  IsFound,
+  found_start,
+  found_right,
+  HasLock,
+  IsWhole,
+  IsReady,
+  IsGathering,
+  StepStands,
+  told_stands,
+}
 
 -- ---- voters
 
@@ -125,11 +151,13 @@ module _ (fixed : Fixed) (world : World) (sight : Sight) (table : PlainTable) (t
       (above_none (needed_of at.mode (newest found.start at.told).votes) (votes_in (newest found.start at.told).votes.reps (holds at.mode at.told)) (wants_some (newest found.start at.told).votes valid at.mode) enough) in
       record {
         server = voter.rep.0;
-        is_one = below voter.rep.0 max_servers (All-contains (λ (rep : Representative). rep.0 < max_servers) (newest found.start at.told).votes.reps voter.rep valid.numbered (contains_from (newest found.start at.told).votes.reps voter.rep voter.there));
+        is_one = below voter.rep.0 max_servers (All-contains (λ (rep : Representative). rep.0 < max_servers) (newest found.start at.told).votes.reps voter.rep valid.numbered
+            (contains_from (newest found.start at.told).votes.reps voter.rep voter.there));
         holds = ap (λ (c : Collector). holds Shared (all_told c) voter.rep.0) (same ∙ at.is) ∙ holds_shared at.mode at.told voter.rep.0 voter.holds;
       }
 
-  pub current_whole : (z : ℕ) (suite : GatheredSuite) → IsFound fixed world sight table task cache Was ground z suite → (prefix : Prefix) (dver : ℕ) (members : List ℕ) → next suite.collector ≡ Current prefix dver members → Whole z (settled prefix dver members suite)
+  pub current_whole : (z : ℕ) (suite : GatheredSuite) → IsFound fixed world sight table task cache Was ground z suite → (prefix : Prefix) (dver : ℕ) (members : List ℕ)
+      → next suite.collector ≡ Current prefix dver members → Whole z (settled prefix dver members suite)
   current_whole z suite found prefix dver members is = record {
     found = record { start = found.start; may = found.may; asked = found.asked; reached = found.reached; led = λ first. led_of suite.first refl first; version = λ first. version_of suite.first refl first };
     had = some suite.first _;
@@ -142,7 +170,9 @@ module _ (fixed : Fixed) (world : World) (sight : Sight) (table : PlainTable) (t
       some (Some first) given = refl
       some None given = refl
 
-      led_of : (old : Option ReadPoint) → suite.first ≡ old → (first : ReadPoint) → first_or old (record { prefix = prefix; dver = dver; source = source_of suite.collector dver members }) ≡ Some first → first.prefix ≡ led_to_by fixed world (finds_at sight z) z found.start
+      led_of : (old : Option ReadPoint) → suite.first ≡ old → (first : ReadPoint) → first_or old
+          (record { prefix = prefix; dver = dver; source = source_of suite.collector dver members }) ≡ Some first
+          → first.prefix ≡ led_to_by fixed world (finds_at sight z) z found.start
       led_of (Some old) was first same = ap (λ (first : ReadPoint). first.prefix) (sym (same_Some old first same)) ∙ found.led old was
       led_of None was first same =
           ap (λ (first : ReadPoint). first.prefix) (sym (same_Some _ first same))
@@ -154,7 +184,8 @@ module _ (fixed : Fixed) (world : World) (sight : Sight) (table : PlainTable) (t
           let told = subst (λ (c : Collector). version c ≡ dver) at.is (at_current suite.collector prefix dver members is).version_is in
           subst (λ d. d ≤ n) told (greatest_below fixed world sight z at.mode at.told at.going.right n all (first_members (gathering found.start at.mode at.told)))
 
-      version_of : (old : Option ReadPoint) → suite.first ≡ old → (first : ReadPoint) → first_or old (record { prefix = prefix; dver = dver; source = source_of suite.collector dver members }) ≡ Some first → (n : ℕ) → AllBelow fixed world sight z n → first.dver ≤ n
+      version_of : (old : Option ReadPoint) → suite.first ≡ old → (first : ReadPoint) → first_or old
+          (record { prefix = prefix; dver = dver; source = source_of suite.collector dver members }) ≡ Some first → (n : ℕ) → AllBelow fixed world sight z n → first.dver ≤ n
       version_of (Some old) was first same n all = subst (λ (first : ReadPoint). first.dver ≤ n) (same_Some old first same) (found.version old was n all)
       version_of None was first same n all = subst (λ (first : ReadPoint). first.dver ≤ n) (same_Some _ first same) (now_below n all)
 

@@ -27,7 +27,31 @@ use Rattle.txn_core.specs.Suites.{ReadPoint, GatheredSuite, Suites, suite_of, wi
 use Rattle.txn_core.specs.Doing as doing
 use Rattle.txn_core.specs.Doing.{Fixed, Task, Granted, Phase, Gathering, Fetching, Preparing, Deciding, Finishing, TransactionRun, GoesOn, home_of}
 use Rattle.txn_core.specs.Transactions as txn_run
-use Rattle.txn_core.specs.Transactions.{Step, Gathered, asked_by, asked_for, fetched_at, fetched_for, request_in, decision_of, hear, collected, heard_of, given_in, keep_content, fetched, prepare, give_up, short_cause, verdict_in, cause_of_abort, locked_at, widen_all, execute, after_reply}
+use Rattle.txn_core.specs.Transactions.{
+  Step,
+  Gathered,
+  asked_by,
+  asked_for,
+  fetched_at,
+  fetched_for,
+  request_in,
+  decision_of,
+  hear,
+  collected,
+  heard_of,
+  given_in,
+  keep_content,
+  fetched,
+  prepare,
+  give_up,
+  short_cause,
+  verdict_in,
+  cause_of_abort,
+  locked_at,
+  widen_all,
+  execute,
+  after_reply,
+}
 use Rattle.txn_core.proofs.Gathers.{self, with_at, but_with}
 use Rattle.run_core.specs.Worlds.{World}
 use Rattle.law_run_recovers.specs.Standing.{is_up}
@@ -39,7 +63,34 @@ use Rattle.law_run_recovers.proofs.Led.{reached_told}
 use Rattle.law_run_recovers.proofs.Polled.{Sight, Answers, hears}
 use Rattle.law_run_recovers.proofs.Widened.{WidenedShort, start_stays, same_said, same_mode, right_more}
 use Rattle.law_run_recovers.proofs.Hinting.{hint_put}
-use Rattle.law_run_recovers.proofs.Stands.{IsKept, held_same, Ground, asks_of, locks_on, of_votes, demand_of, answer_to, EndsAs, EndsRight, IsRight, asked_with, Hints, HasAll, answer_in, Sets, IsWidening, IsFound, found_right, IsWhole, IsReady, IsGathering, PhaseStands, StepStands, told_stands, prepare_stands}
+use Rattle.law_run_recovers.proofs.Stands.{
+  IsKept,
+  held_same,
+  Ground,
+  asks_of,
+  locks_on,
+  of_votes,
+  demand_of,
+  answer_to,
+  EndsAs,
+  EndsRight,
+  IsRight,
+  asked_with,
+  Hints,
+  HasAll,
+  answer_in,
+  Sets,
+  IsWidening,
+  IsFound,
+  found_right,
+  IsWhole,
+  IsReady,
+  IsGathering,
+  PhaseStands,
+  StepStands,
+  told_stands,
+  prepare_stands,
+}
 use Rattle.law_run_recovers.proofs.Widens.{by_short, by_current, sets_with, sets_on, set_short, widen_stands}
 use Rattle.law_run_recovers.proofs.Gathered.{gathering_short, settled_ready}
 use Rattle.law_run_recovers.proofs.Executes.{none_with, hinted_with, content_ready, execute_stands}
@@ -124,7 +175,8 @@ module _ (fixed : Fixed) (world : World) (sight : Sight) (t number : ℕ) (suite
       Right (Current prefix dver members) = Unit {0}
       Right (Short had wanting busy) = Unit {0}
 
-module _ (fixed : Fixed) (world : World) (sight : Sight) (table : PlainTable) (task : Task) (cache : Cache) (Was : ℕ → Prefix → Type 0) (ground : Ground fixed world sight cache task.site (locks_on table task) Was) (same_service : table.service ≡ fixed.service) where
+module _ (fixed : Fixed) (world : World) (sight : Sight) (table : PlainTable) (task : Task) (cache : Cache) (Was : ℕ → Prefix → Type 0)
+    (ground : Ground fixed world sight cache task.site (locks_on table task) Was) (same_service : table.service ≡ fixed.service) where
   abbrev Good : Step → Type 0
   Good step = StepStands fixed world sight table task cache Was ground step
 
@@ -142,7 +194,8 @@ module _ (fixed : Fixed) (world : World) (sight : Sight) (table : PlainTable) (t
   KnowsSo step = (txn_run : TransactionRun) → step.after ≡ GoesOn txn_run → (z : ℕ) → asks_of (locks_on table task) z ≡ true → IsSoAt (known.known_of (known_of txn_run.suites) z) (row_of table.rows z)
 
   -- it executes on what it gathered
-  executes : (all : Gathered) → IsReady fixed world sight table task cache Was ground all.suites → Hinted all.suites all.cache → (number : ℕ) → is_some (suite_of all.suites number) ≡ true → KnowsSo (execute fixed task all) → Good (execute fixed task all)
+  executes : (all : Gathered) → IsReady fixed world sight table task cache Was ground all.suites → Hinted all.suites all.cache → (number : ℕ)
+      → is_some (suite_of all.suites number) ≡ true → KnowsSo (execute fixed task all) → Good (execute fixed task all)
   executes all ready hints number some so =
       execute_stands fixed world sight table task cache Was ground same_service all ready hints (agreed fixed world sight table task cache Was ground all ready hints number some so)
 
@@ -151,7 +204,8 @@ module _ (fixed : Fixed) (world : World) (sight : Sight) (table : PlainTable) (t
 
   -- ---- a suite is gathered
 
-  module _ (now : Cache) (suites : Suites) (number : ℕ) (g : Now suites number) (hints : Hinted suites now) (server : ℕ) (asked : Request) (said : Reply) (asks : AsksFor task.t number g.suite.collector server asked) (so : Answers fixed world sight number asks.question server said) where
+  module _ (now : Cache) (suites : Suites) (number : ℕ) (g : Now suites number) (hints : Hinted suites now) (server : ℕ) (asked : Request) (said : Reply)
+      (asks : AsksFor task.t number g.suite.collector server asked) (so : Answers fixed world sight number asks.question server said) where
     heard_here : HeardOne number g.suite server asked said
     heard_here = heard_one fixed world sight task.t number g.suite server asked said asks so
 
@@ -201,7 +255,9 @@ module _ (fixed : Fixed) (world : World) (sight : Sight) (table : PlainTable) (t
     collected_stands one g' same (Current prefix dver members) is knows =
         let last = settled prefix dver members (after_one one) in
         let ready : IsReady fixed world sight table task cache Was ground (with_suite number last suites) =
-        subst (IsReady fixed world sight table task cache Was ground) (ap (λ suite. with_suite number (settled prefix dver members suite) (with_suite number (after_one one) suites)) same ∙ insert-insert nat_cmp_total suites number (after_one one) last)
+        subst (IsReady fixed world sight table task cache Was ground)
+        (ap (λ suite. with_suite number (settled prefix dver members suite) (with_suite number (after_one one) suites)) same ∙ insert-insert nat_cmp_total suites number
+        (after_one one) last)
         (settled_ready fixed world sight table task cache Was ground (with_suite number (after_one one) suites) number g' prefix dver members (ap (λ (suite : GatheredSuite). next suite.collector) same ∙ is)) in
         executes (record { suites = with_suite number last suites; cache = now }) ready (hinted_with fixed world sight table task cache Was ground suites number last now hints) number (ap is_some (is_there suites number last)) knows
 
@@ -240,9 +296,12 @@ module _ (fixed : Fixed) (world : World) (sight : Sight) (table : PlainTable) (t
     was_kept : IsKept w.suite
     was_kept = w.sets.whole (number, w.votes) (inl refl) w.suite w.there
 
-    sets_now : (new : GatheredSuite) → new.collector.start ≡ w.suite.collector.start → IsRight fixed world sight table task cache number new → new.mode ≡ w.suite.mode → new.first ≡ w.suite.first → new.mode ≡ new.collector.mode → Sets fixed world sight table task cache (with_suite number new suites) w.done ((number, w.votes) ∷ w.later) granted
+    sets_now : (new : GatheredSuite) → new.collector.start ≡ w.suite.collector.start → IsRight fixed world sight table task cache number new → new.mode ≡ w.suite.mode
+        → new.first ≡ w.suite.first → new.mode ≡ new.collector.mode → Sets fixed world sight table task cache (with_suite number new suites) w.done
+        ((number, w.votes) ∷ w.later) granted
     sets_now new start right mode first kept =
-        sets_with fixed world sight table task cache suites number new w.done ((number, w.votes) ∷ w.later) granted w.sets right (λ old there. start ∙ ap (λ (suite : GatheredSuite). suite.collector.start) (same_Some w.suite old (sym w.there ∙ there)))
+        sets_with fixed world sight table task cache suites number new w.done ((number, w.votes) ∷ w.later) granted w.sets right
+        (λ old there. start ∙ ap (λ (suite : GatheredSuite). suite.collector.start) (same_Some w.suite old (sym w.there ∙ there)))
         (λ asked. held_same new w.suite asked mode first ∙ ap (held_in asked) (sym w.there)) (kept, ap is_some first ∙ was_kept.1)
 
     told_kept : (one : Told) → w.suite.mode ≡ (tell one w.suite.collector).mode
@@ -275,22 +334,29 @@ module _ (fixed : Fixed) (world : World) (sight : Sight) (table : PlainTable) (t
         let more = with_suite number (told_one one) suites in
         told_stands fixed world sight table task cache Was ground now more verdict.Aborted (Undecided (short_cause number had wanting busy)) (locked_at more)
         (set_short fixed world sight table task cache more w.done w.later (number, w.votes) granted (sets_now (told_one one) (start_stays w.suite.collector one) (told_right one told) refl refl (told_kept one)) had wanting busy
-        (subst (λ votes. WidenedShort fixed world sight number votes had wanting busy) w.votes_are (by_short fixed world sight number (tell one w.suite.collector) (record w.widening { told = one ∷ w.widening.told }) (more_widening one) (told_right one told).right had wanting busy is)))
+        (subst (λ votes. WidenedShort fixed world sight number votes had wanting busy) w.votes_are
+        (by_short fixed world sight number (tell one w.suite.collector) (record w.widening { told = one ∷ w.widening.told }) (more_widening one)
+        (told_right one told).right had wanting busy is)))
     widened_stands one told (Current prefix dver members) is =
         let last = settled prefix dver members (told_one one) in
         let right = told_right one told in
         let met : is_met (demand_of sight (of_votes (number, w.votes))) ≡ true =
-        subst (λ votes. is_met (demand_of sight (of_votes (number, votes))) ≡ true) w.votes_are (by_current fixed world sight number (tell one w.suite.collector) (record w.widening { told = one ∷ w.widening.told }) (more_widening one) right.right prefix dver members is) in
+        subst (λ votes. is_met (demand_of sight (of_votes (number, votes))) ≡ true) w.votes_are
+        (by_current fixed world sight number (tell one w.suite.collector) (record w.widening { told = one ∷ w.widening.told })
+        (more_widening one) right.right prefix dver members is) in
         subst (λ left. Good (widen_all task now (with_suite number last suites) granted left)) w.left_is
         (widen_stands fixed world sight table task cache Was ground w.later now (with_suite number last suites) ((number, w.votes) ∷ w.done) granted
-        (sets_on fixed world sight table task cache (with_suite number last suites) w.done w.later (number, w.votes) granted (sets_now last (start_stays w.suite.collector one) (record { may = right.may; right = right.right }) (sym (told_kept one)) (first_kept w.suite.first _ was_kept.1) refl) met))
+        (sets_on fixed world sight table task cache (with_suite number last suites) w.done w.later (number, w.votes) granted
+        (sets_now last (start_stays w.suite.collector one) (record { may = right.may; right = right.right }) (sym (told_kept one))
+        (first_kept w.suite.first _ was_kept.1) refl) met))
 
     widens : Good (hear task now suites phase number w.suite server asked (txn_run.said_to asked said) widen_on)
     widens = subst Good (sym (heard_now.is task now suites phase widen_on)) (widened_stands heard_now.one heard_now.told (next (tell heard_now.one w.suite.collector)) refl)
 
   -- ---- a content is fetched
 
-  fetches : (now : Cache) (suites : Suites) (number : ℕ) → IsReady fixed world sight table task cache Was ground suites → Hinted suites now → (server : ℕ) (asked : Request) → fetched_for task number (suite_of suites number) ≡ Some (server, asked)
+  fetches : (now : Cache) (suites : Suites) (number : ℕ) → IsReady fixed world sight table task cache Was ground suites → Hinted suites now → (server : ℕ) (asked : Request)
+      → fetched_for task number (suite_of suites number) ≡ Some (server, asked)
       → (given : Option Content) → is_some given ≡ true → KnowsSo (fetched fixed task now suites number (suite_of suites number) server given) → Good (fetched fixed task now suites number (suite_of suites number) server given)
   fetches now suites number ready hints server asked request given some = of (suite_of suites number) refl request given some
     where
@@ -338,7 +404,8 @@ module _ (fixed : Fixed) (world : World) (sight : Sight) (table : PlainTable) (t
 
   -- ---- any reply
 
-  asked_of : (number : ℕ) (suites : Suites) (suite : GatheredSuite) (server : ℕ) (asked : Request) → suite_of suites number ≡ Some suite → asked_for task number (suite_of suites number) ≡ Some (server, asked) → AsksFor task.t number suite.collector server asked
+  asked_of : (number : ℕ) (suites : Suites) (suite : GatheredSuite) (server : ℕ) (asked : Request) → suite_of suites number ≡ Some suite
+      → asked_for task number (suite_of suites number) ≡ Some (server, asked) → AsksFor task.t number suite.collector server asked
   asked_of number suites suite server asked there request = asks_for task number suite.collector server asked (sym (ap (asked_for task number) there) ∙ request)
 
   pub reply_stands : (now : Cache) (suites : Suites) (phase : Phase) → PhaseStands fixed world sight table task cache Was ground suites now phase → (server : ℕ) (asked : Request) → request_in fixed task suites phase ≡ Some (server, asked)

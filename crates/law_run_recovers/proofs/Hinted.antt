@@ -27,7 +27,40 @@ use Rattle.txn_core.specs.Suites.{ReadPoint, GatheredSuite, Suites, suite_of, wi
 use Rattle.txn_core.specs.Doing as doing
 use Rattle.txn_core.specs.Doing.{Fixed, Task, Granted, Phase, Gathering, Fetching, Preparing, Deciding, Finishing}
 use Rattle.txn_core.specs.Transactions as txn_run
-use Rattle.txn_core.specs.Transactions.{Step, Gathered, tell_end, give_up, prepare, gather_by, raised_or_new, widened, widen_by, widen_one, widen_all, to_widen, proceed, heard_on, free_content, opened_with, open_first, open_suite, open_needed, or_all, opened, execute, hear, collected, heard_of, given_in, keep_content, fetched, verdict_in, cause_of_abort, locked_at, after_reply}
+use Rattle.txn_core.specs.Transactions.{
+  Step,
+  Gathered,
+  tell_end,
+  give_up,
+  prepare,
+  gather_by,
+  raised_or_new,
+  widened,
+  widen_by,
+  widen_one,
+  widen_all,
+  to_widen,
+  proceed,
+  heard_on,
+  free_content,
+  opened_with,
+  open_first,
+  open_suite,
+  open_needed,
+  or_all,
+  opened,
+  execute,
+  hear,
+  collected,
+  heard_of,
+  given_in,
+  keep_content,
+  fetched,
+  verdict_in,
+  cause_of_abort,
+  locked_at,
+  after_reply,
+}
 use Rattle.run_core.specs.Worlds.{World}
 use Rattle.law_run_recovers.specs.Demands.{led_to_by}
 use Rattle.law_run_recovers.proofs.Hinting.{hint_put, hint_put_here}

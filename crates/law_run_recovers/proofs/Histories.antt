@@ -45,7 +45,8 @@ split server (done ∷ all) before what rest is = of (if_at server done.served) 
     later : Split server all what rest → Split server (done ∷ all) what rest
     later s = record { front = done ∷ s.front; done = s.done; back = s.back; is = ap (λ all. done ∷ all) s.is; served = s.served; behind = s.behind }
 
-    by : (here : Served) → if_at server done.served ≡ Some here → (before : List Served) → here ∷ served_at server all ≡ before ++ what ∷ rest → ((before : List Served) → served_at server all ≡ before ++ what ∷ rest → Split server all what rest) → Split server (done ∷ all) what rest
+    by : (here : Served) → if_at server done.served ≡ Some here → (before : List Served) → here ∷ served_at server all ≡ before ++ what ∷ rest
+        → ((before : List Served) → served_at server all ≡ before ++ what ∷ rest → Split server all what rest) → Split server (done ∷ all) what rest
     by here found [] is go = record {
       front = [];
       done = done;

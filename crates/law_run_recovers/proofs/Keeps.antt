@@ -172,7 +172,15 @@ step_asks fixed w i (Some actor) what is = of (next_of fixed actor.agent) refl i
     by : (asked : ℕ × Request) (st : State) → next_of fixed actor.agent ≡ Some asked → (answered fixed w i actor st (serve asked.0 st (record { stamp = actor.stamp; value = asked.1 }))).done.served ≡ Some what → Next
     by asked st next =
         elim (is_full st (record { stamp = actor.stamp; value = asked.1 })) as
-        (λ b. (answered fixed w i actor st (cond b None (Some (record { server = asked.0; request = record { stamp = actor.stamp; value = asked.1 }; reply = answer_of st (record { stamp = actor.stamp; value = asked.1 }) })))).done.served ≡ Some what → Next) [
+        (λ b.
+        (answered fixed w i actor st
+        (cond b None
+        (Some (record {
+          server = asked.0;
+          request = record { stamp = actor.stamp; value = asked.1 };
+          reply = answer_of st
+              (record { stamp = actor.stamp; value = asked.1 });
+        })))).done.served ≡ Some what → Next) [
           | true ↦ λ is. absurd (none-some what is)
           | false ↦ λ is. (actor, refl, next ∙ ap (λ (what : Served). Some (what.server, what.request.value)) (same_Some _ what is))
         ]

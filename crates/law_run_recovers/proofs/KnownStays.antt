@@ -95,7 +95,8 @@ pub record KnowsOn (suites : Suites) (step : Step) : Type 0 where
   pub is : step.after ≡ GoesOn txn_run
   pub like : Like suites txn_run.suites
 
-like_with : (suites more : Suites) (number : ℕ) (new : GatheredSuite) → Like suites more → known_in (Some new) ≡ known_in (suite_of more number) → ((old : GatheredSuite) → suite_of more number ≡ Some old → all_told new.collector ≡ all_told old.collector)
+like_with : (suites more : Suites) (number : ℕ) (new : GatheredSuite) → Like suites more → known_in (Some new) ≡ known_in (suite_of more number)
+    → ((old : GatheredSuite) → suite_of more number ≡ Some old → all_told new.collector ≡ all_told old.collector)
     → Like suites (with_suite number new more)
 like_with suites more number new like knows told = record {
   ordered = IsOrdered-insert nat_cmp_total more number new like.ordered;
@@ -179,7 +180,8 @@ module _ (task : Task) (now : Cache) (suites : Suites) where
           gathers_on (with_suite number new suites) (like_with suites suites number new like (ap known_in (sym is)) (λ old there. absurd (none-some old (sym is ∙ there)))) number (next new.collector)
       of (Some suite) is =
           let new : GatheredSuite = record suite { collector = raise suite.collector } in
-          gathers_on (with_suite number new suites) (like_with suites suites number new like (by_first suite.first ∙ ap known_in (sym is)) (λ old there. ap (λ (suite : GatheredSuite). all_told suite.collector) (same_Some suite old (sym is ∙ there)))) number (next new.collector)
+          gathers_on (with_suite number new suites) (like_with suites suites number new like (by_first suite.first ∙ ap known_in (sym is))
+          (λ old there. ap (λ (suite : GatheredSuite). all_told suite.collector) (same_Some suite old (sym is ∙ there)))) number (next new.collector)
         where
           by_first : (first : Option ReadPoint) → known_if_first (record suite { collector = raise suite.collector }) first ≡ known_if_first suite first
           by_first (Some first) = refl

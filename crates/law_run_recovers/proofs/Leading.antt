@@ -134,7 +134,8 @@ module _ (given : Opening) (z : ℕ) (w : World) (world : worlds.World) (inv : I
   newer : (prefix next : Prefix) → newer_by (fixed_of given) world answers z prefix ≡ Some next → Newer prefix next
   newer prefix next is = of (find (shows_newer_by (fixed_of given) world answers z prefix) prefix.votes.reps) refl is
     where
-      of : (found : Option Representative) → find (shows_newer_by (fixed_of given) world answers z prefix) prefix.votes.reps ≡ found → option_map (λ (rep : Representative). shown_at (fixed_of given) world z rep.0) found ≡ Some next → Newer prefix next
+      of : (found : Option Representative) → find (shows_newer_by (fixed_of given) world answers z prefix) prefix.votes.reps ≡ found
+          → option_map (λ (rep : Representative). shown_at (fixed_of given) world z rep.0) found ≡ Some next → Newer prefix next
       of None found is = absurd (none-some next is)
       of (Some rep) found is =
           let test = (find_some (shows_newer_by (fixed_of given) world answers z prefix) prefix.votes.reps rep found).1 in
@@ -153,7 +154,8 @@ module _ (given : Opening) (z : ℕ) (w : World) (world : worlds.World) (inv : I
 
   less_left : (prefix next : Prefix) → Newer prefix next → length (filter (above next) world.servers) < length (filter (above prefix) world.servers)
   less_left prefix next is =
-      fewer (above prefix) (above next) (λ st above'. let parts = and_parts st.up (nat_lt next.pver (copy_of st.store z).prefix.pver) above' in and_from st.up _ parts.0 (after prefix.pver next.pver (copy_of st.store z).prefix.pver is.greater parts.1)) world.servers is.st is.has
+      fewer (above prefix) (above next) (λ st above'. let parts = and_parts st.up (nat_lt next.pver (copy_of st.store z).prefix.pver) above' in
+      and_from st.up _ parts.0 (after prefix.pver next.pver (copy_of st.store z).prefix.pver is.greater parts.1)) world.servers is.st is.has
       (and_from is.st.up _ is.up (subst (λ (shown : Prefix). nat_lt prefix.pver shown.pver ≡ true) (sym is.shown) is.greater))
       (ap (λ b. b && nat_lt next.pver (copy_of is.st.store z).prefix.pver) is.up ∙ subst (λ (shown : Prefix). nat_lt next.pver shown.pver ≡ false) (sym is.shown) (not_itself next.pver))
     where

@@ -34,7 +34,28 @@ use Rattle.law_run_recovers.proofs.Leading as leading
 use Rattle.law_run_recovers.proofs.Leading.{one_step, one_end}
 use Rattle.law_run_recovers.proofs.Picks.{find_first, find_fails}
 use Rattle.law_run_recovers.proofs.Asked.{next_mode}
-use Rattle.law_run_recovers.proofs.Polled.{Sight, finds_at, opens_wider, serves_all, serves_own, gathering, first_left, at_current, at_short, IsAnswered, RightSaid, AllRight, all_wider, held_open, Refusing, refusing, told_is, newer_left, none_shows, held_are_open}
+use Rattle.law_run_recovers.proofs.Polled.{
+  Sight,
+  finds_at,
+  opens_wider,
+  serves_all,
+  serves_own,
+  gathering,
+  first_left,
+  at_current,
+  at_short,
+  IsAnswered,
+  RightSaid,
+  AllRight,
+  all_wider,
+  held_open,
+  Refusing,
+  refusing,
+  told_is,
+  newer_left,
+  none_shows,
+  held_are_open,
+}
 
 -- ---- what holds all along
 
@@ -69,7 +90,8 @@ module _ (fixed : Fixed) (world : World) (sight : Sight) (suite : ℕ) (Known : 
       → nat_lt (newest start told).pver (shown_at fixed world suite rep.0).pver ≡ true → Settled (newest start told) → ⊥
   not_settled told rep has some found less none = of (find (shows_newer_by fixed world (finds_at sight suite) suite (newest start told)) (newest start told).votes.reps) refl none
     where
-      of : (one : Option Representative) → find (shows_newer_by fixed world (finds_at sight suite) suite (newest start told)) (newest start told).votes.reps ≡ one → option_map (λ (rep : Representative). shown_at fixed world suite rep.0) one ≡ None → ⊥
+      of : (one : Option Representative) → find (shows_newer_by fixed world (finds_at sight suite) suite (newest start told)) (newest start told).votes.reps ≡ one
+          → option_map (λ (rep : Representative). shown_at fixed world suite rep.0) one ≡ None → ⊥
       of None is same =
           false≢true (sym (find_fails (shows_newer_by fixed world (finds_at sight suite) suite (newest start told)) (newest start told).votes.reps is rep has)
           ∙ and_from (nat_lt 0 rep.1 && finds_at sight suite rep.0) (nat_lt (newest start told).pver (shown_at fixed world suite rep.0).pver) (and_from (nat_lt 0 rep.1) (finds_at sight suite rep.0) some found) less)
@@ -94,7 +116,8 @@ module _ (fixed : Fixed) (world : World) (sight : Sight) (suite : ℕ) (Known : 
     where
       of : (server : ℕ) (said : Said) → RightSaid fixed world sight suite mode mode server said → (rep : Representative) → find (is_left (gathering start mode told)) (newest start told).votes.reps ≡ Some rep → rep.0 ≡ server
           → (mode ≡ sight.first suite) ⊎ Settled (newest start told)
-          → (steps : ℕ) × (led_so_far_by steps fixed world (finds_at sight suite) suite start ≡ newer (newest start told) said) × Known (newer (newest start told) said) × ((mode ≡ sight.first suite) ⊎ Settled (newer (newest start told) said))
+          → (steps : ℕ) × (led_so_far_by steps fixed world (finds_at sight suite) suite start ≡ newer (newest start told) said) × Known
+          (newer (newest start told) said) × ((mode ≡ sight.first suite) ⊎ Settled (newer (newest start told) said))
       of server (Busy holder) right rep left same settled = (going.steps, going.at, going.known, settled)
       of server Down right rep left same settled = (going.steps, going.at, going.known, settled)
       of server (Held prefix dver) right rep left same settled = by (nat_lt (newest start told).pver prefix.pver) refl settled
@@ -123,14 +146,20 @@ module _ (fixed : Fixed) (world : World) (sight : Sight) (suite : ℕ) (Known : 
               (ap (λ (p : Prefix). nat_lt (newest start told).pver p.pver) shows ∙ less) in
               subst (λ mode. newer_by fixed world (sight.opens suite mode) suite (newest start told) ≡ Some prefix) first
               (ap (option_map (λ (rep : Representative). shown_at fixed world suite rep.0))
-              (find_first (is_left (gathering start mode told)) (shows_newer_by fixed world (sight.opens suite mode) suite (newest start told)) (newer_left fixed world sight suite start mode told going.right) (newest start told).votes.reps rep left newer)
+              (find_first (is_left (gathering start mode told)) (shows_newer_by fixed world (sight.opens suite mode) suite (newest start told))
+              (newer_left fixed world sight suite start mode told going.right) (newest start told).votes.reps rep left newer)
               ∙ ap (λ p. Some p) shows)
 
           by : (b : Bool) → nat_lt (newest start told).pver prefix.pver ≡ b → (mode ≡ sight.first suite) ⊎ Settled (newest start told)
-              → (steps : ℕ) × (led_so_far_by steps fixed world (finds_at sight suite) suite start ≡ cond b prefix (newest start told)) × Known (cond b prefix (newest start told)) × ((mode ≡ sight.first suite) ⊎ Settled (cond b prefix (newest start told)))
+              → (steps : ℕ) × (led_so_far_by steps fixed world (finds_at sight suite) suite start ≡ cond b prefix (newest start told)) × Known
+              (cond b prefix (newest start told)) × ((mode ≡ sight.first suite) ⊎ Settled (cond b prefix (newest start told)))
           by false less settled = (going.steps, going.at, going.known, settled)
-          by true less (inl first) =
-              (suc going.steps, one_step fixed world (finds_at sight suite) suite going.steps start (newest start told) prefix going.at (is_newer first less), subst Known (sym right.1) (rules.goes server (subst (λ server. finds_at sight suite server ≡ true) same finds)), inl first)
+          by true less (inl first) = (
+            suc going.steps,
+            one_step fixed world (finds_at sight suite) suite going.steps start (newest start told) prefix going.at (is_newer first less),
+            subst Known (sym right.1) (rules.goes server (subst (λ server. finds_at sight suite server ≡ true) same finds)),
+            inl first,
+          )
           by true less (inr none) = absurd (not_settled told rep has some finds (ap (λ (p : Prefix). nat_lt (newest start told).pver p.pver) shows ∙ less) none)
 
   -- where none is newer, that is where the start leads

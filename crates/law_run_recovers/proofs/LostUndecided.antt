@@ -119,7 +119,9 @@ taken_away_are_never_decided given before between later t server can had gone un
         split = decisions_from-append (fixed_of given) (opening given) (before ++ between) later
 
         found : DecidedIn given (run given (before ++ between)) later t
-        found = decided_in given t later (run given (before ++ between)) (sym (stands_later t (decisions given (before ++ between)) (decisions_from (fixed_of given) (run given (before ++ between)) later) undecided) ∙ ap (stands t) (sym split) ∙ is)
+        found = decided_in given t later (run given (before ++ between))
+            (sym (stands_later t (decisions given (before ++ between)) (decisions_from (fixed_of given) (run given (before ++ between)) later) undecided) ∙ ap (stands t)
+            (sym split) ∙ is)
 
         number : (number : ℕ) × (found.event ≡ Step number)
         number = is_step given (after (fixed_of given) (run given (before ++ between)) found.first) found.event found.one found.is
@@ -152,7 +154,8 @@ taken_away_are_never_decided given before between later t server can had gone un
             ∙ ap (decided (fixed_of given) (after (fixed_of given) (run given (before ++ between)) found.first)) (sym number.1) ∙ found.is
 
         stood : has_lock_after given (told.first ++ told.event ∷ (told.last ++ between)) found.one.t told.told.told.suite told.told.told.mode server ≡ true
-        stood = locks_stand given told.first told.event (told.last ++ (between ++ found.first)) number.0 found.one told.told.told.suite told.told.told.mode server can_then tells decides (told.last ++ between) found.first (sym (append_assoc told.last between found.first))
+        stood = locks_stand given told.first told.event (told.last ++ (between ++ found.first)) number.0 found.one told.told.told.suite told.told.told.mode server can_then tells
+            decides (told.last ++ between) found.first (sym (append_assoc told.last between found.first))
 
         still : has_any t (locks_at (run given (before ++ between)) server) ≡ true
         still =

@@ -73,7 +73,8 @@ has_insert : (all : List (ℕ × Change)) (key : ℕ) (value : Change) (one : �
 has_insert [] key value one has = ⊎_elim (λ same. inl (ap (λ (one : ℕ × Change). one.0) same)) (λ none. absurd none) has
 has_insert (e ∷ es) key value one has = of (nat_cmp key e.0) refl (has_insert es key value one) has
   where
-    of : (o : Ordering) → nat_cmp key e.0 ≡ o → (Has (insert nat_cmp es key value) one → (key ≡ one.0) ⊎ Has es one) → Has (match_ordering o ((key, value) ∷ e ∷ es) ((e.0, value) ∷ es) (e ∷ insert nat_cmp es key value)) one → (key ≡ one.0) ⊎ Has (e ∷ es) one
+    of : (o : Ordering) → nat_cmp key e.0 ≡ o → (Has (insert nat_cmp es key value) one → (key ≡ one.0) ⊎ Has es one)
+        → Has (match_ordering o ((key, value) ∷ e ∷ es) ((e.0, value) ∷ es) (e ∷ insert nat_cmp es key value)) one → (key ≡ one.0) ⊎ Has (e ∷ es) one
     of Less is go has = ⊎_elim (λ same. inl (ap (λ (one : ℕ × Change). one.0) same)) (λ old. inr old) has
     of Equal is go has = ⊎_elim (λ same. inl (cmp_same key e.0 is ∙ ap (λ (one : ℕ × Change). one.0) same)) (λ old. inr (inr old)) has
     of Greater is go has = ⊎_elim (λ same. inr (inl same)) (λ old. ⊎_elim (λ at'. inl at') (λ old. inr (inr old)) (go old)) has
@@ -114,7 +115,8 @@ needed_asked [] asked z mode has = absurd has
 needed_asked (Know s ∷ needed) asked z mode has = ⊎_elim (λ same. absurd (false≢true (ap is_hold same))) (λ later. needed_asked needed asked z mode later) has
 needed_asked (Hold s k ∷ needed) asked z mode has = of (has_asked asked s k) refl (λ asked. needed_asked needed asked z mode) has
   where
-    of : (b : Bool) → has_asked asked s k ≡ b → ((asked : List (ℕ × LockMode)) → Has needed (Hold z mode) → (has_asked asked z mode ≡ true) ⊎ (has_asked (not_asked asked needed) z mode ≡ true)) → (Hold s k ≡ Hold z mode) ⊎ Has needed (Hold z mode)
+    of : (b : Bool) → has_asked asked s k ≡ b → ((asked : List (ℕ × LockMode)) → Has needed (Hold z mode)
+        → (has_asked asked z mode ≡ true) ⊎ (has_asked (not_asked asked needed) z mode ≡ true)) → (Hold s k ≡ Hold z mode) ⊎ Has needed (Hold z mode)
         → (has_asked asked z mode ≡ true) ⊎ (has_asked (cond b (not_asked asked needed) ((s, k) ∷ not_asked ((s, k) ∷ asked) needed)) z mode ≡ true)
     of true is go (inl same) = inl (subst (λ z. has_asked asked z mode ≡ true) (ap need_suite same) (subst (λ mode. has_asked asked s mode ≡ true) (ap need_mode same) is))
     of true is go (inr later) = go asked later
@@ -135,7 +137,8 @@ needed_asked (Hold s k ∷ needed) asked z mode has = of (has_asked asked s k) r
 pub sets_asked : (table : PlainTable) (t : ℕ) (caller : Identity) (ops : List Op) (set : ℕ × Configuration) → Has (votes_set table t caller ops) set → Has (locks_asked table t caller ops) (set.0, Exclusive)
 sets_asked table t caller ops set has =
     asked_exclusive (locks_asked table t caller ops) set.0
-    (⊎_elim (λ none. absurd (false≢true none)) (λ is. is) (needed_asked (needs (row_of table.rows) [] (transaction table.service t caller ops)) [] set.0 Exclusive (of (ending (row_of table.rows) [] (transaction table.service t caller ops)) refl (changed.1, changed.2))))
+    (⊎_elim (λ none. absurd (false≢true none)) (λ is. is) (needed_asked (needs (row_of table.rows) [] (transaction table.service t caller ops)) [] set.0 Exclusive
+    (of (ending (row_of table.rows) [] (transaction table.service t caller ops)) refl (changed.1, changed.2))))
   where
     changed : (one : ℕ × Change) × Has (changes_on table.rows (ending (row_of table.rows) [] (transaction table.service t caller ops))) one × (one.0 ≡ set.0)
     changed =

@@ -173,7 +173,8 @@ module _ (given : Opening) (events later : List Event) (one other : Begun given 
 
     -- what it was granted since its begin it was granted there
     module _ (who : Begun given events later) (after' : List Event) (parts : part ≡ who.before ++ Begin who.agent (Transaction who.caller who.site who.ops) ∷ after') where
-      pub since_begin : (p : Served → Bool) → some_step p who.agent (fixed_of given) (begun_world given (events ++ who.before) who.agent who.caller who.site who.ops) after' ≡ true → some_step p who.agent (fixed_of given) (run given events) part ≡ true
+      pub since_begin : (p : Served → Bool) → some_step p who.agent (fixed_of given) (begun_world given (events ++ who.before) who.agent who.caller who.site who.ops) after' ≡ true
+          → some_step p who.agent (fixed_of given) (run given events) part ≡ true
       since_begin p is =
           let f = found_in p who.agent (fixed_of given) (begun_world given (events ++ who.before) who.agent who.caller who.site who.ops) after' is in
           let front = moment given events later who f.front in
@@ -194,7 +195,8 @@ module _ (given : Opening) (events later : List Event) (one other : Begun given 
         pub reached : Reached given.c0 (asks_for given events who.t who.caller who.ops) (held_in given events part who.agent who.t) (z, mode)
         pub held : held_in given events part who.agent who.t z mode s ≡ true
 
-      module _ (so_far back : List Event) (i : ℕ) (split : part ≡ so_far ++ Step i ∷ back) (what : Served) (served : (step (fixed_of given) (run given (events ++ so_far)) (Step i)).done.served ≡ Some what) (t z : ℕ) (lock : for_lock t z what.request.value ≡ true) where
+      module _ (so_far back : List Event) (i : ℕ) (split : part ≡ so_far ++ Step i ∷ back) (what : Served)
+          (served : (step (fixed_of given) (run given (events ++ so_far)) (Step i)).done.served ≡ Some what) (t z : ℕ) (lock : for_lock t z what.request.value ≡ true) where
         asked_by : (who : Begun given events later) → VotesNeverMovedOf given events (asks_for given events who.t who.caller who.ops) → Place who so_far i t
             → Reached given.c0 (asks_for given events who.t who.caller who.ops) (held_in given events part who.agent who.t) (z, mode_of what.request.value)
         asked_by who never_moved at =
@@ -209,7 +211,8 @@ module _ (given : Opening) (events later : List Event) (one other : Begun given 
             reached_wider given.c0 (asks_for given events who.t who.caller who.ops) _ (held_in given events part who.agent who.t)
             (λ y mode server is. since_begin who (at.mid ++ Step who.agent ∷ back) all (grants who.t y mode server) is) (z, mode_of what.request.value) reached
 
-        granted_by : (who : Begun given events later) → VotesNeverMovedOf given events (asks_for given events who.t who.caller who.ops) → says_held what.reply.value ≡ true → Place who so_far i t → IsGranted who what.server t z (mode_of what.request.value)
+        granted_by : (who : Begun given events later) → VotesNeverMovedOf given events (asks_for given events who.t who.caller who.ops) → says_held what.reply.value ≡ true
+            → Place who so_far i t → IsGranted who what.server t z (mode_of what.request.value)
         granted_by who never_moved held' at = record {
           number = at.number;
           reached = asked_by who never_moved at;

@@ -169,7 +169,8 @@ module _ (given : Opening) (events later : List Event) (one other : Begun given 
       }
     where
       by_one : (y server : ℕ) (mode : LockMode)
-          → IsAsked given events later one other alone part rest part_whole part_calm unmoved other_unmoved one server one.t y mode ⊎ IsAsked given events later one other alone part rest part_whole part_calm unmoved other_unmoved other server one.t y mode
+          → IsAsked given events later one other alone part rest part_whole part_calm unmoved other_unmoved one server one.t y mode
+          ⊎ IsAsked given events later one other alone part rest part_whole part_calm unmoved other_unmoved other server one.t y mode
           → Reached given.c0 mine held (y, mode)
       by_one y server mode (inl asked) = asked.reached
       by_one y server mode (inr asked) = not_two asked.number

@@ -202,7 +202,8 @@ pub record Granted (t z : ℕ) (st : State) (asked : Request) : Type 0 where
   pub free : in_the_way t z (mode_of asked) st.locks ≡ None
   pub has : HasMode t z (mode_of asked) (after st asked).locks
 
-granted_poll : (st : State) (t z : ℕ) (mode : LockMode) → says_held (locking_reply (in_the_way t z mode st.locks) (copy_of st.store z)) ≡ true → (in_the_way t z mode st.locks ≡ None) × HasMode t z mode (after_locking (in_the_way t z mode st.locks) t z mode st).locks
+granted_poll : (st : State) (t z : ℕ) (mode : LockMode) → says_held (locking_reply (in_the_way t z mode st.locks) (copy_of st.store z)) ≡ true
+    → (in_the_way t z mode st.locks ≡ None) × HasMode t z mode (after_locking (in_the_way t z mode st.locks) t z mode st).locks
 granted_poll st t z mode said = of (in_the_way t z mode st.locks) refl said
   where
     of : (found : Option Lock) → in_the_way t z mode st.locks ≡ found → says_held (locking_reply found (copy_of st.store z)) ≡ true → (found ≡ None) × HasMode t z mode (after_locking found t z mode st).locks
@@ -268,7 +269,8 @@ keeps_out t u z m k locks apart is clash free =
 
 -- ---- in its run
 
-module _ (given : Opening) (base events later : List Event) (agent t : ℕ) (caller : Identity) (site : ℕ) (ops : List Op) (actor : Actor) (goes : GoesQuietly given base events later agent t caller site ops actor) (z : ℕ) (mode : LockMode) (server : ℕ) where
+module _ (given : Opening) (base events later : List Event) (agent t : ℕ) (caller : Identity) (site : ℕ) (ops : List Op) (actor : Actor)
+    (goes : GoesQuietly given base events later agent t caller site ops actor) (z : ℕ) (mode : LockMode) (server : ℕ) where
   abbrev world_at : List Event → World
   world_at so_far = world_after given events agent caller site ops so_far
 
@@ -284,7 +286,8 @@ module _ (given : Opening) (base events later : List Event) (agent t : ℕ) (cal
       is_run : world_after given events agent caller site ops so_far ≡ run given (events ++ Begin agent (Transaction caller site ops) ∷ so_far)
       is_run = run_at given events later agent t caller site ops actor goes.can goes.there goes.begins so_far
 
-      of : Serves (world_after given events agent caller site ops so_far) (step (fixed_of given) (world_after given events agent caller site ops so_far) event) → HasIt (step (fixed_of given) (world_after given events agent caller site ops so_far) event).world
+      of : Serves (world_after given events agent caller site ops so_far) (step (fixed_of given) (world_after given events agent caller site ops so_far) event)
+          → HasIt (step (fixed_of given) (world_after given events agent caller site ops so_far) event).world
       of serves =
           let puts = puts_in (world_at so_far).servers serves.target serves.st (served serves.st serves.asked) serves.at in
           let up = (goes.up so_far (event ∷ rest) split serves.target serves.st serves.at).0 in
@@ -338,7 +341,8 @@ module _ (given : Opening) (events later : List Event) (calm : Calm given events
         of : (found : Option Lock) → in_the_way u z mode st.locks ≡ found → AllOwned (O s) (served st asked).locks
         of None free =
             granted_so (subst (MayLock (O s)) (sym is) (subst (λ m. O s u z m) (ap mode_of is) (may u z (ap (for_lock u z) is ∙ lock_same u z)
-            (ap (λ value. says_held (reply_of st value)) is ∙ ap (λ b. says_held (cond b (reply_up st (request.Poll u z mode)) (reply_down (request.Poll u z mode)))) up ∙ ap (λ found. says_held (locking_reply found (copy_of st.store z))) free))))
+            (ap (λ value. says_held (reply_of st value)) is ∙ ap (λ b. says_held (cond b (reply_up st (request.Poll u z mode)) (reply_down (request.Poll u z mode)))) up ∙ ap
+            (λ found. says_held (locking_reply found (copy_of st.store z))) free))))
         of (Some other) met =
             unchanged (ap (λ value. (after st value).locks) is ∙ ap (λ b. (cond b (after_up st (request.Poll u z mode)) (after_down st (request.Poll u z mode))).locks) up ∙ ap (λ found. (after_locking found u z mode st).locks) met)
 
@@ -388,7 +392,8 @@ module _ (given : Opening) (events later : List Event) (calm : Calm given events
         split_i : later ≡ so_far ++ Step i ∷ rest
         split_i = split ∙ ap (λ event. so_far ++ event ∷ rest) is
 
-        by : {here : Actor} {there : actor_at (run given (events ++ so_far)) i ≡ Some here} → OwnTook (fixed_of given) (run given (events ++ so_far)) i here there (step (fixed_of given) (run given (events ++ so_far)) (Step i)) → AllAt OwnedAt (step (fixed_of given) (run given (events ++ so_far)) (Step i)).world
+        by : {here : Actor} {there : actor_at (run given (events ++ so_far)) i ≡ Some here} → OwnTook (fixed_of given) (run given (events ++ so_far)) i here there
+            (step (fixed_of given) (run given (events ++ so_far)) (Step i)) → AllAt OwnedAt (step (fixed_of given) (run given (events ++ so_far)) (Step i)).world
         by {here = here} took s st at =
             let stamped : Stamped Request = record { stamp = here.stamp; value = took.asked.1 } in
             let puts = puts_in w.servers took.asked.0 took.st (served took.st stamped) took.at in
@@ -410,6 +415,7 @@ module _ (given : Opening) (events later : List Event) (calm : Calm given events
     owned_next (Forget i site) is = owned_other (Forget i site) tt
     owned_next (Lack i why) is = owned_other (Lack i why) tt
 
-  pub owned_at : ((s : ℕ) (st : State) → server_at (run given (events ++ [])) s ≡ Some st → AllOwned (O s) st.locks) → (so_far rest : List Event) → later ≡ so_far ++ rest → (s : ℕ) (st : State) → server_at (run given (events ++ so_far)) s ≡ Some st → AllOwned (O s) st.locks
+  pub owned_at : ((s : ℕ) (st : State) → server_at (run given (events ++ [])) s ≡ Some st → AllOwned (O s) st.locks) → (so_far rest : List Event) → later ≡ so_far ++ rest
+      → (s : ℕ) (st : State) → server_at (run given (events ++ so_far)) s ≡ Some st → AllOwned (O s) st.locks
   owned_at first = along later (λ so_far. AllAt OwnedAt (run given (events ++ so_far)))
       (λ so_far rest event split all. subst (AllAt OwnedAt) (sym (run_next given events later calm.fair so_far event)) (owned_next so_far rest event split all event refl)) first

@@ -159,7 +159,8 @@ module _ (given : Opening) (base events later : List Event) (agent t : ℕ) (cal
             (λ old. subst (λ past. Has past (exchange what)) (sym same) (h.past front old.0 what old.1 served))
             (parted so_far event front (Step agent) back is)
 
-        aside : Apart given agent (world_after given events agent caller site ops so_far) h.here h.there (here_open h.here h.there) (step (fixed_of given) (world_after given events agent caller site ops so_far) event) × (event ≡ Step agent → ⊥) → Heard (so_far ++ event ∷ [])
+        aside : Apart given agent (world_after given events agent caller site ops so_far) h.here h.there (here_open h.here h.there)
+            (step (fixed_of given) (world_after given events agent caller site ops so_far) event) × (event ≡ Step agent → ⊥) → Heard (so_far ++ event ∷ [])
         aside apart = ⊎_elim
             (λ same. record {
               here = apart.0.new;
@@ -255,5 +256,6 @@ module _ (given : Opening) (base events later : List Event) (agent t : ℕ) (cal
         of true is =
             absurd (false≢true (sym left.1
             ∙ has_any (λ (one : Exchange). (one.server == asked.0) && locks z one.request && is_said (holding asking.mode) one.request (heard_in one.request one.response)) (past_of h.told) one has
-            (and_from ((one.server == asked.0) && locks z one.request) (is_said (holding asking.mode) one.request (heard_in one.request one.response)) (and_from (one.server == asked.0) (locks z one.request) (eq-eqb one.server asked.0 at) of_z)
+            (and_from ((one.server == asked.0) && locks z one.request) (is_said (holding asking.mode) one.request (heard_in one.request one.response))
+            (and_from (one.server == asked.0) (locks z one.request) (eq-eqb one.server asked.0 at) of_z)
             (ap (is_said (holding asking.mode) one.request) heard ∙ and_from (is_held said) (serves (mode_of one.request) asking.mode) held (subst (λ mode. serves (mode_of one.request) mode ≡ true) mode_is is)))))

@@ -238,7 +238,9 @@ module _ (given : Opening) (events later : List Event) (calm : Calm given events
 
       served_so : is_some (step (fixed_of given) (then_at so_far) (Step one.agent)).done.served ≡ true
       served_so = hindered (is_some (step (fixed_of given) w (Step one.agent)).done.served) (robs given one.agent one.t w (Step one.agent)) (bereaves given one.agent one.t w (Step one.agent))
-          (subst (λ b. ((b && not (is_some (step (fixed_of given) w (Step one.agent)).done.served)) || (robs given one.agent one.t w (Step one.agent) || bereaves given one.agent one.t w (Step one.agent))) ≡ false) (eq-eqb one.agent one.agent refl)
+          (subst
+          (λ b. ((b && not (is_some (step (fixed_of given) w (Step one.agent)).done.served))
+          || (robs given one.agent one.t w (Step one.agent) || bereaves given one.agent one.t w (Step one.agent))) ≡ false) (eq-eqb one.agent one.agent refl)
           (spared so_far rest (Step one.agent) split work))
         where
           hindered : (s r b : Bool) → ((true && not s) || (r || b)) ≡ false → s ≡ true

@@ -372,7 +372,8 @@ module _ (given : Opening) (base events later : List Event) (agent t : ℕ) (cal
 
   pub held_fits : Fits given base events later agent t caller site ops actor goes opens_held
   held_fits so_far rest split work what served z question is = (
-    λ prefix dver said'. and_from (is_up (run given base) what.server) (held z (mode_asked question) what.server) (there_up so_far rest split work what served z question is) (held_so so_far rest split work what served z question is prefix dver said'),
+    λ prefix dver said'. and_from (is_up (run given base) what.server) (held z (mode_asked question) what.server) (there_up so_far rest split work what served z question is)
+        (held_so so_far rest split work what served z question is prefix dver said'),
     λ holder prepared said'. closed_by (is_up (run given base) what.server) (held z (mode_asked question) what.server)
         (λ held'. not_both z (mode_asked question) what.server held' (barred_so so_far rest split work what served z question is holder prepared said')),
   )

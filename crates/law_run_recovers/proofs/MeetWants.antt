@@ -40,7 +40,8 @@ rep_with : (reps : List Representative) (server : ℕ) → 0 < votes_at reps ser
 rep_with [] server some = absurd (omega (arith, some))
 rep_with (rep ∷ reps) server some = of (rep.0 == server) refl (rep_with reps server) some
   where
-    of : (b : Bool) → (rep.0 == server) ≡ b → (0 < votes_at reps server → (one : Representative) × Has reps one × (one.0 ≡ server)) → 0 < cond b rep.1 0 + votes_at reps server → (one : Representative) × Has (rep ∷ reps) one × (one.0 ≡ server)
+    of : (b : Bool) → (rep.0 == server) ≡ b → (0 < votes_at reps server → (one : Representative) × Has reps one × (one.0 ≡ server)) → 0 < cond b rep.1 0 + votes_at reps server
+        → (one : Representative) × Has (rep ∷ reps) one × (one.0 ≡ server)
     of true is go some = (rep, inl refl, eqb-true rep.0 server is)
     of false is go some = let rest = go (omega (arith, some)) in (rest.0, inr rest.1, rest.2)
 

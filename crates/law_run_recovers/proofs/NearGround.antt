@@ -113,7 +113,9 @@ module _ (given : Opening) (events later : List Event) (agent t : ℕ) (caller :
   opens_first z mode has server is =
       let parts = and_parts (goes.near server) (is_open_at (run given events) t z mode server) is in
       and_from (goes.near server) (is_open_at (run given events) t z (first_asked z) server) parts.0
-      (open_wider (run given events) t z mode (first_asked z) (weaker_first [] (needs (row_of (table_of given events).rows) [] (transaction (table_of given events).service t caller ops)) (z, mode) (has_from asked (z, mode) has)) server parts.1)
+      (open_wider (run given events) t z mode (first_asked z)
+      (weaker_first [] (needs (row_of (table_of given events).rows) [] (transaction (table_of given events).service t caller ops)) (z, mode) (has_from asked (z, mode) has))
+      server parts.1)
 
   pub answering : (z : ℕ) → Answering (fixed_of given) (run given events) z (machine_of given z events) (finds_at sight z)
   answering z =

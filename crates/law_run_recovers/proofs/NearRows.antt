@@ -88,7 +88,8 @@ module _ (given : Opening) (events : List Event) (t : ℕ) (caller : Identity) (
     near_newer : (prefix next : Prefix) → AllNear prefix → newer_by (fixed_of given) world ups one.0 prefix ≡ Some next → AllNear next
     near_newer prefix next all = of (find (shows_newer_by (fixed_of given) world ups one.0 prefix) prefix.votes.reps) refl
       where
-        of : (found : Option Representative) → find (shows_newer_by (fixed_of given) world ups one.0 prefix) prefix.votes.reps ≡ found → option_map (λ (rep : Representative). shown_at (fixed_of given) world one.0 rep.0) found ≡ Some next → AllNear next
+        of : (found : Option Representative) → find (shows_newer_by (fixed_of given) world ups one.0 prefix) prefix.votes.reps ≡ found
+            → option_map (λ (rep : Representative). shown_at (fixed_of given) world one.0 rep.0) found ≡ Some next → AllNear next
         of None found is = absurd (none-some next is)
         of (Some rep) found is =
             let there = find_some (shows_newer_by (fixed_of given) world ups one.0 prefix) prefix.votes.reps rep found in
@@ -136,7 +137,8 @@ module _ (given : Opening) (events : List Event) (t : ℕ) (caller : Identity) (
       of true = refl
       of false = refl
 
-  module _ (can : CanBe given events) (agent : ℕ) (there : actor_at (run given events) agent ≡ Some actor) (begins : begins_job given (run given events) (Begin agent (Transaction caller site ops)) ≡ Some (t, Transaction caller site ops)) where
+  module _ (can : CanBe given events) (agent : ℕ) (there : actor_at (run given events) agent ≡ Some actor)
+      (begins : begins_job given (run given events) (Begin agent (Transaction caller site ops)) ≡ Some (t, Transaction caller site ops)) where
     pub met_near : (one : ℕ × LockMode) → Has (asks_for given events t caller ops) one → (start : Prefix) → MayStart (fixed_of given) actor.agent.cache site one.0 start
         → is_met (demand (run given events) one.0 one.1 (led_to (fixed_of given) (run given events) one.0 start).votes) ≡ true
         → is_met (demand (run given events) one.0 one.1 (votes_of_row (fixed_of given) (row_of (table_of given events).rows one.0))) ≡ true
@@ -144,10 +146,14 @@ module _ (given : Opening) (events : List Event) (t : ℕ) (caller : Identity) (
         let asked : List (ℕ × LockMode) = asks_for given events t caller ops in
         let first : LockMode = first_mode asked one.0 in
         let contains = contains_from asked (one.0, first) (first_in asked one has) in
-        let led = same_so_far given events t caller site ops actor near are (one.0, first) contains (is_up (run given events)) (is_open_at (run given events) t one.0 first) (λ server up. up) (open_is_up (one.0, first) contains) (length (run given events).servers) start (start_near given events t caller site ops actor near are (one.0, first) contains start may) in
+        let led = same_so_far given events t caller site ops actor near are (one.0, first) contains (is_up (run given events)) (is_open_at (run given events) t one.0 first)
+        (λ server up. up) (open_is_up (one.0, first) contains) (length (run given events).servers) start
+        (start_near given events t caller site ops actor near are (one.0, first) contains start may) in
         let here = contains_from asked one has in
         let met' : nat_le (needed_of one.1 (led_to (fixed_of given) (run given events) one.0 start).votes) (votes_in (led_to (fixed_of given) (run given events) one.0 start).votes.reps (is_open_at (run given events) t one.0 one.1)) ≡ true =
-        ap (nat_le (needed_of one.1 (led_to (fixed_of given) (run given events) one.0 start).votes)) (sym (same_got given events t caller site ops actor near are one here (is_up (run given events)) (is_open_at (run given events) t one.0 one.1) (λ server up. up) (open_is_up one here) (led_to (fixed_of given) (run given events) one.0 start) led.1)) ∙ met in
+        ap (nat_le (needed_of one.1 (led_to (fixed_of given) (run given events) one.0 start).votes))
+        (sym (same_got given events t caller site ops actor near are one here (is_up (run given events)) (is_open_at (run given events) t one.0 one.1) (λ server up. up)
+        (open_is_up one here) (led_to (fixed_of given) (run given events) one.0 start) led.1)) ∙ met in
         let row = votes_of_row (fixed_of given) (row_of (table_of given events).rows one.0) in
         up_to (needed_of one.1 row) (votes_in row.reps (is_open_at (run given events) t one.0 one.1)) (votes_in row.reps (is_up (run given events)))
         (open_row given events can agent t caller site ops actor there begins one.0 start may one.1 first (weaker_first [] (needs (row_of (table_of given events).rows) [] (transaction (table_of given events).service t caller ops)) one has)

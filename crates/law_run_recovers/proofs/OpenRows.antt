@@ -165,7 +165,8 @@ weaker_first asked (Hold suite mode ∷ left) one has = of (has_asked asked suit
     rest : List (ℕ × LockMode)
     rest = not_asked ((suite, mode) ∷ asked) left
 
-    by : (b : Bool) → (suite == one.0) ≡ b → Has rest one → (Has rest one → serves one.1 (first_mode rest one.0) ≡ true) → serves one.1 (mode_or Shared (cond b (Some (suite, mode)) (find (λ (other : ℕ × LockMode). other.0 == one.0) rest))) ≡ true
+    by : (b : Bool) → (suite == one.0) ≡ b → Has rest one → (Has rest one → serves one.1 (first_mode rest one.0) ≡ true)
+        → serves one.1 (mode_or Shared (cond b (Some (suite, mode)) (find (λ (other : ℕ × LockMode). other.0 == one.0) rest))) ≡ true
     by true same has more =
         let had = not_had ((suite, mode) ∷ asked) left one has in
         must_be mode one.1 (and_none (suite == one.0) (serves mode one.1) (or_none ((suite == one.0) && serves mode one.1) (has_asked asked one.0 one.1) had).0 same)
@@ -238,5 +239,6 @@ open_votes_are_rows given events can agent t caller site ops actor start there b
     let found : ℕ × LockMode → Want = λ one. record { suite = one.0; mode = one.1; votes = (led_to_by (fixed_of given) world (is_open_at world t one.0 (first_mode asked one.0)) one.0 (start one.0)).votes } in
     let of_row : ℕ × LockMode → Want = λ one. record { suite = one.0; mode = one.1; votes = votes_of_row (fixed_of given) (row_of table.rows one.0) } in
     fronts_alike is_met (open_demand world t) found of_row set asked
-    (λ one has. open_row given events can agent t caller site ops actor there begins one.0 (start one.0) (may one.0) one.1 (first_mode asked one.0) (weaker_first [] (needs (row_of table.rows) [] (transaction table.service t caller ops)) one has))
+    (λ one has. open_row given events can agent t caller site ops actor there begins one.0 (start one.0) (may one.0) one.1 (first_mode asked one.0)
+    (weaker_first [] (needs (row_of table.rows) [] (transaction table.service t caller ops)) one has))
     met

@@ -121,7 +121,8 @@ module _ (given : Opening) (agent : ℕ) (first : World) where
     pub swept : (x : ℕ) → list_any (λ (one : ℕ × List Event). one.0 == x) sweep_run ≡ true → Swept x (run given (events ++ sweeps agent sweep_run))
     pub still : (x : ℕ) → Swept x (run given events) → Swept x (run given (events ++ sweeps agent sweep_run))
 
-  pub ends : (sweep_run : List (ℕ × List Event)) (events : List Event) → Since (run given events) → goes_round given agent (run given events) sweep_run ≡ true → list_all (λ (one : ℕ × List Event). is_up first one.0) sweep_run ≡ true → Ends events sweep_run
+  pub ends : (sweep_run : List (ℕ × List Event)) (events : List Event) → Since (run given events) → goes_round given agent (run given events) sweep_run ≡ true
+      → list_all (λ (one : ℕ × List Event). is_up first one.0) sweep_run ≡ true → Ends events sweep_run
   ends [] events since goes' up =
       let same = sym (append-nil events) in
       record { since = subst (λ all. Since (run given all)) same since; swept = λ x is. absurd (false≢true is); still = λ x is. subst (λ all. Swept x (run given all)) same is }

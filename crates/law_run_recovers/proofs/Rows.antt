@@ -68,7 +68,8 @@ module _ (given : Opening) (events : List Event) (can : CanBe given events) (z :
   inv = effects.inv given events kept z
 
   -- what a suite may be looked for from was its prefix
-  pub start_was : (agent site : ℕ) (actor : Actor) (start : Prefix) → actor_at (run given events) agent ≡ Some actor → MayStart (fixed_of given) actor.agent.cache site z start → WasPrefix (beginning z given) (machine_of given z events).log start
+  pub start_was : (agent site : ℕ) (actor : Actor) (start : Prefix) → actor_at (run given events) agent ≡ Some actor → MayStart (fixed_of given) actor.agent.cache site z start
+      → WasPrefix (beginning z given) (machine_of given z events).log start
   start_was agent site actor start there (inl absent) = subst (WasPrefix (beginning z given) (machine_of given z events).log) (sym absent) inv.logged.never
   start_was agent site actor start there (inr hinted) = of (entry_of actor.agent.cache site z) refl hinted
     where
@@ -93,7 +94,8 @@ module _ (given : Opening) (events : List Event) (can : CanBe given events) (z :
         let is = found_is_row given z (machine_of given z events) (run given events) inv (is_up (run given events)) all (led_to (fixed_of given) (run given events) z start) end.was end.last (quorum mode met) in
         subst (λ votes. is_met (demand (run given events) z mode votes) ≡ true) (ap (λ (prefix : Prefix). prefix.votes) is ∙ row_votes given events can z (row_at given events z) refl) met
       where
-        quorum : (mode : LockMode) → is_met (demand (run given events) z mode (led_to (fixed_of given) (run given events) z start).votes) ≡ true → IsQuorum (led_to (fixed_of given) (run given events) z start).votes (is_up (run given events))
+        quorum : (mode : LockMode) → is_met (demand (run given events) z mode (led_to (fixed_of given) (run given events) z start).votes) ≡ true
+            → IsQuorum (led_to (fixed_of given) (run given events) z start).votes (is_up (run given events))
         quorum Shared met = inl met
         quorum Exclusive met = inr met
 

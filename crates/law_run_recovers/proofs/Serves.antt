@@ -64,7 +64,8 @@ filter_grows : (st : State) (asked : Request) (p : Lock → Bool) → Grows st a
 filter_grows st asked p lock has = inl (was_here st.locks lock (has_filter p st.locks lock has).0)
 
 map_grows : (st : State) (asked : Request) (f : Lock → Lock) → ((lock : Lock) → ((f lock).t ≡ lock.t) × ((f lock).suite ≡ lock.suite)) → Grows st asked (map f st.locks)
-map_grows st asked f same lock has = let was = has_map f st.locks lock has in inl (record { lock = was.0; has = was.1; of_it = sym (same was.0).0 ∙ ap (λ (lock : Lock). lock.t) was.2; on_it = sym (same was.0).1 ∙ ap (λ (lock : Lock). lock.suite) was.2 })
+map_grows st asked f same lock has = let was = has_map f st.locks lock has in
+    inl (record { lock = was.0; has = was.1; of_it = sym (same was.0).0 ∙ ap (λ (lock : Lock). lock.t) was.2; on_it = sym (same was.0).1 ∙ ap (λ (lock : Lock). lock.suite) was.2 })
 
 record_same : (old : Option Verdict) (t : ℕ) (v : Verdict) (item : Option AuditItem) (st : State) → (after_record old t v item st).locks ≡ st.locks
 record_same None t v item st = refl
@@ -221,7 +222,8 @@ module _ (fixed : Fixed) (w : World) where
       ∙ ap locks_in ((puts_in w.servers serves.target serves.st (served serves.st serves.asked) serves.at).apart server apart)
 
   told_here : (event : Event) (server t z : ℕ) (serves : Serves w (step fixed w event)) → server ≡ serves.target → (on : On (locks_at (step fixed w event).world server) t z)
-      → On serves.st.locks on.lock.t on.lock.suite ⊎ ((told : IsTold on.lock.t serves.asked.value (reply_of serves.st serves.asked.value)) × (told.suite ≡ on.lock.suite)) → On (locks_at w server) t z ⊎ ((told : Told event t server) × (told.told.suite ≡ z))
+      → On serves.st.locks on.lock.t on.lock.suite ⊎ ((told : IsTold on.lock.t serves.asked.value (reply_of serves.st serves.asked.value)) × (told.suite ≡ on.lock.suite))
+      → On (locks_at w server) t z ⊎ ((told : Told event t server) × (told.told.suite ≡ z))
   told_here event server t z serves here on (inl old) =
       inl (record { lock = old.lock; has = subst (λ locks. Has locks old.lock) (sym (ap (locks_at w) here ∙ ap locks_in serves.at)) old.has; of_it = old.of_it ∙ on.of_it; on_it = old.on_it ∙ on.on_it })
   told_here event server t z serves here on (inr told) =

@@ -94,7 +94,8 @@ module _ (st : State) (consistent : IsConsistent st) (t z : ℕ) (mode : LockMod
   up_keeps : (asked : Request) → Spares t st asked → copy_of (after_up st asked).store z ≡ copy_of st.store z
   up_keeps (request.Poll named suite m) calm = locking_keeps (in_the_way named suite m st.locks) named suite m
   up_keeps (request.Upgrade named suite) calm =
-      elim (has_lock named suite st.locks) as (λ b. copy_of (cond b (after_poll st named suite Exclusive) st).store z ≡ copy_of st.store z) [ true ↦ locking_keeps (in_the_way named suite Exclusive st.locks) named suite Exclusive | false ↦ refl ]
+      elim (has_lock named suite st.locks) as (λ b. copy_of (cond b (after_poll st named suite Exclusive) st).store z ≡ copy_of st.store z)
+      [ true ↦ locking_keeps (in_the_way named suite Exclusive st.locks) named suite Exclusive | false ↦ refl ]
   up_keeps (request.Fetch named suite) calm = refl
   up_keeps (request.Prepare named parts) calm =
       elim (prepares st named parts) as (λ b. copy_of (cond b (record st { store = intended named parts st.store; locks = with_prepared named parts st.locks }) st).store z ≡ copy_of st.store z) [ true ↦ refl | false ↦ refl ]

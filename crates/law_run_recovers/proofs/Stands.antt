@@ -210,7 +210,8 @@ module _ (fixed : Fixed) (world : World) (sight : Sight) (table : PlainTable) (t
       of true is = record {
         suite = new;
         there = with_at number new suites one.0 ∙ ap (λ b. cond b (Some new) (suite_of suites one.0)) is;
-        met = subst (λ prefix. is_met (demand_by (sight.opens one.0 one.1) one.0 one.1 (led_to_by fixed world (finds_at sight one.0) one.0 prefix).votes) ≡ true) (sym (same had.suite (ap (suite_of suites) (eqb-true number one.0 is) ∙ had.there))) had.met;
+        met = subst (λ prefix. is_met (demand_by (sight.opens one.0 one.1) one.0 one.1 (led_to_by fixed world (finds_at sight one.0) one.0 prefix).votes) ≡ true)
+            (sym (same had.suite (ap (suite_of suites) (eqb-true number one.0 is) ∙ had.there))) had.met;
       }
       of false is = record { suite = had.suite; there = with_at number new suites one.0 ∙ ap (λ b. cond b (Some new) (suite_of suites one.0)) is ∙ had.there; met = had.met }
 

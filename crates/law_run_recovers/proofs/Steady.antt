@@ -135,10 +135,12 @@ module _ (given : Opening) (events later : List Event) (agent t : ℕ) (caller :
           let own = and_parts (lock.0.t == t) (not lock.0.prepared) lock.2 in
           none_crashes what done (answered what.server lock.0.suite (record { lock = lock.0; has = has_so st at lock.0 lock.1; of_it = eqb-true lock.0.t t own.0; on_it = refl }))
         where
-          has_so : (st : State) → server_at (world_after given events agent caller site ops so_far) what.server ≡ Some st → (lock : Lock) → Has st.locks lock → Has (locks_at (world_after given events agent caller site ops so_far) what.server) lock
+          has_so : (st : State) → server_at (world_after given events agent caller site ops so_far) what.server ≡ Some st → (lock : Lock) → Has st.locks lock
+              → Has (locks_at (world_after given events agent caller site ops so_far) what.server) lock
           has_so st at lock has = subst (λ locks. Has locks lock) (sym (ap locks_in at)) has
 
-      served_so : (found : Option Served) → (step (fixed_of given) (world_after given events agent caller site ops so_far) (Crash server)).done.served ≡ found → of_up (drops t) (world_after given events agent caller site ops so_far) found ≡ true → ⊥
+      served_so : (found : Option Served) → (step (fixed_of given) (world_after given events agent caller site ops so_far) (Crash server)).done.served ≡ found
+          → of_up (drops t) (world_after given events agent caller site ops so_far) found ≡ true → ⊥
       served_so None done some = false≢true some
       served_so (Some what) done some = at_server what done (server_at (then so_far) what.server) refl some
 

@@ -35,7 +35,8 @@ module _ (fixed : Fixed) (w : World) (agent : ℕ) (here : Actor) (there : actor
   served_took : (asked : ℕ × Request) (st : State) → next_of fixed here.agent ≡ Some asked → server_at w asked.0 ≡ Some st → is_some (answered fixed w agent here st (serve asked.0 st (with_stamp asked.1))).done.served ≡ true
       → OwnTook (answered fixed w agent here st (serve asked.0 st (with_stamp asked.1)))
   served_took asked st next at =
-      elim (is_full st (with_stamp asked.1)) as (λ b. is_full st (with_stamp asked.1) ≡ b → is_some (answered fixed w agent here st (cond b None (Some what))).done.served ≡ true → OwnTook (answered fixed w agent here st (cond b None (Some what)))) [
+      elim (is_full st (with_stamp asked.1)) as (λ b. is_full st (with_stamp asked.1) ≡ b → is_some (answered fixed w agent here st (cond b None (Some what))).done.served ≡ true
+      → OwnTook (answered fixed w agent here st (cond b None (Some what)))) [
         | true ↦ λ _ is. absurd (false≢true is)
         | false ↦ λ room _.
             let new = moved here (answer_of st (with_stamp asked.1)).stamp (take fixed here.agent (Replied (reply_of st asked.1))) in
@@ -45,7 +46,8 @@ module _ (fixed : Fixed) (w : World) (agent : ℕ) (here : Actor) (there : actor
       what : Served
       what = record { server = asked.0; request = with_stamp asked.1; reply = answer_of st (with_stamp asked.1) }
 
-  at_server : (asked : ℕ × Request) → next_of fixed here.agent ≡ Some asked → (found : Option State) → server_at w asked.0 ≡ found → is_some (asks_at fixed w agent here asked found).done.served ≡ true → OwnTook (asks_at fixed w agent here asked found)
+  at_server : (asked : ℕ × Request) → next_of fixed here.agent ≡ Some asked → (found : Option State) → server_at w asked.0 ≡ found
+      → is_some (asks_at fixed w agent here asked found).done.served ≡ true → OwnTook (asks_at fixed w agent here asked found)
   at_server asked next None at is = absurd (false≢true is)
   at_server asked next (Some st) at is = served_took asked st next at is
 

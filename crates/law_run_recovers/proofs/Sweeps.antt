@@ -176,7 +176,8 @@ module _ (fixed : Fixed) (first : World) (s : ℕ) (up : is_up first s ≡ true)
       let doubtful : (lock : Lock) → lock.t ≡ t → doubt lock ≡ true = λ lock is. doubt_of lock t is ∙ and_from (has_prepared t then_there) (not (is_up first (home_of fixed.service t))) before (ap not down) in
       let one = has_any (λ (lock : Lock). lock.t == t) (filter doubt rest) some.0 (filter_has doubt rest some.0 some.1 (doubtful some.0 (eqb-true some.0.t t parts.0))) parts.0 in
       record {
-        here = λ lock has is. ⊎_elim inl (λ in'. ⊎_elim (λ own. inl (doubtful lock (eqb-true lock.t t own))) (λ apart. inr (filter_has (λ (lock : Lock). not (lock.t == t)) rest lock in' (ap not apart))) (cases_Bool (lock.t == t))) (left.here lock has is);
+        here = λ lock has is. ⊎_elim inl (λ in'. ⊎_elim (λ own. inl (doubtful lock (eqb-true lock.t t own)))
+            (λ apart. inr (filter_has (λ (lock : Lock). not (lock.t == t)) rest lock in' (ap not apart))) (cases_Bool (lock.t == t))) (left.here lock has is);
         kept = left.kept;
         there = λ lock in'. left.there lock (has_filter (λ (lock : Lock). not (lock.t == t)) rest lock in').0;
         all = all_others p rest count t left;
@@ -222,7 +223,9 @@ module _ (fixed : Fixed) (first : World) (s : ℕ) (up : is_up first s ≡ true)
       }
     where
       unprepared : lock.prepared ≡ false
-      unprepared = ⊎_elim (λ is. absurd (false≢true (sym none ∙ has_any (λ (other : Lock). (other.t == lock.t) && other.prepared) (lock ∷ more) lock (inl refl) (and_from (lock.t == lock.t) lock.prepared (eq-eqb lock.t lock.t refl) is)))) (λ is. is) (cases_Bool lock.prepared)
+      unprepared = ⊎_elim
+          (λ is. absurd (false≢true (sym none ∙ has_any (λ (other : Lock). (other.t == lock.t) && other.prepared) (lock ∷ more) lock (inl refl)
+          (and_from (lock.t == lock.t) lock.prepared (eq-eqb lock.t lock.t refl) is)))) (λ is. is) (cases_Bool lock.prepared)
 
       never : has_prepared lock.t then_there ≡ false
       never = ⊎_elim
@@ -318,7 +321,8 @@ module _ (fixed : Fixed) (first : World) (s : ℕ) (up : is_up first s ≡ true)
         (goes_on new (record sweep_run { finished = sweep_run.finished + 1 }) sweeps.server
         (others_served w new sweeps.others_are ups (λ x apart. locks_apart w new s st (request.Finish t v) stamp at servers x apart))
         (λ lock. sweeps.p lock && not (lock.t == t))
-        (locks_here w new s st (request.Finish t v) stamp at servers ∙ ap (λ (st : State). st.locks) after_is ∙ ap (filter (λ (lock : Lock). not (lock.t == t))) (locks_then at) ∙ filter_twice sweeps.p (λ (lock : Lock). not (lock.t == t)) then_there)
+        (locks_here w new s st (request.Finish t v) stamp at servers ∙ ap (λ (st : State). st.locks) after_is ∙ ap (filter (λ (lock : Lock). not (lock.t == t)))
+        (locks_then at) ∙ filter_twice sweeps.p (λ (lock : Lock). not (lock.t == t)) then_there)
         (others t sweeps.rest) (left_told sweeps.p sweeps.rest sweep_run.left t sweeps.left now.1)))
 
     breaking : (lock : Lock) (left : List Lock) → NowIs (Breaking lock left) sweeps.p sweeps.rest → server_at w s ≡ Some st → Serves s (request.Break lock.t lock.suite)

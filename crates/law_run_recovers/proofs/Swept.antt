@@ -156,7 +156,9 @@ module _ (given : Opening) (agent : ℕ) (first : World) (s : ℕ) (up : is_up f
       of stepped (subst (λ event. Came w (step fixed w event) []) (sym own.0) (came w busy (step fixed w (Step agent)) went [])) parts.1 (λ on. goes events stepped.world on parts.1))
       (event_aside given agent w event (not-true (hinders given agent w event) parts.0))
     where
-      of : (stepped : Stepped) → Came w stepped [] → unhindered_from given agent stepped.world events ≡ true → (Busy stepped.world → Result (after fixed stepped.world events) (outcomes (dones fixed stepped.world events))) → Result (after fixed stepped.world events) (cons_option stepped.done.outcome (outcomes (dones fixed stepped.world events)))
+      of : (stepped : Stepped) → Came w stepped [] → unhindered_from given agent stepped.world events ≡ true
+          → (Busy stepped.world → Result (after fixed stepped.world events) (outcomes (dones fixed stepped.world events)))
+          → Result (after fixed stepped.world events) (cons_option stepped.done.outcome (outcomes (dones fixed stepped.world events)))
       of stepped it calm go = ⊎_elim
           (λ on. subst (λ outcome. Result (after fixed stepped.world events) (cons_option outcome (outcomes (dones fixed stepped.world events)))) (sym on.1) (go on.0))
           (λ done.
@@ -232,7 +234,8 @@ module _ (given : Opening) (events : List Event) (agent t server : ℕ) (begins 
 
 pub sweeps_leave_doubts : SweepsLeaveDoubts
 sweeps_leave_doubts given events later agent t server alone job there own =
-    let result = goes given agent (run given events) server alone.up (rises given events agent t server alone.begins alone.up) later (begun given events agent t server alone.begins alone.up) (busy_first given events agent t server alone.begins alone.up) alone.alone in
+    let result = goes given agent (run given events) server alone.up (rises given events agent t server alone.begins alone.up) later
+    (begun given events agent t server alone.begins alone.up) (busy_first given events agent t server alone.begins alone.up) alone.alone in
     let finished = result.ended job (has_from _ job there) own in
     let same = after-append (fixed_of given) (opening given) events (Begin agent (Sweep server) ∷ later) in
     record {

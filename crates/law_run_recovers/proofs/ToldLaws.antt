@@ -82,7 +82,8 @@ module _ (given : Opening) (events later : List Event) (agent t : ℕ) (caller :
         subst (λ (asked : ℕ × Request). AsAtItsBegin (run given events) (then so_far) asked.0 asked.1)
         (same_Some took.asked asked (sym took.next ∙ ap (λ (a : Actor). next_of (fixed_of given) a.agent) same ∙ next)) as_at
 
-  kept_so : (so_far rest : List Event) (event : Event) → later ≡ so_far ++ event ∷ rest → IsAtWork (world_after given events agent caller site ops so_far) agent t → bereaves given agent t (world_after given events agent caller site ops so_far) event ≡ false
+  kept_so : (so_far rest : List Event) (event : Event) → later ≡ so_far ++ event ∷ rest → IsAtWork (world_after given events agent caller site ops so_far) agent t
+      → bereaves given agent t (world_after given events agent caller site ops so_far) event ≡ false
   kept_so so_far rest event split work =
       let c = course_so so_far (event ∷ rest) split work.running in
       goes.kept so_far rest event split work

@@ -112,7 +112,8 @@ module _ (given : Opening) (accepted : IsAccepted given) (all : List Event) (age
       let mine = last_of (decisions given all) agent here.actor.agent.count t here.actor.agent.doing (holds.agents.at agent here.actor.agent (ap agent_of here.there)) here.runs_it in
       false_from_ne_true (u == t) (λ is.
       let same = eqb-true u t is in
-      let places = same_place actor.agent.count here.actor.agent.count other agent (omega (arith, last, mine, same)) (holds.agents.small other actor.agent (ap agent_of at)) (holds.agents.small agent here.actor.agent (ap agent_of here.there)) in
+      let places = same_place actor.agent.count here.actor.agent.count other agent (omega (arith, last, mine, same)) (holds.agents.small other actor.agent (ap agent_of at))
+      (holds.agents.small agent here.actor.agent (ap agent_of here.there)) in
       false≢true (sym apart ∙ eq-eqb other agent places.1))
 
   unresolved : (st : State) (u : ℕ) → record_of st t ≡ None → takes t st (request.Resolve u) ≡ false → (u == t) ≡ false
@@ -188,7 +189,8 @@ module _ (given : Opening) (accepted : IsAccepted given) (all : List Event) (age
                 undecided =
                     ap (λ (asked : ℕ × Request). is_decide asked.1) (sym same_asked)
                     ∙ open_undecided (fixed_of given) here.actor.agent (Replied (reply_of took.st took.asked.1)) here.actor.agent.doing took.asked took.next
-                    (subst (λ asked. IsOpen (take_in (fixed_of given) here.actor.agent (Replied (reply_of took.st took.asked.1)) here.actor.agent.doing asked).agent.doing) took.next (subst (λ (agent : Agent). IsOpen agent.doing) took.took open_now))
+                    (subst (λ asked. IsOpen (take_in (fixed_of given) here.actor.agent (Replied (reply_of took.st took.asked.1)) here.actor.agent.doing asked).agent.doing)
+                    took.next (subst (λ (agent : Agent). IsOpen agent.doing) took.took open_now))
 
     -- it stays unrecorded through an event, where its end is not fixed after it
     pub unrecorded_next : (i : ℕ) (new : State) → server_at (step (fixed_of given) w event).world i ≡ Some new → record_of new t ≡ None

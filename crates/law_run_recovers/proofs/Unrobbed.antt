@@ -70,7 +70,8 @@ module _ (given : Opening) (events later : List Event) (agent t : ℕ) (caller :
   unrecorded_then so_far rest event is at none =
       let now = subst (λ w. IsAtWork w agent t) (is_run so_far) (work_before so_far (event ∷ []) at) in
       let calm = subst (λ w. (hinders_itself given agent w event || (robs given agent t w event || bereaves given agent t w event)) ≡ false) (is_run so_far) (spares so_far rest event is (work_before so_far (event ∷ []) at)) in
-      let next : world_at (so_far ++ event ∷ []) ≡ (step (fixed_of given) (run given (so_all so_far)) event).world = after_append (fixed_of given) so_far (event ∷ []) (world_at []) ∙ ap (λ w. (step (fixed_of given) w event).world) (is_run so_far) in
+      let next : world_at (so_far ++ event ∷ []) ≡ (step (fixed_of given) (run given (so_all so_far)) event).world = after_append (fixed_of given) so_far (event ∷ [])
+      (world_at []) ∙ ap (λ w. (step (fixed_of given) w event).world) (is_run so_far) in
       subst Unrecorded (sym next)
       (unrecorded_next given can.accepted (so_all so_far) agent t now (subst Unrecorded (is_run so_far) none) event calm (subst (λ w. IsAtWork w agent t) next at))
 
@@ -87,7 +88,8 @@ module _ (given : Opening) (events later : List Event) (agent t : ℕ) (caller :
   unrecorded_at so_far rest is at = unrecorded_along so_far [] rest is at unrecorded_first
 
   -- what it knows is so on the table of that moment, whatever others have decided since it began
-  pub knows_then : (so_far rest : List Event) → later ≡ so_far ++ rest → IsAtWork (world_at so_far) agent t → (here : Actor) (txn_run : TransactionRun) → actor_at (world_at so_far) agent ≡ Some here → here.agent.doing ≡ Some (Running txn_run)
+  pub knows_then : (so_far rest : List Event) → later ≡ so_far ++ rest → IsAtWork (world_at so_far) agent t → (here : Actor) (txn_run : TransactionRun)
+      → actor_at (world_at so_far) agent ≡ Some here → here.agent.doing ≡ Some (Running txn_run)
       → IsOrdered nat_cmp txn_run.suites → txn_run.task.t ≡ t → AgreesWith (known_of txn_run.suites) (row_of (table_of given (so_all so_far)).rows)
   knows_then so_far rest is at here txn_run there' running ordered number =
       let can' : CanBe given (so_all so_far) =
@@ -97,7 +99,8 @@ module _ (given : Opening) (events later : List Event) (agent t : ℕ) (caller :
       (λ z. subst (λ t. (machine_of given z (so_all so_far)).verdict t ≢ Some Answered) (sym number) (unanswered given (so_all so_far) can' t (subst Unrecorded (is_run so_far) (unrecorded_at so_far rest is at)) z))
 
   -- and what its requests stand on is there
-  module _ (so_far rest : List Event) (is : later ≡ so_far ++ rest) (at : IsAtWork (world_at so_far) agent t) (here : Actor) (txn_run : TransactionRun) (there' : actor_at (world_at so_far) agent ≡ Some here) (running : here.agent.doing ≡ Some (Running txn_run))
+  module _ (so_far rest : List Event) (is : later ≡ so_far ++ rest) (at : IsAtWork (world_at so_far) agent t) (here : Actor) (txn_run : TransactionRun)
+      (there' : actor_at (world_at so_far) agent ≡ Some here) (running : here.agent.doing ≡ Some (Running txn_run))
       (number : txn_run.task.t ≡ t) (asked : ℕ × Request) (next : next_of (fixed_of given) here.agent ≡ Some asked) (st : State) (found : server_at (world_at so_far) asked.0 ≡ Some st) where
     carried : Carried given (λ z. machine_of given z (so_all so_far)) (world_at so_far) rest
     carried =

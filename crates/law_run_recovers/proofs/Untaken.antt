@@ -264,10 +264,13 @@ module _ (given : Opening) (z t : ℕ) (w : World) (world : worlds.World) (shows
 
   -- an agent asks
   asked_stands : (i : ℕ) (actor : Actor) (asked : ℕ × Request) (found : Option State) → server_at world asked.0 ≡ found
-      → ((what : Served) (st : State) → (asks_at (fixed_of given) world i actor asked found).done.served ≡ Some what → server_at world what.server ≡ Some st → Untaken t st what.request.value) → Later (asked_at_events given z w actor asked found)
+      → ((what : Served) (st : State) → (asks_at (fixed_of given) world i actor asked found).done.served ≡ Some what → server_at world what.server ≡ Some st
+      → Untaken t st what.request.value) → Later (asked_at_events given z w actor asked found)
   asked_stands i actor asked None at calm = stands
   asked_stands i actor asked (Some st) at calm =
-      elim (is_full st stamped) as (λ b. ((what : Served) (other : State) → (answered (fixed_of given) world i actor st (cond b None (Some (record { server = asked.0; request = stamped; reply = answer_of st stamped })))).done.served ≡ Some what
+      elim (is_full st stamped) as
+      (λ b. ((what : Served) (other : State)
+      → (answered (fixed_of given) world i actor st (cond b None (Some (record { server = asked.0; request = stamped; reply = answer_of st stamped })))).done.served ≡ Some what
       → server_at world what.server ≡ Some other → Untaken t other what.request.value)
       → Later (answered_events given z w actor (cond b None (Some (record { server = asked.0; request = stamped; reply = answer_of st stamped }))))) [
         | true ↦ λ calm. spared (own_events z actor.agent.doing (take (fixed_of given) actor.agent (Lacked lack.Full))) (spare_own z actor.agent.doing (take (fixed_of given) actor.agent (Lacked lack.Full)))

@@ -66,7 +66,8 @@ module _ (fixed : Fixed) (world : World) (sight : Sight) (suite : ℕ) where
     pub too_few : nat_le votes.w (votes_in votes.reps (sight.opens suite Exclusive)) ≡ false
     pub refuses : Refusing fixed world sight suite Exclusive votes.reps busy
 
-  pub widened_short : (c : Collector) (votes : Configuration) (since : List Told) → AllRight fixed world sight suite Exclusive (since ++ c.told) → (had wanting : ℕ) (busy : Option (ℕ × ℕ)) → next (by_votes c votes since) ≡ Short had wanting busy → WidenedShort votes had wanting busy
+  pub widened_short : (c : Collector) (votes : Configuration) (since : List Told) → AllRight fixed world sight suite Exclusive (since ++ c.told)
+      → (had wanting : ℕ) (busy : Option (ℕ × ℕ)) → next (by_votes c votes since) ≡ Short had wanting busy → WidenedShort votes had wanting busy
   widened_short c votes since right had wanting busy is =
       let at = at_short (by_votes c votes since) had wanting busy is in
       let open' = held_are_open fixed world sight suite Exclusive (since ++ c.told) right votes.reps at.nobody in
@@ -77,11 +78,13 @@ module _ (fixed : Fixed) (world : World) (sight : Sight) (suite : ℕ) where
         refuses = subst (Refusing fixed world sight suite Exclusive votes.reps) at.busy_is (refusing fixed world sight suite Exclusive Exclusive (since ++ c.told) right votes.reps at.nobody);
       }
 
-  pub widened_current : (c : Collector) (votes : Configuration) (since : List Told) → AllRight fixed world sight suite Exclusive (since ++ c.told) → (prefix : Prefix) (dver : ℕ) (members : List ℕ) → next (by_votes c votes since) ≡ Current prefix dver members
+  pub widened_current : (c : Collector) (votes : Configuration) (since : List Told) → AllRight fixed world sight suite Exclusive (since ++ c.told)
+      → (prefix : Prefix) (dver : ℕ) (members : List ℕ) → next (by_votes c votes since) ≡ Current prefix dver members
       → nat_le votes.w (votes_in votes.reps (sight.opens suite Exclusive)) ≡ true
   widened_current c votes since right prefix dver members is =
       up_to votes.w (votes_in votes.reps (holds Exclusive (since ++ c.told))) (votes_in votes.reps (sight.opens suite Exclusive)) (at_current (by_votes c votes since) prefix dver members is).enough
-      (votes_in-wider votes.reps (holds Exclusive (since ++ c.told)) (sight.opens suite Exclusive) (λ server has. (held_open fixed world sight suite (absent_prefix fixed.service.c0) Exclusive (since ++ c.told) right Exclusive server has).0))
+      (votes_in-wider votes.reps (holds Exclusive (since ++ c.told)) (sight.opens suite Exclusive)
+      (λ server has. (held_open fixed world sight suite (absent_prefix fixed.service.c0) Exclusive (since ++ c.told) right Exclusive server has).0))
     where
       up_to : (a b c : ℕ) → nat_le a b ≡ true → b ≤ c → nat_le a c ≡ true
       up_to a b c le more = grind (arith, nat_tests)

@@ -25,7 +25,29 @@ use Rattle.law_run_recovers.proofs.Widened.{WidenedShort, widened_short, widened
 use Rattle.law_run_recovers.proofs.VotesSet.{IsSet}
 use Rattle.rep_core.proofs.Members.{Has}
 use Rattle.law_run_recovers.proofs.Asking.{held_in}
-use Rattle.law_run_recovers.proofs.Stands.{IsKept, held_same, Ground, locks_on, of_votes, demand_of, EndsRight, ends_short, short_votes, none_short, IsRight, had_met, starts, may_start, SameStart, had_with, HasAll, Sets, StepStands, told_stands, prepare_stands}
+use Rattle.law_run_recovers.proofs.Stands.{
+  IsKept,
+  held_same,
+  Ground,
+  locks_on,
+  of_votes,
+  demand_of,
+  EndsRight,
+  ends_short,
+  short_votes,
+  none_short,
+  IsRight,
+  had_met,
+  starts,
+  may_start,
+  SameStart,
+  had_with,
+  HasAll,
+  Sets,
+  StepStands,
+  told_stands,
+  prepare_stands,
+}
 
 -- ---- a collector that is widened
 
@@ -79,7 +101,8 @@ module _ (fixed : Fixed) (world : World) (sight : Sight) (table : PlainTable) (t
       of one false some = some
 
   -- one more is met
-  pub sets_on : (suites : Suites) (done left : List (ℕ × Configuration)) (one : ℕ × Configuration) (granted : Granted) → Setting suites done (one ∷ left) granted → is_met (demand_of sight (of_votes one)) ≡ true → Setting suites (one ∷ done) left granted
+  pub sets_on : (suites : Suites) (done left : List (ℕ × Configuration)) (one : ℕ × Configuration) (granted : Granted) → Setting suites done (one ∷ left) granted
+      → is_met (demand_of sight (of_votes one)) ≡ true → Setting suites (one ∷ done) left granted
   sets_on suites done left one granted s met = record {
     right = s.right;
     so_far = s.so_far;
@@ -101,7 +124,8 @@ module _ (fixed : Fixed) (world : World) (sight : Sight) (table : PlainTable) (t
   all_set suites done granted s = record {
     start = starts fixed world sight table task cache suites;
     from = may_start fixed world sight table task cache suites s.right;
-    none = none_short fixed world sight table task cache (starts fixed world sight table task cache suites) s.so_far done s.all (λ other has. had_met fixed world sight table task cache suites other (s.had other has)) s.sets (λ other has. ap not (s.met other has));
+    none = none_short fixed world sight table task cache (starts fixed world sight table task cache suites) s.so_far done s.all
+        (λ other has. had_met fixed world sight table task cache suites other (s.had other has)) s.sets (λ other has. ap not (s.met other has));
     answer_is = s.answer_is;
     gathered = s.modes;
   }
@@ -112,7 +136,8 @@ module _ (fixed : Fixed) (world : World) (sight : Sight) (table : PlainTable) (t
   set_short suites done left one granted s had wanting busy short =
       let start = starts fixed world sight table task cache suites in
       ends_short fixed world sight table task cache start (may_start fixed world sight table task cache suites s.right) (of_votes one)
-      (short_votes fixed world sight table task cache start s.so_far done left one s.all (λ other has. had_met fixed world sight table task cache suites other (s.had other has)) s.sets (λ other has. ap not (s.met other has)) (ap not short.too_few))
+      (short_votes fixed world sight table task cache start s.so_far done left one s.all (λ other has. had_met fixed world sight table task cache suites other (s.had other has))
+      s.sets (λ other has. ap not (s.met other has)) (ap not short.too_few))
       one.0 had wanting busy refl short.had_is short.wanting_is short.refuses
 
   module _ (Was : ℕ → Prefix → Type 0) (ground : Ground fixed world sight cache task.site (locks_on table task) Was) where
@@ -129,7 +154,8 @@ module _ (fixed : Fixed) (world : World) (sight : Sight) (table : PlainTable) (t
         phase : doing.Phase
         phase = doing.Widening (one.0 ∷ numbers later) granted
 
-        of : (found : Option GatheredSuite) → suite_of suites one.0 ≡ found → is_some found ≡ true → ((suites : Suites) → Setting suites (one ∷ done) later granted → Good (go_on suites)) → Good (widen_one task now suites phase granted.changes one.0 found go_on)
+        of : (found : Option GatheredSuite) → suite_of suites one.0 ≡ found → is_some found ≡ true
+            → ((suites : Suites) → Setting suites (one ∷ done) later granted → Good (go_on suites)) → Good (widen_one task now suites phase granted.changes one.0 found go_on)
         of None is some go = absurd (false≢true some)
         of (Some suite) is some go = by (next (widened granted.changes one.0 suite).collector) refl
           where

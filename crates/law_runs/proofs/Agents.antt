@@ -160,7 +160,8 @@ pub record Says (fixed : Fixed) (ds more : List Decided) (i : ℕ) (response : R
   pub txn_run : (txn_run : TransactionRun) (v : Verdict) → doing ≡ Some (Running txn_run) → Tells v txn_run.phase → Stands ds txn_run.task.t v → Stands (ds ++ more) txn_run.task.t (cond (is_decide asked.1) (said_by response v) v)
   pub sweep_run : (sweep_run : SweepRun) → doing ≡ Some (RunningSweep sweep_run) → (place : ℕ) → NotIn more (64 * place + i)
 
-pub after_take : (fixed : Fixed) (agent : Agent) (response : Response) (i count : ℕ) (ds more : List Decided) (doing : Option Doing) (asked : ℕ × Request) → next_in fixed doing ≡ Some asked → IsAt ds i count doing → Says fixed ds more i response doing asked
+pub after_take : (fixed : Fixed) (agent : Agent) (response : Response) (i count : ℕ) (ds more : List Decided) (doing : Option Doing) (asked : ℕ × Request)
+    → next_in fixed doing ≡ Some asked → IsAt ds i count doing → Says fixed ds more i response doing asked
     → IsAfter (ds ++ more) i count (take_in fixed agent response doing (Some asked)).agent.doing (take_in fixed agent response doing (Some asked)).ending
 after_take fixed agent response i count ds more (Some (Running txn_run)) asked is at says =
     after_course (ds ++ more) i count at.place txn_run.task (cond (is_decide asked.1) (said_by response at.said) at.said) _ at.numbered at.last
@@ -172,7 +173,8 @@ after_take fixed agent response i count ds more (Some (RunningSweep sweep_run)) 
 after_take fixed agent response i count ds more None asked is at says = cc
 
 -- an agent keeps its number and its count when it takes a response
-pub take_keeps : (fixed : Fixed) (agent : Agent) (response : Response) (doing : Option Doing) (asked : Option (ℕ × Request)) → ((take_in fixed agent response doing asked).agent.index ≡ agent.index) × ((take_in fixed agent response doing asked).agent.count ≡ agent.count)
+pub take_keeps : (fixed : Fixed) (agent : Agent) (response : Response) (doing : Option Doing) (asked : Option (ℕ × Request))
+    → ((take_in fixed agent response doing asked).agent.index ≡ agent.index) × ((take_in fixed agent response doing asked).agent.count ≡ agent.count)
 take_keeps fixed agent response (Some (Running txn_run)) (Some asked) = (refl, refl)
 take_keeps fixed agent response (Some (Running txn_run)) None = (refl, refl)
 take_keeps fixed agent response (Some (RunningSweep sweep_run)) (Some asked) = (refl, refl)
@@ -206,7 +208,8 @@ begins_index fixed agent (Sweep server) = refl
 pub begins : (fixed : Fixed) (agent : Agent) (job : Job) (i : ℕ) (ds : List Decided) → agent.index ≡ i → NotIn ds (64 * agent.count + i) → (begin fixed agent job ≡ agent) ⊎ Begins ds i agent (begin fixed agent job)
 begins fixed agent job i ds index new =
     let begun : Agent = record (started fixed agent job) { count = agent.count + 1 } in
-    elim (is_idle agent.doing && has_sense fixed job && nat_lt agent.count max_jobs) as (λ b. (is_idle agent.doing && has_sense fixed job && nat_lt agent.count max_jobs) ≡ b → (cond b begun agent ≡ agent) ⊎ Begins ds i agent (cond b begun agent)) [
+    elim (is_idle agent.doing && has_sense fixed job && nat_lt agent.count max_jobs) as
+    (λ b. (is_idle agent.doing && has_sense fixed job && nat_lt agent.count max_jobs) ≡ b → (cond b begun agent ≡ agent) ⊎ Begins ds i agent (cond b begun agent)) [
       | true ↦ λ is. inr (record {
         idle = idle_none agent.doing (and_parts (is_idle agent.doing) (has_sense fixed job) (and_parts (is_idle agent.doing && has_sense fixed job) (nat_lt agent.count max_jobs) is).0).0;
         more = refl;

@@ -123,14 +123,17 @@ as_carried : (task : Task) (outcome : Proposal) → decided_as (Some task) (deci
 as_carried task (Ok granted) = refl
 as_carried task (Err refusal) = refl
 
-carried_if : (task : Task) (outcome : Proposal) (one : Decided) (old : Option Verdict) → cond (is_some old) None (decided_as (Some task) (decisions.answer_of (recorded old (verdict_of (decision_of task outcome))))) ≡ Some one → one ≡ decided_with task outcome
+carried_if : (task : Task) (outcome : Proposal) (one : Decided) (old : Option Verdict) → cond (is_some old) None
+    (decided_as (Some task) (decisions.answer_of (recorded old (verdict_of (decision_of task outcome))))) ≡ Some one → one ≡ decided_with task outcome
 carried_if task outcome one (Some old) is = absurd (none-some one is)
 carried_if task outcome one None is = same_Some one (decided_with task outcome) (sym is ∙ as_carried task outcome)
 
 -- what a Decide decides is what it carries
-carried : (st : State) (task : Task) (outcome : Proposal) (one : Decided) → decides_at st task (request.Decide task.t (decision_of task outcome)) (reply_of st (request.Decide task.t (decision_of task outcome))) ≡ Some one → one ≡ decided_with task outcome
+carried : (st : State) (task : Task) (outcome : Proposal) (one : Decided) → decides_at st task (request.Decide task.t (decision_of task outcome))
+    (reply_of st (request.Decide task.t (decision_of task outcome))) ≡ Some one → one ≡ decided_with task outcome
 carried st task outcome one =
-    elim (st.up) as (λ b. decides_at st task (request.Decide task.t (decision_of task outcome)) (cond b (reply.Verdict (recorded (record_of st task.t) (verdict_of (decision_of task outcome)))) reply.Down) ≡ Some one → one ≡ decided_with task outcome) [
+    elim (st.up) as (λ b. decides_at st task (request.Decide task.t (decision_of task outcome))
+    (cond b (reply.Verdict (recorded (record_of st task.t) (verdict_of (decision_of task outcome)))) reply.Down) ≡ Some one → one ≡ decided_with task outcome) [
       | true ↦ λ is. carried_if task outcome one (record_of st task.t) is
       | false ↦ λ is. absurd (none-some one (sym (none_at (Some st) (Some task.t)) ∙ is))
     ]
@@ -170,8 +173,16 @@ module _ (given : Opening) (world : World) (all : AllKnow (fixed_of given) (agen
             ∙ ap replies (sym (done_is_the_tables (fixed_of given).service (known_of txn_run.suites) rows txn_run.task.t txn_run.task.caller txn_run.task.ops came.result agrees came.is));
       })
 
-  by_serving : (actor : Actor) (txn_run : TransactionRun) (asked : ℕ × Request) (st : State) → actor_at world number ≡ Some actor → actor.agent.doing ≡ Some (Running txn_run) → next_of (fixed_of given) actor.agent ≡ Some asked → server_at world asked.0 ≡ Some st
-      → (full : Bool) → decided_by world (Some txn_run.task) (answered (fixed_of given) world number actor st (cond full None (Some (record { server = asked.0; request = record { stamp = actor.stamp; value = asked.1 }; reply = answer_of st (record { stamp = actor.stamp; value = asked.1 }) })))).done.served ≡ Some one
+  by_serving : (actor : Actor) (txn_run : TransactionRun) (asked : ℕ × Request) (st : State) → actor_at world number ≡ Some actor → actor.agent.doing ≡ Some (Running txn_run)
+      → next_of (fixed_of given) actor.agent ≡ Some asked → server_at world asked.0 ≡ Some st
+      → (full : Bool) → decided_by world (Some txn_run.task) (answered (fixed_of given) world number actor st
+      (cond full None
+      (Some (record {
+        server = asked.0;
+        request = record { stamp = actor.stamp; value = asked.1 };
+        reply = answer_of st
+            (record { stamp = actor.stamp; value = asked.1 });
+      })))).done.served ≡ Some one
       → IsAnsweredAsKnown given world (Step number) one
   by_serving actor txn_run asked st there running next at true is = absurd (none-some one is)
   by_serving actor txn_run asked st there running next at false is =
@@ -179,7 +190,8 @@ module _ (given : Opening) (world : World) (all : AllKnow (fixed_of given) (agen
       (sym (ap (λ found. decided_at found (to_decide asked.1) (decided_as (Some txn_run.task) (answer_in (reply_of st asked.1)))) at) ∙ is)
       (is_decide asked.1) refl
 
-  by_server : (actor : Actor) (txn_run : TransactionRun) (asked : ℕ × Request) → actor_at world number ≡ Some actor → actor.agent.doing ≡ Some (Running txn_run) → next_of (fixed_of given) actor.agent ≡ Some asked → (st : Option State) → server_at world asked.0 ≡ st
+  by_server : (actor : Actor) (txn_run : TransactionRun) (asked : ℕ × Request) → actor_at world number ≡ Some actor → actor.agent.doing ≡ Some (Running txn_run)
+      → next_of (fixed_of given) actor.agent ≡ Some asked → (st : Option State) → server_at world asked.0 ≡ st
       → decided_by world (Some txn_run.task) (asks_at (fixed_of given) world number actor asked st).done.served ≡ Some one → IsAnsweredAsKnown given world (Step number) one
   by_server actor txn_run asked there running next None at is = absurd (none-some one is)
   by_server actor txn_run asked there running next (Some st) at is = by_serving actor txn_run asked st there running next at (is_full st (record { stamp = actor.stamp; value = asked.1 })) is
@@ -189,7 +201,9 @@ module _ (given : Opening) (world : World) (all : AllKnow (fixed_of given) (agen
   by_request actor txn_run there running None next is = absurd (none-some one is)
   by_request actor txn_run there running (Some asked) next is = by_server actor txn_run asked there running next (server_at world asked.0) refl is
 
-  by_doing : (actor : Actor) → actor_at world number ≡ Some actor → (doing : Option Doing) → actor.agent.doing ≡ doing → decided_by world (task_of doing) (asks (fixed_of given) world number actor (next_of (fixed_of given) actor.agent)).done.served ≡ Some one → IsAnsweredAsKnown given world (Step number) one
+  by_doing : (actor : Actor) → actor_at world number ≡ Some actor → (doing : Option Doing) → actor.agent.doing ≡ doing
+      → decided_by world (task_of doing) (asks (fixed_of given) world number actor (next_of (fixed_of given) actor.agent)).done.served ≡ Some one
+      → IsAnsweredAsKnown given world (Step number) one
   by_doing actor there (Some (Running txn_run)) running is = by_request actor txn_run there running (next_of (fixed_of given) actor.agent) refl is
   by_doing actor there (Some (RunningSweep sweep_run)) running is = absurd (none-some one (sym (no_task world (asks (fixed_of given) world number actor (next_of (fixed_of given) actor.agent)).done.served) ∙ is))
   by_doing actor there None running is = absurd (none-some one (sym (no_task world (asks (fixed_of given) world number actor (next_of (fixed_of given) actor.agent)).done.served) ∙ is))

@@ -190,7 +190,8 @@ not_begun_not_in given world ds t holds not_begun d has same =
     below a b less = grind (arith, nat_tests)
 
 -- a decision of a job that ended so far was made so far
-decided_by_then : (given : Opening) (accepted : IsAccepted given) (events later : List Event) (job : EndedJob) (first : Decided) → Contains (ended given events) job → number_of job ≡ first.t → Has (decisions given (events ++ later)) first → Has (decisions given events) first
+decided_by_then : (given : Opening) (accepted : IsAccepted given) (events later : List Event) (job : EndedJob) (first : Decided) → Contains (ended given events) job
+    → number_of job ≡ first.t → Has (decisions given (events ++ later)) first → Has (decisions given events) first
 decided_by_then given accepted events later job first there same has = of job.ending refl
   where
     all : List Decided

@@ -52,7 +52,8 @@ module _ (fixed : Fixed) (R : Agent → Agent → Type 0) (same : (agent : Agent
   each_put world i actor new is goes j =
       let puts = puts_agent world i actor new is in
       ⊎_elim
-      (λ at. subst (λ j. Both R (agent_at world j) (agent_at (with_actor i new world) j)) (sym at) (subst (λ found. Both R found (agent_at (with_actor i new world) i)) (sym puts.was) (subst (Both R (Some actor.agent)) (sym puts.here) goes)))
+      (λ at. subst (λ j. Both R (agent_at world j) (agent_at (with_actor i new world) j)) (sym at)
+      (subst (λ found. Both R found (agent_at (with_actor i new world) i)) (sym puts.was) (subst (Both R (Some actor.agent)) (sym puts.here) goes)))
       (λ apart. subst (Both R (agent_at world j)) (sym (puts.apart j apart)) (both_same (agent_at world j)))
       (same_or j i)
 
@@ -60,7 +61,8 @@ module _ (fixed : Fixed) (R : Agent → Agent → Type 0) (same : (agent : Agent
   each_becomes world i change goes None is = each_same world
   each_becomes world i change goes (Some actor) is = each_put world i actor (record actor { agent = change actor.agent }) is (goes actor.agent)
 
-  each_took : (world : World) (i : ℕ) (actor : Actor) (stamp : ℕ) (response : Response) (servers : List State) → actor_at world i ≡ Some actor → Each world (with_actor i (moved actor stamp (take fixed actor.agent response)) (record world { servers = servers }))
+  each_took : (world : World) (i : ℕ) (actor : Actor) (stamp : ℕ) (response : Response) (servers : List State) → actor_at world i ≡ Some actor
+      → Each world (with_actor i (moved actor stamp (take fixed actor.agent response)) (record world { servers = servers }))
   each_took world i actor stamp response servers is = each_put world i actor (moved actor stamp (take fixed actor.agent response)) is (takes actor.agent response)
 
   each_answered : (world : World) (i : ℕ) (actor : Actor) (st : State) (what : Option Served) → actor_at world i ≡ Some actor → Each world (answered fixed world i actor st what).world

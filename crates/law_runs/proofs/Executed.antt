@@ -37,7 +37,46 @@ use Rattle.txn_core.specs.declared.ending.Cause.TheVariants.{Lost}
 use Rattle.txn_core.specs.declared.ending.Ending.{Ending}
 use Rattle.txn_core.specs.declared.ending.Ending.TheVariants.{Undecided}
 use Rattle.txn_core.specs.Doing.{Changes, Granted, Fixed, Task, Proposal, Phase, Gathering, Fetching, Widening, Preparing, Deciding, Finishing, TransactionRun, After, GoesOn, Ends}
-use Rattle.txn_core.specs.Transactions.{Step, changes_of, Gathered, tell_end, give_up, prepare, locked_at, short_cause, gather_by, widen_by, widen_one, widened, widen_all, to_widen, opened, or_all, open_needed, open_suite, open_first, opened_with, free_content, heard_on, raised_or_new, keep_content, heard_of, said_to, proceed, execute, collected, hear, fetched, prepared, after_response, given_in, lack_cause, verdict_in, ending_by, cause_of_abort}
+use Rattle.txn_core.specs.Transactions.{
+  Step,
+  changes_of,
+  Gathered,
+  tell_end,
+  give_up,
+  prepare,
+  locked_at,
+  short_cause,
+  gather_by,
+  widen_by,
+  widen_one,
+  widened,
+  widen_all,
+  to_widen,
+  opened,
+  or_all,
+  open_needed,
+  open_suite,
+  open_first,
+  opened_with,
+  free_content,
+  heard_on,
+  raised_or_new,
+  keep_content,
+  heard_of,
+  said_to,
+  proceed,
+  execute,
+  collected,
+  hear,
+  fetched,
+  prepared,
+  after_response,
+  given_in,
+  lack_cause,
+  verdict_in,
+  ending_by,
+  cause_of_abort,
+}
 use Rattle.txn_core.proofs.Growing.{serves_itself}
 use Rattle.law_runs.proofs.Standing.{Answer'}
 use Rattle.law_runs.proofs.Knowing.{AreFit, with_fit, more_after}
@@ -119,11 +158,13 @@ refusal_in before (exec.Refused refusal) = refusal
 refusal_in before (exec.Done answers changes) = before
 refusal_in before (exec.Need need) = before
 
-came_done : (fixed : Fixed) (task : Task) (suites : Suites) (answers : List Answer) (set : Changes) → AreFit suites → heard_on fixed task suites ≡ exec.Done answers set → Came fixed task suites (Ok (record { answers = answers; changes = set }))
+came_done : (fixed : Fixed) (task : Task) (suites : Suites) (answers : List Answer) (set : Changes) → AreFit suites → heard_on fixed task suites ≡ exec.Done answers set
+    → Came fixed task suites (Ok (record { answers = answers; changes = set }))
 unfolding answers_in set_in
 came_done fixed task suites answers set fit = of (exec_of fixed.service (known_of suites) task.t task.caller task.ops) refl
   where
-    of : (heard : Heard (List Answer) Refusal) → exec_of fixed.service (known_of suites) task.t task.caller task.ops ≡ heard → changes.answered (known_of suites) heard ≡ exec.Done answers set → Came fixed task suites (Ok (record { answers = answers; changes = set }))
+    of : (heard : Heard (List Answer) Refusal) → exec_of fixed.service (known_of suites) task.t task.caller task.ops ≡ heard
+        → changes.answered (known_of suites) heard ≡ exec.Done answers set → Came fixed task suites (Ok (record { answers = answers; changes = set }))
     of (Needs need) is told = cc
     of (Done (Ok ended)) is told = record {
       fit = fit;
@@ -188,13 +229,16 @@ left_widen_by fixed task cache suites left granted number (Current prefix dver m
 left_widen_by fixed task cache suites left granted number (Ask server asked) go_on fit came more = (fit, came)
 left_widen_by fixed task cache suites left granted number (Short got needed busy) go_on fit came more = left_give_up fixed task cache suites (short_cause number got needed busy)
 
-left_widen_one : (fixed : Fixed) (task : Task) (cache : Cache) (suites : Suites) (left : List ℕ) (granted : Granted) (number : ℕ) (found : Option GatheredSuite) → suite_of suites number ≡ found → (go_on : Suites → Step) → AreFit suites → Came fixed task suites (Ok granted)
+left_widen_one : (fixed : Fixed) (task : Task) (cache : Cache) (suites : Suites) (left : List ℕ) (granted : Granted) (number : ℕ) (found : Option GatheredSuite)
+    → suite_of suites number ≡ found → (go_on : Suites → Step) → AreFit suites → Came fixed task suites (Ok granted)
     → ((suites : Suites) → AreFit suites → Came fixed task suites (Ok granted) → Left fixed (go_on suites).after) → Left fixed (widen_one task cache suites (Widening left granted) granted.changes number found go_on).after
 left_widen_one fixed task cache suites left granted number (Some suite) there go_on fit came more =
     let wider = widened granted.changes number suite in
     left_widen_by fixed task cache (with_suite number wider suites) left granted number (next wider.collector) go_on
     (with_fit suites number wider fit (fit.modes number suite there))
-    (came_more fixed task suites (with_suite number wider suites) (Ok granted) (more_after suites number suite wider fit.ordered there (λ first was. record { first = was; content = refl; mode = serves_itself suite.mode })) (with_fit suites number wider fit (fit.modes number suite there)) came)
+    (came_more fixed task suites (with_suite number wider suites) (Ok granted)
+    (more_after suites number suite wider fit.ordered there (λ first was. record { first = was; content = refl; mode = serves_itself suite.mode }))
+    (with_fit suites number wider fit (fit.modes number suite there)) came)
     more
 left_widen_one fixed task cache suites left granted number None there go_on fit came more = more suites fit came
 
@@ -236,7 +280,8 @@ abbrev FitIf : Option Gathered → Type 0
 FitIf (Some all) = AreFit all.suites
 FitIf None = Unit {0}
 
-fit_opened_with : (task : Task) (all : Gathered) (number : ℕ) (suite : GatheredSuite) (first : ReadPoint) (content : Option Content) → suite_of all.suites number ≡ Some suite → AreFit all.suites → FitIf (opened_with task all number suite first content)
+fit_opened_with : (task : Task) (all : Gathered) (number : ℕ) (suite : GatheredSuite) (first : ReadPoint) (content : Option Content) → suite_of all.suites number ≡ Some suite
+    → AreFit all.suites → FitIf (opened_with task all number suite first content)
 fit_opened_with task all number suite first (Some content) there fit = with_fit all.suites number (record suite { content = Some content }) fit (fit.modes number suite there)
 fit_opened_with task all number suite first None there fit = tt
 
@@ -279,7 +324,8 @@ tell_mode told None c = refl
 tell_mode told (Some wider) c = refl
 
 left_collected : (fixed : Fixed) (task : Task) (cache : Cache) (suites : Suites) (phase : Phase) (number : ℕ) (suite : GatheredSuite) (next : Next) (go_on : GatheredSuite → Step)
-    → Keeps fixed task (with_suite number suite suites) phase → ((prefix : Prefix) (dver : ℕ) (members : List ℕ) → Left fixed (go_on (settled prefix dver members suite)).after) → Left fixed (collected task cache suites phase number suite next go_on).after
+    → Keeps fixed task (with_suite number suite suites) phase → ((prefix : Prefix) (dver : ℕ) (members : List ℕ) → Left fixed (go_on (settled prefix dver members suite)).after)
+    → Left fixed (collected task cache suites phase number suite next go_on).after
 left_collected fixed task cache suites phase number suite (Ask server asked) go_on keeps more = keeps
 left_collected fixed task cache suites phase number suite (Short got needed busy) go_on keeps more = left_give_up fixed task cache (with_suite number suite suites) (short_cause number got needed busy)
 left_collected fixed task cache suites phase number suite (Current prefix dver members) go_on keeps more = more prefix dver members
@@ -304,43 +350,52 @@ left_gathering : (fixed : Fixed) (task : Task) (cache : Cache) (suites : Suites)
 left_gathering fixed task cache suites number (Some suite) server asked said there fit =
     left_hear fixed task cache suites (Gathering number) number suite server asked (said_to asked said) _
     (λ told. with_fit suites number (told_of told suite) fit (told_mode suites number suite told fit there))
-    (λ told prefix dver members. left_execute fixed task (record { suites = with_suite number (settled prefix dver members (told_of told suite)) suites; cache = cache }) (with_fit suites number (settled prefix dver members (told_of told suite)) fit (serves_itself (tell told suite.collector).mode)))
+    (λ told prefix dver members. left_execute fixed task (record { suites = with_suite number (settled prefix dver members (told_of told suite)) suites; cache = cache })
+    (with_fit suites number (settled prefix dver members (told_of told suite)) fit (serves_itself (tell told suite.collector).mode)))
 left_gathering fixed task cache suites number None server asked said there fit = left_give_up fixed task cache suites (Lost server)
 
-left_widening : (fixed : Fixed) (task : Task) (cache : Cache) (suites : Suites) (number : ℕ) (left : List ℕ) (granted : Granted) (found : Option GatheredSuite) (server : ℕ) (asked : Request) (said : Reply) → suite_of suites number ≡ found → AreFit suites → Came fixed task suites (Ok granted)
+left_widening : (fixed : Fixed) (task : Task) (cache : Cache) (suites : Suites) (number : ℕ) (left : List ℕ) (granted : Granted) (found : Option GatheredSuite) (server : ℕ)
+    (asked : Request) (said : Reply) → suite_of suites number ≡ found → AreFit suites → Came fixed task suites (Ok granted)
     → Left fixed (heard_of task cache suites (Widening (number ∷ left) granted) number found server asked said (λ suites. widen_all task cache suites granted left)).after
 left_widening fixed task cache suites number left granted (Some suite) server asked said there fit came =
     left_hear fixed task cache suites (Widening (number ∷ left) granted) number suite server asked (said_to asked said) _
     (λ told. (
       with_fit suites number (told_of told suite) fit (told_mode suites number suite told fit there),
-      came_more fixed task suites (with_suite number (told_of told suite) suites) (Ok granted) (more_after suites number suite (told_of told suite) fit.ordered there (λ first was. record { first = was; content = refl; mode = serves_itself suite.mode }))
+      came_more fixed task suites (with_suite number (told_of told suite) suites) (Ok granted)
+          (more_after suites number suite (told_of told suite) fit.ordered there (λ first was. record { first = was; content = refl; mode = serves_itself suite.mode }))
           (with_fit suites number (told_of told suite) fit (told_mode suites number suite told fit there)) came,
     ))
     (λ told prefix dver members.
     let now = settled prefix dver members (told_of told suite) in
     left_widen fixed task cache granted left (with_suite number now suites) (with_fit suites number now fit (serves_itself (tell told suite.collector).mode))
-    (came_more fixed task suites (with_suite number now suites) (Ok granted) (more_after suites number suite now fit.ordered there (λ first was. record { first = first_stays suite.first first _ was; content = refl; mode = told_mode suites number suite told fit there }))
+    (came_more fixed task suites (with_suite number now suites) (Ok granted)
+    (more_after suites number suite now fit.ordered there
+    (λ first was. record { first = first_stays suite.first first _ was; content = refl; mode = told_mode suites number suite told fit there }))
     (with_fit suites number now fit (serves_itself (tell told suite.collector).mode)) came))
 left_widening fixed task cache suites number left granted None server asked said there fit came = left_give_up fixed task cache suites (Lost server)
 
-left_keep : (fixed : Fixed) (task : Task) (cache : Cache) (suites : Suites) (number : ℕ) (suite : GatheredSuite) (content : Content) (first : Option ReadPoint) (server : ℕ) → suite_of suites number ≡ Some suite → AreFit suites → Left fixed (keep_content fixed task cache suites number suite content first server).after
+left_keep : (fixed : Fixed) (task : Task) (cache : Cache) (suites : Suites) (number : ℕ) (suite : GatheredSuite) (content : Content) (first : Option ReadPoint) (server : ℕ)
+    → suite_of suites number ≡ Some suite → AreFit suites → Left fixed (keep_content fixed task cache suites number suite content first server).after
 left_keep fixed task cache suites number suite content (Some first) server there fit = left_execute fixed task _ (with_fit suites number (record suite { content = Some content }) fit (fit.modes number suite there))
 left_keep fixed task cache suites number suite content None server there fit = left_give_up fixed task cache suites (Lost server)
 
-left_fetched : (fixed : Fixed) (task : Task) (cache : Cache) (suites : Suites) (number : ℕ) (found : Option GatheredSuite) (server : ℕ) (given : Option Content) → suite_of suites number ≡ found → AreFit suites → Left fixed (fetched fixed task cache suites number found server given).after
+left_fetched : (fixed : Fixed) (task : Task) (cache : Cache) (suites : Suites) (number : ℕ) (found : Option GatheredSuite) (server : ℕ) (given : Option Content)
+    → suite_of suites number ≡ found → AreFit suites → Left fixed (fetched fixed task cache suites number found server given).after
 left_fetched fixed task cache suites number (Some suite) server (Some content) there fit = left_keep fixed task cache suites number suite content suite.first server there fit
 left_fetched fixed task cache suites number (Some suite) server None there fit = left_give_up fixed task cache suites (Lost server)
 left_fetched fixed task cache suites number None server (Some content) there fit = left_give_up fixed task cache suites (Lost server)
 left_fetched fixed task cache suites number None server None there fit = left_give_up fixed task cache suites (Lost server)
 
-left_prepared : (fixed : Fixed) (task : Task) (cache : Cache) (suites : Suites) (outcome : Proposal) (server : ℕ) (left : List ℕ) (said : Reply) → Came fixed task suites outcome → Left fixed (prepared task cache suites outcome server left said).after
+left_prepared : (fixed : Fixed) (task : Task) (cache : Cache) (suites : Suites) (outcome : Proposal) (server : ℕ) (left : List ℕ) (said : Reply) → Came fixed task suites outcome
+    → Left fixed (prepared task cache suites outcome server left said).after
 left_prepared fixed task cache suites outcome server left said came =
     elim (is_prepared said) as (λ b. Left fixed (cond b (prepare task cache suites outcome left) (give_up task cache suites (Lost server))).after) [
       | true ↦ left_prepare fixed task cache suites outcome left came
       | false ↦ left_give_up fixed task cache suites (Lost server)
     ]
 
-pub left_response : (fixed : Fixed) (task : Task) (cache : Cache) (suites : Suites) (phase : Phase) (server : ℕ) (asked : Request) (response : Response) → Keeps fixed task suites phase → Left fixed (after_response fixed (record { task = task; suites = suites; phase = phase }) cache server asked response).after
+pub left_response : (fixed : Fixed) (task : Task) (cache : Cache) (suites : Suites) (phase : Phase) (server : ℕ) (asked : Request) (response : Response)
+    → Keeps fixed task suites phase → Left fixed (after_response fixed (record { task = task; suites = suites; phase = phase }) cache server asked response).after
 left_response fixed task cache suites (Gathering number) server asked (Lacked lacked) keeps = left_give_up fixed task cache suites (lack_cause server lacked)
 left_response fixed task cache suites (Fetching number) server asked (Lacked lacked) keeps = left_give_up fixed task cache suites (lack_cause server lacked)
 left_response fixed task cache suites (Widening left granted) server asked (Lacked lacked) keeps = left_give_up fixed task cache suites (lack_cause server lacked)
@@ -354,6 +409,7 @@ left_response fixed task cache suites (Widening [] granted) server asked (Replie
 left_response fixed task cache suites (Widening (number ∷ left) granted) server asked (Replied said) keeps = left_widening fixed task cache suites number left granted (suite_of suites number) server asked said refl keeps.0 keeps.1
 left_response fixed task cache suites (Preparing [] outcome) server asked (Replied said) keeps = left_give_up fixed task cache suites (Lost server)
 left_response fixed task cache suites (Preparing (now ∷ left) outcome) server asked (Replied said) keeps = left_prepared fixed task cache suites outcome server left said keeps
-left_response fixed task cache suites (Deciding outcome) server asked (Replied said) keeps = left_end fixed task cache suites (verdict_in said verdict.Aborted) (ending_by (verdict_in said verdict.Aborted) (cause_of_abort said)) (locked_at suites)
+left_response fixed task cache suites (Deciding outcome) server asked (Replied said) keeps = left_end fixed task cache suites (verdict_in said verdict.Aborted)
+    (ending_by (verdict_in said verdict.Aborted) (cause_of_abort said)) (locked_at suites)
 left_response fixed task cache suites (Finishing [] v ending) server asked (Replied said) keeps = tt
 left_response fixed task cache suites (Finishing (now ∷ left) v ending) server asked (Replied said) keeps = left_end fixed task cache suites v ending left

@@ -130,7 +130,8 @@ module _ (given : Opening) (accepted : IsAccepted given) (events : List Event) w
     runs : (txn_run : TransactionRun) → actor.agent.doing ≡ Some (Running txn_run) → IsAt ds number actor.agent.count (Some (Running txn_run))
     runs txn_run running = subst (IsAt ds number actor.agent.count) running ((holds_of given accepted events).agents.at number actor.agent at)
 
-    in_course : (txn_run : TransactionRun) (server t : ℕ) (v : Verdict) → actor.agent.doing ≡ Some (Running txn_run) → request_in (fixed_of given) txn_run.task txn_run.suites txn_run.phase ≡ Some (server, request.Finish t v) → EndedSo given events t v
+    in_course : (txn_run : TransactionRun) (server t : ℕ) (v : Verdict) → actor.agent.doing ≡ Some (Running txn_run)
+        → request_in (fixed_of given) txn_run.task txn_run.suites txn_run.phase ≡ Some (server, request.Finish t v) → EndedSo given events t v
     in_course txn_run server t v running is =
         let ends = finishes (fixed_of given) txn_run.task txn_run.suites txn_run.phase server t v is in
         let runs = runs txn_run running in
@@ -258,7 +259,8 @@ one_named a b request.Crash x y = absurd (false≢true x)
 one_named a b request.Return x y = absurd (false≢true x)
 
 -- until it tells its end the home has said nothing
-said_nothing : (fixed : Fixed) (task : Task) (suites : Suites) (phase : Phase) (server : ℕ) (asked : Request) (said : Verdict) → request_in fixed task suites phase ≡ Some (server, asked) → may_sweep asked ≡ false → Tells said phase → said ≡ verdict.Aborted
+said_nothing : (fixed : Fixed) (task : Task) (suites : Suites) (phase : Phase) (server : ℕ) (asked : Request) (said : Verdict)
+    → request_in fixed task suites phase ≡ Some (server, asked) → may_sweep asked ≡ false → Tells said phase → said ≡ verdict.Aborted
 said_nothing fixed task suites (Gathering number) server asked said is own tells = tells
 said_nothing fixed task suites (Fetching number) server asked said is own tells = tells
 said_nothing fixed task suites (Widening numbers granted) server asked said is own tells = tells
@@ -272,7 +274,8 @@ not_both : (b : Bool) → not b ≡ true → b ≡ false
 not_both true is = absurd (false≢true is)
 not_both false is = refl
 
-module _ (given : Opening) (accepted : IsAccepted given) (events : List Event) (number : ℕ) (actor : Actor) (there : actor_at (run given events) number ≡ Some actor) (t server : ℕ) (asked : Request) (own : asks_for_itself t asked ≡ true) where
+module _ (given : Opening) (accepted : IsAccepted given) (events : List Event) (number : ℕ) (actor : Actor) (there : actor_at (run given events) number ≡ Some actor)
+    (t server : ℕ) (asked : Request) (own : asks_for_itself t asked ≡ true) where
   undecided_in : (doing : Option Doing) → actor.agent.doing ≡ doing → next_in (fixed_of given) doing ≡ Some (server, asked) → NotIn (decisions given events) t
   undecided_in (Some (Running txn_run)) running is =
       let parts = and_parts (names t asked) (not (may_sweep asked)) own in
@@ -282,10 +285,14 @@ module _ (given : Opening) (accepted : IsAccepted given) (events : List Event) (
       subst (NotIn (decisions given events)) same (subst (Stands (decisions given events) txn_run.task.t) nothing runs.stands)
   undecided_in (Some (RunningSweep sweep_run)) running is =
       let parts = and_parts (names t asked) (not (may_sweep asked)) own in
-      absurd (false≢true (sym (not_both (may_sweep asked) parts.1) ∙ ap may_sweep (sym (ap (λ (asked : ℕ × Request). asked.1) (same_Some (asked_now (fixed_of given).service sweep_run sweep_run.now) (server, asked) is))) ∙ asks_to_sweep (fixed_of given).service sweep_run sweep_run.now))
+      absurd
+      (false≢true (sym (not_both (may_sweep asked) parts.1) ∙ ap may_sweep
+      (sym (ap (λ (asked : ℕ × Request). asked.1) (same_Some (asked_now (fixed_of given).service sweep_run sweep_run.now) (server, asked) is))) ∙ asks_to_sweep
+      (fixed_of given).service sweep_run sweep_run.now))
   undecided_in None running is = absurd (none-some (server, asked) is)
 
-undecided_yet : (given : Opening) → IsAccepted given → (events : List Event) (event : Event) (what : Served) (t : ℕ) → (step (fixed_of given) (run given events) event).done.served ≡ Some what → asks_for_itself t what.request.value ≡ true → NotIn (decisions given events) t
+undecided_yet : (given : Opening) → IsAccepted given → (events : List Event) (event : Event) (what : Served) (t : ℕ)
+    → (step (fixed_of given) (run given events) event).done.served ≡ Some what → asks_for_itself t what.request.value ≡ true → NotIn (decisions given events) t
 undecided_yet given accepted events event what t is own =
     let asked = serves (fixed_of given) (run given events) what (asks_for_itself t) refl refl own event is in
     undecided_in given accepted events asked.number asked.actor asked.there t what.server what.request.value own asked.actor.agent.doing refl asked.next

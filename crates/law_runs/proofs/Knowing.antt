@@ -14,7 +14,8 @@ use Rattle.txn_core.proofs.Growing.{GoesOnFrom, more_known}
 use Rattle.law_runs.proofs.Places.{same_or}
 
 -- more is known once a suite stands in the place of one that it goes on from
-pub more_after : (suites : Suites) (number : ℕ) (before after : GatheredSuite) → IsOrdered nat_cmp suites → suite_of suites number ≡ Some before → GoesOnFrom before after → MoreKnown (known_of suites) (known_of (with_suite number after suites))
+pub more_after : (suites : Suites) (number : ℕ) (before after : GatheredSuite) → IsOrdered nat_cmp suites → suite_of suites number ≡ Some before → GoesOnFrom before after
+    → MoreKnown (known_of suites) (known_of (with_suite number after suites))
 more_after suites number before after ordered there goes =
     more_known suites number after ordered (λ one found. subst (λ (one : GatheredSuite). GoesOnFrom one after) (same_Some before one (sym there ∙ found)) goes)
 

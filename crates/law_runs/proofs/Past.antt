@@ -55,7 +55,8 @@ module _ (h g : ℕ → Option Agent) (i : ℕ) (old new : Agent) (ds more : Lis
   over_put past all outcome has = over_old outcome (all outcome has)
 
 -- a job that ends now
-pub over_last : (h : ℕ → Option Agent) (ds : List Decided) (i : ℕ) (agent : Agent) (outcome : EndedJob) → h i ≡ Some agent → outcome.agent ≡ i → agent.doing ≡ None → outcome.count + 1 ≡ agent.count → EndsAt ds i agent.count outcome.ending → IsOver h ds outcome
+pub over_last : (h : ℕ → Option Agent) (ds : List Decided) (i : ℕ) (agent : Agent) (outcome : EndedJob) → h i ≡ Some agent → outcome.agent ≡ i → agent.doing ≡ None
+    → outcome.count + 1 ≡ agent.count → EndsAt ds i agent.count outcome.ending → IsOver h ds outcome
 over_last h ds i agent outcome at index idle last ends =
     let place : ends.place ≡ outcome.count = (let before = ends.last in omega (arith, before, last)) in
     record {

@@ -157,7 +157,8 @@ module _ (fixed : Fixed) (world : World) (all : AllTell fixed world) where
   goes_becomes i change keeps None is = goes_same
   goes_becomes i change keeps (Some actor) is = goes_put world.servers i actor (record actor { agent = change actor.agent }) is (λ t v is. is) (keeps actor.agent (all i actor.agent (ap agent_of is)))
 
-  goes_took : (servers : List State) (i : ℕ) (actor : Actor) (stamp : ℕ) (asked : ℕ × Request) (response : Response) → actor_at world i ≡ Some actor → next_of fixed actor.agent ≡ Some asked → RulesStay fixed (server_at world) (slice_get servers)
+  goes_took : (servers : List State) (i : ℕ) (actor : Actor) (stamp : ℕ) (asked : ℕ × Request) (response : Response) → actor_at world i ≡ Some actor
+      → next_of fixed actor.agent ≡ Some asked → RulesStay fixed (server_at world) (slice_get servers)
       → Answers fixed (slice_get servers) asked response → Goes fixed world (with_actor i (moved actor stamp (take fixed actor.agent response)) (record world { servers = servers }))
   goes_took servers i actor stamp asked response is next stay answers =
       goes_put servers i actor (moved actor stamp (take fixed actor.agent response)) is stay

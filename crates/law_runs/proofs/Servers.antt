@@ -66,7 +66,8 @@ pub record Deciding (fixed : Fixed) (s : ℕ) (st new : State) (more : List Deci
   pub apart : (t : ℕ) → t ≢ decision.t → record_of new t ≡ record_of st t
   pub audit : new.audit ≡ st.audit ++ denials_of decision
 
-module _ (fixed : Fixed) (f g : ℕ → Option State) (s : ℕ) (st new : State) (ds : List Decided) (puts : Puts f g s st new) (stays : (t : ℕ) (v : Verdict) → record_of st t ≡ Some v → record_of new t ≡ Some v) (holds : AreKept fixed f ds) where
+module _ (fixed : Fixed) (f g : ℕ → Option State) (s : ℕ) (st new : State) (ds : List Decided) (puts : Puts f g s st new)
+    (stays : (t : ℕ) (v : Verdict) → record_of st t ≡ Some v → record_of new t ≡ Some v) (holds : AreKept fixed f ds) where
   -- what was kept
   kept_old : (d : Decided) → Has ds d → Kept fixed g d
   kept_old d has =

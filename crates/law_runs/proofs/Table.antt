@@ -70,7 +70,9 @@ answers_from given knows (event ∷ later) events =
     rest : List Decided
     rest = decisions_from (fixed_of given) (step (fixed_of given) (run given events) event).world later
 
-    of : (one : Option Decided) → decided (fixed_of given) (run given events) event ≡ one → AnswersAreTheTables (table_after_all (table_of given events) (option_to_list (decided (fixed_of given) (run given events) event))) rest → AnswersAreTheTables (table_of given events) (cons_option one rest)
+    of : (one : Option Decided) → decided (fixed_of given) (run given events) event ≡ one → AnswersAreTheTables
+        (table_after_all (table_of given events) (option_to_list (decided (fixed_of given) (run given events) event))) rest
+        → AnswersAreTheTables (table_of given events) (cons_option one rest)
     of None is answers = subst (λ one. AnswersAreTheTables (table_after_all (table_of given events) (option_to_list one)) rest) is answers
     of (Some one) is answers = (answered_so given events event one knows is, subst (λ one. AnswersAreTheTables (table_after_all (table_of given events) (option_to_list one)) rest) is answers)
 

@@ -113,7 +113,8 @@ module _ (fixed : Fixed) (agent : Agent) (i : ℕ) (task : Task) (ds : List Deci
   of_last d same e has = elim has [ inl last ↦ subst (IsOf agent i) last (is d same) | inr rest ↦ absurd rest ]
 
   -- the home has a record already, or is down: nothing is decided
-  nothing_new : (outcome : Proposal) (said : Reply) → ((v : Verdict) → v ≡ verdict.Aborted → Stands ds task.t v → Stands ds task.t (said_by (Replied said) v)) → Turn fixed agent i task (Deciding outcome) ds s st (stamped stamp st) (asked_by outcome) said None
+  nothing_new : (outcome : Proposal) (said : Reply) → ((v : Verdict) → v ≡ verdict.Aborted → Stands ds task.t v → Stands ds task.t (said_by (Replied said) v))
+      → Turn fixed agent i task (Deciding outcome) ds s st (stamped stamp st) (asked_by outcome) said None
   nothing_new outcome said says = record {
     served = inl (record { none = refl; old = λ t v has. inl has; audit = refl });
     of = none_of agent i;
@@ -122,7 +123,9 @@ module _ (fixed : Fixed) (agent : Agent) (i : ℕ) (task : Task) (ds : List Deci
 
   -- it has none: what is carried is recorded
   first : (outcome : Proposal) → record_of st task.t ≡ None
-      → Turn fixed agent i task (Deciding outcome) ds s st (stamped stamp (recording task.t (verdict_of (decision_of task outcome)) (audit_of task.t (decision_of task outcome)) st)) (asked_by outcome) (reply.Verdict (verdict_of (decision_of task outcome))) (decided_as (Some task) (answer_of (verdict_of (decision_of task outcome))))
+      → Turn fixed agent i task (Deciding outcome) ds s st
+      (stamped stamp (recording task.t (verdict_of (decision_of task outcome)) (audit_of task.t (decision_of task outcome)) st)) (asked_by outcome)
+      (reply.Verdict (verdict_of (decision_of task outcome))) (decided_as (Some task) (answer_of (verdict_of (decision_of task outcome))))
   first (Ok granted) free =
       let d : Decided = record { t = task.t; caller = task.caller; ops = task.ops; answer = Ok granted.answers } in
       record {
@@ -155,14 +158,18 @@ module _ (fixed : Fixed) (agent : Agent) (i : ℕ) (task : Task) (ds : List Deci
       }
 
   by_record : (outcome : Proposal) (old : Option Verdict) → record_of st task.t ≡ old
-      → Turn fixed agent i task (Deciding outcome) ds s st (stamped stamp (after_record old task.t (verdict_of (decision_of task outcome)) (audit_of task.t (decision_of task outcome)) st)) (asked_by outcome) (reply.Verdict (recorded old (verdict_of (decision_of task outcome))))
+      → Turn fixed agent i task (Deciding outcome) ds s st
+      (stamped stamp (after_record old task.t (verdict_of (decision_of task outcome)) (audit_of task.t (decision_of task outcome)) st)) (asked_by outcome)
+      (reply.Verdict (recorded old (verdict_of (decision_of task outcome))))
       (decides_at st task (asked_by outcome) (reply.Verdict (recorded old (verdict_of (decision_of task outcome)))))
   by_record outcome (Some old) has =
       subst (Turn fixed agent i task (Deciding outcome) ds s st (stamped stamp st) (asked_by outcome) (reply.Verdict old))
       (ap (λ r. cond (is_some r) None (decided_as (Some task) (answer_of old))) (sym has))
       (nothing_new outcome (reply.Verdict old) (λ v aborted stands. stands_if ds task.t old (recorded_so old has) (subst (Stands ds task.t) aborted stands)))
   by_record outcome None free =
-      subst (Turn fixed agent i task (Deciding outcome) ds s st (stamped stamp (recording task.t (verdict_of (decision_of task outcome)) (audit_of task.t (decision_of task outcome)) st)) (asked_by outcome) (reply.Verdict (verdict_of (decision_of task outcome))))
+      subst (Turn fixed agent i task (Deciding outcome) ds s st
+      (stamped stamp (recording task.t (verdict_of (decision_of task outcome)) (audit_of task.t (decision_of task outcome)) st)) (asked_by outcome)
+      (reply.Verdict (verdict_of (decision_of task outcome))))
       (ap (λ r. cond (is_some r) None (decided_as (Some task) (answer_of (verdict_of (decision_of task outcome))))) (sym free))
       (first outcome free)
 
@@ -176,7 +183,8 @@ module _ (fixed : Fixed) (agent : Agent) (i : ℕ) (task : Task) (ds : List Deci
       same true = refl
       same false = refl
 
-  pub decide_turn : (outcome : Proposal) → Turn fixed agent i task (Deciding outcome) ds s st (stamped stamp (after st (asked_by outcome))) (asked_by outcome) (reply_of st (asked_by outcome)) (decides_at st task (asked_by outcome) (reply_of st (asked_by outcome)))
+  pub decide_turn : (outcome : Proposal) → Turn fixed agent i task (Deciding outcome) ds s st (stamped stamp (after st (asked_by outcome))) (asked_by outcome)
+      (reply_of st (asked_by outcome)) (decides_at st task (asked_by outcome) (reply_of st (asked_by outcome)))
   decide_turn outcome =
       elim (st.up) as (λ b. Turn fixed agent i task (Deciding outcome) ds s st
       (stamped stamp (cond b (after_record (record_of st task.t) task.t (verdict_of (decision_of task outcome)) (audit_of task.t (decision_of task outcome)) st) st)) (asked_by outcome)

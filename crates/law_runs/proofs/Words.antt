@@ -74,7 +74,8 @@ leaves_prepared task cache suites outcome server left said =
     ]
 
 -- a response on anything but a Decide says nothing of how it ends
-calm : (task : Task) (asked : Request) (response : Response) (v : Verdict) (after : After TransactionRun) → is_decide asked ≡ false → v ≡ verdict.Aborted → Leaves task verdict.Aborted after → Leaves task (cond (is_decide asked) (said_by response v) v) after
+calm : (task : Task) (asked : Request) (response : Response) (v : Verdict) (after : After TransactionRun) → is_decide asked ≡ false → v ≡ verdict.Aborted
+    → Leaves task verdict.Aborted after → Leaves task (cond (is_decide asked) (said_by response v) v) after
 calm task asked response v after other aborted leaves =
     subst (λ b. Leaves task (cond b (said_by response v) v) after) (sym other) (subst (λ v. Leaves task v after) (sym aborted) leaves)
 
@@ -87,7 +88,8 @@ leaves_response fixed task cache suites (Fetching number) server asked response 
     calm task asked response v _ (fetched_as is_decide false task number (suite_of suites number) server asked refl is) tells (leaves_response_early fixed task cache suites (Fetching number) server asked response tt)
 leaves_response fixed task cache suites (Widening [] granted) server asked response v is tells = cc
 leaves_response fixed task cache suites (Widening (number ∷ left) granted) server asked response v is tells =
-    calm task asked response v _ (asked_as is_decide false task number (suite_of suites number) server asked (λ mode. refl) refl is) tells (leaves_response_early fixed task cache suites (Widening (number ∷ left) granted) server asked response tt)
+    calm task asked response v _ (asked_as is_decide false task number (suite_of suites number) server asked (λ mode. refl) refl is) tells
+    (leaves_response_early fixed task cache suites (Widening (number ∷ left) granted) server asked response tt)
 leaves_response fixed task cache suites (Preparing [] outcome) server asked response v is tells = cc
 leaves_response fixed task cache suites (Preparing (now ∷ left) outcome) server asked response v is tells =
     let same = asks_same now server (request.Prepare task.t (parts_at suites (changes_of outcome) now)) asked is in
@@ -99,16 +101,19 @@ leaves_response fixed task cache suites (Preparing (now ∷ left) outcome) serve
 leaves_response fixed task cache suites (Deciding outcome) server asked response v is tells =
     let same = asks_same (home_of fixed.service task.t) server (request.Decide task.t (decision_of task outcome)) asked is in
     subst (λ asked. Leaves task (cond (is_decide asked) (said_by response v) v) (after_response fixed (record { task = task; suites = suites; phase = Deciding outcome }) cache server asked response).after) same
-    (subst (λ v. Leaves task (said_by response v) (after_response fixed (record { task = task; suites = suites; phase = Deciding outcome }) cache server (request.Decide task.t (decision_of task outcome)) response).after) (sym tells) (of response))
+    (subst (λ v. Leaves task (said_by response v) (after_response fixed (record { task = task; suites = suites; phase = Deciding outcome }) cache server
+    (request.Decide task.t (decision_of task outcome)) response).after) (sym tells) (of response))
   where
-    of : (response : Response) → Leaves task (said_by response verdict.Aborted) (after_response fixed (record { task = task; suites = suites; phase = Deciding outcome }) cache server (request.Decide task.t (decision_of task outcome)) response).after
+    of : (response : Response) → Leaves task (said_by response verdict.Aborted)
+        (after_response fixed (record { task = task; suites = suites; phase = Deciding outcome }) cache server (request.Decide task.t (decision_of task outcome)) response).after
     of (Replied said) =
         leaves_end task cache suites (verdict_in said verdict.Aborted) (ending_by (verdict_in said verdict.Aborted) (cause_of_abort said)) (locked_at suites) (cause_of_abort said, refl)
     of (Lacked lacked) = leaves_give_up task cache suites (lack_cause server lacked)
 leaves_response fixed task cache suites (Finishing [] told ending) server asked response v is tells = cc
 leaves_response fixed task cache suites (Finishing (now ∷ left) told ending) server asked response v is tells =
     let same = asks_same now server (request.Finish task.t told) asked is in
-    subst (λ asked. Leaves task (cond (is_decide asked) (said_by response v) v) (after_response fixed (record { task = task; suites = suites; phase = Finishing (now ∷ left) told ending }) cache server asked response).after) same (of response)
+    subst (λ asked. Leaves task (cond (is_decide asked) (said_by response v) v)
+    (after_response fixed (record { task = task; suites = suites; phase = Finishing (now ∷ left) told ending }) cache server asked response).after) same (of response)
   where
     of : (response : Response) → Leaves task v (after_response fixed (record { task = task; suites = suites; phase = Finishing (now ∷ left) told ending }) cache server (request.Finish task.t told) response).after
     of (Replied said) = subst (λ w. Leaves task v (tell_end task cache suites w ending left).after) (sym tells.0) (leaves_end task cache suites v ending left tells.1)

@@ -149,14 +149,16 @@ forget_holds fixed world i site ds past holds (Some actor) is = same_put fixed w
 
 -- ---- the operator's requests
 
-operator_holds : (fixed : Fixed) (world : World) (server : ℕ) (asked : Request) (ds : List Decided) (past : List EndedJob) → Holds fixed world ds past → is_decide asked ≡ false → to_decide asked ≡ None → (found : Option State) → server_at world server ≡ found
+operator_holds : (fixed : Fixed) (world : World) (server : ℕ) (asked : Request) (ds : List Decided) (past : List EndedJob) → Holds fixed world ds past → is_decide asked ≡ false
+    → to_decide asked ≡ None → (found : Option State) → server_at world server ≡ found
     → HoldsAfter fixed world None ds past (operates world server asked found)
 operator_holds fixed world server asked ds past holds other none None is = with_none fixed world ds past holds
 operator_holds fixed world server asked ds past holds other none (Some st) is =
     elim (is_full st stamped) as (λ b. is_full st stamped ≡ b → HoldsAfter fixed world None ds past (operated world st (cond b None (Some what)))) [
       | true ↦ λ _. with_none fixed world ds past holds
       | false ↦ λ room. subst (λ d. Holds fixed (after_serving st what world) (ds ++ option_to_list d) (past ++ [])) (ap (λ t. decided_at (server_at world server) t (decided_as None (answer_in (reply_of st asked)))) (sym none)) (record {
-        servers = kept_quietly fixed (server_at world) (server_at (after_serving st what world)) server st (served st stamped) ds (puts_in world.servers server st (served st stamped) is) (stays_served st stamped room) holds.servers [] (quiet_served st stamped room other);
+        servers = kept_quietly fixed (server_at world) (server_at (after_serving st what world)) server st (served st stamped) ds
+            (puts_in world.servers server st (served st stamped) is) (stays_served st stamped room) holds.servers [] (quiet_served st stamped room other);
         agents = subst (AreAt (agent_at world)) (sym (append_none ds)) holds.agents;
         over = subst (AreOver (agent_at world) (ds ++ [])) (sym (append_none past)) (subst (λ ds. AreOver (agent_at world) ds past) (sym (append_none ds)) holds.over);
         once = subst AreApart (sym (append_none ds)) holds.once;
@@ -218,10 +220,12 @@ lacked_says fixed ds i why doing asked = record {
     same true v = refl
     same false v = refl
 
-lacked_holds : (fixed : Fixed) (world : World) (i : ℕ) (actor : Actor) (asked : ℕ × Request) (why : Why) (task : Option Task) (ds : List Decided) (past : List EndedJob) → Holds fixed world ds past → actor_at world i ≡ Some actor → next_of fixed actor.agent ≡ Some asked
+lacked_holds : (fixed : Fixed) (world : World) (i : ℕ) (actor : Actor) (asked : ℕ × Request) (why : Why) (task : Option Task) (ds : List Decided) (past : List EndedJob)
+    → Holds fixed world ds past → actor_at world i ≡ Some actor → next_of fixed actor.agent ≡ Some asked
     → HoldsAfter fixed world task ds past (lacked fixed world i actor (Lacked why))
 lacked_holds fixed world i actor asked why task ds past holds is next =
-    took_holds fixed world world.servers i actor asked (Lacked why) actor.stamp ds [] past holds is next (kept_none fixed (server_at world) ds holds.servers) (none_of actor.agent i) (lacked_says fixed ds i why actor.agent.doing asked) (subst AreApart (sym (append_none ds)) holds.once)
+    took_holds fixed world world.servers i actor asked (Lacked why) actor.stamp ds [] past holds is next (kept_none fixed (server_at world) ds holds.servers)
+    (none_of actor.agent i) (lacked_says fixed ds i why actor.agent.doing asked) (subst AreApart (sym (append_none ds)) holds.once)
 
 -- ---- a request of an agent is served
 
@@ -243,7 +247,8 @@ turn_of fixed agent i txn_run ds s st asked doing at next room recorded_so true 
     let does = decides fixed txn_run.task txn_run.suites txn_run.phase s asked.value next decide in
     let stamp = next_stamp st asked in
     subst (λ phase. Turn fixed agent i txn_run.task phase ds s st (served st asked) asked.value (reply_of st asked.value) (decides_at st txn_run.task asked.value (reply_of st asked.value))) (sym does.deciding)
-    (subst (λ (value : Request). Turn fixed agent i txn_run.task (Deciding' does.outcome) ds s st (record (after_request st value) { stamp = stamp }) value (reply_of st value) (decides_at st txn_run.task value (reply_of st value))) (sym does.decide)
+    (subst (λ (value : Request). Turn fixed agent i txn_run.task (Deciding' does.outcome) ds s st (record (after_request st value) { stamp = stamp }) value (reply_of st value)
+    (decides_at st txn_run.task value (reply_of st value))) (sym does.decide)
     (decide_turn fixed agent i txn_run.task ds s st stamp (sym does.at_home)
     (λ d same. record { place = at.place; numbered = same ∙ at.numbered; last = at.last; busy = λ idle. none-some (Running txn_run) (sym idle ∙ doing) })
     (recorded_so txn_run.task.t) does.outcome))
@@ -260,7 +265,8 @@ goes fixed agent i ds s st asked (Some (Running txn_run)) doing at next room rec
       says = record {
         txn_run = λ other v is tells stands.
             let same : txn_run ≡ other = same_course txn_run other (sym doing ∙ is) in
-            subst (λ (other : TransactionRun). Stands (ds ++ option_to_list (decides_at st txn_run.task asked.value (reply_of st asked.value))) other.task.t (cond (is_decide asked.value) (said_by (Replied (reply_of st asked.value)) v) v)) same
+            subst (λ (other : TransactionRun). Stands (ds ++ option_to_list (decides_at st txn_run.task asked.value (reply_of st asked.value))) other.task.t
+            (cond (is_decide asked.value) (said_by (Replied (reply_of st asked.value)) v) v)) same
             (turn.says v (subst (λ (other : TransactionRun). Tells v other.phase) (sym same) tells) (subst (λ (other : TransactionRun). Stands ds other.task.t v) (sym same) stands));
         sweep_run = λ sweep_run is. absurd (running_round txn_run sweep_run (sym doing ∙ is));
       };
@@ -303,22 +309,27 @@ apart_served fixed f s st new ds more at kept apart served =
     none-some _ (sym does.free ∙ ap (λ (st : State). record_of st does.decision.t) (same_Some st old.st (sym at ∙ ap f (sym home) ∙ old.at)) ∙ ap (record_of old.st) (sym same) ∙ old.is))))
     served
 
-kept_served : (fixed : Fixed) (f g : ℕ → Option State) (s : ℕ) (st new : State) (ds more : List Decided) → Puts f g s st new → ((t : ℕ) (v : Verdict) → record_of st t ≡ Some v → record_of new t ≡ Some v) → AreKept fixed f ds → Quiet st new more ⊎ Deciding fixed s st new more
+kept_served : (fixed : Fixed) (f g : ℕ → Option State) (s : ℕ) (st new : State) (ds more : List Decided) → Puts f g s st new
+    → ((t : ℕ) (v : Verdict) → record_of st t ≡ Some v → record_of new t ≡ Some v) → AreKept fixed f ds → Quiet st new more ⊎ Deciding fixed s st new more
     → AreKept fixed g (ds ++ more)
 kept_served fixed f g s st new ds more puts stays kept served =
     ⊎_elim (λ quiet. kept_quietly fixed f g s st new ds puts stays kept more quiet) (λ does. kept_deciding fixed f g s st new ds puts stays kept more does) served
 
-served_holds : (fixed : Fixed) (world : World) (i : ℕ) (actor : Actor) (asked : ℕ × Request) (st : State) (ds : List Decided) (past : List EndedJob) → Holds fixed world ds past → actor_at world i ≡ Some actor → next_of fixed actor.agent ≡ Some asked → server_at world asked.0 ≡ Some st
+served_holds : (fixed : Fixed) (world : World) (i : ℕ) (actor : Actor) (asked : ℕ × Request) (st : State) (ds : List Decided) (past : List EndedJob) → Holds fixed world ds past
+    → actor_at world i ≡ Some actor → next_of fixed actor.agent ≡ Some asked → server_at world asked.0 ≡ Some st
     → HoldsAfter fixed world (task_of actor.agent.doing) ds past (answered fixed world i actor st (serve asked.0 st (record { stamp = actor.stamp; value = asked.1 })))
 served_holds fixed world i actor asked st ds past holds is next at =
     elim (is_full st stamped) as (λ b. is_full st stamped ≡ b → HoldsAfter fixed world (task_of actor.agent.doing) ds past (answered fixed world i actor st (cond b None (Some what)))) [
       | true ↦ λ _. lacked_holds fixed world i actor asked lack.Full (task_of actor.agent.doing) ds past holds is next
       | false ↦ λ room.
           let come = goes fixed actor.agent i ds asked.0 st stamped actor.agent.doing refl (holds.agents.at i actor.agent (ap agent_of is)) next room (λ t v has. holds.servers.recorded asked.0 st t v at has) in
-          subst (λ d. Holds fixed (with_actor i (moved actor (answer_of st stamped).stamp (take fixed actor.agent (Replied (reply_of st asked.1)))) (after_serving st what world)) (ds ++ option_to_list d) (past ++ option_to_list (outcome_of i actor (take fixed actor.agent (Replied (reply_of st asked.1))).ending)))
+          subst (λ d. Holds fixed (with_actor i (moved actor (answer_of st stamped).stamp (take fixed actor.agent (Replied (reply_of st asked.1)))) (after_serving st what world))
+          (ds ++ option_to_list d) (past ++ option_to_list (outcome_of i actor (take fixed actor.agent (Replied (reply_of st asked.1))).ending)))
           (ap (λ found. decided_at found (to_decide asked.1) (decided_as (task_of actor.agent.doing) (answer_in (reply_of st asked.1)))) (sym at))
-          (took_holds fixed world (slice_set world.servers asked.0 (served st stamped)) i actor asked (Replied (reply_of st asked.1)) (answer_of st stamped).stamp ds (option_to_list (decides_by st (task_of actor.agent.doing) asked.1 (reply_of st asked.1))) past holds is next
-          (kept_served fixed (server_at world) (slice_get (slice_set world.servers asked.0 (served st stamped))) asked.0 st (served st stamped) ds _ (puts_in world.servers asked.0 st (served st stamped) at) (stays_served st stamped room) holds.servers come.served)
+          (took_holds fixed world (slice_set world.servers asked.0 (served st stamped)) i actor asked (Replied (reply_of st asked.1)) (answer_of st stamped).stamp ds
+          (option_to_list (decides_by st (task_of actor.agent.doing) asked.1 (reply_of st asked.1))) past holds is next
+          (kept_served fixed (server_at world) (slice_get (slice_set world.servers asked.0 (served st stamped))) asked.0 st (served st stamped) ds _
+          (puts_in world.servers asked.0 st (served st stamped) at) (stays_served st stamped room) holds.servers come.served)
           come.of come.says
           (apart_served fixed (server_at world) asked.0 st (served st stamped) ds _ at holds.servers holds.once come.served))
     ] refl
@@ -329,7 +340,8 @@ served_holds fixed world i actor asked st ds past holds is next at =
     what : Served
     what = record { server = asked.0; request = stamped; reply = answer_of st stamped }
 
-step_holds : (fixed : Fixed) (world : World) (i : ℕ) (ds : List Decided) (past : List EndedJob) → Holds fixed world ds past → (found : Option Actor) → actor_at world i ≡ found → HoldsAfter fixed world (task_at found) ds past (steps_once fixed world i found)
+step_holds : (fixed : Fixed) (world : World) (i : ℕ) (ds : List Decided) (past : List EndedJob) → Holds fixed world ds past → (found : Option Actor) → actor_at world i ≡ found
+    → HoldsAfter fixed world (task_at found) ds past (steps_once fixed world i found)
 step_holds fixed world i ds past holds None is = with_none fixed world ds past holds
 step_holds fixed world i ds past holds (Some actor) is = of (next_of fixed actor.agent) refl
   where
@@ -341,7 +353,8 @@ step_holds fixed world i ds past holds (Some actor) is = of (next_of fixed actor
     of None next = with_none fixed world ds past holds
     of (Some asked) next = at asked next (server_at world asked.0) refl
 
-lack_holds : (fixed : Fixed) (world : World) (i : ℕ) (why : Why) (ds : List Decided) (past : List EndedJob) → Holds fixed world ds past → (found : Option Actor) → actor_at world i ≡ found → HoldsAfter fixed world None ds past (lacks fixed world i (Lacked why) found)
+lack_holds : (fixed : Fixed) (world : World) (i : ℕ) (why : Why) (ds : List Decided) (past : List EndedJob) → Holds fixed world ds past → (found : Option Actor)
+    → actor_at world i ≡ found → HoldsAfter fixed world None ds past (lacks fixed world i (Lacked why) found)
 lack_holds fixed world i why ds past holds None is = with_none fixed world ds past holds
 lack_holds fixed world i why ds past holds (Some actor) is = of (next_of fixed actor.agent) refl
   where
@@ -366,7 +379,8 @@ cons_is (Some x) xs = refl
 joined : {X : Type 0} (xs : List X) (one : Option X) (ys : List X) → (xs ++ option_to_list one) ++ ys ≡ xs ++ cons_option one ys
 joined xs one ys = append_assoc xs (option_to_list one) ys ∙ ap (λ rest. xs ++ rest) (cons_is one ys)
 
-pub run_holds : (fixed : Fixed) (events : List Event) (world : World) (ds : List Decided) (past : List EndedJob) → Holds fixed world ds past → Holds fixed (after fixed world events) (ds ++ decisions_from fixed world events) (past ++ outcomes (dones fixed world events))
+pub run_holds : (fixed : Fixed) (events : List Event) (world : World) (ds : List Decided) (past : List EndedJob) → Holds fixed world ds past
+    → Holds fixed (after fixed world events) (ds ++ decisions_from fixed world events) (past ++ outcomes (dones fixed world events))
 run_holds fixed [] world ds past holds = with_none fixed world ds past holds
 run_holds fixed (event ∷ events) world ds past holds =
     let next = step fixed world event in

@@ -132,11 +132,13 @@ module _ (start : Beginning) (z : ℕ) (home : ℕ → ℕ) (servers : ℕ → S
             (λ j apart. upgraded_apart z (servers j) w i j apart (shows.at j) t);
       }
 
-  raising : (t s : ℕ) → has_lock t s (servers i).locks ≡ true → (o : Option Lock) → in_the_way t s Exclusive (servers i).locks ≡ o → Comes (request.Upgrade t s) (locking_reply o (copy_of (servers i).store s)) (after_locking o t s Exclusive (servers i))
+  raising : (t s : ℕ) → has_lock t s (servers i).locks ≡ true → (o : Option Lock) → in_the_way t s Exclusive (servers i).locks ≡ o
+      → Comes (request.Upgrade t s) (locking_reply o (copy_of (servers i).store s)) (after_locking o t s Exclusive (servers i))
   raising t s has (Some other) e = nothing start z home servers i w shows
   raising t s has None e =
       elim (z == s) as (λ b. (z == s) ≡ b → Follows start z home (set1 servers i (with_locked t s Exclusive (servers i))) w (cond b (Upgrade i t ∷ []) [])) [
-        | true ↦ λ is. subst (λ s. has_lock t s (servers i).locks ≡ true → in_the_way t s Exclusive (servers i).locks ≡ None → Follows start z home (set1 servers i (with_locked t s Exclusive (servers i))) w (Upgrade i t ∷ [])) (one_is s z is) (upgrade_held t) has e
+        | true ↦ λ is. subst (λ s. has_lock t s (servers i).locks ≡ true → in_the_way t s Exclusive (servers i).locks ≡ None
+            → Follows start z home (set1 servers i (with_locked t s Exclusive (servers i))) w (Upgrade i t ∷ [])) (one_is s z is) (upgrade_held t) has e
         | false ↦ λ other. locked_elsewhere t s Exclusive other
       ] refl
 

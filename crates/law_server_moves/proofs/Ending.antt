@@ -138,11 +138,13 @@ module _ (start : Beginning) (z : ℕ) (home : ℕ → ℕ) (servers : ℕ → S
 
   -- the agent asks the transaction's home to decide it, once it may be decided
   pub decide_moves : (t : ℕ) (decided : Decision) (decision : Event) → (home t ≡ i → Decides start w t (ended_as (service.verdict_of decided)) decision)
-      → Follows start z home (set1 servers i (after_record (record_of (servers i) t) t (service.verdict_of decided) (service.audit_of t decided) (servers i))) w (moves z home decision i w (request.Decide t decided) (reply.Verdict (recorded (record_of (servers i) t) (service.verdict_of decided))))
+      → Follows start z home (set1 servers i (after_record (record_of (servers i) t) t (service.verdict_of decided) (service.audit_of t decided) (servers i))) w
+      (moves z home decision i w (request.Decide t decided) (reply.Verdict (recorded (record_of (servers i) t) (service.verdict_of decided))))
   decide_moves t decided decision decides = ruling t (service.verdict_of decided) (service.audit_of t decided) decision decides
 
   overrules : (t : ℕ) → Decides start w t Aborted (Overrule t)
   overrules t = record { log = w.log; is = refl; may = λ undecided. record { undecided = undecided } }
 
-  pub resolve_moves : (t : ℕ) (decision : Event) → Follows start z home (set1 servers i (after_record (record_of (servers i) t) t verdict.Aborted None (servers i))) w (moves z home decision i w (request.Resolve t) (reply.Verdict (recorded (record_of (servers i) t) verdict.Aborted)))
+  pub resolve_moves : (t : ℕ) (decision : Event) → Follows start z home (set1 servers i (after_record (record_of (servers i) t) t verdict.Aborted None (servers i))) w
+      (moves z home decision i w (request.Resolve t) (reply.Verdict (recorded (record_of (servers i) t) verdict.Aborted)))
   resolve_moves t decision = ruling t verdict.Aborted None (Overrule t) (λ _. overrules t)

@@ -62,7 +62,11 @@ pub take_is : (what : Take) (copy : Replica) (new : Change) → server.is_keep w
 take_is take.Keep copy new changes by valid left = absurd (false≢true (sym changes))
 take_is (take.Prefix prefix) copy new changes by valid left = record {
   prefix = by;
-  content = inr (refl, elim (is_absent copy.prefix.kind) as (λ b. is_absent copy.prefix.kind ≡ b → (copy.dver ≡ 0) ⊎ (cond b (empty_of prefix) copy.content ≡ copy.content)) [ true ↦ λ e. inl (absent_zero copy valid e) | false ↦ λ e. inr refl ] refl);
+  content = inr (
+    refl,
+    elim (is_absent copy.prefix.kind) as (λ b. is_absent copy.prefix.kind ≡ b → (copy.dver ≡ 0) ⊎ (cond b (empty_of prefix) copy.content ≡ copy.content))
+        [ true ↦ λ e. inl (absent_zero copy valid e) | false ↦ λ e. inr refl ] refl,
+  );
   empty = empty_if (server.left_by (take.Prefix prefix) copy) left;
 }
 take_is (take.Whole whole) copy new changes by valid left = record { prefix = by.prefix; content = inl (by.dver, by.content); empty = empty_if whole left }

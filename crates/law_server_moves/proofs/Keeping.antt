@@ -29,14 +29,17 @@ keeps_shows suite old new w i keeps shows = record {
 }
 
 -- the machine moves at one server
-pub shows_moved : (suite : ℕ) (home : ℕ → ℕ) (servers : ℕ → State) (i : ℕ) (new : State) (w later : World) → Shows suite home servers w → later.verdict ≡ w.verdict → ((t : ℕ) → record_of new t ≡ record_of (servers i) t) → ShowsAt suite new later i → ((j : ℕ) → (j ≡ i → ⊥) → ShowsAt suite (servers j) later j) → Shows suite home (set1 servers i new) later
+pub shows_moved : (suite : ℕ) (home : ℕ → ℕ) (servers : ℕ → State) (i : ℕ) (new : State) (w later : World) → Shows suite home servers w → later.verdict ≡ w.verdict
+    → ((t : ℕ) → record_of new t ≡ record_of (servers i) t) → ShowsAt suite new later i → ((j : ℕ) → (j ≡ i → ⊥) → ShowsAt suite (servers j) later j)
+    → Shows suite home (set1 servers i new) later
 shows_moved suite home servers i new w later shows verdicts records here there = record {
   at = placed suite servers i new later here there;
   verdict = λ t. ap (λ f. f t) verdicts ∙ shows.verdict t ∙ records_stay home servers i new t (λ _. records t);
 }
 
 -- or stays
-pub shows_kept : (suite : ℕ) (home : ℕ → ℕ) (servers : ℕ → State) (i : ℕ) (new : State) (w : World) → Shows suite home servers w → ((t : ℕ) → record_of new t ≡ record_of (servers i) t) → Keeps suite (servers i) new → Shows suite home (set1 servers i new) w
+pub shows_kept : (suite : ℕ) (home : ℕ → ℕ) (servers : ℕ → State) (i : ℕ) (new : State) (w : World) → Shows suite home servers w
+    → ((t : ℕ) → record_of new t ≡ record_of (servers i) t) → Keeps suite (servers i) new → Shows suite home (set1 servers i new) w
 shows_kept suite home servers i new w shows records keeps =
     shows_moved suite home servers i new w w shows refl records (keeps_shows suite (servers i) new w i keeps (shows.at i)) (λ j _. shows.at j)
 
@@ -56,7 +59,8 @@ shows_stamped suite home servers i new stamp w shows = record {
     same false t = refl
 
 -- no event
-pub stays : (start : Beginning) (suite : ℕ) (home : ℕ → ℕ) (servers : ℕ → State) (i : ℕ) (new : State) (w : World) → Shows suite home servers w → ((t : ℕ) → record_of new t ≡ record_of (servers i) t) → Keeps suite (servers i) new → Follows start suite home (set1 servers i new) w []
+pub stays : (start : Beginning) (suite : ℕ) (home : ℕ → ℕ) (servers : ℕ → State) (i : ℕ) (new : State) (w : World) → Shows suite home servers w
+    → ((t : ℕ) → record_of new t ≡ record_of (servers i) t) → Keeps suite (servers i) new → Follows start suite home (set1 servers i new) w []
 stays start suite home servers i new w shows records keeps = record { obeys = tt; shows = shows_kept suite home servers i new w shows records keeps }
 
 pub nothing : (start : Beginning) (suite : ℕ) (home : ℕ → ℕ) (servers : ℕ → State) (i : ℕ) (w : World) → Shows suite home servers w → Follows start suite home (set1 servers i (servers i)) w []

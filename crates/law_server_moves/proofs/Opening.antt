@@ -25,7 +25,9 @@ is_beginning z given valid = record {
   first = first (z == 0);
 }
   where
-    first : (b : Bool) → (cond b (root_copy given) (absent_copy given.c0) ≡ absent_copy given.c0) ⊎ (((cond b (root_copy given) (absent_copy given.c0)).prefix.pver ≡ 1) × ((cond b (root_copy given) (absent_copy given.c0)).dver ≡ 1) × ((cond b (root_copy given) (absent_copy given.c0)).prefix.votes ≡ given.c0))
+    first : (b : Bool) → (cond b (root_copy given) (absent_copy given.c0) ≡ absent_copy given.c0)
+        ⊎ (((cond b (root_copy given) (absent_copy given.c0)).prefix.pver ≡ 1) × ((cond b (root_copy given) (absent_copy given.c0)).dver ≡ 1)
+        × ((cond b (root_copy given) (absent_copy given.c0)).prefix.votes ≡ given.c0))
     first true = inr (refl, refl, refl)
     first false = inl refl
 

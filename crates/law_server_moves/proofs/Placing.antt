@@ -31,7 +31,8 @@ pub placed : (suite : ℕ) (servers : ℕ → State) (i : ℕ) (new : State) (w 
 placed suite servers i new w here there j = at1 (λ st. ShowsAt suite st w j) servers i new j (λ same. at_name suite new w i j same here) (there j)
 
 -- the records stay, of those whose home it is
-pub records_stay : (home : ℕ → ℕ) (servers : ℕ → State) (i : ℕ) (new : State) (t : ℕ) → (home t ≡ i → record_of new t ≡ record_of (servers i) t) → verdict_of (record_of (servers (home t)) t) ≡ verdict_of (record_of (set1 servers i new (home t)) t)
+pub records_stay : (home : ℕ → ℕ) (servers : ℕ → State) (i : ℕ) (new : State) (t : ℕ) → (home t ≡ i → record_of new t ≡ record_of (servers i) t)
+    → verdict_of (record_of (servers (home t)) t) ≡ verdict_of (record_of (set1 servers i new (home t)) t)
 records_stay home servers i new t same =
     at1 (λ st. verdict_of (record_of (servers (home t)) t) ≡ verdict_of (record_of st t)) servers i new (home t)
     (λ is. ap (λ j. verdict_of (record_of (servers j) t)) is ∙ ap verdict_of (sym (same is)))

@@ -53,7 +53,8 @@ at_place h f t u = at1 (λ x. x ≡ cond (u == t) (h (f u)) (f u)) f t (h (f t))
     (λ same. ap (λ u. h (f u)) (sym same) ∙ sym (ap (λ b. cond b (h (f u)) (f u)) (itself t u same)))
     (λ apart. sym (ap (λ b. cond b (h (f u)) (f u)) (another t u apart)))
 
-prepared_here : (z : ℕ) (st : State) (w : World) (i t : ℕ) (parts : List Part) (part : Part) → ShowsAt z st w i → lists_twice parts ≡ false → part_of z parts ≡ Some part → ShowsAt z (laid t parts st) (events.prepared w i t (left_of part (copy_of st.store z))) i
+prepared_here : (z : ℕ) (st : State) (w : World) (i t : ℕ) (parts : List Part) (part : Part) → ShowsAt z st w i → lists_twice parts ≡ false → part_of z parts ≡ Some part
+    → ShowsAt z (laid t parts st) (events.prepared w i t (left_of part (copy_of st.store z))) i
 prepared_here z st w i t parts part shows once is =
     let copy = copy_of st.store z in
     let named : list_any (λ part. part.suite == z) parts ≡ true = any_find (λ part. part.suite == z) parts ∙ ap is_some is in
@@ -99,7 +100,8 @@ left_is part copy x e =
       | false ↦ λ e. (refl, some_replica (left_by part.take copy) x e)
     ] e
 
-may_prepare : (z : ℕ) (st : State) (w : World) (i t : ℕ) (parts : List Part) (part : Part) → ShowsAt z st w i → rise st.locks ≡ true → IsSound st.store → Looked st t parts → list_any (λ part. holds_last part.take) parts ≡ false → part_of z parts ≡ Some part → SendsFixed w st.locks t part
+may_prepare : (z : ℕ) (st : State) (w : World) (i t : ℕ) (parts : List Part) (part : Part) → ShowsAt z st w i → rise st.locks ≡ true → IsSound st.store → Looked st t parts
+    → list_any (λ part. holds_last part.take) parts ≡ false → part_of z parts ≡ Some part → SendsFixed w st.locks t part
     → MayPrepare w i t (left_of part (copy_of st.store z))
 may_prepare z st w i t parts part shows up sound sees last is sends =
     let copy = copy_of st.store z in
@@ -158,7 +160,9 @@ module _ (start : Beginning) (z : ℕ) (home : ℕ → ℕ) (servers : ℕ → S
   prepared_before sends stands (Some part) e = absurd (not_first (has_prepared t (servers i).locks) (length parts == 0) (sends part e).first (some_parts z parts part e) stands)
 
   -- a server that is not full: no take holds the last version
-  pub prepare_moves : Sends w (servers i).locks t z parts → rise (servers i).locks ≡ true → IsSound (servers i).store → (prepares (servers i) t parts && overfills t (servers i).store parts) ≡ false → (stands can : Bool) → stands_prepared (servers i) t parts ≡ stands → can_prepare (servers i) t parts ≡ can
+  pub prepare_moves : Sends w (servers i).locks t z parts → rise (servers i).locks ≡ true → IsSound (servers i).store
+      → (prepares (servers i) t parts && overfills t (servers i).store parts) ≡ false → (stands can : Bool) → stands_prepared (servers i) t parts ≡ stands
+      → can_prepare (servers i) t parts ≡ can
       → Follows start z home (set1 servers i (cond (not stands && can) (laid t parts (servers i)) (servers i))) w (moves z home decision i w (request.Prepare t parts) (cond (stands || can) reply.Prepared reply.Lost))
   prepare_moves sends up sound few true can is_stands is_can = prepared_before sends is_stands (part_of z parts) refl
   prepare_moves sends up sound few false true is_stands is_can =

@@ -50,8 +50,10 @@ module _ (z : ℕ) (home : ℕ → ℕ) (servers : ℕ → State) (i : ℕ) (w :
         ∙ ap verdict_of recorded
 
     tells : (value : Request) (said : Reply) → asked.value ≡ value → reply_of (servers i) value ≡ said → Tells z home i w later value said
-    tells (request.Poll t s m) (reply.Held prefix dver) is e = λ same. copy_told (after (servers i) (request.Poll t z m)) t m prefix dver (poll_told (servers i) t z m prefix dver (ap (λ s. reply_of (servers i) (request.Poll t s m)) same ∙ e))
-    tells (request.Upgrade t s) (reply.Held prefix dver) is e = λ same. copy_told (after (servers i) (request.Upgrade t z)) t _ prefix dver (upgrade_told (servers i) t z prefix dver (ap (λ s. reply_of (servers i) (request.Upgrade t s)) same ∙ e)).1
+    tells (request.Poll t s m) (reply.Held prefix dver) is e = λ same. copy_told (after (servers i) (request.Poll t z m)) t m prefix dver
+        (poll_told (servers i) t z m prefix dver (ap (λ s. reply_of (servers i) (request.Poll t s m)) same ∙ e))
+    tells (request.Upgrade t s) (reply.Held prefix dver) is e = λ same. copy_told (after (servers i) (request.Upgrade t z)) t _ prefix dver
+        (upgrade_told (servers i) t z prefix dver (ap (λ s. reply_of (servers i) (request.Upgrade t s)) same ∙ e)).1
     tells (request.Fetch t s) (reply.Given dver content) is e = λ same. content_told t dver content (fetch_told (servers i) t z dver content (ap (λ s. reply_of (servers i) (request.Fetch t s)) same ∙ e))
     tells (request.Decide t decided) (reply.Verdict said) is e = λ at_home. verdict_there t said at_home (ap (λ value. record_of (after (servers i) value) t) is ∙ decide_ruled (servers i) t decided said e)
     tells (request.Resolve t) (reply.Verdict said) is e = λ at_home. verdict_there t said at_home (ap (λ value. record_of (after (servers i) value) t) is ∙ resolve_ruled (servers i) t said e)

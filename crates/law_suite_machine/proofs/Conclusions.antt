@@ -7,7 +7,25 @@ use Rattle.suite_prefix.specs.declared.copies.Replica.{Replica}
 use Rattle.suite_prefix.specs.Copies.{held_by}
 use Rattle.law_suite_machine.specs.Registers.{Beginning, Entry, row, prefix_at, content_at, WasCopy}
 use Rattle.law_suite_machine.specs.Machine.{World, IsQuorum, effect, begun}
-use Rattle.law_suite_machine.specs.Laws.{Always, after, IsOneRegister, CopiesWere, ReplacedIsSuperseded, QuorumsShowRow, DecidedOnce, LocksHoldCopies, LocksStand, OneRegister, EveryCopyWas, AlwaysSuperseded, AlwaysCurrent, AlwaysOnce, LocksAlwaysHold, LocksAlwaysStand, WhatWasStays}
+use Rattle.law_suite_machine.specs.Laws.{
+  Always,
+  after,
+  IsOneRegister,
+  CopiesWere,
+  ReplacedIsSuperseded,
+  QuorumsShowRow,
+  DecidedOnce,
+  LocksHoldCopies,
+  LocksStand,
+  OneRegister,
+  EveryCopyWas,
+  AlwaysSuperseded,
+  AlwaysCurrent,
+  AlwaysOnce,
+  LocksAlwaysHold,
+  LocksAlwaysStand,
+  WhatWasStays,
+}
 use Rattle.law_suite_machine.proofs.Rows.{Logged}
 use Rattle.law_suite_machine.proofs.Sound.{effect_held}
 use Rattle.law_suite_machine.proofs.Invariant.{Inv}

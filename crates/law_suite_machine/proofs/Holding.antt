@@ -7,7 +7,8 @@ use Rattle.law_suite_machine.proofs.Places.{at2, at2_both}
 use Rattle.law_suite_machine.proofs.Sound.{Sound, some_hold, some_told, NoNewLock, alone_no_new}
 
 -- where a lock is set that no other stands in the way of, exclusive ones still stand alone
-set_alone : (w : World) → Sound w → (i t : ℕ) (e : Bool) (o : Option Hold) → ((h : Hold) → o ≡ Some h → h.exclusive ≡ e) → IsFree w i t e → (j u x : ℕ) (h k : Hold) → set2 w.lock i t o j u ≡ Some h → set2 w.lock i t o j x ≡ Some k → h.exclusive ≡ true → u ≡ x
+set_alone : (w : World) → Sound w → (i t : ℕ) (e : Bool) (o : Option Hold) → ((h : Hold) → o ≡ Some h → h.exclusive ≡ e) → IsFree w i t e → (j u x : ℕ) (h k : Hold)
+    → set2 w.lock i t o j u ≡ Some h → set2 w.lock i t o j x ≡ Some k → h.exclusive ≡ true → u ≡ x
 set_alone w s i t e o mode free j u x h k lu lx ex =
     at2 (λ o. o ≡ Some h → u ≡ x) w.lock i t o j u
     (λ here eh. at2 (λ o. o ≡ Some k → u ≡ x) w.lock i t o j x

@@ -54,7 +54,8 @@ dver_known start w inv t set known ready k =
     omega arith
 
 -- a content that goes with the row's prefix at the row's version is the row's
-row_content : (start : Beginning) (log : List Entry) → Logged start log → (prefix : Prefix) (d : ℕ) (content : Content) → prefix ≡ (row start log).prefix → d ≡ (row start log).dver → GoesWith start log prefix d content → content ≡ (row start log).content
+row_content : (start : Beginning) (log : List Entry) → Logged start log → (prefix : Prefix) (d : ℕ) (content : Content) → prefix ≡ (row start log).prefix
+    → d ≡ (row start log).dver → GoesWith start log prefix d content → content ≡ (row start log).content
 row_content start log l prefix d content ep ed (inl was) =
     elim (l.own.1) [
       | inl own ↦ sym was.2 ∙ ap (content_at start log) ed ∙ own.2

@@ -34,7 +34,8 @@ intended_from : (t : ℕ) (left : Option Replica) (old : Option Intention) (p : 
 intended_from t None old p e = inl (refl, e)
 intended_from t (Some x) old p e = inr (x, refl, some_plan _ p e)
 
-plan_locked : (w : World) → Sound w → (i t : ℕ) (left : Option Replica) → MayPrepare w i t left → (j : ℕ) (p : Intention) → (prepared w i t left).plan j ≡ Some p → (prepared w i t left).lock j p.t ≡ Some (record { exclusive = true; prepared = true })
+plan_locked : (w : World) → Sound w → (i t : ℕ) (left : Option Replica) → MayPrepare w i t left → (j : ℕ) (p : Intention) → (prepared w i t left).plan j ≡ Some p
+    → (prepared w i t left).lock j p.t ≡ Some (record { exclusive = true; prepared = true })
 plan_locked w s i t left may j p = at1 (λ o. o ≡ Some p → (prepared w i t left).lock j p.t ≡ Some (record { exclusive = true; prepared = true })) w.plan i _ j
     (λ here e. elim (intended_from t left (w.plan i) p e) [
       | inl old ↦ keeps w i t j p.t (s.planned j p (ap w.plan here ∙ old.1))
@@ -55,7 +56,8 @@ plan_aims w s i t left may j p = at1 (λ o. o ≡ Some p → (new : Change) × (
     moved : (a b : Replica) (new : Change) (x y : Replica) → a ≡ b → x ≡ y → IsTake a new x → IsTake b new y
     moved a b new x y e f take = subst (λ (x : Replica). IsTake b new x) f (subst (λ (a : Replica). IsTake a new x) e take)
 
-plan_laid : (w : World) → Sound w → (i t : ℕ) (left : Option Replica) → MayPrepare w i t left → (j u : ℕ) (x : Replica) → (prepared w i t left).ready j u ≡ Some (Some x) → IsOpen w u → (prepared w i t left).plan j ≡ Some (record { t = u; copy = x })
+plan_laid : (w : World) → Sound w → (i t : ℕ) (left : Option Replica) → MayPrepare w i t left → (j u : ℕ) (x : Replica) → (prepared w i t left).ready j u ≡ Some (Some x)
+    → IsOpen w u → (prepared w i t left).plan j ≡ Some (record { t = u; copy = x })
 plan_laid w s i t left may j u x ready going =
     at1 (λ o. o ≡ Some (record { t = u; copy = x })) w.plan i _ j
     (λ here. at2 (λ r. r ≡ Some (Some x) → intended t left (w.plan i) ≡ Some (record { t = u; copy = x })) w.ready i t (Some left) j u

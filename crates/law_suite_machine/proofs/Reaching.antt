@@ -76,10 +76,12 @@ shown_prefix start w s t set known new may all votes valid write q quorum =
     (m.server, m.in_first, ap (λ (c : Replica). c.prefix.pver) (lays w s t (new_log start w t known new) may.ready m.server x.0 x.1) ∙ x.2)
 
 -- quorums of the votes that the register had before
-before : (start : Beginning) (w : World) → Inv start w → (t : ℕ) (set : ℕ → Bool) (known : Known) (new : Change) → MayWrite start w t set known new → (n : ℕ) → n ≤ (row start w.log).prefix.pver → (q : ℕ → Bool) → IsQuorum (prefix_at start (new_log start w t known new) n).votes q → IsQuorum (prefix_at start w.log n).votes q
+before : (start : Beginning) (w : World) → Inv start w → (t : ℕ) (set : ℕ → Bool) (known : Known) (new : Change) → MayWrite start w t set known new → (n : ℕ)
+    → n ≤ (row start w.log).prefix.pver → (q : ℕ → Bool) → IsQuorum (prefix_at start (new_log start w t known new) n).votes q → IsQuorum (prefix_at start w.log n).votes q
 before start w inv t set known new may n le q = subst (λ (p : Prefix). IsQuorum p.votes q) (prefix_before start w.log inv.logged t known (new_row start w new) (next_row start w inv t set known new may) n le)
 
-write_reach : (start : Beginning) (w : World) → Inv start w → (t : ℕ) (set : ℕ → Bool) (known : Known) (new : Change) → MayWrite start w t set known new → (n : ℕ) → n ≤ new.prefix.pver → (q : ℕ → Bool) → IsQuorum (prefix_at start (new_log start w t known new) n).votes q → ShowsIn (now start w t known new) q (IsAbove n new.prefix.pver)
+write_reach : (start : Beginning) (w : World) → Inv start w → (t : ℕ) (set : ℕ → Bool) (known : Known) (new : Change) → MayWrite start w t set known new → (n : ℕ)
+    → n ≤ new.prefix.pver → (q : ℕ → Bool) → IsQuorum (prefix_at start (new_log start w t known new) n).votes q → ShowsIn (now start w t known new) q (IsAbove n new.prefix.pver)
 write_reach start w inv t set known new may n le q quorum =
     let log = new_log start w t known new in
     let top = (row start w.log).prefix.pver in
@@ -104,7 +106,8 @@ write_reach start w inv t set known new may n le q quorum =
                 elim (compared n top m) [
                   | inl last ↦
                       let own : prefix_at start w.log n ≡ known.prefix = ap (prefix_at start w.log) last ∙ inv.logged.own.0.1 ∙ sym is.prefix in
-                      let x = shown_prefix start w inv.sound t set known new may up.1 known.prefix.votes (subst (λ (p : Prefix). IsValid p.votes) own (inv.logged.valid n)) (writes_known start w inv t set known new may) q (subst (λ (p : Prefix). IsQuorum p.votes q) own (old m)) in
+                      let x = shown_prefix start w inv.sound t set known new may up.1 known.prefix.votes (subst (λ (p : Prefix). IsValid p.votes) own (inv.logged.valid n))
+                      (writes_known start w inv t set known new may) q (subst (λ (p : Prefix). IsQuorum p.votes q) own (old m)) in
                       (x.0, x.1, inr x.2)
                   | inr less ↦
                       let x = inv.current.reach n m q (old m) in
@@ -120,7 +123,8 @@ kept_dver : (new : Change) (top : ℕ) (old c : Replica) → new.dver ≡ top �
 kept_dver new top old c same (inl take) is = elim (take.content) [ inl whole ↦ whole.0 | inr kept ↦ kept.0 ∙ is ∙ sym same ]
 kept_dver new top old c same (inr e) is = ap (λ (c : Replica). c.dver) e ∙ is ∙ sym same
 
-write_content : (start : Beginning) (w : World) → Inv start w → (t : ℕ) (set : ℕ → Bool) (known : Known) (new : Change) → MayWrite start w t set known new → (q : ℕ → Bool) → IsQuorum new.prefix.votes q → ShowsIn (now start w t known new) q (λ c. c.dver ≡ new.dver)
+write_content : (start : Beginning) (w : World) → Inv start w → (t : ℕ) (set : ℕ → Bool) (known : Known) (new : Change) → MayWrite start w t set known new → (q : ℕ → Bool)
+    → IsQuorum new.prefix.votes q → ShowsIn (now start w t known new) q (λ c. c.dver ≡ new.dver)
 write_content start w inv t set known new may q quorum =
     let log = new_log start w t known new in
     let is = all_known start w inv t set known may.ready may.knows in

@@ -32,7 +32,8 @@ pub next_rises : (old new : Replica) → IsNext old new → (old.prefix.pver ≤
 next_rises old new next =
     (elim (next.prefix) [ inl same ↦ let e = ap (λ (p : Prefix). p.pver) same in omega arith | inr up ↦ omega arith ], elim (next.content) [ inl same ↦ let e = same.0 in omega arith | inr up ↦ omega arith ])
 
-pub prefix_before : (start : Beginning) (log : List Entry) → Logged start log → (t : ℕ) (known : Known) (new : Replica) → IsNext (row start log) new → (p : ℕ) → p ≤ (row start log).prefix.pver → prefix_at start (Wrote t known new ∷ log) p ≡ prefix_at start log p
+pub prefix_before : (start : Beginning) (log : List Entry) → Logged start log → (t : ℕ) (known : Known) (new : Replica) → IsNext (row start log) new → (p : ℕ)
+    → p ≤ (row start log).prefix.pver → prefix_at start (Wrote t known new ∷ log) p ≡ prefix_at start log p
 prefix_before start log l t known new next p le =
     at1 (λ v. v ≡ prefix_at start log p) (prefix_at start log) new.prefix.pver new.prefix p
     (λ here. elim (next.prefix) [
@@ -45,7 +46,8 @@ prefix_before start log l t known new next p le =
 own_content : (start : Beginning) (log : List Entry) → Logged start log → 0 < (row start log).dver → content_at start log (row start log).dver ≡ (row start log).content
 own_content start log l some = elim (l.own.1) [ inl was ↦ was.2 | inr zero ↦ let e = zero.0 in absurd (omega arith) ]
 
-pub content_before : (start : Beginning) (log : List Entry) → Logged start log → (t : ℕ) (known : Known) (new : Replica) → IsNext (row start log) new → (d : ℕ) → 0 < d → d ≤ (row start log).dver → content_at start (Wrote t known new ∷ log) d ≡ content_at start log d
+pub content_before : (start : Beginning) (log : List Entry) → Logged start log → (t : ℕ) (known : Known) (new : Replica) → IsNext (row start log) new → (d : ℕ) → 0 < d
+    → d ≤ (row start log).dver → content_at start (Wrote t known new ∷ log) d ≡ content_at start log d
 content_before start log l t known new next d some le =
     at1 (λ v. v ≡ content_at start log d) (content_at start log) new.dver new.content d
     (λ here. elim (next.content) [
@@ -58,19 +60,22 @@ content_before start log l t known new next d some le =
 
 -- ---- what was the register's stays so
 
-pub was_prefix : (start : Beginning) (log : List Entry) → Logged start log → (t : ℕ) (known : Known) (new : Replica) → IsNext (row start log) new → (prefix : Prefix) → WasPrefix start log prefix → WasPrefix start (Wrote t known new ∷ log) prefix
+pub was_prefix : (start : Beginning) (log : List Entry) → Logged start log → (t : ℕ) (known : Known) (new : Replica) → IsNext (row start log) new → (prefix : Prefix)
+    → WasPrefix start log prefix → WasPrefix start (Wrote t known new ∷ log) prefix
 was_prefix start log l t known new next prefix was =
     let rises = (next_rises (row start log) new next).0 in
     let le = was.0 in
     (omega arith, prefix_before start log l t known new next prefix.pver was.0 ∙ was.1)
 
-pub was_content : (start : Beginning) (log : List Entry) → Logged start log → (t : ℕ) (known : Known) (new : Replica) → IsNext (row start log) new → (d : ℕ) (content : Content) → WasContent start log d content → WasContent start (Wrote t known new ∷ log) d content
+pub was_content : (start : Beginning) (log : List Entry) → Logged start log → (t : ℕ) (known : Known) (new : Replica) → IsNext (row start log) new → (d : ℕ) (content : Content)
+    → WasContent start log d content → WasContent start (Wrote t known new ∷ log) d content
 was_content start log l t known new next d content was =
     let rises = (next_rises (row start log) new next).1 in
     let le = was.1 in
     (was.0, omega arith, content_before start log l t known new next d was.0 was.1 ∙ was.2)
 
-pub goes_with : (start : Beginning) (log : List Entry) → Logged start log → (t : ℕ) (known : Known) (new : Replica) → IsNext (row start log) new → (prefix : Prefix) (d : ℕ) (content : Content) → GoesWith start log prefix d content → GoesWith start (Wrote t known new ∷ log) prefix d content
+pub goes_with : (start : Beginning) (log : List Entry) → Logged start log → (t : ℕ) (known : Known) (new : Replica) → IsNext (row start log) new
+    → (prefix : Prefix) (d : ℕ) (content : Content) → GoesWith start log prefix d content → GoesWith start (Wrote t known new ∷ log) prefix d content
 goes_with start log l t known new next prefix d content (inl was) = inl (was_content start log l t known new next d content was)
 goes_with start log l t known new next prefix d content (inr zero) = inr zero
 

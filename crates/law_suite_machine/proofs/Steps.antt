@@ -91,7 +91,8 @@ write_step start w inv t set known new may =
     }
 
 -- a verdict that adds nothing to the log and lays no intention open
-quiet_step : (start : Beginning) (w : World) → Inv start w → (t : ℕ) (v : Verdict) → w.verdict t ≡ None → (w.gave_up t ≡ true → v ≡ Aborted) → ((i : ℕ) (p : Intention) → w.plan i ≡ Some p → p.t ≡ t → is_answered (Some v) ≡ false) → Inv start (decided w t v w.log)
+quiet_step : (start : Beginning) (w : World) → Inv start w → (t : ℕ) (v : Verdict) → w.verdict t ≡ None → (w.gave_up t ≡ true → v ≡ Aborted)
+    → ((i : ℕ) (p : Intention) → w.plan i ≡ Some p → p.t ≡ t → is_answered (Some v) ≡ false) → Inv start (decided w t v w.log)
 quiet_step start w inv t v undecided fit unplanned = record {
   sound = decided_sound w inv.sound t v w.log fit;
   stored = inv.stored;

@@ -191,7 +191,12 @@ obeys_makes = (
   (
     record { unaimed = refl },
     (
-      record { lock = record { exclusive = true; prepared = false }; stands = refl; unanswered = λ e. cc; intends = λ x e. record { exclusive = refl; new = making; aimed = refl; take = subst (IsTake never making) (some_left made x e) takes5 } },
+      record {
+        lock = record { exclusive = true; prepared = false };
+        stands = refl;
+        unanswered = λ e. cc;
+        intends = λ x e. record { exclusive = refl; new = making; aimed = refl; take = subst (IsTake never making) (some_left made x e) takes5 };
+      },
       tt,
     ),
   ),
@@ -310,9 +315,19 @@ obeys_firsts = (
       (
         record { unaimed = refl },
         (
-          record { lock = record { exclusive = true; prepared = false }; stands = refl; unanswered = λ e. cc; intends = λ x e. record { exclusive = refl; new = new; aimed = refl; take = subst (IsTake made new) (some_left left0 x e) takes0 } },
+          record {
+            lock = record { exclusive = true; prepared = false };
+            stands = refl;
+            unanswered = λ e. cc;
+            intends = λ x e. record { exclusive = refl; new = new; aimed = refl; take = subst (IsTake made new) (some_left left0 x e) takes0 };
+          },
           (
-            record { lock = record { exclusive = true; prepared = false }; stands = refl; unanswered = λ e. cc; intends = λ x e. record { exclusive = refl; new = new; aimed = refl; take = subst (IsTake never new) (some_left left1 x e) takes1 } },
+            record {
+              lock = record { exclusive = true; prepared = false };
+              stands = refl;
+              unanswered = λ e. cc;
+              intends = λ x e. record { exclusive = refl; new = new; aimed = refl; take = subst (IsTake never new) (some_left left1 x e) takes1 };
+            },
             tt,
           ),
         ),

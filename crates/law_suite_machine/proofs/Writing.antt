@@ -33,13 +33,15 @@ kept_content (Some x) k c is (inr same) = is x (sym same)
 keeps_row : (row : Replica) (known : Known) (new : Change) → IsKnown row known → KeepsContent known new → (new.dver ≡ row.dver) × (unwrap_or new.content row.content ≡ row.content)
 keeps_row row known new is kept = (kept.0 ∙ is.dver, kept_content new.content known.content row.content is.content kept.1)
 
-next_prefix : (start : Beginning) (w : World) (t : ℕ) (set : ℕ → Bool) (known : Known) (new : Change) → IsKnown (row start w.log) known → MayWrite start w t set known new → (new.prefix ≡ (row start w.log).prefix) ⊎ (new.prefix.pver ≡ (row start w.log).prefix.pver + 1)
+next_prefix : (start : Beginning) (w : World) (t : ℕ) (set : ℕ → Bool) (known : Known) (new : Change) → IsKnown (row start w.log) known → MayWrite start w t set known new
+    → (new.prefix ≡ (row start w.log).prefix) ⊎ (new.prefix.pver ≡ (row start w.log).prefix.pver + 1)
 next_prefix start w t set known new is may = elim (may.covers_prefix) [
   | inl same ↦ inl (same ∙ is.prefix)
   | inr up ↦ inr (up.0 ∙ ap (λ (p : Prefix). p.pver + 1) is.prefix)
 ]
 
-next_content : (start : Beginning) (w : World) (t : ℕ) (set : ℕ → Bool) (known : Known) (new : Change) → IsKnown (row start w.log) known → MayWrite start w t set known new → ((new.dver ≡ (row start w.log).dver) × ((new_row start w new).content ≡ (row start w.log).content)) ⊎ (new.dver ≡ (row start w.log).dver + 1)
+next_content : (start : Beginning) (w : World) (t : ℕ) (set : ℕ → Bool) (known : Known) (new : Change) → IsKnown (row start w.log) known → MayWrite start w t set known new
+    → ((new.dver ≡ (row start w.log).dver) × ((new_row start w new).content ≡ (row start w.log).content)) ⊎ (new.dver ≡ (row start w.log).dver + 1)
 next_content start w t set known new is may = elim (may.covers_content) [
   | inl same ↦ inl (keeps_row (row start w.log) known new is same.0)
   | inr more ↦ elim (more.0) [ inl kept ↦ inl (keeps_row (row start w.log) known new is kept) | inr up ↦ inr (up ∙ ap (λ n. n + 1) is.dver) ]
@@ -99,7 +101,8 @@ taken w s t new log none aim j = go (w.plan j) refl
 
 -- ---- and was the register's
 
-take_content : (start : Beginning) (w : World) → Inv start w → (t : ℕ) (known : Known) (new : Change) → IsNext (row start w.log) (new_row start w new) → (old left : Replica) → IsTake old new left → WasCopy start w.log old → 0 < left.dver → WasContent start (new_log start w t known new) left.dver left.content
+take_content : (start : Beginning) (w : World) → Inv start w → (t : ℕ) (known : Known) (new : Change) → IsNext (row start w.log) (new_row start w new) → (old left : Replica)
+    → IsTake old new left → WasCopy start w.log old → 0 < left.dver → WasContent start (new_log start w t known new) left.dver left.content
 take_content start w inv t known new next old left take was some = elim (take.content) [
   | inl whole ↦
       let e = whole.0 in
@@ -117,7 +120,8 @@ take_content start w inv t known new next old left take was some = elim (take.co
       ]
 ]
 
-pub take_was : (start : Beginning) (w : World) → Inv start w → (t : ℕ) (known : Known) (new : Change) → IsNext (row start w.log) (new_row start w new) → (old left : Replica) → IsTake old new left → WasCopy start w.log old → WasCopy start (new_log start w t known new) left
+pub take_was : (start : Beginning) (w : World) → Inv start w → (t : ℕ) (known : Known) (new : Change) → IsNext (row start w.log) (new_row start w new) → (old left : Replica)
+    → IsTake old new left → WasCopy start w.log old → WasCopy start (new_log start w t known new) left
 take_was start w inv t known new next old left take was =
     let log = new_log start w t known new in
     let new_prefix : WasPrefix start log new.prefix = (omega arith, prefix_here start w.log t known (new_row start w new) new.prefix.pver refl) in (
@@ -128,7 +132,8 @@ take_was start w inv t known new next old left take was =
       ],
     )
 
-pub write_were : (start : Beginning) (w : World) → Inv start w → (t : ℕ) (known : Known) (new : Change) → IsNext (row start w.log) (new_row start w new) → (old c : Replica) → IsTaken new old c → WasCopy start w.log old → WasCopy start (new_log start w t known new) c
+pub write_were : (start : Beginning) (w : World) → Inv start w → (t : ℕ) (known : Known) (new : Change) → IsNext (row start w.log) (new_row start w new) → (old c : Replica)
+    → IsTaken new old c → WasCopy start w.log old → WasCopy start (new_log start w t known new) c
 write_were start w inv t known new next old c (inl take) was = take_was start w inv t known new next old c take was
 write_were start w inv t known new next old c (inr same) was =
     subst (WasCopy start (new_log start w t known new)) (sym same) (was_copy start w.log inv.logged t known (new_row start w new) next old was)

@@ -1,5 +1,49 @@
 -- The entries of a shelf, as its rings and its values make them.
-use Rattle.std.proofs.Common.{◌≡◌, ℕ, zero, suc, ◌+◌, ◌-◌, ◌<◌, ◌≤◌, Bool, true, false, not, cond, List, [], ◌∷◌, ◌++◌, length, length-append, map, filter, find, get_or, set, Option, Some, None, option_map, is_some, sym, refl, ◌∙◌, subst, ap, inl, inr, eq-eqb, ne_eqb, arith, true≢false, get_or-set_same, get_or-set_other, length-set}
+use Rattle.std.proofs.Common.{
+  ◌≡◌,
+  ℕ,
+  zero,
+  suc,
+  ◌+◌,
+  ◌-◌,
+  ◌<◌,
+  ◌≤◌,
+  Bool,
+  true,
+  false,
+  not,
+  cond,
+  List,
+  [],
+  ◌∷◌,
+  ◌++◌,
+  length,
+  length-append,
+  map,
+  filter,
+  find,
+  get_or,
+  set,
+  Option,
+  Some,
+  None,
+  option_map,
+  is_some,
+  sym,
+  refl,
+  ◌∙◌,
+  subst,
+  ap,
+  inl,
+  inr,
+  eq-eqb,
+  ne_eqb,
+  arith,
+  true≢false,
+  get_or-set_same,
+  get_or-set_other,
+  length-set,
+}
 use Rattle.std.specs.List.{cons_option}
 use Rattle.core.proofs.slice.Lists.{any-default}
 use Rattle.recency.specs.Paths.{In, Once, without}
@@ -262,7 +306,8 @@ module _ {V : Type 0} where
         let ks : keys to ≡ x ∷ without x (keys order) = ap (λ (l : List ℕ). x ∷ l) (keys_without x order) in
         let old : (k : ℕ) → In k (keys to) → In k (keys order) =
         λ k i. elim (subst (λ (l : List ℕ). In k l) ks i) [ inl q ↦ subst (λ (m : ℕ). In m (keys order)) (sym q) (in_all w.0 x order w.3) | inr j ↦ (in-without k x (keys order) j).0 ] in
-        let longer : length to ≡ length order = (let a = length-without x (keys order) (in_all w.0 x order w.3) h.once in let b = length_keys order in let c = length_keys (without_slot x order) in let d = ap length (keys_without x order) in omega arith) in
+        let longer : length to ≡ length order = (let a = length-without x (keys order) (in_all w.0 x order w.3) h.once in let b = length_keys order in
+        let c = length_keys (without_slot x order) in let d = ap length (keys_without x order) in omega arith) in
         held_as rings values counts h to now o same (let a = h.room in let b = longer in omega arith)
         (subst Once (sym ks) (λ i. (in-without x x (keys order) i).1 refl, once-without x (keys order) h.once))
         old (w.2, sited_without x order h.sited)
@@ -278,7 +323,8 @@ module _ {V : Type 0} where
 
     -- ---- a put
 
-    module _ (x s : ℕ) (v : V) (w : Option V) (now : Listed) (site : s < 16) (lt : x < rings.slots) (out : In x (keys order) → ⊥) (room : length order < rings.slots) (wrote : w ≡ Some v) (is : now.order ≡ (x, s) ∷ order) (same : now.slots ≡ rings.slots) where
+    module _ (x s : ℕ) (v : V) (w : Option V) (now : Listed) (site : s < 16) (lt : x < rings.slots) (out : In x (keys order) → ⊥) (room : length order < rings.slots)
+        (wrote : w ≡ Some v) (is : now.order ≡ (x, s) ∷ order) (same : now.slots ≡ rings.slots) where
       there : value_at (set values x w) x ≡ Some v
       there = get_or-set_same values x w None (let e = h.len in omega arith) ∙ wrote
 

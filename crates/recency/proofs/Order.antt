@@ -1,5 +1,40 @@
 -- What each call of the rings makes of their lists.
-use Rattle.std.proofs.Common.{◌≡◌, ℕ, ◌+◌, ◌<◌, ◌⊎◌, Bool, true, false, not, cond, if◌then◌else◌, List, [], ◌∷◌, length, map, Some, None, option_map, sym, refl, ◌∙◌, subst, ap, inl, inr, eq-eqb, ne_eqb, arith, lt_irrefl, ◌≤◌, nat_lt, le-ltb, lt-ltb}
+use Rattle.std.proofs.Common.{
+  ◌≡◌,
+  ℕ,
+  ◌+◌,
+  ◌<◌,
+  ◌⊎◌,
+  Bool,
+  true,
+  false,
+  not,
+  cond,
+  if◌then◌else◌,
+  List,
+  [],
+  ◌∷◌,
+  length,
+  map,
+  Some,
+  None,
+  option_map,
+  sym,
+  refl,
+  ◌∙◌,
+  subst,
+  ap,
+  inl,
+  inr,
+  eq-eqb,
+  ne_eqb,
+  arith,
+  lt_irrefl,
+  ◌≤◌,
+  nat_lt,
+  le-ltb,
+  lt-ltb,
+}
 use Rattle.core.specs.Bool.{then_some}
 use denote.RawPtr.{Ptr}
 use Rattle.recency.specs.declared.node.Node.{Node}
@@ -165,7 +200,8 @@ first_is o n slots a h [] p le below = ap (λ (t : Bool). then_some t (o a)) (le
 first_is o n slots a h (e ∷ es) p le below = ap (λ (t : Bool). then_some t (o a)) (lt-ltb (o a) slots (below (o a) (inl p.0))) ∙ ap Some p.0
 
 -- and behind one that is on the path
-pub next_is : (o n : ℕ → ℕ) (slots x a h : ℕ) (order : List Mark) → Path o n a (keys order) h → slots ≤ h → ((k : ℕ) → In k (keys order) → k < slots) → In x (keys order) → then_some (nat_lt (o x) slots) (o x) ≡ option_map (λ (e : Mark). e.0) (older_than x order)
+pub next_is : (o n : ℕ → ℕ) (slots x a h : ℕ) (order : List Mark) → Path o n a (keys order) h → slots ≤ h → ((k : ℕ) → In k (keys order) → k < slots) → In x (keys order)
+    → then_some (nat_lt (o x) slots) (o x) ≡ option_map (λ (e : Mark). e.0) (older_than x order)
 next_is o n slots x a h [] p le below i = absurd i
 next_is o n slots x a h (e ∷ es) p le below i =
     by_equal (then_some (nat_lt (o x) slots) (o x) ≡ option_map (λ (e : Mark). e.0) (older_than x (e ∷ es))) e.0 x

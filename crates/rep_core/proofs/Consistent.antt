@@ -147,9 +147,11 @@ locked_prepare st t parts sees locks suite intention has = by_part (part_of suit
     by_part : (o : Option Part) → part_of suite parts ≡ o → planned t o (get nat_cmp st.store.intentions suite) ≡ Some intention → HasPreparedLock (with_prepared t parts st.locks) intention.t suite
     by_part None is was = old was
     by_part (Some part) is was =
-        elim (is_keep part.take) as (λ b. is_keep part.take ≡ b → cond b (get nat_cmp st.store.intentions suite) (Some (record { t = t; take = part.take })) ≡ Some intention → HasPreparedLock (with_prepared t parts st.locks) intention.t suite) [
+        elim (is_keep part.take) as (λ b. is_keep part.take ≡ b → cond b (get nat_cmp st.store.intentions suite) (Some (record { t = t; take = part.take })) ≡ Some intention
+        → HasPreparedLock (with_prepared t parts st.locks) intention.t suite) [
           | true ↦ λ _ was. old was
-          | false ↦ λ changes new. subst (λ u. HasPreparedLock (with_prepared t parts st.locks) u suite) (ap (λ (x : Intention). x.t) (same_Some (record { t = t; take = part.take }) intention new)) (new_locked st t parts suite part sees is changes)
+          | false ↦ λ changes new. subst (λ u. HasPreparedLock (with_prepared t parts st.locks) u suite)
+              (ap (λ (x : Intention). x.t) (same_Some (record { t = t; take = part.take }) intention new)) (new_locked st t parts suite part sees is changes)
         ] refl was
 
 locked_ways : (st : State) → IsOrdered nat_cmp st.store.intentions → IntentionsLocked st → Ways st (λ _ new. IntentionsLocked new)

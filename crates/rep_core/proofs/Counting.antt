@@ -76,7 +76,8 @@ module _ (store : Store) (t : ℕ) where
   count_one : (part : Part) (intentions : List (ℕ × Intention)) → IsOrdered nat_cmp intentions → counted without_copy (with_intention t part intentions) ≡ counted without_copy intentions + cond (new_in intentions part) 1 0
   count_one part intentions rising =
       let new : Intention = record { t = t; take = part.take } in
-      elim (is_keep part.take) as (λ b. counted without_copy (cond b intentions (insert nat_cmp intentions part.suite new)) ≡ counted without_copy intentions + cond (not b && not (has_copy store part.suite) && not (is_some (get nat_cmp intentions part.suite))) 1 0) [
+      elim (is_keep part.take) as (λ b. counted without_copy (cond b intentions (insert nat_cmp intentions part.suite new)) ≡ counted without_copy intentions + cond
+      (not b && not (has_copy store part.suite) && not (is_some (get nat_cmp intentions part.suite))) 1 0) [
         | true ↦ omega arith
         | false ↦ count-insert without_copy intentions part.suite new rising ∙ ap (λ n. counted without_copy intentions + n) (tests (is_some (get nat_cmp intentions part.suite)) (has_copy store part.suite))
       ]
@@ -93,7 +94,8 @@ module _ (store : Store) (t : ℕ) where
       ]
 
   -- what a part counts does not depend on the intentions of other suites
-  new_apart : (part : Part) (intentions : List (ℕ × Intention)) (later : List Part) → list_any (λ other. other.suite == part.suite) later ≡ false → count_by (new_in (with_intention t part intentions)) later ≡ count_by (new_in intentions) later
+  new_apart : (part : Part) (intentions : List (ℕ × Intention)) (later : List Part) → list_any (λ other. other.suite == part.suite) later ≡ false
+      → count_by (new_in (with_intention t part intentions)) later ≡ count_by (new_in intentions) later
   new_apart part intentions [] none = refl
   new_apart part intentions (other ∷ later) none =
       let parts = or_parts (other.suite == part.suite) (list_any (λ other. other.suite == part.suite) later) none in
@@ -101,14 +103,16 @@ module _ (store : Store) (t : ℕ) where
       ∙ (λ i. cond (not (is_keep other.take) && not (has_copy store other.suite) && not (is_some (get_apart part intentions other.suite parts.0 i))) 1 0 + new_apart part intentions later parts.1 i)
       ∙ sym (count_cons (new_in intentions) other later)
 
-  count_all : (parts : List Part) (intentions : List (ℕ × Intention)) → lists_twice parts ≡ false → IsOrdered nat_cmp intentions → counted without_copy (with_intentions t parts intentions) ≡ counted without_copy intentions + count_by (new_in intentions) parts
+  count_all : (parts : List Part) (intentions : List (ℕ × Intention)) → lists_twice parts ≡ false → IsOrdered nat_cmp intentions
+      → counted without_copy (with_intentions t parts intentions) ≡ counted without_copy intentions + count_by (new_in intentions) parts
   count_all [] intentions once rising = omega arith
   count_all (part ∷ parts) intentions once rising =
       let both = or_parts (list_any (λ later. later.suite == part.suite) parts) (lists_twice parts) once in
       let rest = count_all parts (with_intention t part intentions) both.1 (ordered_one part intentions rising) in
       omega (arith, rest, count_one part intentions rising, new_apart part intentions parts both.0, count_cons (new_in intentions) part parts)
 
-  pub suites_intended : (parts : List Part) → lists_twice parts ≡ false → IsOrdered nat_cmp store.intentions → suites_with (intended t parts store) ≡ length store.copies + count_by (λ pair. not (has_copy store pair.0)) store.intentions + count_by (takes_new store) parts
+  pub suites_intended : (parts : List Part) → lists_twice parts ≡ false → IsOrdered nat_cmp store.intentions
+      → suites_with (intended t parts store) ≡ length store.copies + count_by (λ pair. not (has_copy store pair.0)) store.intentions + count_by (takes_new store) parts
   suites_intended parts once rising = let counted_all = count_all parts store.intentions once rising in omega (arith, counted_all)
 
 -- a number that is cut at the largest is above the limit where it is
@@ -116,7 +120,9 @@ pub over_most : (cut number : ℕ) → cut ≡ min number 18446744073709551615 �
 over_most cut number is = grind (arith, nat_tests)
 
 -- there are not too many suites where copies, intentions and parts are not, each counted
-pub not_over : (store : Store) (t : ℕ) (parts : List Part) (cut : ℕ) → lists_twice parts ≡ false → IsOrdered nat_cmp store.intentions → cut ≡ min (min (length store.copies + length store.intentions) 18446744073709551615 + length parts) 18446744073709551615 → nat_lt max_suites cut ≡ false → nat_lt max_suites (suites_with (intended t parts store)) ≡ false
+pub not_over : (store : Store) (t : ℕ) (parts : List Part) (cut : ℕ) → lists_twice parts ≡ false → IsOrdered nat_cmp store.intentions
+    → cut ≡ min (min (length store.copies + length store.intentions) 18446744073709551615 + length parts) 18446744073709551615 → nat_lt max_suites cut ≡ false
+    → nat_lt max_suites (suites_with (intended t parts store)) ≡ false
 not_over store t parts cut once rising is few =
     let counted = suites_intended store t parts once rising in
     let planned = count_by-le-length (λ pair. not (has_copy store pair.0)) store.intentions in

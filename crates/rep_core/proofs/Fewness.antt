@@ -126,7 +126,8 @@ module _ (c0 : Configuration) where
     one_ordered e copies rising = elim (e.1.t == t) as (λ b. IsOrdered nat_cmp (cond b (with_taken c0 e.0 e.1.take copies) copies)) [ true ↦ taken_ordered e.1.take copies e.0 rising | false ↦ rising ]
 
     one_long : (e : ℕ × Intention) (copies : List (ℕ × Replica)) → IsOrdered nat_cmp copies → length (after_one e copies) ≤ length copies + cond (is_of t e && not (there copies e.0)) 1 0
-    one_long e copies rising = elim (e.1.t == t) as (λ b. length (cond b (with_taken c0 e.0 e.1.take copies) copies) ≤ length copies + cond (b && not (there copies e.0)) 1 0) [ true ↦ taken_long e.1.take copies e.0 rising | false ↦ omega arith ]
+    one_long e copies rising = elim (e.1.t == t) as (λ b. length (cond b (with_taken c0 e.0 e.1.take copies) copies) ≤ length copies + cond (b && not (there copies e.0)) 1 0)
+        [ true ↦ taken_long e.1.take copies e.0 rising | false ↦ omega arith ]
 
     all_there : (intentions : List (ℕ × Intention)) (copies : List (ℕ × Replica)) (z : ℕ) → there copies z ≡ true → there (with_copies c0 t intentions copies) z ≡ true
     all_there [] copies z is = is
@@ -157,7 +158,8 @@ few_answered store t rising =
     let old = store.copies in
     let new = with_copies store.c0 t store.intentions old in
     let left = count_filter (λ e. not (there new e.0)) (λ e. not (e.1.t == t)) store.intentions in
-    let fewer = count_weaker (λ x. not (is_of t x) && not (there new x.0)) (λ x. not (is_of t x) && not (there old x.0)) (λ x. was_absent store.c0 t (not (is_of t x)) (there old x.0) (there new x.0) (all_there store.c0 t store.intentions old x.0)) store.intentions in
+    let fewer = count_weaker (λ x. not (is_of t x) && not (there new x.0)) (λ x. not (is_of t x) && not (there old x.0))
+    (λ x. was_absent store.c0 t (not (is_of t x)) (there old x.0) (there new x.0) (all_there store.c0 t store.intentions old x.0)) store.intentions in
     let ways = count_ways (λ e. not (there old e.0)) (is_of t) store.intentions in
     omega (arith, all_long store.c0 t store.intentions old rising, left, fewer, ways)
 

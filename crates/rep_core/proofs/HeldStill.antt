@@ -66,7 +66,12 @@ module _ (t suite : ℕ) (mode : LockMode) where
   mode_locked : (u s : ℕ) (m : LockMode) (ls : List Lock) → HasMode ls → HasMode (locked u s m ls)
   mode_locked u s m ls is =
       elim (has_lock u s ls) as (λ b. HasMode (cond b (raised u s m ls) (with_lock (new_lock u s m) ls))) [
-        | true ↦ record { lock = raised_lock u s m is.lock; there = map_has (raised_lock u s m) ls is.lock is.there; own = is.own; strong = serves_on mode is.lock.mode (raised_lock u s m is.lock).mode is.strong (raised_serves u s m is.lock) }
+        | true ↦ record {
+          lock = raised_lock u s m is.lock;
+          there = map_has (raised_lock u s m) ls is.lock is.there;
+          own = is.own;
+          strong = serves_on mode is.lock.mode (raised_lock u s m is.lock).mode is.strong (raised_serves u s m is.lock);
+        }
         | false ↦ record { lock = is.lock; there = between_has (λ other. before other (new_lock u s m)) ls (new_lock u s m) is.lock is.there; own = is.own; strong = is.strong }
       ]
 
@@ -166,7 +171,8 @@ module _ (t suite : ℕ) (mode : LockMode) where
     strong : HasMode new.locks
     copy : HasCopy t suite (copy_of st.store suite) new.locks new.store
 
-  stands_later : (st : State) (asked : Stamped Request) (prefix : Prefix) (dver : ℕ) (later : List (Stamped Request)) → IsConsistent st → is_full st asked ≡ false → LockTold st (after st asked.value) t suite mode prefix dver → served_by (is_taking t) (served st asked) later ≡ false
+  stands_later : (st : State) (asked : Stamped Request) (prefix : Prefix) (dver : ℕ) (later : List (Stamped Request)) → IsConsistent st → is_full st asked ≡ false
+      → LockTold st (after st asked.value) t suite mode prefix dver → served_by (is_taking t) (served st asked) later ≡ false
       → Stands st (later_on st asked later)
   stands_later st asked prefix dver later is room told other =
       let start = served st asked in
@@ -188,7 +194,8 @@ module _ (t suite : ℕ) (mode : LockMode) where
       ∙ (λ i. reply.Held (one i) (two i))
 
 later_polled : (st : State) (stamp t suite : ℕ) (mode : LockMode) (prefix : Prefix) (dver : ℕ) (later : List (Stamped Request)) → IsConsistent st → is_full st (sent stamp (request.Poll t suite mode)) ≡ false
-    → reply_of st (request.Poll t suite mode) ≡ reply.Held prefix dver → served_by (is_taking t) (served st (sent stamp (request.Poll t suite mode))) later ≡ false → StaysLater st (later_on st (sent stamp (request.Poll t suite mode)) later) (request.Poll t suite mode)
+    → reply_of st (request.Poll t suite mode) ≡ reply.Held prefix dver → served_by (is_taking t) (served st (sent stamp (request.Poll t suite mode))) later ≡ false
+    → StaysLater st (later_on st (sent stamp (request.Poll t suite mode)) later) (request.Poll t suite mode)
 later_polled st stamp t suite mode prefix dver later is room said other =
     let asked = sent stamp (request.Poll t suite mode) in
     let new = later_on st asked later in
@@ -199,7 +206,8 @@ later_polled st stamp t suite mode prefix dver later is room said other =
     refl
 
 later_upgraded : (st : State) (stamp t suite : ℕ) (prefix : Prefix) (dver : ℕ) (later : List (Stamped Request)) → IsConsistent st → is_full st (sent stamp (request.Upgrade t suite)) ≡ false
-    → reply_of st (request.Upgrade t suite) ≡ reply.Held prefix dver → served_by (is_taking t) (served st (sent stamp (request.Upgrade t suite))) later ≡ false → StaysLater st (later_on st (sent stamp (request.Upgrade t suite)) later) (request.Upgrade t suite)
+    → reply_of st (request.Upgrade t suite) ≡ reply.Held prefix dver → served_by (is_taking t) (served st (sent stamp (request.Upgrade t suite))) later ≡ false
+    → StaysLater st (later_on st (sent stamp (request.Upgrade t suite)) later) (request.Upgrade t suite)
 later_upgraded st stamp t suite prefix dver later is room said other =
     let asked = sent stamp (request.Upgrade t suite) in
     let new = later_on st asked later in

@@ -125,7 +125,8 @@ module _ (t : ℕ) (intentions : List (ℕ × Intention)) (i : ℕ) (pair : ℕ 
         ∙ ap (λ b. with_forms t (drop (i + 1) intentions) (cond b (with_form pair.0 pair.1.take forms) forms)) mine
         ∙ ap (λ l. with_forms t l (with_form pair.0 pair.1.take forms)) (sym behind)
 
-    pub with_copies-taken : (c0 : Configuration) (copies taken : List (ℕ × Replica)) → IfSome (get nat_cmp intentions pair.0) (λ intention. (c : Configuration) → taken ≡ with_taken c pair.0 intention.take copies) → with_copies c0 t (drop i intentions) copies ≡ with_copies c0 t (drop i after) taken
+    pub with_copies-taken : (c0 : Configuration) (copies taken : List (ℕ × Replica)) → IfSome (get nat_cmp intentions pair.0)
+        (λ intention. (c : Configuration) → taken ≡ with_taken c pair.0 intention.take copies) → with_copies c0 t (drop i intentions) copies ≡ with_copies c0 t (drop i after) taken
     with_copies-taken c0 copies taken said =
         let is_taken : taken ≡ with_taken c0 pair.0 pair.1.take copies = subst (λ o. IfSome o (λ intention. (c : Configuration) → taken ≡ with_taken c pair.0 intention.take copies)) (has_at intentions i pair rising in_range is) said c0 in
         ap (λ l. with_copies c0 t l copies) next

@@ -51,7 +51,8 @@ other_suite a b e h = grind (arith, nat_tests)
 
 kept_here : (t : ℕ) (part : Part) (intentions : List (ℕ × Intention)) → get nat_cmp (with_intention t part intentions) part.suite ≡ planned t (Some part) (get nat_cmp intentions part.suite)
 kept_here t part intentions =
-    elim (is_keep part.take) as (λ b. get nat_cmp (cond b intentions (insert nat_cmp intentions part.suite (record { t = t; take = part.take }))) part.suite ≡ cond b (get nat_cmp intentions part.suite) (Some (record { t = t; take = part.take }))) [
+    elim (is_keep part.take) as (λ b. get nat_cmp (cond b intentions (insert nat_cmp intentions part.suite (record { t = t; take = part.take }))) part.suite ≡ cond b
+    (get nat_cmp intentions part.suite) (Some (record { t = t; take = part.take }))) [
       | true ↦ refl
       | false ↦ get_insert_here intentions part.suite (record { t = t; take = part.take })
     ]
@@ -70,7 +71,8 @@ get_unnamed t (part ∷ parts) intentions suite apart =
     let both = or_parts (part.suite == suite) (list_any (λ part. part.suite == suite) parts) apart in
     get_unnamed t parts (with_intention t part intentions) suite both.1 ∙ kept_apart t part intentions suite both.0
 
-pub get-with_intentions : (t : ℕ) (parts : List Part) (intentions : List (ℕ × Intention)) (suite : ℕ) → lists_twice parts ≡ false → get nat_cmp (with_intentions t parts intentions) suite ≡ planned t (part_of suite parts) (get nat_cmp intentions suite)
+pub get-with_intentions : (t : ℕ) (parts : List Part) (intentions : List (ℕ × Intention)) (suite : ℕ) → lists_twice parts ≡ false
+    → get nat_cmp (with_intentions t parts intentions) suite ≡ planned t (part_of suite parts) (get nat_cmp intentions suite)
 get-with_intentions t [] intentions suite once = refl
 get-with_intentions t (part ∷ parts) intentions suite once =
     let both = or_parts (list_any (λ later. later.suite == part.suite) parts) (lists_twice parts) once in

@@ -84,7 +84,8 @@ is_of t pair = pair.1.t == t
 
 module _ (t : ℕ) where
   -- an intention that is left was there, and is another transaction's
-  pub get-without : (intentions : List (ℕ × Intention)) (suite : ℕ) (intention : Intention) → IsOrdered nat_cmp intentions → get nat_cmp (without_intentions t intentions) suite ≡ Some intention → (get nat_cmp intentions suite ≡ Some intention) × ((intention.t == t) ≡ false)
+  pub get-without : (intentions : List (ℕ × Intention)) (suite : ℕ) (intention : Intention) → IsOrdered nat_cmp intentions
+      → get nat_cmp (without_intentions t intentions) suite ≡ Some intention → (get nat_cmp intentions suite ≡ Some intention) × ((intention.t == t) ≡ false)
   get-without [] suite intention rising has = absurd (none-some intention has)
   get-without (e ∷ es) suite intention rising has = ⊎_elim
       (λ mine.
@@ -106,7 +107,8 @@ module _ (t : ℕ) where
 -- ---- what a take makes of the copies
 
 -- where a copy is there, it is replaced
-pub taken_present : (c0 : Configuration) (copies : List (ℕ × Replica)) (suite : ℕ) (prefix : Prefix) (copy : Replica) → IsOrdered nat_cmp copies → get nat_cmp copies suite ≡ Some copy → with_taken c0 suite (take.Prefix prefix) copies ≡ replace nat_cmp copies suite (with_prefix prefix copy)
+pub taken_present : (c0 : Configuration) (copies : List (ℕ × Replica)) (suite : ℕ) (prefix : Prefix) (copy : Replica) → IsOrdered nat_cmp copies
+    → get nat_cmp copies suite ≡ Some copy → with_taken c0 suite (take.Prefix prefix) copies ≡ replace nat_cmp copies suite (with_prefix prefix copy)
 taken_present c0 copies suite prefix copy rising has =
     ap (λ o. insert nat_cmp copies suite (with_prefix prefix (unwrap_or o (absent_copy c0)))) has
     ∙ insert_present nat_cmp_total copies suite (with_prefix prefix copy) rising (ap is_some has)
@@ -129,7 +131,8 @@ module _ (c0 : Configuration) where
   copy_in-apart (take.Whole replica) copies suite q apart = ap (λ o. unwrap_or o (absent_copy c0)) (get_insert_apart copies suite _ q apart)
 
   -- once the intentions of a transaction have become copies, the copy of a suite is the one that was in effect with the transaction decided
-  pub copy_in-with_copies : (t : ℕ) (intentions : List (ℕ × Intention)) (copies : List (ℕ × Replica)) (suite : ℕ) → IsOrdered nat_cmp intentions → copy_in c0 (with_copies c0 t intentions copies) suite ≡ in_effect (get nat_cmp intentions suite) (λ u. u == t) (copy_in c0 copies suite)
+  pub copy_in-with_copies : (t : ℕ) (intentions : List (ℕ × Intention)) (copies : List (ℕ × Replica)) (suite : ℕ) → IsOrdered nat_cmp intentions
+      → copy_in c0 (with_copies c0 t intentions copies) suite ≡ in_effect (get nat_cmp intentions suite) (λ u. u == t) (copy_in c0 copies suite)
   copy_in-with_copies t [] copies suite rising = refl
   copy_in-with_copies t (e ∷ es) copies suite rising =
       let after : List (ℕ × Replica) = cond (is_of t e) (with_taken c0 e.0 e.1.take copies) copies in

@@ -25,7 +25,27 @@ use Rattle.rep_core.specs.declared.stamped.Stamped.{Stamped}
 use Rattle.rep_core.specs.Locks.{is_own, has_lock, has_prepared, has_lock_for, before, raised_lock, raised, with_lock, locked, prepared_lock}
 use Rattle.rep_core.specs.Store.{Store, copy_of, is_keep, is_sound_part, lists_twice, with_intention, with_intentions, with_taken, with_copies, with_form, with_forms, finished, left_by}
 use Rattle.rep_core.specs.State.{State, record_of}
-use Rattle.rep_core.specs.Service.{reply_of, after, reply_up, reply_down, after_up, after_down, given, fetch_reply, stands_prepared, can_prepare, prepares, prepare_reply, after_prepare, recorded, after_record, verdict_of, audit_of, is_answered, after_finish}
+use Rattle.rep_core.specs.Service.{
+  reply_of,
+  after,
+  reply_up,
+  reply_down,
+  after_up,
+  after_down,
+  given,
+  fetch_reply,
+  stands_prepared,
+  can_prepare,
+  prepares,
+  prepare_reply,
+  after_prepare,
+  recorded,
+  after_record,
+  verdict_of,
+  audit_of,
+  is_answered,
+  after_finish,
+}
 use Rattle.rep_core.specs.Serving.{is_full, served, step}
 use Rattle.rep_core.specs.Consistency.{IsConsistent}
 use Rattle.rep_core.specs.Laws.{after_all, finished_by, asks_record}
@@ -80,7 +100,8 @@ module _ (H : List Lock → Store → Type 0) (test : Request → Bool) where
 
 -- ---- a record
 
-pub later_recorded : (st : State) (stamp : ℕ) (asked : Request) (later : List (Stamped Request)) (t : ℕ) (v : Verdict) → asks_record t asked ≡ true → reply_of st asked ≡ reply.Verdict v → StaysLater st (later_on st (sent stamp asked) later) asked
+pub later_recorded : (st : State) (stamp : ℕ) (asked : Request) (later : List (Stamped Request)) (t : ℕ) (v : Verdict) → asks_record t asked ≡ true
+    → reply_of st asked ≡ reply.Verdict v → StaysLater st (later_on st (sent stamp asked) later) asked
 later_recorded st stamp (request.Decide u decision) later t v is said =
     let new = later_on st (sent stamp (request.Decide u decision)) later in
     let still : record_of new u ≡ Some v = record_stays later (served st (sent stamp (request.Decide u decision))) u v (decide_ruled st u decision v said) in
@@ -127,7 +148,8 @@ told_prepared st t parts said =
       | false ↦ λ said. absurd cc
     ] said
   where
-    by : (stands can : Bool) → stands_prepared st t parts ≡ stands → can_prepare st t parts ≡ can → cond (stands || can) reply.Prepared reply.Lost ≡ reply.Prepared → stands_prepared (cond (not stands && can) (laid t parts st) st) t parts ≡ true
+    by : (stands can : Bool) → stands_prepared st t parts ≡ stands → can_prepare st t parts ≡ can → cond (stands || can) reply.Prepared reply.Lost ≡ reply.Prepared
+        → stands_prepared (cond (not stands && can) (laid t parts st) st) t parts ≡ true
     by true can stands is said = stands
     by false false stands is said = absurd cc
     by false true stands is said =
@@ -212,7 +234,8 @@ module _ (t : ℕ) where
             (none_kept (λ (lock : Lock). lock.t == t) (λ other. not (before other (new_lock u s m))) ls none)
       ]
 
-  none_inserted : (pairs : List (ℕ × Intention)) (suite : ℕ) (intention : Intention) → (intention.t == t) ≡ false → list_any (λ (pair : ℕ × Intention). pair.1.t == t) pairs ≡ false → list_any (λ (pair : ℕ × Intention). pair.1.t == t) (insert nat_cmp pairs suite intention) ≡ false
+  none_inserted : (pairs : List (ℕ × Intention)) (suite : ℕ) (intention : Intention) → (intention.t == t) ≡ false
+      → list_any (λ (pair : ℕ × Intention). pair.1.t == t) pairs ≡ false → list_any (λ (pair : ℕ × Intention). pair.1.t == t) (insert nat_cmp pairs suite intention) ≡ false
   none_inserted [] suite intention other none = ap (λ b. b || false) other
   none_inserted (e ∷ es) suite intention other none =
       let parts = or_parts (e.1.t == t) (list_any (λ (pair : ℕ × Intention). pair.1.t == t) es) none in
@@ -222,7 +245,8 @@ module _ (t : ℕ) where
         | Greater ↦ ap (λ b. b || list_any (λ (pair : ℕ × Intention). pair.1.t == t) (insert nat_cmp es suite intention)) parts.0 ∙ none_inserted es suite intention other parts.1
       ]
 
-  none_intended : (u : ℕ) (parts : List Part) (intentions : List (ℕ × Intention)) → (u == t) ≡ false → list_any (λ (pair : ℕ × Intention). pair.1.t == t) intentions ≡ false → list_any (λ (pair : ℕ × Intention). pair.1.t == t) (with_intentions u parts intentions) ≡ false
+  none_intended : (u : ℕ) (parts : List Part) (intentions : List (ℕ × Intention)) → (u == t) ≡ false → list_any (λ (pair : ℕ × Intention). pair.1.t == t) intentions ≡ false
+      → list_any (λ (pair : ℕ × Intention). pair.1.t == t) (with_intentions u parts intentions) ≡ false
   none_intended u [] intentions other none = none
   none_intended u (part ∷ parts) intentions other none = none_intended u parts (with_intention u part intentions) other
       (elim (is_keep part.take) as (λ b. list_any (λ (pair : ℕ × Intention). pair.1.t == t) (cond b intentions (insert nat_cmp intentions part.suite (record { t = u; take = part.take }))) ≡ false) [
@@ -356,7 +380,8 @@ module _ (t suite : ℕ) (copy : Replica) where
       let lock = is.locked suite intention there in
       sym lock.of_it ∙ is.alone lock.lock found.0 lock.there (contains_from st.locks found.0 found.1) (lock.on_it ∙ sym own.1) lock.exclusive ∙ own.0
 
-  other_stored : (st : State) (u : ℕ) (answered : Bool) → IsConsistent st → has_lock t suite st.locks ≡ true → (u == t) ≡ false → (o : Option Intention) → get nat_cmp st.store.intentions suite ≡ o → stored answered u o (copy_of st.store suite) ≡ copy_of st.store suite
+  other_stored : (st : State) (u : ℕ) (answered : Bool) → IsConsistent st → has_lock t suite st.locks ≡ true → (u == t) ≡ false → (o : Option Intention)
+      → get nat_cmp st.store.intentions suite ≡ o → stored answered u o (copy_of st.store suite) ≡ copy_of st.store suite
   other_stored st u false is has other o there = refl
   other_stored st u true is has other None there = refl
   other_stored st u true is has other (Some intention) there =
@@ -383,7 +408,8 @@ module _ (t suite : ℕ) (copy : Replica) where
     return = λ _. now;
   }
 
-  pub still_copy : (later : List (Stamped Request)) (st : State) → IsConsistent st → HasCopy t suite copy st.locks st.store → served_by (is_taking t) st later ≡ false → HasCopy t suite copy (after_all st later).locks (after_all st later).store
+  pub still_copy : (later : List (Stamped Request)) (st : State) → IsConsistent st → HasCopy t suite copy st.locks st.store → served_by (is_taking t) st later ≡ false
+      → HasCopy t suite copy (after_all st later).locks (after_all st later).store
   still_copy [] st is now other = now
   still_copy (first ∷ later) st is now other =
       let parts = or_parts (is_taking t first.value && st.up && not (is_full st first)) (served_by (is_taking t) (step st first) later) other in
@@ -393,10 +419,11 @@ module _ (t suite : ℕ) (copy : Replica) where
 told_given : (st : State) (t suite dver : ℕ) (content : Content) → reply_of st (request.Fetch t suite) ≡ reply.Given dver content → (has_lock t suite st.locks ≡ true) × (reply_of st (request.Fetch t suite) ≡ given (copy_of st.store suite))
 told_given st t suite dver content said =
     elim (st.up) as (λ b. cond b (fetch_reply st t suite) reply.Down ≡ reply.Given dver content → (has_lock t suite st.locks ≡ true) × (cond b (fetch_reply st t suite) reply.Down ≡ given (copy_of st.store suite))) [
-      | true ↦ λ said. elim (has_lock t suite st.locks) as (λ b. cond b (given (copy_of st.store suite)) reply.Lost ≡ reply.Given dver content → (b ≡ true) × (cond b (given (copy_of st.store suite)) reply.Lost ≡ given (copy_of st.store suite))) [
-        | true ↦ λ _. (refl, refl)
-        | false ↦ λ said. absurd cc
-      ] said
+      | true ↦ λ said. elim (has_lock t suite st.locks) as (λ b. cond b (given (copy_of st.store suite)) reply.Lost ≡ reply.Given dver content
+          → (b ≡ true) × (cond b (given (copy_of st.store suite)) reply.Lost ≡ given (copy_of st.store suite))) [
+            | true ↦ λ _. (refl, refl)
+            | false ↦ λ said. absurd cc
+          ] said
       | false ↦ λ said. absurd cc
     ] said
 
@@ -407,7 +434,8 @@ stamped st stamp is = record { rising = is.rising; copies_rise = is.copies_rise;
 fetches_same : (st : State) (t suite : ℕ) → after st (request.Fetch t suite) ≡ st
 fetches_same st t suite = elim (st.up) as (λ b. cond b st st ≡ st) [ true ↦ refl | false ↦ refl ]
 
-pub later_fetched : (st : State) (stamp t suite dver : ℕ) (content : Content) (later : List (Stamped Request)) → IsConsistent st → reply_of st (request.Fetch t suite) ≡ reply.Given dver content → served_by (is_taking t) (served st (sent stamp (request.Fetch t suite))) later ≡ false
+pub later_fetched : (st : State) (stamp t suite dver : ℕ) (content : Content) (later : List (Stamped Request)) → IsConsistent st
+    → reply_of st (request.Fetch t suite) ≡ reply.Given dver content → served_by (is_taking t) (served st (sent stamp (request.Fetch t suite))) later ≡ false
     → StaysLater st (later_on st (sent stamp (request.Fetch t suite)) later) (request.Fetch t suite)
 later_fetched st stamp t suite dver content later is said other =
     let new = later_on st (sent stamp (request.Fetch t suite)) later in

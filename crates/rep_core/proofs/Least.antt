@@ -58,7 +58,9 @@ same_lock (l ∷ ls) a b up has_a has_b t suite =
 -- ---- Busy
 
 module _ (st : State) (up : rise st.locks ≡ true) where
-  named : (asked : Request) (t suite : ℕ) (mode : LockMode) → ((lock : Lock) → stands_against asked lock ≡ conflicts t suite mode lock) → (holder : ℕ) (prepared : Bool) (other : Option Lock) → in_the_way t suite mode st.locks ≡ other → locking_reply other (copy_of st.store suite) ≡ reply.Busy holder prepared → IsLeastHolder st.locks asked holder prepared
+  named : (asked : Request) (t suite : ℕ) (mode : LockMode) → ((lock : Lock) → stands_against asked lock ≡ conflicts t suite mode lock)
+      → (holder : ℕ) (prepared : Bool) (other : Option Lock) → in_the_way t suite mode st.locks ≡ other → locking_reply other (copy_of st.store suite) ≡ reply.Busy holder prepared
+      → IsLeastHolder st.locks asked holder prepared
   named asked t suite mode same holder prepared None is said = absurd cc
   named asked t suite mode same holder prepared (Some lock) is said =
       let holds : lock.t ≡ holder = cc in

@@ -58,7 +58,8 @@ remove_in (e ∷ es) suite =
 pub insert_in : (pairs : List (ℕ × Planned)) (suite : ℕ) (planned : Planned) → insert nat_cmp (intentions_in pairs) suite (intention_in planned) ≡ intentions_in (insert nat_cmp pairs suite planned)
 insert_in [] suite planned = refl
 insert_in (e ∷ es) suite planned =
-    elim (nat_cmp suite e.0) as (λ o. match_ordering o ((suite, intention_in planned) ∷ intentions_in (e ∷ es)) ((e.0, intention_in planned) ∷ intentions_in es) ((e.0, intention_in e.1) ∷ insert nat_cmp (intentions_in es) suite (intention_in planned))
+    elim (nat_cmp suite e.0) as (λ o. match_ordering o ((suite, intention_in planned) ∷ intentions_in (e ∷ es)) ((e.0, intention_in planned) ∷ intentions_in es)
+    ((e.0, intention_in e.1) ∷ insert nat_cmp (intentions_in es) suite (intention_in planned))
     ≡ intentions_in (match_ordering o ((suite, planned) ∷ e ∷ es) ((e.0, planned) ∷ es) (e ∷ insert nat_cmp es suite planned))) [
       | ord.Less ↦ refl
       | ord.Equal ↦ refl
@@ -68,7 +69,8 @@ insert_in (e ∷ es) suite planned =
 pub without_in : (t : ℕ) (pairs : List (ℕ × Planned)) → intentions_in (filter (λ pair. not (pair.1.t == t)) pairs) ≡ filter (λ pair. not (pair.1.t == t)) (intentions_in pairs)
 without_in t [] = refl
 without_in t (e ∷ es) =
-    elim (not (e.1.t == t)) as (λ b. intentions_in (cond b (e ∷ filter (λ pair. not (pair.1.t == t)) es) (filter (λ pair. not (pair.1.t == t)) es)) ≡ cond b ((e.0, intention_in e.1) ∷ filter (λ pair. not (pair.1.t == t)) (intentions_in es)) (filter (λ pair. not (pair.1.t == t)) (intentions_in es))) [
+    elim (not (e.1.t == t)) as (λ b. intentions_in (cond b (e ∷ filter (λ pair. not (pair.1.t == t)) es) (filter (λ pair. not (pair.1.t == t)) es)) ≡ cond b
+    ((e.0, intention_in e.1) ∷ filter (λ pair. not (pair.1.t == t)) (intentions_in es)) (filter (λ pair. not (pair.1.t == t)) (intentions_in es))) [
       | true ↦ ap (λ l. (e.0, intention_in e.1) ∷ l) (without_in t es)
       | false ↦ without_in t es
     ]
@@ -161,7 +163,9 @@ planned_kept c0 copies t (part ∷ parts) pairs = ⊎_elim
     (λ changes.
     ap (λ b. intentions_in (with_all (cond b (planned_of c0 copies t parts) ((part.suite, made) ∷ planned_of c0 copies t parts)) pairs)) changes
     ∙ planned_kept c0 copies t parts (insert nat_cmp pairs part.suite made)
-    ∙ ap (λ l. with_intentions t parts l) (sym (insert_in pairs part.suite made) ∙ ap (λ what. insert nat_cmp (intentions_in pairs) part.suite (let i : Intention = record { t = t; take = what } in i)) (take_back part.take (copy_in c0 copies part.suite) changes))
+    ∙ ap (λ l. with_intentions t parts l) (sym (insert_in pairs part.suite made) ∙ ap
+    (λ what. insert nat_cmp (intentions_in pairs) part.suite (let i : Intention = record { t = t; take = what } in i))
+    (take_back part.take (copy_in c0 copies part.suite) changes))
     ∙ ap (λ b. with_intentions t parts (cond b (intentions_in pairs) (insert nat_cmp (intentions_in pairs) part.suite new))) (sym changes))
     (cases_Bool (is_keep part.take))
   where

@@ -92,7 +92,8 @@ ruled st t new v item None is said = let same : new ≡ v = cc in record_here st
 
 pub decide_ruled : (st : State) (t : ℕ) (decision : Decision) (v : Verdict) → reply_of st (request.Decide t decision) ≡ reply.Verdict v → record_of (after st (request.Decide t decision)) t ≡ Some v
 decide_ruled st t decision v said =
-    elim (st.up) as (λ b. cond b (reply.Verdict (recorded (record_of st t) (verdict_of decision))) reply.Down ≡ reply.Verdict v → record_of (cond b (after_record (record_of st t) t (verdict_of decision) (audit_of t decision) st) st) t ≡ Some v) [
+    elim (st.up) as (λ b. cond b (reply.Verdict (recorded (record_of st t) (verdict_of decision))) reply.Down ≡ reply.Verdict v
+    → record_of (cond b (after_record (record_of st t) t (verdict_of decision) (audit_of t decision) st) st) t ≡ Some v) [
       | true ↦ λ said. ruled st t (verdict_of decision) v (audit_of t decision) (record_of st t) refl said
       | false ↦ λ said. absurd cc
     ] said

@@ -24,7 +24,8 @@ pub record LockTold (st new : State) (t suite : ℕ) (mode : LockMode) (prefix :
   pub dver_is : (copy_of st.store suite).dver ≡ dver
   pub later : new ≡ with_locked t suite mode st
 
-locking_told : (st : State) (t suite : ℕ) (mode : LockMode) (prefix : Prefix) (dver : ℕ) (o : Option Lock) → in_the_way t suite mode st.locks ≡ o → locking_reply o (copy_of st.store suite) ≡ reply.Held prefix dver → LockTold st (after_locking o t suite mode st) t suite mode prefix dver
+locking_told : (st : State) (t suite : ℕ) (mode : LockMode) (prefix : Prefix) (dver : ℕ) (o : Option Lock) → in_the_way t suite mode st.locks ≡ o
+    → locking_reply o (copy_of st.store suite) ≡ reply.Held prefix dver → LockTold st (after_locking o t suite mode st) t suite mode prefix dver
 locking_told st t suite mode prefix dver (Some other) is said = absurd cc
 locking_told st t suite mode prefix dver None is said =
     let one : (copy_of st.store suite).prefix ≡ prefix = cc in
@@ -38,13 +39,15 @@ poll_told st t suite mode prefix dver said =
       | false ↦ λ said. absurd cc
     ] said
 
-pub upgrade_told : (st : State) (t suite : ℕ) (prefix : Prefix) (dver : ℕ) → reply_of st (request.Upgrade t suite) ≡ reply.Held prefix dver → (has_lock t suite st.locks ≡ true) × LockTold st (after st (request.Upgrade t suite)) t suite Exclusive prefix dver
+pub upgrade_told : (st : State) (t suite : ℕ) (prefix : Prefix) (dver : ℕ) → reply_of st (request.Upgrade t suite) ≡ reply.Held prefix dver
+    → (has_lock t suite st.locks ≡ true) × LockTold st (after st (request.Upgrade t suite)) t suite Exclusive prefix dver
 upgrade_told st t suite prefix dver said =
     elim (st.up) as (λ b. cond b (upgrade_reply st t suite) reply.Down ≡ reply.Held prefix dver → (has_lock t suite st.locks ≡ true) × LockTold st (cond b (after_upgrade st t suite) st) t suite Exclusive prefix dver) [
-      | true ↦ λ said. elim (has_lock t suite st.locks) as (λ b. cond b (poll_reply st t suite Exclusive) reply.Lost ≡ reply.Held prefix dver → (b ≡ true) × LockTold st (cond b (after_poll st t suite Exclusive) st) t suite Exclusive prefix dver) [
-        | true ↦ λ said. (refl, locking_told st t suite Exclusive prefix dver (in_the_way t suite Exclusive st.locks) refl said)
-        | false ↦ λ said. absurd cc
-      ] said
+      | true ↦ λ said. elim (has_lock t suite st.locks) as (λ b. cond b (poll_reply st t suite Exclusive) reply.Lost ≡ reply.Held prefix dver
+          → (b ≡ true) × LockTold st (cond b (after_poll st t suite Exclusive) st) t suite Exclusive prefix dver) [
+            | true ↦ λ said. (refl, locking_told st t suite Exclusive prefix dver (in_the_way t suite Exclusive st.locks) refl said)
+            | false ↦ λ said. absurd cc
+          ] said
       | false ↦ λ said. absurd cc
     ] said
 
@@ -79,7 +82,8 @@ prepares_if false false true h n said = refl
 prepares_if false false false h n said = absurd cc
 
 -- where the transaction had nothing prepared, and there are parts, these are prepared afterwards
-pub prepared_told : (st : State) (t : ℕ) (parts : List Part) → has_prepared t st.locks ≡ false → (length parts == 0) ≡ false → reply_of st (request.Prepare t parts) ≡ reply.Prepared → (prepares st t parts ≡ true) × (after st (request.Prepare t parts) ≡ laid t parts st)
+pub prepared_told : (st : State) (t : ℕ) (parts : List Part) → has_prepared t st.locks ≡ false → (length parts == 0) ≡ false
+    → reply_of st (request.Prepare t parts) ≡ reply.Prepared → (prepares st t parts ≡ true) × (after st (request.Prepare t parts) ≡ laid t parts st)
 prepared_told st t parts first some said =
     elim (st.up) as (λ b. cond b (prepare_reply st t parts) reply.Down ≡ reply.Prepared → (prepares st t parts ≡ true) × (cond b (after_prepare st t parts) st ≡ laid t parts st)) [
       | true ↦ λ said.

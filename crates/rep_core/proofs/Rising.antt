@@ -136,7 +136,9 @@ insert_at_place l [] up = refl
 insert_at_place l (x ∷ ls) up =
     let parts = and_parts (list_all (before x) ls) (rise ls) up in
     let p : Lock → Bool = λ x. before x l in
-    ap (λ n. insert (x ∷ ls) n l) (count_cons p x ls) ∙ elim (before x l) as (λ b. before x l ≡ b → insert (x ∷ ls) (cond b 1 0 + count_by p ls) l ≡ cond b (x ∷ filter p ls) (filter p ls) ++ l ∷ cond (not b) (x ∷ filter (λ x. not (p x)) ls) (filter (λ x. not (p x)) ls)) [
+    ap (λ n. insert (x ∷ ls) n l) (count_cons p x ls) ∙ elim (before x l) as
+    (λ b. before x l ≡ b → insert (x ∷ ls) (cond b 1 0 + count_by p ls) l ≡ cond b (x ∷ filter p ls) (filter p ls) ++ l ∷ cond (not b) (x ∷ filter (λ x. not (p x)) ls)
+    (filter (λ x. not (p x)) ls)) [
       | true ↦ λ _. insert_first x l ls (count_by p ls) ∙ ap (λ k. x ∷ k) (insert_at_place l ls parts.1)
       | false ↦ λ over.
           let none = filter_none p (before x) (λ y above. not_after l x y over above) ls parts.0 in

@@ -25,7 +25,32 @@ use Rattle.rep_core.specs.declared.request.Take.{Take}
 use Rattle.rep_core.specs.declared.request.Take.TheVariants as take
 use Rattle.suite_prefix.specs.LockModes.{is_exclusive}
 use Rattle.suite_prefix.specs.Absent.{absent_copy}
-use Rattle.rep_core.specs.Store.{Store, IsSound, is_sound, is_used_up, copy_of, copy_in, left_by, with_prefix, is_keep, may_become, goes_with, holds_last, is_sound_part, with_intention, with_intentions, intended, overfills, suites_with, max_suites, root_copy, opening_store, finished, without_intentions, in_effect}
+use Rattle.rep_core.specs.Store.{
+  Store,
+  IsSound,
+  is_sound,
+  is_used_up,
+  copy_of,
+  copy_in,
+  left_by,
+  with_prefix,
+  is_keep,
+  may_become,
+  goes_with,
+  holds_last,
+  is_sound_part,
+  with_intention,
+  with_intentions,
+  intended,
+  overfills,
+  suites_with,
+  max_suites,
+  root_copy,
+  opening_store,
+  finished,
+  without_intentions,
+  in_effect,
+}
 use Rattle.rep_core.proofs.Intentions.{copy_in-with_copies, get-without}
 
 -- ---- what a take leaves
@@ -131,7 +156,8 @@ part_left_sound : (store : Store) (part : Part) → IsSound store → is_sound_p
 part_left_sound store part sound is last changes =
     left_sound part.take (copy_of store part.suite) changes (and_parts (is_keep part.take || is_exclusive part.mode) (goes_with part.take (copy_of store part.suite)) is).1 last (sound.copies part.suite)
 
-one_more : (store : Store) (t : ℕ) (part : Part) (intentions : List (ℕ × Intention)) → IsSound store → is_sound_part store part ≡ true → holds_last part.take ≡ false → LeaveSound store intentions → LeaveSound store (with_intention t part intentions)
+one_more : (store : Store) (t : ℕ) (part : Part) (intentions : List (ℕ × Intention)) → IsSound store → is_sound_part store part ≡ true → holds_last part.take ≡ false
+    → LeaveSound store intentions → LeaveSound store (with_intention t part intentions)
 one_more store t part intentions sound is last before suite intention has = ⊎_elim
     (λ keep. before suite intention (ap (λ b. get nat_cmp (cond b intentions (insert nat_cmp intentions part.suite (record { t = t; take = part.take }))) suite) (sym keep) ∙ has))
     (λ changes.
@@ -147,14 +173,16 @@ one_more store t part intentions sound is last before suite intention has = ⊎_
     (same_or_apart suite part.suite))
     (cases_Bool (is_keep part.take))
 
-all_more : (store : Store) (t : ℕ) (parts : List Part) (intentions : List (ℕ × Intention)) → IsSound store → list_all (is_sound_part store) parts ≡ true → list_any (λ part. holds_last part.take) parts ≡ false → LeaveSound store intentions → LeaveSound store (with_intentions t parts intentions)
+all_more : (store : Store) (t : ℕ) (parts : List Part) (intentions : List (ℕ × Intention)) → IsSound store → list_all (is_sound_part store) parts ≡ true
+    → list_any (λ part. holds_last part.take) parts ≡ false → LeaveSound store intentions → LeaveSound store (with_intentions t parts intentions)
 all_more store t [] intentions sound are last before = before
 all_more store t (part ∷ parts) intentions sound are last before =
     let is = and_parts (is_sound_part store part) (list_all (is_sound_part store) parts) are in
     let lasts = or_parts (holds_last part.take) (list_any (λ part. holds_last part.take) parts) last in
     all_more store t parts (with_intention t part intentions) sound is.1 lasts.1 (one_more store t part intentions sound is.0 lasts.0 before)
 
-pub sound_intended : (store : Store) (t : ℕ) (parts : List Part) → IsSound store → list_all (is_sound_part store) parts ≡ true → overfills t store parts ≡ false → IsOrdered nat_cmp (with_intentions t parts store.intentions) → IsSound (intended t parts store)
+pub sound_intended : (store : Store) (t : ℕ) (parts : List Part) → IsSound store → list_all (is_sound_part store) parts ≡ true → overfills t store parts ≡ false
+    → IsOrdered nat_cmp (with_intentions t parts store.intentions) → IsSound (intended t parts store)
 sound_intended store t parts sound are few rising = record {
   copies = sound.copies;
   intentions = all_more store t parts store.intentions sound are (or_parts (list_any (λ part. holds_last part.take) parts) (nat_lt max_suites (suites_with (intended t parts store))) few).0 sound.intentions;

@@ -73,7 +73,8 @@ closed_canonical : IsCanonical (minimal_list 0)
 closed_canonical =
     AllPairs-cons stands_ahead (entry_of UserObj 0) (of_group ∷ of_others ∷ [])
     (All-cons (stands_ahead (entry_of UserObj 0)) of_group (of_others ∷ []) refl (All-cons (stands_ahead (entry_of UserObj 0)) of_others [] refl (All-nil (stands_ahead (entry_of UserObj 0)))))
-    (AllPairs-cons stands_ahead of_group (of_others ∷ []) (All-cons (stands_ahead of_group) of_others [] refl (All-nil (stands_ahead of_group))) (AllPairs-cons stands_ahead of_others [] (All-nil (stands_ahead of_others)) (λ i j d below within. absurd (omega arith))))
+    (AllPairs-cons stands_ahead of_group (of_others ∷ []) (All-cons (stands_ahead of_group) of_others [] refl (All-nil (stands_ahead of_group)))
+    (AllPairs-cons stands_ahead of_others [] (All-nil (stands_ahead of_others)) (λ i j d below within. absurd (omega arith))))
 
 closed_acl : IsAcl (minimal_list 0)
 closed_acl = record {
@@ -189,7 +190,8 @@ fit_ways st sound fit = record {
   same = λ _ _. fit;
   poll = λ t suite mode free _. fit;
   upgrade = λ t suite has free _. fit;
-  prepare = λ t parts does few fits. each_intended CopyFits st.store t parts (looked st t parts does).once (λ part there. left_fits part.take (copy_of st.store part.suite) (all_has (λ (part : Part). TakeFits part.take) parts fits part there) (fit.0 part.suite)) fit;
+  prepare = λ t parts does few fits. each_intended CopyFits st.store t parts (looked st t parts does).once
+      (λ part there. left_fits part.take (copy_of st.store part.suite) (all_has (λ (part : Part). TakeFits part.take) parts fits part there) (fit.0 part.suite)) fit;
   decide = λ t decision none _. fit;
   resolve = λ t none _. fit;
   finish = λ t verdict is _. each_finished CopyFits st.store t (is_answered verdict) sound fit;

@@ -64,9 +64,22 @@ is_taking t _ = false
 -- and, at a consistent server, a Poll or an Upgrade that was told Held, and a Fetch that was given a content, until a lock of its transaction
 -- is taken there.
 pub record AgainLater : Type 0 where
-  pub recorded : (st : State) (stamp : ℕ) (asked : Request) (later : List (Stamped Request)) (t : ℕ) (verdict : Verdict) → asks_record t asked ≡ true → reply_of st asked ≡ reply.Verdict verdict → StaysLater st (later_on st (sent stamp asked) later) asked
-  pub prepared : (st : State) (stamp t : ℕ) (parts : List Part) (later : List (Stamped Request)) → reply_of st (request.Prepare t parts) ≡ reply.Prepared → finished_by t (served st (sent stamp (request.Prepare t parts))) later ≡ false → StaysLater st (later_on st (sent stamp (request.Prepare t parts)) later) (request.Prepare t parts)
-  pub finished : (st : State) (stamp t : ℕ) (verdict : Verdict) (later : List (Stamped Request)) → reply_of st (request.Finish t verdict) ≡ reply.Done → served_by (is_poll t) (served st (sent stamp (request.Finish t verdict))) later ≡ false → StaysLater st (later_on st (sent stamp (request.Finish t verdict)) later) (request.Finish t verdict)
-  pub polled : (st : State) (stamp t suite : ℕ) (mode : LockMode) (prefix : Prefix) (dver : ℕ) (later : List (Stamped Request)) → IsConsistent st → is_full st (sent stamp (request.Poll t suite mode)) ≡ false → reply_of st (request.Poll t suite mode) ≡ reply.Held prefix dver → served_by (is_taking t) (served st (sent stamp (request.Poll t suite mode))) later ≡ false → StaysLater st (later_on st (sent stamp (request.Poll t suite mode)) later) (request.Poll t suite mode)
-  pub upgraded : (st : State) (stamp t suite : ℕ) (prefix : Prefix) (dver : ℕ) (later : List (Stamped Request)) → IsConsistent st → is_full st (sent stamp (request.Upgrade t suite)) ≡ false → reply_of st (request.Upgrade t suite) ≡ reply.Held prefix dver → served_by (is_taking t) (served st (sent stamp (request.Upgrade t suite))) later ≡ false → StaysLater st (later_on st (sent stamp (request.Upgrade t suite)) later) (request.Upgrade t suite)
-  pub fetched : (st : State) (stamp t suite dver : ℕ) (content : Content) (later : List (Stamped Request)) → IsConsistent st → reply_of st (request.Fetch t suite) ≡ reply.Given dver content → served_by (is_taking t) (served st (sent stamp (request.Fetch t suite))) later ≡ false → StaysLater st (later_on st (sent stamp (request.Fetch t suite)) later) (request.Fetch t suite)
+  pub recorded : (st : State) (stamp : ℕ) (asked : Request) (later : List (Stamped Request)) (t : ℕ) (verdict : Verdict) → asks_record t asked ≡ true
+      → reply_of st asked ≡ reply.Verdict verdict → StaysLater st (later_on st (sent stamp asked) later) asked
+  pub prepared : (st : State) (stamp t : ℕ) (parts : List Part) (later : List (Stamped Request)) → reply_of st (request.Prepare t parts) ≡ reply.Prepared
+      → finished_by t (served st (sent stamp (request.Prepare t parts))) later ≡ false → StaysLater st (later_on st (sent stamp (request.Prepare t parts)) later)
+      (request.Prepare t parts)
+  pub finished : (st : State) (stamp t : ℕ) (verdict : Verdict) (later : List (Stamped Request)) → reply_of st (request.Finish t verdict) ≡ reply.Done
+      → served_by (is_poll t) (served st (sent stamp (request.Finish t verdict))) later ≡ false
+      → StaysLater st (later_on st (sent stamp (request.Finish t verdict)) later) (request.Finish t verdict)
+  pub polled : (st : State) (stamp t suite : ℕ) (mode : LockMode) (prefix : Prefix) (dver : ℕ) (later : List (Stamped Request)) → IsConsistent st
+      → is_full st (sent stamp (request.Poll t suite mode)) ≡ false → reply_of st (request.Poll t suite mode) ≡ reply.Held prefix dver
+      → served_by (is_taking t) (served st (sent stamp (request.Poll t suite mode))) later ≡ false
+      → StaysLater st (later_on st (sent stamp (request.Poll t suite mode)) later) (request.Poll t suite mode)
+  pub upgraded : (st : State) (stamp t suite : ℕ) (prefix : Prefix) (dver : ℕ) (later : List (Stamped Request)) → IsConsistent st
+      → is_full st (sent stamp (request.Upgrade t suite)) ≡ false → reply_of st (request.Upgrade t suite) ≡ reply.Held prefix dver
+      → served_by (is_taking t) (served st (sent stamp (request.Upgrade t suite))) later ≡ false
+      → StaysLater st (later_on st (sent stamp (request.Upgrade t suite)) later) (request.Upgrade t suite)
+  pub fetched : (st : State) (stamp t suite dver : ℕ) (content : Content) (later : List (Stamped Request)) → IsConsistent st
+      → reply_of st (request.Fetch t suite) ≡ reply.Given dver content → served_by (is_taking t) (served st (sent stamp (request.Fetch t suite))) later ≡ false
+      → StaysLater st (later_on st (sent stamp (request.Fetch t suite)) later) (request.Fetch t suite)

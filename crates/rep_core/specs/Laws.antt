@@ -63,7 +63,8 @@ pub record IsLeastHolder (locks : List Lock) (asked : Request) (holder : ℕ) (p
 
 -- Busy names the least holder in the way
 abbrev pub BusyNamesTheLeast : Type 0
-BusyNamesTheLeast = (index : ℕ) (given : Opening) (before : List (Stamped Request)) (asked : Request) (holder : ℕ) (prepared : Bool) → reply_of (reached index given before) asked ≡ reply.Busy holder prepared → IsLeastHolder (reached index given before).locks asked holder prepared
+BusyNamesTheLeast = (index : ℕ) (given : Opening) (before : List (Stamped Request)) (asked : Request) (holder : ℕ) (prepared : Bool)
+    → reply_of (reached index given before) asked ≡ reply.Busy holder prepared → IsLeastHolder (reached index given before).locks asked holder prepared
 
 -- ---- what is prepared
 
@@ -89,7 +90,8 @@ finished_by t st (asked ∷ later) = (is_finish t asked.value && st.up && not (i
 
 -- a prepared lock stays until its transaction is finished
 abbrev pub PreparedStands : Type 0
-PreparedStands = (index : ℕ) (given : Opening) (before later : List (Stamped Request)) (lock : Lock) → Contains (reached index given before).locks lock → lock.prepared ≡ true → finished_by lock.t (reached index given before) later ≡ false → StandsIn (reached index given (before ++ later)).locks lock
+PreparedStands = (index : ℕ) (given : Opening) (before later : List (Stamped Request)) (lock : Lock) → Contains (reached index given before).locks lock → lock.prepared ≡ true
+    → finished_by lock.t (reached index given before) later ≡ false → StandsIn (reached index given (before ++ later)).locks lock
 
 -- each intention stands beside its transaction's prepared exclusive lock on the suite, and a suite has one intention at most
 pub record IntentionsAreLocked (st : State) : Type 0 where

@@ -14,7 +14,7 @@ mod row;
 
 use byte_streams::{MemoryIn, MemoryOut, SystemIn, SystemOut, read_all, write_all};
 use line::Unread;
-use report::{RowAt, Report};
+use report::{Report, RowAt};
 use row::Row;
 use std::alloc::{AllocError, Global};
 use std::io;

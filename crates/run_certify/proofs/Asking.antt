@@ -90,7 +90,8 @@ served_otherwise old mid agent server stamp one done of played not was it =
     not (ap (λ who. served_as who done.served) of ∙ ap (λ (s : Stepped). served_as (Some agent) s.done.served) (sym played.is) ∙ so.served))
 
 -- the job ended otherwise
-pub ended_otherwise : (old mid noted : Walked) (agent server stamp : ℕ) (one : ItemAt) (done : Done) → one.item.agent ≡ Some agent → IsEvent old (Step agent) done mid → noted.unused ≡ mid.unused → EndsOtherwise noted.unused agent done.outcome
+pub ended_otherwise : (old mid noted : Walked) (agent server stamp : ℕ) (one : ItemAt) (done : Done) → one.item.agent ≡ Some agent → IsEvent old (Step agent) done mid
+    → noted.unused ≡ mid.unused → EndsOtherwise noted.unused agent done.outcome
     → AskedFails agent server stamp one old
 ended_otherwise old mid noted agent server stamp one done of played same not was it =
     asked_unlike was old agent server stamp one of it (λ so.
@@ -104,7 +105,8 @@ some_what who (Some what) one is = (what, refl)
 some_what who None one is = absurd (none-some one is)
 
 -- what was decided in it
-decided_so : (was old mid : Walked) (agent : ℕ) (entry : Entry) (done : Done) → IsUse was agent entry old → IsEvent old (Step agent) done mid → step (fixed_of was.given) was.world (Step agent) ≡ record { world = mid.world; done = done } → IsSound was
+decided_so : (was old mid : Walked) (agent : ℕ) (entry : Entry) (done : Done) → IsUse was agent entry old → IsEvent old (Step agent) done mid
+    → step (fixed_of was.given) was.world (Step agent) ≡ record { world = mid.world; done = done } → IsSound was
     → decided (fixed_of was.given) was.world (Step agent) ≡ decision_by (job_at mid.begun.jobs agent) done.served
 decided_so was old mid agent entry done it played stepped sound =
     decided_is was.given sound.accepted was.world was.begun.jobs sound.played agent
@@ -112,7 +114,8 @@ decided_so was old mid agent entry done it played stepped sound =
     ∙ ap (λ jobs. decision_by (job_at jobs agent) done.served) (sym (ap (λ (w : Walked). w.begun.jobs) played.kept ∙ ap (λ (w : Walked). w.begun.jobs) it.kept))
 
 pub asked_served : (old mid noted now : Walked) (agent server stamp : ℕ) (one : ItemAt) (done : Done) → one.item.agent ≡ Some agent → server ≡ one.server → stamp ≡ one.item.stamp → IsEvent old (Step agent) done mid
-    → served_as one.item.agent done.served ≡ Some one → noted ≡ record mid { made = mid.made ++ cons_option (decision_by (job_at mid.begun.jobs agent) done.served) [] } → IsEnd noted agent done.outcome now → AskedGoes agent server stamp one old now
+    → served_as one.item.agent done.served ≡ Some one → noted ≡ record mid { made = mid.made ++ cons_option (decision_by (job_at mid.begun.jobs agent) done.served) [] }
+    → IsEnd noted agent done.outcome now → AskedGoes agent server stamp one old now
 asked_served old mid noted now agent server stamp one done of at told played served decides end was it =
     let fixed : Fixed = fixed_of was.given in
     let same : noted.unused ≡ mid.unused = ap (λ (w : Walked). w.unused) decides in

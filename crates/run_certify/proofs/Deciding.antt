@@ -191,7 +191,8 @@ module _ (given : Opening) (accepted : IsAccepted given) (world : World) (jobs :
     as_begun task None is = refl
 
     module _ (actor : Actor) (there : actor_at world number ≡ Some actor) (server : ℕ) (st : State) (at : server_at world server ≡ Some st) where
-      running : (txn_run : TransactionRun) (asked : Request) → actor.agent.doing ≡ Some (Running txn_run) → next_in fixed (Some (Running txn_run)) ≡ Some (server, asked) → (b : Bool) → is_decide asked ≡ b → decides_so st (Some txn_run.task) asked
+      running : (txn_run : TransactionRun) (asked : Request) → actor.agent.doing ≡ Some (Running txn_run) → next_in fixed (Some (Running txn_run)) ≡ Some (server, asked)
+          → (b : Bool) → is_decide asked ≡ b → decides_so st (Some txn_run.task) asked
       running txn_run asked doing next false other = quiet st (Some txn_run.task) asked other
       running txn_run asked doing next true decide =
           let task = txn_run.task in
@@ -215,7 +216,14 @@ module _ (given : Opening) (accepted : IsAccepted given) (world : World) (jobs :
     shows task what = decided_by world task what ≡ decision_by (job_at jobs number) what
 
     by_room : (actor : Actor) (asked : ℕ × Request) (st : State) → actor_at world number ≡ Some actor → next_of fixed actor.agent ≡ Some asked → server_at world asked.0 ≡ Some st → (full : Bool)
-        → shows (task_of actor.agent.doing) (answered fixed world number actor st (cond full None (Some (record { server = asked.0; request = record { stamp = actor.stamp; value = asked.1 }; reply = answer_of st (record { stamp = actor.stamp; value = asked.1 }) })))).done.served
+        → shows (task_of actor.agent.doing) (answered fixed world number actor st
+        (cond full None
+        (Some (record {
+          server = asked.0;
+          request = record { stamp = actor.stamp; value = asked.1 };
+          reply = answer_of st
+              (record { stamp = actor.stamp; value = asked.1 });
+        })))).done.served
     by_room actor asked st there next at true = refl
     by_room actor asked st there next at false =
         ap (λ found. decided_at found (to_decide asked.1) (decided_as (task_of actor.agent.doing) (answer_in (reply_of st asked.1)))) at

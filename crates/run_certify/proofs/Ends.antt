@@ -17,7 +17,8 @@ rest_ended from (entries ∷ unused) zero outcome rest at = ap (λ es. events_of
 rest_ended from (entries ∷ unused) (suc agent) outcome rest at = ap (λ es. events_of from entries ++ es) (rest_ended (from + 1) unused agent outcome rest at)
 
 -- the end of a job may be left out
-pub weave_ended : (items : List ItemAt) (unused : List (List Entry)) (agent : ℕ) (outcome : EndedJob) (rest : List Entry) → agent < length unused → transcript_of unused agent ≡ Ended outcome ∷ rest → weave items unused ≡ weave items (slice_set unused agent rest)
+pub weave_ended : (items : List ItemAt) (unused : List (List Entry)) (agent : ℕ) (outcome : EndedJob) (rest : List Entry) → agent < length unused
+    → transcript_of unused agent ≡ Ended outcome ∷ rest → weave items unused ≡ weave items (slice_set unused agent rest)
 weave_ended [] unused agent outcome rest low at = rest_ended 0 unused agent outcome rest at
 weave_ended (one ∷ items) unused agent outcome rest low at =
     by_who items unused agent outcome rest one one.item.agent low at (λ next long h. weave_ended items next agent outcome rest long h)
@@ -27,7 +28,8 @@ weave_ended (one ∷ items) unused agent outcome rest low at =
         → events_at unused one who ++ weave items (unused_at unused who) ≡ events_at (slice_set unused agent rest) one who ++ weave items (unused_at (slice_set unused agent rest) who)
     by_who items unused agent outcome rest one None low at more = ap (λ es. operated one.server one.item.request.value ++ es) (more unused low at)
     by_who items unused agent outcome rest one (Some other) low at more = ⊎_elim
-        (λ (e : other ≡ agent). subst (λ o. events_at unused one (Some o) ++ weave items (unused_at unused (Some o)) ≡ events_at (slice_set unused agent rest) one (Some o) ++ weave items (unused_at (slice_set unused agent rest) (Some o))) (sym e)
+        (λ (e : other ≡ agent). subst (λ o. events_at unused one (Some o) ++ weave items (unused_at unused (Some o)) ≡ events_at (slice_set unused agent rest) one
+        (Some o) ++ weave items (unused_at (slice_set unused agent rest) (Some o))) (sym e)
         (ap (λ es. events_of agent (up_to_stamp es) ++ weave items (slice_set unused agent (past_stamp es))) at
         ∙ ap (λ us. events_of agent (up_to_stamp rest) ++ weave items us) (sym (set_again unused agent rest (past_stamp rest)))
         ∙ ap (λ es. events_of agent (up_to_stamp es) ++ weave items (slice_set (slice_set unused agent rest) agent (past_stamp es))) (sym (set_here unused agent rest [] low))))

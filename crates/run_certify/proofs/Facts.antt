@@ -131,7 +131,8 @@ module _ (fixed : Fixed) (world : World) where
   pub lack_puts : (agent server : ℕ) (why : Why) → asked_at fixed world agent ≡ Some server → lacked why (asked_by fixed (actor_at world agent)) ≡ Lacked server why ∷ []
   lack_puts agent server why at = puts_lacked server why (asked_by fixed (actor_at world agent)) at
 
-  puts_other : (server : ℕ) (why told : Why) (next : Option (ℕ × Request)) → option_map (λ (one : ℕ × Request). one.0) next ≢ Some server → is_some next ≡ true → (rest entries : List Entry) → lacked why next ++ rest ≡ Lacked server told ∷ entries → ⊥
+  puts_other : (server : ℕ) (why told : Why) (next : Option (ℕ × Request)) → option_map (λ (one : ℕ × Request). one.0) next ≢ Some server → is_some next ≡ true
+      → (rest entries : List Entry) → lacked why next ++ rest ≡ Lacked server told ∷ entries → ⊥
   puts_other server why told (Some one) other asks rest entries same = other (ap Some (ap (λ es. lacked_at (first (Lacked one.0 why) es)) same))
   puts_other server why told None other asks rest entries same = false≢true asks
 

@@ -141,7 +141,8 @@ far_fails was old agent entry taken it turn far other = by_entry entry it other
     by_entry : (entry : Entry) → IsUse was agent entry old → is_asked entry ≡ false → Fails was taken
     by_entry (Begun job) it other = entry_senseless was old agent (Begun job) (Begin agent job) taken it turn refl refl (λ sound. no_agent (fixed_of was.given) was.world agent (Begun job) (Begin agent job) (past sound) refl)
     by_entry (Asked server stamp) it other = absurd (true≢false other)
-    by_entry (Lacked server why) it other = entry_senseless was old agent (Lacked server why) (Lack agent why) taken it turn refl refl (λ sound. no_agent (fixed_of was.given) was.world agent (Lacked server why) (Lack agent why) (past sound) refl)
+    by_entry (Lacked server why) it other = entry_senseless was old agent (Lacked server why) (Lack agent why) taken it turn refl refl
+        (λ sound. no_agent (fixed_of was.given) was.world agent (Lacked server why) (Lack agent why) (past sound) refl)
     by_entry (Forgot site) it other = entry_senseless was old agent (Forgot site) (Forget agent site) taken it turn refl refl (λ sound. no_agent (fixed_of was.given) was.world agent (Forgot site) (Forget agent site) (past sound) refl)
     by_entry (Ended outcome) it other = ended_fails was old agent outcome taken it
 
@@ -249,7 +250,8 @@ module _ (given : Opening) (histories : List (List Item)) (transcripts : List (L
         decided = run.parts ∙ ap (λ made. made ++ run.later) is.made ∙ left.is;
       }
 
-  pub walked_to_end : (mid end : Walked) → can_all_be_told histories transcripts ≡ true → IsAccepted given → Goes start [] mid [] → Goes mid [] end [] → AreAllPlayed end.histories → ((agent : ℕ) → transcript_of end.unused agent ≡ []) → IsCertifiedAs given histories transcripts end.made
+  pub walked_to_end : (mid end : Walked) → can_all_be_told histories transcripts ≡ true → IsAccepted given → Goes start [] mid [] → Goes mid [] end [] → AreAllPlayed end.histories
+      → ((agent : ℕ) → transcript_of end.unused agent ≡ []) → IsCertifiedAs given histories transcripts end.made
   walked_to_end mid end full accepted one two played used =
       certified_by end.made full ((goes_further start mid end [] [] [] one two).back (start_sound accepted) end.made (nothing_left end played used))
 

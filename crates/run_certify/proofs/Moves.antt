@@ -256,7 +256,9 @@ module _ {W D : Type 0} (next : W → Event → W) (sense : W → Event → Bool
 
   -- ---- what is never left
 
-  pub ended_first : ((w : W) (event : Event) (what : ItemAt) → serves w event ≡ Some what → what.item.agent ≡ asker event) → ((w : W) (event : Event) (outcome : EndedJob) (rest : List Entry) → puts w event ≢ Ended outcome ∷ rest) → (w : W) (taken : List ItemAt) (histories : List (List Item)) (unused : List (List Entry)) (agent : ℕ) (outcome : EndedJob) (rest : List Entry) (ds : List D)
+  pub ended_first : ((w : W) (event : Event) (what : ItemAt) → serves w event ≡ Some what → what.item.agent ≡ asker event)
+      → ((w : W) (event : Event) (outcome : EndedJob) (rest : List Entry) → puts w event ≢ Ended outcome ∷ rest)
+      → (w : W) (taken : List ItemAt) (histories : List (List Item)) (unused : List (List Entry)) (agent : ℕ) (outcome : EndedJob) (rest : List Entry) (ds : List D)
       → transcript_of unused agent ≡ Ended outcome ∷ rest → ¬ (IsLeft w taken histories unused ds)
   ended_first asks each w taken histories unused agent outcome rest ds at left =
       refuting.no_end_first next sense serves puts decides asks each w (weave (taken ++ left.items) unused) (taken ++ left.items) unused agent outcome rest at left.run
@@ -265,7 +267,9 @@ module _ {W D : Type 0} (next : W → Event → W) (sense : W → Event → Bool
       → one.item.agent ≡ Some agent → transcript_of unused agent ≡ [] → ¬ (IsLeft w (one ∷ []) histories unused ds)
   nothing_of asks w one histories unused agent ds of none left = refuting.none_left next sense serves puts decides asks w one left.items unused agent of none left.run
 
-  pub unlike : ((w : W) (event : Event) (what : ItemAt) → serves w event ≡ Some what → what.item.agent ≡ asker event) → (P : ItemAt → Type 0) → ((w : W) (event : Event) (what : ItemAt) → serves w event ≡ Some what → P what) → (w : W) (one : ItemAt) (histories : List (List Item)) (unused : List (List Entry)) (ds : List D)
+  pub unlike : ((w : W) (event : Event) (what : ItemAt) → serves w event ≡ Some what → what.item.agent ≡ asker event) → (P : ItemAt → Type 0)
+      → ((w : W) (event : Event) (what : ItemAt) → serves w event ≡ Some what → P what) → (w : W) (one : ItemAt) (histories : List (List Item)) (unused : List (List Entry))
+      (ds : List D)
       → ¬ (P one) → ¬ (IsLeft w (one ∷ []) histories unused ds)
   unlike asks P each w one histories unused ds not left = refuting.never_served next sense serves puts decides asks P each w (weave (one ∷ left.items) unused) one left.items unused not left.run
 

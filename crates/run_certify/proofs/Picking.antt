@@ -89,7 +89,8 @@ picked histories server item rest later low at least merge = record {
     first_ordered (next ∷ more) merge = (least next.server next.item (items_of next.server more) (sym (merge.each next.server) ∙ here_of next.server next.item more), merge.ordered)
 
 -- a history whose stamps fall has no place in a merge
-pub none_falls : (histories : List (List Item)) (server : ℕ) (item next : Item) (rest : List Item) (items : List ItemAt) → server < length histories → history_of histories server ≡ item ∷ next ∷ rest → IsLeast histories server item → next.stamp < item.stamp
+pub none_falls : (histories : List (List Item)) (server : ℕ) (item next : Item) (rest : List Item) (items : List ItemAt) → server < length histories
+    → history_of histories server ≡ item ∷ next ∷ rest → IsLeast histories server item → next.stamp < item.stamp
     → ¬ (IsMerge histories items)
 none_falls histories server item next rest items low at least falls merge =
     let one = picks histories server item (next ∷ rest) items low at least merge in

@@ -43,7 +43,8 @@ use_sound was old agent entry it sound =
       counts_there = sound.counts_there ∙ sym (ap length it.used.set ∙ long_set was.unused agent it.used.rest);
     })
 
-use_sense : (was old : Walked) (agent : ℕ) (entry : Entry) (event : Event) (b : Bool) → IsUse was agent entry old → (IsSound old → has_sense (fixed_of old.given) old.world event ≡ b) → IsSound was → has_sense (fixed_of was.given) was.world event ≡ b
+use_sense : (was old : Walked) (agent : ℕ) (entry : Entry) (event : Event) (b : Bool) → IsUse was agent entry old
+    → (IsSound old → has_sense (fixed_of old.given) old.world event ≡ b) → IsSound was → has_sense (fixed_of was.given) was.world event ≡ b
 use_sense was old agent entry event b it so sound = sym (ap (λ (w : Walked). has_sense (fixed_of w.given) w.world event) it.kept) ∙ so (use_sound was old agent entry it sound)
 
 pub after_use : (was old now : Walked) (agent : ℕ) (entry : Entry) (event : Event) (left : List (List Entry)) (ds : List Decided) → IsUse was agent entry old → IsAfter old event left ds now → IsAfter was event left ds now
@@ -54,7 +55,8 @@ after_use was old now agent entry event left ds it after =
 -- ---- whether an agent may begin a job
 
 pub may_begin_is : (walked : Walked) (agent : ℕ) (job : Job) → IsSound walked
-    → (has_no_job (actor_at walked.world agent) && nat_lt agent walked.settings.agents && agents.has_sense (fixed_of walked.settings) job && nat_lt (count_at walked.begun.counts agent) max_jobs) ≡ has_sense (fixed_of walked.given) walked.world (Begin agent job)
+    → (has_no_job (actor_at walked.world agent) && nat_lt agent walked.settings.agents && agents.has_sense (fixed_of walked.settings) job && nat_lt
+    (count_at walked.begun.counts agent) max_jobs) ≡ has_sense (fixed_of walked.given) walked.world (Begin agent job)
 may_begin_is walked agent job sound =
     let idle = has_no_job (actor_at walked.world agent) in
     let few = nat_lt (count_at walked.begun.counts agent) max_jobs in
@@ -230,4 +232,5 @@ begun_shorter old mid now agent event job done played begun =
 
 pub lacked_shorter : (old mid now : Walked) (agent : ℕ) (event : Event) (done : Done) → IsEvent old event done mid → IsEnd mid agent done.outcome now → IsShorter old agent now
 lacked_shorter old mid now agent event done played end =
-    ended_shorter old now agent (step (fixed_of old.given) old.world event).done.outcome (ap (λ (w : Walked). w.histories) end.kept ∙ ap (λ (w : Walked). w.histories) played.kept) (ended_by old mid event done played mid now agent refl end.ended)
+    ended_shorter old now agent (step (fixed_of old.given) old.world event).done.outcome (ap (λ (w : Walked). w.histories) end.kept ∙ ap (λ (w : Walked). w.histories) played.kept)
+    (ended_by old mid event done played mid now agent refl end.ended)

@@ -27,7 +27,8 @@ module _ {W D : Type 0} (next : W → Event → W) (sense : W → Event → Bool
   none_of agent w [] steps = tt
   none_of agent w (event ∷ events) steps = by_served (serves w event) (asks w event) (items_in next sense serves puts decides (next w event) events) (none_of agent (next w event) events steps.1)
     where
-      by_served : (o : Option ItemAt) → ((what : ItemAt) → o ≡ Some what → what.item.agent ≡ asker event) → (later : List ItemAt) → All (λ one. one.item.agent ≢ Some agent) later → All (λ one. one.item.agent ≢ Some agent) (cons_option o later)
+      by_served : (o : Option ItemAt) → ((what : ItemAt) → o ≡ Some what → what.item.agent ≡ asker event) → (later : List ItemAt) → All (λ one. one.item.agent ≢ Some agent) later
+          → All (λ one. one.item.agent ≢ Some agent) (cons_option o later)
       by_served None is later more = more
       by_served (Some what) is later more = ((λ e. steps.0 (sym (is what refl) ∙ e)), more)
 
@@ -45,7 +46,8 @@ module _ {W D : Type 0} (next : W → Event → W) (sense : W → Event → Bool
       by_served None is later more = more
       by_served (Some what) is later more = (is what refl, more)
 
-  pub never_served : (P : ItemAt → Type 0) → ((w : W) (event : Event) (what : ItemAt) → serves w event ≡ Some what → P what) → (w : W) (events : List Event) (one : ItemAt) (items : List ItemAt) (unused : List (List Entry)) → ¬ (P one) → ¬ (Of w events (one ∷ items) unused)
+  pub never_served : (P : ItemAt → Type 0) → ((w : W) (event : Event) (what : ItemAt) → serves w event ≡ Some what → P what)
+      → (w : W) (events : List Event) (one : ItemAt) (items : List ItemAt) (unused : List (List Entry)) → ¬ (P one) → ¬ (Of w events (one ∷ items) unused)
   never_served P each w events one items unused not is = not (subst (λ xs. All P xs) is.served (all_served P each w events)).0
 
   -- what an event puts down does not begin with an end: so no transcript does
@@ -68,6 +70,7 @@ module _ {W D : Type 0} (next : W → Event → W) (sense : W → Event → Bool
       by_agent None later more = more
       by_agent (Some other) later more = first (if_of (Some other) agent (puts w event)) later (by_test (nat_eq other agent)) more
 
-  pub no_end_first : ((w : W) (event : Event) → NoEnd (puts w event)) → (w : W) (events : List Event) (items : List ItemAt) (unused : List (List Entry)) (agent : ℕ) (outcome : EndedJob) (rest : List Entry) → transcript_of unused agent ≡ Ended outcome ∷ rest
+  pub no_end_first : ((w : W) (event : Event) → NoEnd (puts w event)) → (w : W) (events : List Event) (items : List ItemAt) (unused : List (List Entry)) (agent : ℕ)
+      (outcome : EndedJob) (rest : List Entry) → transcript_of unused agent ≡ Ended outcome ∷ rest
       → ¬ (Of w events items unused)
   no_end_first each w events items unused agent outcome rest at is = no_end each agent w events outcome rest (is.told agent ∙ at)

@@ -121,7 +121,8 @@ pub sound_after : (was now : Walked) (event : Event) (left : List (List Entry)) 
 sound_after was now event left ds after long seat has sound = record {
   accepted = subst (λ g. IsAccepted g) (sym after.given) sound.accepted;
   same = after.settings ∙ sound.same ∙ sym after.given;
-  played = subst (λ g. IsPlayed g now.world now.begun.jobs) (sym after.given) (subst (λ w. IsPlayed was.given w now.begun.jobs) (sym after.world) (subst (λ js. IsPlayed was.given (step (fixed_of was.given) was.world event).world js) (sym after.jobs)
+  played = subst (λ g. IsPlayed g now.world now.begun.jobs) (sym after.given)
+      (subst (λ w. IsPlayed was.given w now.begun.jobs) (sym after.world) (subst (λ js. IsPlayed was.given (step (fixed_of was.given) was.world event).world js) (sym after.jobs)
       (goes_on was.given sound.accepted was.world was.begun.jobs sound.played event has (place_of was.begun.jobs (length was.unused) event sound.jobs_there seat))));
   counted = subst (λ w. AreCounted w now.begun.counts) (sym after.world) (subst (λ cs. AreCounted (step (fixed_of was.given) was.world event).world cs) (sym after.counts)
       (count_on (fixed_of was.given) was.world was.begun.counts sound.counted event has (counted_of was.begun.counts (length was.unused) event sound.counts_there seat)));
@@ -180,7 +181,8 @@ seat_of : (seats agent : ℕ) (event : Event) → agent_of event ≡ Some agent 
 seat_of seats agent event of low other is = let e : agent ≡ other = same_Some agent other (sym of ∙ is) in omega arith
 
 pub entry_goes : (was old now : Walked) (agent : ℕ) (entry : Entry) (event : Event) (ys rest : List Entry) (taken : List ItemAt) → IsUse was agent entry old → IsTurn taken was.histories was.unused agent
-    → transcript_of was.unused agent ≡ entry ∷ ys → (ys ≡ rest) ⊎ ((outcome : EndedJob) × (ys ≡ Ended outcome ∷ rest)) → IsEntryPlayed was agent entry event rest → IsAfter was event (slice_set was.unused agent rest) [] now → Goes was taken now taken
+    → transcript_of was.unused agent ≡ entry ∷ ys → (ys ≡ rest) ⊎ ((outcome : EndedJob) × (ys ≡ Ended outcome ∷ rest)) → IsEntryPlayed was agent entry event rest
+    → IsAfter was event (slice_set was.unused agent rest) [] now → Goes was taken now taken
 entry_goes was old now agent entry event ys rest taken it turn at past played after =
     let fixed : Fixed = fixed_of was.given in
     let plays : IsSound was → moves.Plays (next fixed) (sense fixed) (serves fixed) (puts fixed) (decides fixed) was.world was.unused agent entry ys event rest = λ sound. record {
@@ -202,15 +204,18 @@ entry_goes was old now agent entry event ys rest taken it turn at past played af
             all,
             refl,
             to_left fixed _ taken was.histories (slice_set was.unused agent rest) all
-                (moves.entry_on (next fixed) (sense fixed) (serves fixed) (puts fixed) (decides fixed) was.world taken was.histories was.unused agent entry ys event rest all turn (plays sound) (from_left fixed was.world taken was.histories was.unused all left)),
+                (moves.entry_on (next fixed) (sense fixed) (serves fixed) (puts fixed) (decides fixed) was.world taken was.histories was.unused agent entry ys event rest all turn
+                (plays sound) (from_left fixed was.world taken was.histories was.unused all left)),
           ));
       back = λ sound. after_back was now event (slice_set was.unused agent rest) [] taken taken after
           (λ more left. to_left fixed was.world taken was.histories was.unused more
-          (moves.entry_back (next fixed) (sense fixed) (serves fixed) (puts fixed) (decides fixed) was.world taken was.histories was.unused agent entry ys event rest more turn (plays sound) (from_left fixed _ taken was.histories (slice_set was.unused agent rest) more left)));
+          (moves.entry_back (next fixed) (sense fixed) (serves fixed) (puts fixed) (decides fixed) was.world taken was.histories was.unused agent entry ys event rest more turn
+          (plays sound) (from_left fixed _ taken was.histories (slice_set was.unused agent rest) more left)));
     }
 
 -- the next entry of the agent spells an event without sense
-pub entry_senseless : (was old : Walked) (agent : ℕ) (entry : Entry) (event : Event) (taken : List ItemAt) → IsUse was agent entry old → IsTurn taken was.histories was.unused agent → is_asked entry ≡ false → event_of agent entry ≡ Some event
+pub entry_senseless : (was old : Walked) (agent : ℕ) (entry : Entry) (event : Event) (taken : List ItemAt) → IsUse was agent entry old
+    → IsTurn taken was.histories was.unused agent → is_asked entry ≡ false → event_of agent entry ≡ Some event
     → (IsSound was → has_sense (fixed_of was.given) was.world event ≡ false) → Fails was taken
 entry_senseless was old agent entry event taken it turn other spells none = λ sound total run.
     let fixed : Fixed = fixed_of was.given in
@@ -351,7 +356,8 @@ asked_fails was one agent server stamp ys of at none = λ sound total run.
     (from_left fixed was.world (one ∷ []) was.histories was.unused run.later run.left) in
     none h.0 h.1.0 h.1.1 h.2
 
-pub rest_fails : (was : Walked) (agent server stamp : ℕ) (ys : List Entry) → AreAllPlayed was.histories → ((i : ℕ) → i < agent → transcript_of was.unused i ≡ []) → agent < length was.unused → transcript_of was.unused agent ≡ Asked server stamp ∷ ys
+pub rest_fails : (was : Walked) (agent server stamp : ℕ) (ys : List Entry) → AreAllPlayed was.histories → ((i : ℕ) → i < agent → transcript_of was.unused i ≡ [])
+    → agent < length was.unused → transcript_of was.unused agent ≡ Asked server stamp ∷ ys
     → (has_sense (fixed_of was.given) was.world (Step agent) ≡ true
     → (rest : List Entry) → transcript_of was.unused agent ≡ entries_by (fixed_of was.given) was.world (Step agent) (step (fixed_of was.given) was.world (Step agent)).done ++ rest
     → ((what : ItemAt) → served_as (Some agent) (step (fixed_of was.given) was.world (Step agent)).done.served ≡ Some what → ⊥) → ⊥)

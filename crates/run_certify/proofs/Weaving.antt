@@ -108,5 +108,6 @@ no_steps (one ∷ items) unused agent none = by_who items unused agent one one.i
     by_who items unused agent one None none more = no_append agent (operated one.server one.item.request.value) (weave items unused) (of_operator agent one.server one.item.request.value) (more unused none)
     by_who items unused agent one (Some other) none more =
         no_append agent (events_of other (up_to_stamp (transcript_of unused other))) _
-        (⊎_elim (λ (e : other ≡ agent). subst (λ es. NoSteps agent (events_of other (up_to_stamp es))) (sym (ap (λ a. transcript_of unused a) e ∙ none)) tt) (λ (n : other ≢ agent). of_another agent other (up_to_stamp (transcript_of unused other)) n) (same_or other agent))
+        (⊎_elim (λ (e : other ≡ agent). subst (λ es. NoSteps agent (events_of other (up_to_stamp es))) (sym (ap (λ a. transcript_of unused a) e ∙ none)) tt)
+        (λ (n : other ≢ agent). of_another agent other (up_to_stamp (transcript_of unused other)) n) (same_or other agent))
         (more _ (set_none unused agent other (past_stamp (transcript_of unused other)) none (λ e. ap past_stamp (ap (λ a. transcript_of unused a) e ∙ none))))

@@ -52,7 +52,12 @@ was_full host seat server number asked full = record {
   fixed = refl;
   step = λ world there.
       ap (λ (full : Bool). answered seat.fixed world number seat.actor host (cond full None (Some (of_it host seat server asked)))) full
-      ∙ sym (ap (λ (servers : List State). record { world = with_actor number (after_response seat seat.actor.stamp (Lacked Full)).actor (record world { servers = servers }); done = record { served = None; outcome = outcome_of number seat.actor (take seat.fixed seat.actor.agent (Lacked Full)).ending } }) (set_there world.servers server host there));
+      ∙ sym
+      (ap (λ (servers : List State). record {
+        world = with_actor number (after_response seat seat.actor.stamp (Lacked Full)).actor (record world { servers = servers });
+        done = record { served = None; outcome = outcome_of number seat.actor (take seat.fixed seat.actor.agent (Lacked Full)).ending };
+      })
+      (set_there world.servers server host there));
 }
 
 -- ---- the same, and what is told of it

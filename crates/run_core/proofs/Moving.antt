@@ -50,14 +50,16 @@ put_back servers seats place seat is = ap (λ (left : List Seated). quiet (world
 abbrev by : (Fixed → Agent → Agent) → Seated → Seated
 by change seat = changed seat (change seat.fixed seat.actor.agent)
 
-of_if : (fixed : Fixed) (seats seats' : List Seated) (place : ℕ) (change : Fixed → Agent → Agent) (found : Option Seated) → AreOf fixed seats → slice_get seats place ≡ found → Becomes found (by change) place seats seats' → AreOf fixed seats'
+of_if : (fixed : Fixed) (seats seats' : List Seated) (place : ℕ) (change : Fixed → Agent → Agent) (found : Option Seated) → AreOf fixed seats → slice_get seats place ≡ found
+    → Becomes found (by change) place seats seats' → AreOf fixed seats'
 of_if fixed seats seats' place change (Some seat) all is now = All-same (IsOf fixed) seats' (slice_set seats place (by change seat)) now (of_set fixed seats place seat (by change seat) all is refl)
 of_if fixed seats seats' place change None all is now = All-same (IsOf fixed) seats' seats now all
 
 pub of_becoming : (fixed : Fixed) (seats seats' : List Seated) (place : ℕ) (change : Fixed → Agent → Agent) → AreOf fixed seats → Becomes (slice_get seats place) (by change) place seats seats' → AreOf fixed seats'
 of_becoming fixed seats seats' place change all now = of_if fixed seats seats' place change (slice_get seats place) all refl now
 
-becomes_if : (fixed : Fixed) (servers : List State) (seats seats' : List Seated) (place : ℕ) (change : Fixed → Agent → Agent) (found : Option Seated) → AreOf fixed seats → slice_get seats place ≡ found → Becomes found (by change) place seats seats'
+becomes_if : (fixed : Fixed) (servers : List State) (seats seats' : List Seated) (place : ℕ) (change : Fixed → Agent → Agent) (found : Option Seated) → AreOf fixed seats
+    → slice_get seats place ≡ found → Becomes found (by change) place seats seats'
     → becomes (world_of servers seats) place (change fixed) (option_map actor_of found) ≡ quiet (world_of servers seats')
 becomes_if fixed servers seats seats' place change (Some seat) all is now =
     let same = fixed_there fixed seats place seat all is in
@@ -89,7 +91,8 @@ pub ask_nothing : (fixed : Fixed) (servers : List State) (seats : List Seated) (
     → steps_once fixed (world_of servers seats) place (slice_get (actors_in seats) place) ≡ quiet (world_of servers (slice_set seats place seat))
 ask_nothing fixed servers seats place seat all is next = ask_somebody fixed servers seats place seat None all is next ∙ put_back servers seats place seat is
 
-pub ask_nowhere : (fixed : Fixed) (servers : List State) (seats : List Seated) (place : ℕ) (seat : Seated) (server : ℕ) (asked : Request) → AreOf fixed seats → slice_get seats place ≡ Some seat → next_of seat.fixed seat.actor.agent ≡ Some (server, asked) → slice_get servers server ≡ None
+pub ask_nowhere : (fixed : Fixed) (servers : List State) (seats : List Seated) (place : ℕ) (seat : Seated) (server : ℕ) (asked : Request) → AreOf fixed seats
+    → slice_get seats place ≡ Some seat → next_of seat.fixed seat.actor.agent ≡ Some (server, asked) → slice_get servers server ≡ None
     → steps_once fixed (world_of servers seats) place (slice_get (actors_in seats) place) ≡ quiet (world_of servers (slice_set seats place seat))
 ask_nowhere fixed servers seats place seat server asked all is next nowhere =
     ask_somebody fixed servers seats place seat (Some (server, asked)) all is next
@@ -117,7 +120,8 @@ asks_nobody server asked next same is = sym same ∙ ap (option_map (λ (server 
 pub asks_somebody : (server : Option ℕ) (asked : Request) (next : Option (ℕ × Request)) (one : ℕ) → option_map (λ (server : ℕ). (server, asked)) server ≡ next → server ≡ Some one → next ≡ Some (one, asked)
 asks_somebody server asked next one same is = sym same ∙ ap (option_map (λ (server : ℕ). (server, asked))) is
 
-pub comes_to : (stepped : Stepped) (world : World) (done : Done) (asked : Served) (ended ended' : Option EndedJob) (is_served : Bool) → stepped ≡ record { world = world; done = done } → IsTold done asked ended ended' is_served → ComesTo stepped world asked ended ended' is_served
+pub comes_to : (stepped : Stepped) (world : World) (done : Done) (asked : Served) (ended ended' : Option EndedJob) (is_served : Bool)
+    → stepped ≡ record { world = world; done = done } → IsTold done asked ended ended' is_served → ComesTo stepped world asked ended ended' is_served
 comes_to stepped world done asked ended ended' is_served is told = record {
   world_is = sym (ap (λ (one : Stepped). one.world) is);
   told = subst (λ (one : Stepped). IsTold one.done asked ended ended' is_served) (sym is) told;
@@ -128,7 +132,8 @@ pub comes_to_nothing : (stepped : Stepped) (world : World) (asked : Served) (end
 comes_to_nothing stepped world asked ended is = comes_to stepped world _ asked ended ended false is (record { ended_is = refl; served_is = refl })
 
 -- no job ends where the operator asks
-pub comes_by_operator : (stepped : Stepped) (world : World) (asked : Served) (ended : Option EndedJob) (is_served : Bool) → stepped ≡ record { world = world; done = record { served = served_if is_served asked; outcome = None } } → ComesTo stepped world asked ended ended is_served
+pub comes_by_operator : (stepped : Stepped) (world : World) (asked : Served) (ended : Option EndedJob) (is_served : Bool)
+    → stepped ≡ record { world = world; done = record { served = served_if is_served asked; outcome = None } } → ComesTo stepped world asked ended ended is_served
 comes_by_operator stepped world asked ended is_served is = comes_to stepped world _ asked ended ended is_served is (record { ended_is = refl; served_is = refl })
 
 pub comes_there : (fixed : Fixed) (servers : List State) (seats : List Seated) (seat seat' : Seated) (host host' : State) (number : ℕ) (asked asked' : Served) (ended ended' : Option EndedJob) (is_served : Bool)
@@ -164,7 +169,8 @@ pub lack_nobody : (fixed : Fixed) (servers : List State) (seats : List Seated) (
     → lacks fixed (world_of servers seats) place response (slice_get (actors_in seats) place) ≡ quiet (world_of servers seats)
 lack_nobody fixed servers seats place response is = ap (lacks fixed (world_of servers seats) place response) (actor_there seats place None is)
 
-lack_somebody : (fixed : Fixed) (servers : List State) (seats : List Seated) (place : ℕ) (response : Response) (seat : Seated) (asked : Option (ℕ × Request)) → AreOf fixed seats → slice_get seats place ≡ Some seat → next_of seat.fixed seat.actor.agent ≡ asked
+lack_somebody : (fixed : Fixed) (servers : List State) (seats : List Seated) (place : ℕ) (response : Response) (seat : Seated) (asked : Option (ℕ × Request)) → AreOf fixed seats
+    → slice_get seats place ≡ Some seat → next_of seat.fixed seat.actor.agent ≡ asked
     → lacks fixed (world_of servers seats) place response (slice_get (actors_in seats) place) ≡ lacks_for fixed (world_of servers seats) place seat.actor response asked
 lack_somebody fixed servers seats place response seat asked all is next =
     ap (lacks fixed (world_of servers seats) place response) (actor_there seats place (Some seat) is)
@@ -183,5 +189,10 @@ lack_there fixed servers seats place response seat seat' one asked ended ended' 
     comes_to _ _ (record { served = None; outcome = outcome_of place seat.actor (take seat.fixed seat.actor.agent response).ending }) asked ended ended' false
     (lack_somebody fixed servers seats place response seat (Some one) all is next
     ∙ ap (λ (given : Fixed). lacked given (world_of servers seats) place seat.actor response) (sym (fixed_there fixed seats place seat all is))
-    ∙ rw seat'_is (ap (λ (actors : List Actor). record { world = record { servers = servers; agents = actors }; done = record { served = None; outcome = outcome_of place seat.actor (take seat.fixed seat.actor.agent response).ending } }) (sym (actors_set seats place (after_response seat seat.actor.stamp response)))))
+    ∙ rw seat'_is
+    (ap (λ (actors : List Actor). record {
+      world = record { servers = servers; agents = actors };
+      done = record { served = None; outcome = outcome_of place seat.actor (take seat.fixed seat.actor.agent response).ending };
+    })
+    (sym (actors_set seats place (after_response seat seat.actor.stamp response)))))
     (record { ended_is = put; served_is = refl })

@@ -68,7 +68,12 @@ pub(crate) fn ask(
 
 /// The agent of this number is told that its request is not served, which takes no memory. How its job ended is put
 /// into a place of the caller's, which else keeps what it has.
-pub(crate) fn lack(seats: &mut Vec<WorldAgent>, number: u8, lack: Lack, ended: &mut Option<EndedJob>)
+pub(crate) fn lack(
+    seats: &mut Vec<WorldAgent>,
+    number: u8,
+    lack: Lack,
+    ended: &mut Option<EndedJob>,
+)
     ensures of { (fixed : Fixed) → AreOf fixed seats.old.items → AreOf fixed seats.new.items }
     ensures told { moved.IsLacked seats.old.items seats.new.items number lack ended.old ended.new }
 {

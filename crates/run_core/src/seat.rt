@@ -34,7 +34,11 @@ impl Model for WorldAgent {
 
 impl WorldAgent {
     /// An agent of this number, as a service opens.
-    pub(crate) fn new(alloc: Global, index: u8, settings: &Settings) -> Result<WorldAgent, AllocError>
+    pub(crate) fn new(
+        alloc: Global,
+        index: u8,
+        settings: &Settings,
+    ) -> Result<WorldAgent, AllocError>
         requires { index < settings.now.agents }
         ensures { IfOk result (λ seat. seat ≡ seats.opening settings.now index) }
     {

@@ -26,7 +26,8 @@ begun digits value limit byte part parts none =
     ]
 
 -- a digit more
-digit_first : (digits value limit byte : ℕ) (parts : List (List ℕ)) → 0 < length parts → (digits ≡ 0 → value ≡ 0) → is_ascii_digit byte ≡ true → numbers_from digits value limit (onto_first byte parts) ≡ numbers_from (digits + 1) (10 * value + (byte - 48)) limit parts
+digit_first : (digits value limit byte : ℕ) (parts : List (List ℕ)) → 0 < length parts → (digits ≡ 0 → value ≡ 0) → is_ascii_digit byte ≡ true
+    → numbers_from digits value limit (onto_first byte parts) ≡ numbers_from (digits + 1) (10 * value + (byte - 48)) limit parts
 digit_first digits value limit byte [] some none digit = absurd (omega arith)
 digit_first digits value limit byte (part ∷ parts) some none digit =
     let more : ltb 0 (digits + 1) ≡ true = lt-ltb 0 (digits + 1) (omega arith) in
@@ -39,7 +40,9 @@ module _ (separator value limit place : ℕ) (word : List ℕ) (inside : place <
   at_byte : eqb (get_or word place 0) separator ≡ false → slice_split (λ b. eqb b separator) (drop place word) ≡ onto_first (get_or word place 0) (slice_split (λ b. eqb b separator) (drop (place + 1) word))
   at_byte other = ap (slice_split (λ b. eqb b separator)) (drop_more word place 0 inside) ∙ slice_split-cons_no (λ b. eqb b separator) (get_or word place 0) (drop (place + 1) word) other
 
-  pub digit_read : eqb (get_or word place 0) separator ≡ false → (place ≡ 0 → value ≡ 0) → is_ascii_digit (get_or word place 0) ≡ true → numbers_from place value limit (slice_split (λ b. eqb b separator) (drop place word)) ≡ numbers_from (place + 1) (10 * value + (get_or word place 0 - 48)) limit (slice_split (λ b. eqb b separator) (drop (place + 1) word))
+  pub digit_read : eqb (get_or word place 0) separator ≡ false → (place ≡ 0 → value ≡ 0) → is_ascii_digit (get_or word place 0) ≡ true
+      → numbers_from place value limit (slice_split (λ b. eqb b separator) (drop place word)) ≡ numbers_from (place + 1) (10 * value + (get_or word place 0 - 48)) limit
+      (slice_split (λ b. eqb b separator) (drop (place + 1) word))
   digit_read other none digit =
       let many = length-slice_split (λ (b : ℕ). eqb b separator) (drop (place + 1) word) in
       ap (numbers_from place value limit) (at_byte other)

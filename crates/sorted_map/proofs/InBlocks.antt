@@ -1,5 +1,43 @@
 -- What an edit in the block of a key makes of all pairs.
-use Rattle.std.proofs.Common.{◌≡◌, ◌≢◌, ◌-◌, take, drop, Option, is_some, if◌then◌else◌, ℕ, zero, suc, ◌+◌, ◌<◌, ◌≤◌, Bool, true, false, not, List, [], ◌∷◌, ◌++◌, length, get_or, set, None, Some, Less, Equal, Greater, refl, sym, ◌∙◌, ap, subst, ⊎_elim, arith}
+use Rattle.std.proofs.Common.{
+  ◌≡◌,
+  ◌≢◌,
+  ◌-◌,
+  take,
+  drop,
+  Option,
+  is_some,
+  if◌then◌else◌,
+  ℕ,
+  zero,
+  suc,
+  ◌+◌,
+  ◌<◌,
+  ◌≤◌,
+  Bool,
+  true,
+  false,
+  not,
+  List,
+  [],
+  ◌∷◌,
+  ◌++◌,
+  length,
+  get_or,
+  set,
+  None,
+  Some,
+  Less,
+  Equal,
+  Greater,
+  refl,
+  sym,
+  ◌∙◌,
+  ap,
+  subst,
+  ⊎_elim,
+  arith,
+}
 use Rattle.std.specs.Prelude.{slice_get}
 use Rattle.std.specs.List as list
 use Rattle.std.specs.declared.cmp.Ordering.{Ordering}
@@ -112,7 +150,8 @@ module _ {K V : Type 0} {cmp : K → K → Ordering} (o : IsTotalOrder cmp) (key
   joined_twice [] ys zs = refl
   joined_twice (e ∷ es) ys zs = ap (λ l. e ∷ l) (joined_twice es ys zs)
 
-  pub halves_at : (bs : List (Roomy K V)) (i : ℕ) (d new upper : Roomy K V) (value : V) → IsIn cmp key bs i → new.pairs ++ upper.pairs ≡ insert cmp (get_or bs i d).pairs key value → joined (list.insert (set bs i new) (suc i) upper) ≡ insert cmp (joined bs) key value
+  pub halves_at : (bs : List (Roomy K V)) (i : ℕ) (d new upper : Roomy K V) (value : V) → IsIn cmp key bs i → new.pairs ++ upper.pairs ≡ insert cmp (get_or bs i d).pairs key value
+      → joined (list.insert (set bs i new) (suc i) upper) ≡ insert cmp (joined bs) key value
   halves_at [] i d new upper value at is = absurd (omega (arith, at))
   halves_at (b ∷ bs) zero d new upper value at is = joined_twice new.pairs upper.pairs (joined bs) ∙ ap (λ l. l ++ joined bs) is ∙ sym (insert_back b.pairs (joined bs) value at)
   halves_at (b ∷ bs) (suc i) d new upper value at is = ap (λ l. b.pairs ++ l) (halves_at bs i d new upper value at.1 is) ∙ sym (insert_front b.pairs (joined bs) value at.0)
@@ -196,7 +235,8 @@ module _ {K V : Type 0} {cmp : K → K → Ordering} (o : IsTotalOrder cmp) (key
   partitioned (b ∷ bs) blocks ordered (suc i) zero d le within passes = absurd (omega arith)
   partitioned (b ∷ bs) blocks ordered (suc i) (suc j) d le within passes = partitioned bs blocks.1 (ordered_behind b.pairs (joined bs) ordered) i j d (omega arith) (omega arith) passes
 
-  pub in_place : (first : Roomy K V) (bs : List (Roomy K V)) (i : ℕ) → AreBlocks bs → IsOrdered cmp (joined (first ∷ bs)) → i ≤ length bs → IsPartitionPoint (λ b. starts_at b ≡ true) (λ b. starts_at b ≡ false) bs i → IsIn cmp key (first ∷ bs) i
+  pub in_place : (first : Roomy K V) (bs : List (Roomy K V)) (i : ℕ) → AreBlocks bs → IsOrdered cmp (joined (first ∷ bs)) → i ≤ length bs
+      → IsPartitionPoint (λ b. starts_at b ≡ true) (λ b. starts_at b ≡ false) bs i → IsIn cmp key (first ∷ bs) i
   in_place first [] zero blocks ordered within point = tt
   in_place first [] (suc i) blocks ordered within point = absurd (omega arith)
   in_place first (b ∷ bs) zero blocks ordered within point = above_all b.pairs (joined bs) (ordered_behind first.pairs (joined (b ∷ bs)) ordered) blocks.0.0 (point.1 0 b (omega arith) (omega arith))
@@ -239,11 +279,13 @@ module _ {K V : Type 0} {cmp : K → K → Ordering} (o : IsTotalOrder cmp) (key
   removed_capacity old new before was pairs room =
       omega (arith, room, ap length pairs, length-remove o old.pairs key, ap one_if was)
 
-  pub put_capacity : (old new : Roomy K V) (value : V) (before : Option V) → IsOrdered cmp old.pairs → before ≡ get cmp old.pairs key → new.pairs ≡ insert cmp old.pairs key value → old.room ≤ new.room + (if is_some before then 0 else 1) → capacity_in old ≤ capacity_in new
+  pub put_capacity : (old new : Roomy K V) (value : V) (before : Option V) → IsOrdered cmp old.pairs → before ≡ get cmp old.pairs key → new.pairs ≡ insert cmp old.pairs key value
+      → old.room ≤ new.room + (if is_some before then 0 else 1) → capacity_in old ≤ capacity_in new
   put_capacity old new value before ordered was pairs room =
       omega (arith, room, ap length pairs, length-insert o old.pairs key value ordered, ap one_unless was)
 
-  pub put_whole : (old new : Roomy K V) (spare : List (Roomy K V)) (value : V) (before : Option V) → IsOrdered cmp old.pairs → AreSpare spare → before ≡ get cmp old.pairs key → new.pairs ≡ insert cmp old.pairs key value → old.room ≤ new.room + (if is_some before then 0 else 1) → IsPut cmp key value old new spare spare before None
+  pub put_whole : (old new : Roomy K V) (spare : List (Roomy K V)) (value : V) (before : Option V) → IsOrdered cmp old.pairs → AreSpare spare → before ≡ get cmp old.pairs key
+      → new.pairs ≡ insert cmp old.pairs key value → old.room ≤ new.room + (if is_some before then 0 else 1) → IsPut cmp key value old new spare spare before None
   put_whole old new spare value before ordered spares was pairs room = record {
     pairs = λ none. pairs;
     halves = λ b is. absurd (none-some b is);
@@ -258,7 +300,9 @@ module _ {K V : Type 0} {cmp : K → K → Ordering} (o : IsTotalOrder cmp) (key
     room = λ none. room;
   }
 
-  pub put_parted : (old new upper : Roomy K V) (spare left : List (Roomy K V)) (value : V) → get cmp old.pairs key ≡ None → new.pairs ++ upper.pairs ≡ insert cmp old.pairs key value → 0 < length new.pairs → capacity_in old ≤ capacity_in new → IsBlock upper → length left + 1 ≡ length spare → AreSpare left → old.room ≡ 0 → IsPut cmp key value old new spare left None (Some upper)
+  pub put_parted : (old new upper : Roomy K V) (spare left : List (Roomy K V)) (value : V) → get cmp old.pairs key ≡ None
+      → new.pairs ++ upper.pairs ≡ insert cmp old.pairs key value → 0 < length new.pairs → capacity_in old ≤ capacity_in new → IsBlock upper → length left + 1 ≡ length spare
+      → AreSpare left → old.room ≡ 0 → IsPut cmp key value old new spare left None (Some upper)
   put_parted old new upper spare left value absent pairs some capacity is fewer spares full = record {
     pairs = λ none. absurd (none-some upper (sym none));
     halves = λ b same. subst (λ u. new.pairs ++ u.pairs ≡ insert cmp old.pairs key value) (same_Some upper b same) pairs;
@@ -314,13 +358,15 @@ module _ {K V : Type 0} {cmp : K → K → Ordering} (o : IsTotalOrder cmp) (key
   start_of [] ys some = absurd (omega arith)
   start_of (e ∷ es) ys some = refl
 
-  pub first_next : (first : Roomy K V) (bs : List (Roomy K V)) (i : ℕ) (d : Roomy K V) → IsIn cmp key (first ∷ bs) i → AreBlocks bs → first_from cmp key (get_or (first ∷ bs) i d).pairs ≡ None → i < length bs → first_from cmp key (joined (first ∷ bs)) ≡ slice_get (get_or bs i d).pairs 0
+  pub first_next : (first : Roomy K V) (bs : List (Roomy K V)) (i : ℕ) (d : Roomy K V) → IsIn cmp key (first ∷ bs) i → AreBlocks bs
+      → first_from cmp key (get_or (first ∷ bs) i d).pairs ≡ None → i < length bs → first_from cmp key (joined (first ∷ bs)) ≡ slice_get (get_or bs i d).pairs 0
   first_next first [] i d at blocks none within = absurd (omega arith)
   first_next first (b ∷ bs) zero d at blocks none within =
       first_behind first.pairs (joined (b ∷ bs)) none ∙ first_above (joined (b ∷ bs)) at ∙ start_of b.pairs (joined bs) blocks.0.0
   first_next first (b ∷ bs) (suc i) d at blocks none within = first_front first.pairs (joined (b ∷ bs)) at.0 ∙ first_next b bs i d at.1 blocks.1 none (omega arith)
 
-  pub first_end : (first : Roomy K V) (bs : List (Roomy K V)) (i : ℕ) (d : Roomy K V) → IsIn cmp key (first ∷ bs) i → first_from cmp key (get_or (first ∷ bs) i d).pairs ≡ None → length bs ≤ i → first_from cmp key (joined (first ∷ bs)) ≡ None
+  pub first_end : (first : Roomy K V) (bs : List (Roomy K V)) (i : ℕ) (d : Roomy K V) → IsIn cmp key (first ∷ bs) i → first_from cmp key (get_or (first ∷ bs) i d).pairs ≡ None
+      → length bs ≤ i → first_from cmp key (joined (first ∷ bs)) ≡ None
   first_end first [] zero d at none end = first_behind first.pairs [] none
   first_end first [] (suc i) d at none end = absurd (omega (arith, at.1))
   first_end first (b ∷ bs) zero d at none end = absurd (omega arith)

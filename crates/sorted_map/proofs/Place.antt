@@ -48,7 +48,8 @@ module _ {K V : Type 0} {cmp : K → K → Ordering} (o : IsTotalOrder cmp) (key
         removed = ap (λ l. e ∷ l) rest.removed ∙ sym (cond-false (is_at (cmp key) e.0) es (e ∷ remove cmp es key) differ);
       }
 
-  pub gap_from_parts : (pairs : List (K × V)) (i : ℕ) → IsOrdered cmp pairs → i ≤ length pairs → ((k : ℕ) (d : K × V) → k < i → cmp (get_or pairs k d).0 key ≡ Less) → ((k : ℕ) (d : K × V) → i ≤ k → k < length pairs → cmp (get_or pairs k d).0 key ≡ Greater) → IsGapFor cmp pairs key i
+  pub gap_from_parts : (pairs : List (K × V)) (i : ℕ) → IsOrdered cmp pairs → i ≤ length pairs → ((k : ℕ) (d : K × V) → k < i → cmp (get_or pairs k d).0 key ≡ Less)
+      → ((k : ℕ) (d : K × V) → i ≤ k → k < length pairs → cmp (get_or pairs k d).0 key ≡ Greater) → IsGapFor cmp pairs key i
   gap_from_parts [] zero ordered in_range smaller greater = record { in_range = in_range; absent = refl; inserted = λ value. refl }
   gap_from_parts [] (suc i) ordered in_range smaller greater = absurd (omega arith)
   gap_from_parts (e ∷ es) zero ordered in_range smaller greater =
@@ -76,7 +77,8 @@ module _ {K V : Type 0} {cmp : K → K → Ordering} (o : IsTotalOrder cmp) (key
       ap is_lt (o.antisymm (get_or pairs (k + 1) d).0 (get_or pairs k d).0 ∙ ap ordering_reverse less))
 
   -- a binary search ends at the pair that has the key, or at the gap for it
-  pub searched : (pairs : List (K × V)) → IsOrdered cmp pairs → (answer : Result ℕ ℕ) → IsSearchInRange answer (length pairs) → IsBinarySearchResult (λ pair. cmp pair.0 key) pairs answer → record { found : IfOk answer (IsPlaceOf cmp pairs key); absent : IfErr answer (IsGapFor cmp pairs key) }
+  pub searched : (pairs : List (K × V)) → IsOrdered cmp pairs → (answer : Result ℕ ℕ) → IsSearchInRange answer (length pairs)
+      → IsBinarySearchResult (λ pair. cmp pair.0 key) pairs answer → record { found : IfOk answer (IsPlaceOf cmp pairs key); absent : IfErr answer (IsGapFor cmp pairs key) }
   searched pairs ordered (Ok i) in_range equal = record { found = place_from_equal pairs i ordered in_range equal; absent = tt }
   searched pairs ordered (Err i) in_range parted =
       let parts = parted (answers_rise pairs ordered) in

@@ -41,7 +41,8 @@ replaced false true value x rest same = cc
 replaced false false value x rest same = refl
 
 -- and where the look-up finds another first, it stays
-pub passed : {X : Type 0} (b c : Bool) (value x : X) (rest : Option X) → (b ≡ true → c ≡ true → ⊥) → cond b (Some x) (cond c (option_map (λ _. value) rest) rest) ≡ cond c (option_map (λ _. value) (cond b (Some x) rest)) (cond b (Some x) rest)
+pub passed : {X : Type 0} (b c : Bool) (value x : X) (rest : Option X) → (b ≡ true → c ≡ true → ⊥)
+    → cond b (Some x) (cond c (option_map (λ _. value) rest) rest) ≡ cond c (option_map (λ _. value) (cond b (Some x) rest)) (cond b (Some x) rest)
 passed true true value x rest apart = absurd (apart refl refl)
 passed true false value x rest apart = refl
 passed false true value x rest apart = refl

@@ -95,7 +95,8 @@ module _ {K V : Type 0} {cmp : K → K → Ordering} (o : IsTotalOrder cmp) wher
   insert-insert (e ∷ es) key value last = by_answer (cmp key e.0)
       (λ less. ap (λ l. insert cmp l key last) (insert_step cmp e es key value Less less) ∙ insert_step cmp (key, value) (e ∷ es) key last Equal (tied_itself o key) ∙ sym (insert_step cmp e es key last Less less))
       (λ equal. ap (λ l. insert cmp l key last) (insert_step cmp e es key value Equal equal) ∙ insert_step cmp (e.0, value) es key last Equal equal ∙ sym (insert_step cmp e es key last Equal equal))
-      (λ greater. ap (λ l. insert cmp l key last) (insert_step cmp e es key value Greater greater) ∙ insert_step cmp e (insert cmp es key value) key last Greater greater ∙ ap (λ l. e ∷ l) (insert-insert es key value last) ∙ sym (insert_step cmp e es key last Greater greater))
+      (λ greater. ap (λ l. insert cmp l key last) (insert_step cmp e es key value Greater greater) ∙ insert_step cmp e (insert cmp es key value) key last Greater greater ∙ ap
+      (λ l. e ∷ l) (insert-insert es key value last) ∙ sym (insert_step cmp e es key last Greater greater))
 
   -- an insert at a new key is undone by a removal
   pub remove-insert : (pairs : List (K × V)) (key : K) (value : V) → get cmp pairs key ≡ None → remove cmp (insert cmp pairs key value) key ≡ pairs

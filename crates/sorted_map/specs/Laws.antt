@@ -20,7 +20,8 @@ use Rattle.sorted_map.specs.Comparisons.{by_answer, same_twice, swapped, same_bo
 
 module _ {K V : Type 0} (cmp : K → K → Ordering) where
   -- an insert at a key of which the comparison with the first is known
-  pub insert_step : (e : K × V) (es : List (K × V)) (key : K) (value : V) (answer : Ordering) → cmp key e.0 ≡ answer → insert cmp (e ∷ es) key value ≡ match_ordering answer ((key, value) ∷ e ∷ es) ((e.0, value) ∷ es) (e ∷ insert cmp es key value)
+  pub insert_step : (e : K × V) (es : List (K × V)) (key : K) (value : V) (answer : Ordering) → cmp key e.0 ≡ answer
+      → insert cmp (e ∷ es) key value ≡ match_ordering answer ((key, value) ∷ e ∷ es) ((e.0, value) ∷ es) (e ∷ insert cmp es key value)
   insert_step e es key value answer is = ap (λ a. match_ordering a ((key, value) ∷ e ∷ es) ((e.0, value) ∷ es) (e ∷ insert cmp es key value)) is
 
 module _ {K V : Type 0} {cmp : K → K → Ordering} (o : IsTotalOrder cmp) where
@@ -30,7 +31,8 @@ module _ {K V : Type 0} {cmp : K → K → Ordering} (o : IsTotalOrder cmp) wher
   get-insert (e ∷ es) key value q = by_answer (cmp key e.0)
       (λ less. ap (λ l. get cmp l q) (insert_step cmp e es key value Less less) ∙ ap (λ b. cond b (Some value) (get cmp (e ∷ es) q)) (flipped o q key))
       (λ equal. ap (λ l. get cmp l q) (insert_step cmp e es key value Equal equal) ∙ same_twice (is_eq (cmp q e.0)) (is_eq (cmp key q)) _ _ _ (alike o key e.0 q equal))
-      (λ greater. ap (λ l. get cmp l q) (insert_step cmp e es key value Greater greater) ∙ ap (cond (is_eq (cmp q e.0)) (Some e.1)) (get-insert es key value q) ∙ swapped (is_eq (cmp q e.0)) (is_eq (cmp key q)) _ _ _ (apart o key e.0 q (ap is_eq greater)))
+      (λ greater. ap (λ l. get cmp l q) (insert_step cmp e es key value Greater greater) ∙ ap (cond (is_eq (cmp q e.0)) (Some e.1)) (get-insert es key value q) ∙ swapped
+      (is_eq (cmp q e.0)) (is_eq (cmp key q)) _ _ _ (apart o key e.0 q (ap is_eq greater)))
 
   -- after a replacement, which sets no value where there was none
   pub get-replace : (pairs : List (K × V)) (key : K) (value : V) (q : K) → get cmp (replace cmp pairs key value) q ≡ (if is_at (cmp key) q then option_map (λ _. value) (get cmp pairs q) else get cmp pairs q)

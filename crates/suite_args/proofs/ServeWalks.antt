@@ -7,10 +7,59 @@ use Rattle.clap.specs.Lexer.{has_byte, long_of}
 use Rattle.clap.specs.Kinds.{Kinds, or_else}
 use Rattle.clap.specs.Faults.{check_fault, defaults_fault, flag_word_fault, level_fault, long_fault, other_fault, settle_fault, step_fault, stray_fault, turn_fault, walk_fault, word_fault}
 use Rattle.clap.specs.Simple.{rows_at}
-use Rattle.clap.specs.Walk.{Held, Outcome, Row, Rule, Step, Text, Waiting, Walk, after_flag, after_step, arg_by_long, finished, idle, long_met, long_or_other, nothing_held, option as option_waits, plain_word, settled, subcommand_met, subcommand_or_other, trailing, used, walked, word_met}
+use Rattle.clap.specs.Walk.{
+  Held,
+  Outcome,
+  Row,
+  Rule,
+  Step,
+  Text,
+  Waiting,
+  Walk,
+  after_flag,
+  after_step,
+  arg_by_long,
+  finished,
+  idle,
+  long_met,
+  long_or_other,
+  nothing_held,
+  option as option_waits,
+  plain_word,
+  settled,
+  subcommand_met,
+  subcommand_or_other,
+  trailing,
+  used,
+  walked,
+  word_met,
+}
 use Rattle.clap.specs.declared.error.kind.ErrorKind.TheVariants.{DisplayHelp}
 use Rattle.suite_args.specs.Answering.{asked_in}
-use Rattle.suite_args.specs.CommandLine.{Asked, Told, agents_in, agents_value, asked_after, asked_at_end, asked_by_option, asked_of_serve, attached, awaited, ends_options, help, is_help_option, is_option, nothing, served, serves, told, told_again, told_by, told_by_option, untold}
+use Rattle.suite_args.specs.CommandLine.{
+  Asked,
+  Told,
+  agents_in,
+  agents_value,
+  asked_after,
+  asked_at_end,
+  asked_by_option,
+  asked_of_serve,
+  attached,
+  awaited,
+  ends_options,
+  help,
+  is_help_option,
+  is_option,
+  nothing,
+  served,
+  serves,
+  told,
+  told_again,
+  told_by,
+  told_by_option,
+  untold,
+}
 use Rattle.suite_args.proofs.Meanings.{Meets, are_mistakes, mistakes_first}
 use Rattle.suite_args.proofs.OptionWords.{held_so_far, help_faults, help_flag, name_in, plain_faults, plain_met, unsettled_faults, wrong_faults}
 use Rattle.suite_args.proofs.BuiltCommands.{agents_option, is_agents, serve_knows, serve_long, serve_shape}
@@ -92,7 +141,8 @@ module _ (rows : List Row) (pending : Option (Text × List Text)) (waiting : Wai
       → faults_from (at h waiting) (word ∷ words) ≡ DisplayHelp ∷ []
   unfolding walk_fault
   help_word end asks words =
-      ap (λ k. or_else (or_else (turn_after k (word_met rules [] false waiting 1 word h)) (walk_fault serve_shape [] (walked rules [] (at h waiting) word) words)) (checks (fold (walked rules []) (walked rules [] (at h waiting) word) words).held))
+      ap (λ k. or_else (or_else (turn_after k (word_met rules [] false waiting 1 word h)) (walk_fault serve_shape [] (walked rules [] (at h waiting) word) words))
+      (checks (fold (walked rules []) (walked rules [] (at h waiting) word) words).held))
       (fault_at false end ∙ asks)
 
 -- after `--` each word is wrong
@@ -347,7 +397,8 @@ serve_from counted known [] = ended counted known
 serve_from counted known (word ∷ words) = go (λ counted known. serve_from counted known words) (ends_options word) refl
   where
     -- what one more word does, where it is no `--`
-    step : ((counted : Bool) (known : Told) → MeetsFrom (asked_of_serve known words) (walk_at counted known) words) → (known : Told) → ends_options word ≡ false → MeetsFrom (asked_after (told_by known word) (λ next. asked_of_serve next words)) (walk_at counted known) (word ∷ words)
+    step : ((counted : Bool) (known : Told) → MeetsFrom (asked_of_serve known words) (walk_at counted known) words) → (known : Told) → ends_options word ≡ false
+        → MeetsFrom (asked_after (told_by known word) (λ next. asked_of_serve next words)) (walk_at counted known) (word ∷ words)
     step later untold end = first (agents_in word) refl
       where
         first : (option : Option (Option Text)) → agents_in word ≡ option → MeetsFrom (asked_after (told_by_option (agents_in word) word) (λ next. asked_of_serve next words)) (at nothing_held idle) (word ∷ words)

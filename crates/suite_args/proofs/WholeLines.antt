@@ -117,7 +117,8 @@ flipped a b e = go (bytes_eq b a) refl
 -- the name of the first of the commands that is meant
 abbrev first_meant : Bool → Bool → Bool → Bool → Bool → Option Text
 first_meant is_acl is_table is_play is_serve is_help = option_map (λ (s : Text × List Text). s.0) (if (is_acl || false) then Some (codes "acl", [])
-    else (if (is_table || false) then Some (codes "table", []) else (if (is_play || false) then Some (codes "play", []) else (if (is_serve || false) then Some (codes "serve", []) else (if (is_help || false) then Some (codes "help", []) else None)))))
+    else (if (is_table || false) then Some (codes "table", []) else (if (is_play || false) then Some (codes "play", []) else
+    (if (is_serve || false) then Some (codes "serve", []) else (if (is_help || false) then Some (codes "help", []) else None)))))
 
 no_command : (word : Text) → bytes_eq word (codes "acl") ≡ false → bytes_eq word (codes "table") ≡ false → bytes_eq word (codes "play") ≡ false → bytes_eq word (codes "serve") ≡ false → bytes_eq word (codes "help") ≡ false
     → subcommand_met names idle word ≡ None

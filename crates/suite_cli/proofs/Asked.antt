@@ -111,7 +111,8 @@ acl_done nothing streams status given answers runs = absurd answers
 helped : (streams : Streams) (status : ℕ) (line : List ℕ) → IsUnread streams → Finishes line done status streams.written streams.written_after streams.failed_writes streams.failed_writes_after → Helps streams status
 helped streams status line unread finishes = (unread, elim finishes [ inl whole ↦ inl (whole.0, (line, whole.1)) | inr failed ↦ inr (inr failed) ])
 
-pub help_done : (asked : Asked) (streams : Streams) (status : ℕ) (text line : List ℕ) → Answers asked (Ok (Help text)) → IsUnread streams → Finishes line done status streams.written streams.written_after streams.failed_writes streams.failed_writes_after → Does asked streams status
+pub help_done : (asked : Asked) (streams : Streams) (status : ℕ) (text line : List ℕ) → Answers asked (Ok (Help text)) → IsUnread streams
+    → Finishes line done status streams.written streams.written_after streams.failed_writes streams.failed_writes_after → Does asked streams status
 help_done (plays script) streams status text line answers unread finishes = absurd answers
 help_done (acl names) streams status text line answers unread finishes = absurd answers
 help_done (serves words) streams status text line answers unread finishes = absurd (not_help (agents_of words) text answers)

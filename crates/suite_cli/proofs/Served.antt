@@ -94,7 +94,8 @@ lacked agents streams status None readable lacks = tt
 lacked agents streams status (Some input) readable lacks = inr (inl (lacks, readable))
 
 pub unread : (error : ReadError) (agents : ℕ) (streams : Streams) (status : ℕ) (input : Option (List ℕ)) → Explains error input max_input streams.failed_reads streams.failed_reads_after
-    → RanOut error input max_input streams.input_after streams.failed_reads streams.failed_reads_after → Told (of_read error) status streams.written streams.written_after streams.failed_writes streams.failed_writes_after → ServesOn agents streams status input
+    → RanOut error input max_input streams.input_after streams.failed_reads streams.failed_reads_after
+    → Told (of_read error) status streams.written streams.written_after streams.failed_writes streams.failed_writes_after → ServesOn agents streams status input
 unread read.Memory agents streams status input explains ran told = lacked agents streams status input (lack_readable streams input ran) told
 unread read.Failed agents streams status None explains ran told = tt
 unread read.Failed agents streams status (Some input) explains ran told = inr (inr (told.0, inl (told.1, inl explains)))
@@ -121,7 +122,8 @@ no_ok fault plan given one two = cc
 -- the plan that was read is the one that the script has
 pub served_plan : (given : Result Plan ScriptFault) (plan : Plan) (status : ℕ) (before after : Option (List ℕ)) (failures failures_after : ℕ) → ok_map kept_plan given ≡ Ok plan
     → Concludes plan status before after failures failures_after → ServesScript given status before after failures failures_after
-served_plan (Ok read) plan status before after failures failures_after is concludes = subst (λ (one : Plan). Concludes one status before after failures failures_after) (sym (same_ok (kept_plan read) plan (Ok (kept_plan read)) refl is)) concludes
+served_plan (Ok read) plan status before after failures failures_after is concludes = subst (λ (one : Plan). Concludes one status before after failures failures_after)
+    (sym (same_ok (kept_plan read) plan (Ok (kept_plan read)) refl is)) concludes
 served_plan (Err fault) plan status before after failures failures_after is concludes = absurd (no_ok fault plan (Err fault) refl is)
 
 faulty_plan : (given : Result Plan ScriptFault) (fault : ScriptFault) (status : ℕ) (before after : Option (List ℕ)) (failures failures_after : ℕ) → ok_map kept_plan given ≡ Err fault

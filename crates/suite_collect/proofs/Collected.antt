@@ -14,7 +14,32 @@ use Rattle.suite_collect.specs.declared.told.Told.{Told}
 use Rattle.rep_core.proofs.Members.{Has, has_from, contains_from}
 use Rattle.rep_core.proofs.Finding.{find_some}
 use Rattle.suite_collect.specs.Telling.{is_held, newer, newest, has_told, holds, has_refused, greatest}
-use Rattle.suite_collect.specs.Collecting.{Widening, Collector, told_since, all_told, votes_or, counted, wanted, mode_or, needed, needed_of, got, is_member, is_left, members_of, version, asked_of, mode_asked, ask_or_short, Asked, Poll, Upgrade, Current, Ask, next}
+use Rattle.suite_collect.specs.Collecting.{
+  Widening,
+  Collector,
+  told_since,
+  all_told,
+  votes_or,
+  counted,
+  wanted,
+  mode_or,
+  needed,
+  needed_of,
+  got,
+  is_member,
+  is_left,
+  members_of,
+  version,
+  asked_of,
+  mode_asked,
+  ask_or_short,
+  Asked,
+  Poll,
+  Upgrade,
+  Current,
+  Ask,
+  next,
+}
 use Rattle.suite_collect.specs.Laws.{among, WasShown, EachHasAVote, IsCurrent, CurrentIsAQuorum, WidenedIsAWriteQuorum, NobodyIsAskedTwice}
 
 -- ---- the newest prefix
@@ -52,7 +77,8 @@ newest_known start (last ∷ told) = at last.said refl (newest_known start told)
           | inr shown ↦ inr (shown.0, shown.1, inr shown.2, shown.3 ∙ ap (λ prefix. Held prefix shown.1) (sym same))
         ]
 
-    shows : (other : Prefix) (dver : ℕ) → last.said ≡ Held other dver → (b : Bool) → nat_lt (newest start told).pver other.pver ≡ b → (newest start told ≡ start) ⊎ Shown told (newest start told) → (newest start (last ∷ told) ≡ start) ⊎ Shown (last ∷ told) (newest start (last ∷ told))
+    shows : (other : Prefix) (dver : ℕ) → last.said ≡ Held other dver → (b : Bool) → nat_lt (newest start told).pver other.pver ≡ b
+        → (newest start told ≡ start) ⊎ Shown told (newest start told) → (newest start (last ∷ told) ≡ start) ⊎ Shown (last ∷ told) (newest start (last ∷ told))
     shows other dver is true newer_is _ =
         let same : newest start (last ∷ told) ≡ other = ap (newer (newest start told)) is ∙ ap (λ b. cond b other (newest start told)) newer_is in
         inr (last, dver, inl refl, is ∙ ap (λ prefix. Held prefix dver) (sym same))
@@ -76,7 +102,8 @@ any_here server servers = grind (arith, nat_tests)
 among_members : (reps : List Representative) (held : ℕ → Bool) (rep : Representative) → Has reps rep → (nat_lt 0 rep.1 && held rep.0) ≡ true → among (map (λ rep. rep.0) (filter (λ rep. nat_lt 0 rep.1 && held rep.0) reps)) rep.0 ≡ true
 among_members [] held rep has is = absurd has
 among_members (first ∷ reps) held rep has is =
-    elim (nat_lt 0 first.1 && held first.0) as (λ b. (nat_lt 0 first.1 && held first.0) ≡ b → among (map (λ rep. rep.0) (cond b (first ∷ filter (λ rep. nat_lt 0 rep.1 && held rep.0) reps) (filter (λ rep. nat_lt 0 rep.1 && held rep.0) reps))) rep.0 ≡ true) [
+    elim (nat_lt 0 first.1 && held first.0) as (λ b. (nat_lt 0 first.1 && held first.0) ≡ b
+    → among (map (λ rep. rep.0) (cond b (first ∷ filter (λ rep. nat_lt 0 rep.1 && held rep.0) reps) (filter (λ rep. nat_lt 0 rep.1 && held rep.0) reps))) rep.0 ≡ true) [
       | true ↦ λ _. elim has [
         | inl same ↦ subst (λ (other : Representative). among (first.0 ∷ map (λ rep. rep.0) (filter (λ rep. nat_lt 0 rep.1 && held rep.0) reps)) other.0 ≡ true) same (any_here first.0 _)
         | inr rest ↦ later (first.0 == rep.0) (among_members reps held rep rest is)
@@ -92,7 +119,9 @@ among_members (first ∷ reps) held rep has is =
 members_held : (reps : List Representative) (held : ℕ → Bool) (server : ℕ) → among (map (λ rep. rep.0) (filter (λ rep. nat_lt 0 rep.1 && held rep.0) reps)) server ≡ true → held server ≡ true
 members_held [] held server is = cc
 members_held (first ∷ reps) held server is =
-    elim (nat_lt 0 first.1 && held first.0) as (λ b. (nat_lt 0 first.1 && held first.0) ≡ b → among (map (λ rep. rep.0) (cond b (first ∷ filter (λ rep. nat_lt 0 rep.1 && held rep.0) reps) (filter (λ rep. nat_lt 0 rep.1 && held rep.0) reps))) server ≡ true → held server ≡ true) [
+    elim (nat_lt 0 first.1 && held first.0) as (λ b. (nat_lt 0 first.1 && held first.0) ≡ b
+    → among (map (λ rep. rep.0) (cond b (first ∷ filter (λ rep. nat_lt 0 rep.1 && held rep.0) reps) (filter (λ rep. nat_lt 0 rep.1 && held rep.0) reps))) server ≡ true
+    → held server ≡ true) [
       | true ↦ λ passes is. here (first.0 == server) refl is passes (members_held reps held server)
       | false ↦ λ _ is. members_held reps held server is
     ] refl is
@@ -101,7 +130,9 @@ members_held (first ∷ reps) held server is =
     second true b is = is
     second false b is = cc
 
-    here : (b : Bool) → (first.0 == server) ≡ b → (b || among (map (λ rep. rep.0) (filter (λ rep. nat_lt 0 rep.1 && held rep.0) reps)) server) ≡ true → (nat_lt 0 first.1 && held first.0) ≡ true → (among (map (λ rep. rep.0) (filter (λ rep. nat_lt 0 rep.1 && held rep.0) reps)) server ≡ true → held server ≡ true) → held server ≡ true
+    here : (b : Bool) → (first.0 == server) ≡ b → (b || among (map (λ rep. rep.0) (filter (λ rep. nat_lt 0 rep.1 && held rep.0) reps)) server) ≡ true
+        → (nat_lt 0 first.1 && held first.0) ≡ true → (among (map (λ rep. rep.0) (filter (λ rep. nat_lt 0 rep.1 && held rep.0) reps)) server ≡ true → held server ≡ true)
+        → held server ≡ true
     here true same is passes _ = subst (λ server. held server ≡ true) (eqb-true first.0 server same) (second (nat_lt 0 first.1) (held first.0) passes)
     here false _ is passes again = again is
 
@@ -117,11 +148,15 @@ members_vote (first ∷ reps) held server is = at (nat_lt 0 first.1 && held firs
     left true b is = refl
     left false b is = cc
 
-    here : (b : Bool) → (first.0 == server) ≡ b → nat_lt 0 first.1 ≡ true → (b || among (map (λ rep. rep.0) (filter (λ rep. nat_lt 0 rep.1 && held rep.0) reps)) server) ≡ true → (among (map (λ rep. rep.0) (filter (λ rep. nat_lt 0 rep.1 && held rep.0) reps)) server ≡ true → 0 < votes_at reps server) → 0 < cond b first.1 0 + votes_at reps server
+    here : (b : Bool) → (first.0 == server) ≡ b → nat_lt 0 first.1 ≡ true → (b || among (map (λ rep. rep.0) (filter (λ rep. nat_lt 0 rep.1 && held rep.0) reps)) server) ≡ true
+        → (among (map (λ rep. rep.0) (filter (λ rep. nat_lt 0 rep.1 && held rep.0) reps)) server ≡ true → 0 < votes_at reps server) → 0 < cond b first.1 0 + votes_at reps server
     here true same some is _ = let more : 0 < first.1 = grind (arith, nat_tests) in omega (arith, more)
     here false _ some is rest = let more = rest is in omega (arith, more)
 
-    at : (b : Bool) → (nat_lt 0 first.1 && held first.0) ≡ b → among (map (λ rep. rep.0) (cond b (first ∷ filter (λ rep. nat_lt 0 rep.1 && held rep.0) reps) (filter (λ rep. nat_lt 0 rep.1 && held rep.0) reps))) server ≡ true → (among (map (λ rep. rep.0) (filter (λ rep. nat_lt 0 rep.1 && held rep.0) reps)) server ≡ true → 0 < votes_at reps server) → 0 < cond (first.0 == server) first.1 0 + votes_at reps server
+    at : (b : Bool) → (nat_lt 0 first.1 && held first.0) ≡ b
+        → among (map (λ rep. rep.0) (cond b (first ∷ filter (λ rep. nat_lt 0 rep.1 && held rep.0) reps) (filter (λ rep. nat_lt 0 rep.1 && held rep.0) reps))) server ≡ true
+        → (among (map (λ rep. rep.0) (filter (λ rep. nat_lt 0 rep.1 && held rep.0) reps)) server ≡ true → 0 < votes_at reps server)
+        → 0 < cond (first.0 == server) first.1 0 + votes_at reps server
     at true passes is rest = here (first.0 == server) refl (left (nat_lt 0 first.1) (held first.0) passes) is rest
     at false _ is rest = later (rest is)
 
@@ -254,7 +289,9 @@ asked_left c server asked is = at (nat_le (needed c) (got c)) is
         parts true true d is = cc
         parts false b d is = cc
 
-    at : (b : Bool) → cond b (Current (newest c.start c.told) (version c) (members_of (counted c) (is_member c))) (ask_or_short c (find (is_left c) (counted c).reps)) ≡ Ask server asked → (is_member c server ≡ false) × (has_refused (all_told c) server ≡ false) × (asked_of c server ≡ asked)
+    at : (b : Bool) → cond b (Current (newest c.start c.told) (version c) (members_of (counted c) (is_member c)))
+        (ask_or_short c (find (is_left c) (counted c).reps)) ≡ Ask server asked → (is_member c server ≡ false) × (has_refused (all_told c) server ≡ false)
+        × (asked_of c server ≡ asked)
     at true is = cc
     at false is = found_left (find (is_left c) (counted c).reps) refl is
 
@@ -307,7 +344,8 @@ nobody_is_asked_twice c server = (
         all true false is = cc
         all false b _ = refl
 
-    upgraded : (mode : LockMode) → wanted c ≡ mode → (b : Bool) → holds Shared (all_told c) server ≡ b → cond b Upgrade (Poll (wanted c)) ≡ Upgrade → is_member c server ≡ false → has_refused (all_told c) server ≡ false → has_told (λ one. is_exclusive one.mode) (all_told c) server ≡ false
+    upgraded : (mode : LockMode) → wanted c ≡ mode → (b : Bool) → holds Shared (all_told c) server ≡ b → cond b Upgrade (Poll (wanted c)) ≡ Upgrade → is_member c server ≡ false
+        → has_refused (all_told c) server ≡ false → has_told (λ one. is_exclusive one.mode) (all_told c) server ≡ false
     upgraded mode want false held is no_member fine = cc
     upgraded Shared want true held is no_member fine = absurd (false≢true (sym no_member ∙ ap (λ mode. holds mode (all_told c) server) want ∙ held))
     upgraded Exclusive want true held is no_member fine = covered _ _ _ exclusive_covers (all_told c) server (ap (λ mode. holds mode (all_told c) server) (sym want) ∙ no_member) fine

@@ -98,7 +98,9 @@ once_more : (servers : List ℕ) (one : Told) (told : List Told) → among serve
 once_more [] one told is = cc
 once_more (server ∷ servers) one told is = at (server == one.server) refl is (once_more servers one told)
   where
-    at : (b : Bool) → (server == one.server) ≡ b → (b || among servers one.server) ≡ true → (among servers one.server ≡ true → 1 + times_all servers told ≤ times_all servers (one ∷ told)) → 1 + (times server told + times_all servers told) ≤ (cond (one.server == server) 1 0 + times server told) + times_all servers (one ∷ told)
+    at : (b : Bool) → (server == one.server) ≡ b → (b || among servers one.server) ≡ true
+        → (among servers one.server ≡ true → 1 + times_all servers told ≤ times_all servers (one ∷ told))
+        → 1 + (times server told + times_all servers told) ≤ (cond (one.server == server) 1 0 + times server told) + times_all servers (one ∷ told)
     at true same is _ =
         let here : (one.server == server) ≡ true = grind (arith, nat_tests) in
         let more : times_all servers told ≤ times_all servers (one ∷ told) = more_times servers one told in

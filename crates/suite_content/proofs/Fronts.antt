@@ -54,7 +54,8 @@ told_apart (suc n) a (x ∷ xs) (y ∷ ys) are are' apart = by (told_apart n (a 
     Lie : ℕ → Type 0
     Lie z = nat_cmp (number_with (a * 256 + x) n xs) (number_with (a * 256 + z) n ys) ≡ slice_cmp nat_cmp xs ys
 
-    by : (number_with (a * 256 + x) n xs ≢ number_with (a * 256 + x) n ys → Lie x) → (o : Ordering) → nat_cmp x y ≡ o → MatchOrdering o (x < y) (x ≡ y) (y < x) → nat_cmp (number_with (a * 256 + x) n xs) (number_with (a * 256 + y) n ys) ≡ slice_cmp nat_cmp (x ∷ xs) (y ∷ ys)
+    by : (number_with (a * 256 + x) n xs ≢ number_with (a * 256 + x) n ys → Lie x) → (o : Ordering) → nat_cmp x y ≡ o → MatchOrdering o (x < y) (x ≡ y) (y < x)
+        → nat_cmp (number_with (a * 256 + x) n xs) (number_with (a * 256 + y) n ys) ≡ slice_cmp nat_cmp (x ∷ xs) (y ∷ ys)
     by rest Less is below =
         let under : x < y = below in
         less _ _ (stays_lower n (a * 256 + x) (a * 256 + y) xs ys (behind (x ∷ xs) are) (omega arith)) ∙ sym (ap (λ o. ordering_then o (slice_cmp nat_cmp xs ys)) is)
@@ -71,9 +72,11 @@ same_front zero n a xs ys are are' same p q r = refl
 same_front (suc k) zero a xs ys are are' same p q r = absurd (omega arith)
 same_front (suc k) (suc n) a [] ys are are' same p q r = absurd (omega arith)
 same_front (suc k) (suc n) a (x ∷ xs) [] are are' same p q r = absurd (omega arith)
-same_front (suc k) (suc n) a (x ∷ xs) (y ∷ ys) are are' same p q r = by (λ is. same_front k n (a * 256 + x) xs ys (behind (x ∷ xs) are) (behind (y ∷ ys) are') is (omega (arith, p)) (omega (arith, q)) (omega (arith, r))) (nat_cmp x y) refl (ranked x y (nat_cmp x y) refl)
+same_front (suc k) (suc n) a (x ∷ xs) (y ∷ ys) are are' same p q r = by (λ is. same_front k n (a * 256 + x) xs ys (behind (x ∷ xs) are) (behind (y ∷ ys) are') is
+    (omega (arith, p)) (omega (arith, q)) (omega (arith, r))) (nat_cmp x y) refl (ranked x y (nat_cmp x y) refl)
   where
-    by : (number_with (a * 256 + x) n xs ≡ number_with (a * 256 + x) n ys → slice_cmp nat_cmp (drop k xs) (drop k ys) ≡ slice_cmp nat_cmp xs ys) → (o : Ordering) → nat_cmp x y ≡ o → MatchOrdering o (x < y) (x ≡ y) (y < x) → slice_cmp nat_cmp (drop k xs) (drop k ys) ≡ slice_cmp nat_cmp (x ∷ xs) (y ∷ ys)
+    by : (number_with (a * 256 + x) n xs ≡ number_with (a * 256 + x) n ys → slice_cmp nat_cmp (drop k xs) (drop k ys) ≡ slice_cmp nat_cmp xs ys) → (o : Ordering) → nat_cmp x y ≡ o
+        → MatchOrdering o (x < y) (x ≡ y) (y < x) → slice_cmp nat_cmp (drop k xs) (drop k ys) ≡ slice_cmp nat_cmp (x ∷ xs) (y ∷ ys)
     by rest Less is below =
         let under : x < y = below in
         let lower = stays_lower n (a * 256 + x) (a * 256 + y) xs ys (behind (x ∷ xs) are) (omega arith) in
@@ -104,7 +107,9 @@ next_byte a i n xs = λ j. number_with (a * 256 + here j) n (after j)
     after : drop 1 (drop i xs) ≡ drop (suc i) xs
     after = one_more i xs
 
-pub eight_bytes : (xs : List ℕ) → number_with 0 8 xs ≡ (((((((0 * 256 + get_or xs 0 0) * 256 + get_or xs 1 0) * 256 + get_or xs 2 0) * 256 + get_or xs 3 0) * 256 + get_or xs 4 0) * 256 + get_or xs 5 0) * 256 + get_or xs 6 0) * 256 + get_or xs 7 0
+pub eight_bytes : (xs : List ℕ)
+    → number_with 0 8 xs ≡ (((((((0 * 256 + get_or xs 0 0) * 256 + get_or xs 1 0) * 256 + get_or xs 2 0) * 256 + get_or xs 3 0) * 256 + get_or xs 4 0) * 256 + get_or xs 5 0) * 256
+    + get_or xs 6 0) * 256 + get_or xs 7 0
 eight_bytes xs =
     next_byte 0 0 7 xs ∙ next_byte _ 1 6 xs ∙ next_byte _ 2 5 xs ∙ next_byte _ 3 4 xs ∙ next_byte _ 4 3 xs ∙ next_byte _ 5 2 xs ∙ next_byte _ 6 1 xs ∙ next_byte _ 7 0 xs
 

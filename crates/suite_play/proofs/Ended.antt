@@ -30,7 +30,8 @@ ended_after : {D : Type 0} (as_doing : D → Doing) (after : After D) → is_som
 ended_after as_doing (GoesOn more) some = cc
 ended_after as_doing (Ends ending) some = refl
 
-ended_take : (fixed : Fixed) (agent : Agent) (response : Response) (doing : Option Doing) (asked : Option (ℕ × Request)) → is_some (take_in fixed agent response doing asked).ending ≡ true → is_idle (take_in fixed agent response doing asked).agent.doing ≡ true
+ended_take : (fixed : Fixed) (agent : Agent) (response : Response) (doing : Option Doing) (asked : Option (ℕ × Request))
+    → is_some (take_in fixed agent response doing asked).ending ≡ true → is_idle (take_in fixed agent response doing asked).agent.doing ≡ true
 ended_take fixed agent response (Some (Running running)) (Some asked) some = ended_after Running (txn_run.after_response fixed running agent.cache asked.0 asked.1 response).after some
 ended_take fixed agent response (Some (RunningSweep sweep_run)) (Some asked) some = ended_after RunningSweep (sweep.after_response fixed.service sweep_run asked.0 response) some
 ended_take fixed agent response (Some (Running running)) None some = cc

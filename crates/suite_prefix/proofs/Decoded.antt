@@ -82,7 +82,9 @@ spelled bytes shape rest fits e whole = record {
   held = whole.copy.held;
   content_held = whole.copy.content_held;
   are =
-      (shape_takes bytes (shape, rest) fits e).whole ∙ ap (λ (t : List ℕ). t ++ rest) (same_text shape (canonical_parts shape whole.canonical).belongs (canonical_parts shape whole.canonical).default_belongs whole.copy.permissions_known whole.copy.default_known)
+      (shape_takes bytes (shape, rest) fits e).whole ∙ ap (λ (t : List ℕ). t ++ rest)
+      (same_text shape (canonical_parts shape whole.canonical).belongs (canonical_parts shape whole.canonical).default_belongs whole.copy.permissions_known
+      whole.copy.default_known)
       ∙ ap (λ (t : List ℕ). bytes_in shape.form (copy_of shape) ++ t) whole.ended ∙ append-nil (bytes_in shape.form (copy_of shape));
 }
 

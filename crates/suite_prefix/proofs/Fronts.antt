@@ -11,7 +11,30 @@ use Rattle.suite_prefix.specs.declared.forms.Form.TheVariants.{One, Two}
 use Rattle.suite_prefix.specs.declared.faults.CopyFault.{CopyFault}
 use Rattle.suite_prefix.specs.declared.faults.CopyFault.TheVariants.{Short, BadTag, NotCanonical, Invalid, TrailingBytes}
 use Rattle.suite_prefix.specs.Faults.{IsFaultIn, FrontsAreShort}
-use Rattle.suite_prefix.specs.Reading.{◌>>=◌, Shape, byte_at, number_at, bytes_at, default_at, form_at, kind_of_code, identity_at, code_at, entry_at, representative_at, name_at, many_at, list_at, lists_at, listed_at, votes_at, file_at, folder_at, content_at, shape_at}
+use Rattle.suite_prefix.specs.Reading.{
+  ◌>>=◌,
+  Shape,
+  byte_at,
+  number_at,
+  bytes_at,
+  default_at,
+  form_at,
+  kind_of_code,
+  identity_at,
+  code_at,
+  entry_at,
+  representative_at,
+  name_at,
+  many_at,
+  list_at,
+  lists_at,
+  listed_at,
+  votes_at,
+  file_at,
+  folder_at,
+  content_at,
+  shape_at,
+}
 use Rattle.suite_prefix.proofs.Back.{whole_again}
 use Rattle.suite_prefix.proofs.ShapeOf.{shape_of}
 use Rattle.suite_prefix.proofs.Takes.{identity_1, identity_2, identity_3, identity_4, entry_1, entry_2, votes_1, votes_2, shape_0, shape_1, shape_2, shape_3, shape_4, shape_5}

@@ -96,7 +96,8 @@ spells shape fits canonical sound accepted = record {
         group = fits.group;
         qualifiers = record {
           access = All-map (λ (entry : Entry). qualifier entry.tag < 2 ^ 32) entry_from shape.entries fits.numbers;
-          default = subst (All (λ (entry : Entry). qualifier entry.tag < 2 ^ 32)) (sym (entries_again (map entry_from shape.default))) (All-map (λ (entry : Entry). qualifier entry.tag < 2 ^ 32) entry_from shape.default fits.default_numbers);
+          default = subst (All (λ (entry : Entry). qualifier entry.tag < 2 ^ 32)) (sym (entries_again (map entry_from shape.default)))
+              (All-map (λ (entry : Entry). qualifier entry.tag < 2 ^ 32) entry_from shape.default fits.default_numbers);
         };
         r = fits.r;
         w = fits.w;

@@ -29,7 +29,8 @@ ends one fault front count i bytes total lt h so_far =
     let step : with_front front (many_at one (count - i) bytes) ≡ Err fault = rw (k, h) refl in
     sym so_far ∙ step
 
-pub is_done : {X : Type 0} (one : List ℕ → Result (X × List ℕ) CopyFault) (front : List X) (count i : ℕ) (bytes : List ℕ) (total : Result (List X × List ℕ) CopyFault) → count ≤ i → with_front front (many_at one (count - i) bytes) ≡ total → total ≡ Ok (front, bytes)
+pub is_done : {X : Type 0} (one : List ℕ → Result (X × List ℕ) CopyFault) (front : List X) (count i : ℕ) (bytes : List ℕ) (total : Result (List X × List ℕ) CopyFault) → count ≤ i
+    → with_front front (many_at one (count - i) bytes) ≡ total → total ≡ Ok (front, bytes)
 unfolding many_at
 is_done one front count i bytes total le so_far =
     let k : count - i ≡ 0 = omega arith in

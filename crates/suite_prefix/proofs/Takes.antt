@@ -24,7 +24,31 @@ use Rattle.suite_prefix.specs.Bytes.{kind_code, tag_code, representative_bytes, 
 use Rattle.suite_prefix.specs.Copies.{held_by}
 use Rattle.suite_prefix.specs.Forms.{form_code}
 use Rattle.suite_prefix.specs.code.Judging.{FitsForm, ContentFits}
-use Rattle.suite_prefix.specs.Reading.{◌>>=◌, Shape, byte_at, number_at, bytes_at, default_at, form_at, kind_of_code, identity_at, code_at, tag_of, entry_at, representative_at, name_at, many_at, list_at, lists_at, listed_at, votes_at, file_at, folder_at, content_at, shape_at}
+use Rattle.suite_prefix.specs.Reading.{
+  ◌>>=◌,
+  Shape,
+  byte_at,
+  number_at,
+  bytes_at,
+  default_at,
+  form_at,
+  kind_of_code,
+  identity_at,
+  code_at,
+  tag_of,
+  entry_at,
+  representative_at,
+  name_at,
+  many_at,
+  list_at,
+  lists_at,
+  listed_at,
+  votes_at,
+  file_at,
+  folder_at,
+  content_at,
+  shape_at,
+}
 use Rattle.suite_prefix.proofs.Loop.{ok_is}
 
 -- ---- bytes
@@ -99,8 +123,10 @@ number_takes w limit wide bytes n rest fits e =
     let long : byte_len w ≤ length bytes = ltb-false _ _ g.0 in
     let n-is : from_be_bytes w (take (byte_len w) bytes) ≡ n = ap (λ (p : ℕ × List ℕ). p.0) g.1 in
     let rest-is : drop (byte_len w) bytes ≡ rest = ap (λ (p : ℕ × List ℕ). p.1) g.1 in
-    let front : to_be_bytes w n ≡ take (byte_len w) bytes = rw (← n-is) (wide.back (take (byte_len w) bytes) (omega (arith, length-take (byte_len w) bytes)) (IsBytes-take (byte_len w) bytes fits)) in
-    (record { parts = rw (front, ← rest-is) (sym (take-append-drop (byte_len w) bytes)); rest_fits = rw (← rest-is) (IsBytes-drop (byte_len w) bytes fits) }, rw (← n-is) (wide.below (take (byte_len w) bytes) (IsBytes-take (byte_len w) bytes fits)))
+    let front : to_be_bytes w n ≡ take (byte_len w) bytes = rw (← n-is) (wide.back (take (byte_len w) bytes) (omega (arith, length-take (byte_len w) bytes)) (IsBytes-take (byte_len w) bytes fits)) in (
+      record { parts = rw (front, ← rest-is) (sym (take-append-drop (byte_len w) bytes)); rest_fits = rw (← rest-is) (IsBytes-drop (byte_len w) bytes fits) },
+      rw (← n-is) (wide.below (take (byte_len w) bytes) (IsBytes-take (byte_len w) bytes fits)),
+    )
 
 u16_takes : (bytes : List ℕ) (x : ℕ × List ℕ) → IsBytes bytes → number_at w16 bytes ≡ Ok x → Takes bytes (to_be_bytes w16 x.0) x.1 × (x.0 < 2 ^ 16)
 u16_takes bytes x = number_takes w16 (2 ^ 16) wide16 bytes x.0 x.1

@@ -47,19 +47,22 @@ ends number op [] = refl
 ends number op (word ∷ words) = refl
 
 -- one word more, and then the end
-by_contents : (scope : Scope) (number : ℕ) (path text : Word) (words : List Word) → judged_fault (shaped scope (places_of verb.Write) (ending_of verb.Write) number (path ∷ text ∷ words)) ≡ fault_in (operation_by scope.names verb.Write (path ∷ text ∷ words))
+by_contents : (scope : Scope) (number : ℕ) (path text : Word) (words : List Word) → judged_fault
+    (shaped scope (places_of verb.Write) (ending_of verb.Write) number (path ∷ text ∷ words)) ≡ fault_in (operation_by scope.names verb.Write (path ∷ text ∷ words))
 by_contents scope number path text words = elim (cases_option (bytes_in text)) [
   | inl none ↦ rw none refl
   | inr some ↦ rw some.1 (ends _ _ words)
 ]
 
-by_lists : (scope : Scope) (number : ℕ) (path text : Word) (words : List Word) → judged_fault (shaped scope (places_of verb.SetAcl) (ending_of verb.SetAcl) number (path ∷ text ∷ words)) ≡ fault_in (operation_by scope.names verb.SetAcl (path ∷ text ∷ words))
+by_lists : (scope : Scope) (number : ℕ) (path text : Word) (words : List Word) → judged_fault
+    (shaped scope (places_of verb.SetAcl) (ending_of verb.SetAcl) number (path ∷ text ∷ words)) ≡ fault_in (operation_by scope.names verb.SetAcl (path ∷ text ∷ words))
 by_lists scope number path text words = elim (cases_result (lists_in scope.names text)) [
   | inl fault ↦ rw fault.1 refl
   | inr given ↦ rw given.1 (ends _ _ words)
 ]
 
-by_votes : (scope : Scope) (number : ℕ) (path text : Word) (words : List Word) → judged_fault (shaped scope (places_of verb.SetVotes) (ending_of verb.SetVotes) number (path ∷ text ∷ words)) ≡ fault_in (operation_by scope.names verb.SetVotes (path ∷ text ∷ words))
+by_votes : (scope : Scope) (number : ℕ) (path text : Word) (words : List Word) → judged_fault
+    (shaped scope (places_of verb.SetVotes) (ending_of verb.SetVotes) number (path ∷ text ∷ words)) ≡ fault_in (operation_by scope.names verb.SetVotes (path ∷ text ∷ words))
 by_votes scope number path text words = elim (cases_result (votes_in MAX_SERVERS text)) [
   | inl fault ↦ rw fault.1 refl
   | inr given ↦ rw given.1 (ends _ _ words)
@@ -79,13 +82,15 @@ by_last scope number kind path init (text ∷ words) = elim (cases_result (votes
   | inr given ↦ rw given.1 (ends _ _ words)
 ]
 
-by_file : (scope : Scope) (number : ℕ) (path text : Word) (words : List Word) → judged_fault (shaped scope (places_of verb.File) (ending_of verb.File) number (path ∷ text ∷ words)) ≡ fault_in (operation_by scope.names verb.File (path ∷ text ∷ words))
+by_file : (scope : Scope) (number : ℕ) (path text : Word) (words : List Word) → judged_fault
+    (shaped scope (places_of verb.File) (ending_of verb.File) number (path ∷ text ∷ words)) ≡ fault_in (operation_by scope.names verb.File (path ∷ text ∷ words))
 by_file scope number path text words = elim (cases_result (init_in scope.names text)) [
   | inl fault ↦ rw fault.1 refl
   | inr given ↦ rw given.1 (by_last scope (after (after number)) File path given.0 words)
 ]
 
-by_folder : (scope : Scope) (number : ℕ) (path text : Word) (words : List Word) → judged_fault (shaped scope (places_of verb.Folder) (ending_of verb.Folder) number (path ∷ text ∷ words)) ≡ fault_in (operation_by scope.names verb.Folder (path ∷ text ∷ words))
+by_folder : (scope : Scope) (number : ℕ) (path text : Word) (words : List Word) → judged_fault
+    (shaped scope (places_of verb.Folder) (ending_of verb.Folder) number (path ∷ text ∷ words)) ≡ fault_in (operation_by scope.names verb.Folder (path ∷ text ∷ words))
 by_folder scope number path text words = elim (cases_result (init_in scope.names text)) [
   | inl fault ↦ rw fault.1 refl
   | inr given ↦ rw given.1 (by_last scope (after (after number)) Folder path given.0 words)
@@ -137,7 +142,9 @@ abbrev fault_or : Option LineFault → Option LineFault → Option LineFault
 fault_or (Some fault) later = Some fault
 fault_or None later = later
 
-judged_first : (judged : Judged) (ops : Result (List Op) LineFault) (later : ℕ → Option Misfit) → ((number : ℕ) → option_map (λ misfit. misfit.fault) (later number) ≡ fault_in ops) → option_map (λ misfit. misfit.fault) (misfit_or judged later) ≡ fault_or (judged_fault judged) (fault_in ops)
+judged_first : (judged : Judged) (ops : Result (List Op) LineFault) (later : ℕ → Option Misfit)
+    → ((number : ℕ) → option_map (λ misfit. misfit.fault) (later number) ≡ fault_in ops) → option_map (λ misfit. misfit.fault) (misfit_or judged later) ≡ fault_or
+    (judged_fault judged) (fault_in ops)
 judged_first (Wrong misfit) ops later rest = refl
 judged_first (Left number words) ops later rest = rest number
 

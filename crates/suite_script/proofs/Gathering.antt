@@ -86,7 +86,8 @@ pub prints_nothing : (told : Option (List ℕ)) (gathered left : List ℕ) (fail
 prints_nothing told gathered left failures = ((gathered, wrote_nothing told gathered), refl)
 
 -- a line was not printed whole, and so its script is not
-pub prints_on : (error : PlayError) (output : Output) (told now after : Option (List ℕ)) (gathered left rest : List ℕ) (failures failures_now failures_after : ℕ) → is_done output ≡ true → WroteSoFar told (text_of output) (gathered ++ rest) now → failures_now ≡ failures
+pub prints_on : (error : PlayError) (output : Output) (told now after : Option (List ℕ)) (gathered left rest : List ℕ) (failures failures_now failures_after : ℕ)
+    → is_done output ≡ true → WroteSoFar told (text_of output) (gathered ++ rest) now → failures_now ≡ failures
     → Prints (Err error) gathered left now after failures_now failures_after → Plays (Err error) output told after failures failures_after
 prints_on play.Memory output told now after gathered left rest failures failures_now failures_after done so same prints =
     (broke_off output told after (prints.0.0 ++ rest) done (wrote_moved told now after (text_of output) gathered prints.0.0 rest so prints.0.1), prints.1 ∙ same)

@@ -86,7 +86,8 @@ done_text printed lines (Err fault) done = absurd (false≢true done)
 
 -- a line was not printed whole
 pub broken_line : {A : Type 0} {faultless : Bool} {output : Output} {told now : Option (List ℕ)} {failures failures_now : ℕ}
-    (error : PlayError) (after : Option (List ℕ)) (failures_after : ℕ) (printed gathered : List ℕ) (lines : List A → List ℕ) (left : Result (List A) ScriptFault) → faultless ≡ true → Prints (Err error) printed gathered now after failures_now failures_after
+    (error : PlayError) (after : Option (List ℕ)) (failures_after : ℕ) (printed gathered : List ℕ) (lines : List A → List ℕ) (left : Result (List A) ScriptFault)
+    → faultless ≡ true → Prints (Err error) printed gathered now after failures_now failures_after
     → IsPlayed faultless output (comes_to printed lines left) told now failures failures_now → Plays (Err error) output told after failures failures_after
 broken_line {faultless = true} {output = output} {told = told} {now = now} {failures = failures} {failures_now = failures_now} error after failures_after printed gathered lines left known prints is =
     prints_on error output told now after printed gathered (left_lines lines left) failures failures_now failures_after is.so_far.0

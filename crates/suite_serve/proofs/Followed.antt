@@ -75,7 +75,8 @@ new_rest player others new one has = new one (suc has.0, (let low = has.1 in ome
 pub new_others : (given : Opening) (others : List Played) → first_player given 0 ∷ others ≡ players_from given 0 given.agents → AreNew others
 new_others given others are = new_rest (first_player given 0) others (subst AreNew (sym are) (new_from given 0 given.agents))
 
-later_all : (old new : List Held) (lead : Played) (others later now : List Played) → AllZip (FollowsAll (lead ∷ [])) others later → AllZip (WentOn old new) later now → AreNew others → (entries : List Entry) → Contains (transcripts_of now) entries
+later_all : (old new : List Held) (lead : Played) (others later now : List Played) → AllZip (FollowsAll (lead ∷ [])) others later → AllZip (WentOn old new) later now
+    → AreNew others → (entries : List Entry) → Contains (transcripts_of now) entries
     → (server stamp : ℕ) → server < most_numbers → Contains entries (Asked server stamp) → known_at lead server < stamp
 later_all old new lead [] [] [] follow went fresh entries has server stamp there asked = let low = has.1 in absurd (omega arith)
 later_all old new lead [] [] (n ∷ now) follow went fresh entries has server stamp there asked = absurd went

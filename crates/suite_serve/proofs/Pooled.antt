@@ -166,7 +166,8 @@ first_of_both few before after long order all place outcome low there =
 -- ---- no two are of one job
 
 -- what agent 0 did alone is behind what it does later
-since_alone : (old new : List Held) (was : Played) (now others : List Played) → AllZip (WentOn old new) (was ∷ []) now → AreNumbered 0 (now ++ others) → (player : Played) → Contains (now ++ others) player → number_of player ≡ 0 → begins player.entries ≡ begun_by now
+since_alone : (old new : List Held) (was : Played) (now others : List Played) → AllZip (WentOn old new) (was ∷ []) now → AreNumbered 0 (now ++ others) → (player : Played)
+    → Contains (now ++ others) player → number_of player ≡ 0 → begins player.entries ≡ begun_by now
 since_alone old new was [] others all are player has is = absurd all
 since_alone old new was (n ∷ []) others all are player (zero, low, has) is = let same = ap (λ (p : Played). begins p.entries) (sym has) in omega arith
 since_alone old new was (n ∷ []) others all are player (suc place, low, has) is =

@@ -25,7 +25,8 @@ asked_as p b task number (Some suite) server asked polls upgrades is = of (next 
     of (Short had wanting busy) is = cc
 
 -- what holds of fetches holds of what is asked for a content
-pub fetched_as : (p : Request → Bool) (b : Bool) (task : Task) (number : ℕ) (found : Option GatheredSuite) (server : ℕ) (asked : Request) → p (request.Fetch task.t number) ≡ b → fetched_for task number found ≡ Some (server, asked) → p asked ≡ b
+pub fetched_as : (p : Request → Bool) (b : Bool) (task : Task) (number : ℕ) (found : Option GatheredSuite) (server : ℕ) (asked : Request) → p (request.Fetch task.t number) ≡ b
+    → fetched_for task number found ≡ Some (server, asked) → p asked ≡ b
 fetched_as p b task number None server asked fetches is = cc
 fetched_as p b task number (Some suite) server asked fetches is = of suite.first is
   where

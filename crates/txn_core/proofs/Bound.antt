@@ -139,16 +139,20 @@ both : (a b : Bool) → a ≡ true → b ≡ true → (a && b) ≡ true
 both true b is also = also
 both false b is also = cc
 
-lock_more : (servers suites : List ℕ) (one : Exchange) (past : List Exchange) (number : ℕ) → locks number one.request ≡ true → among suites number ≡ true → among servers one.server ≡ true → 1 + total_of servers suites past ≤ total_of servers suites (one ∷ past)
+lock_more : (servers suites : List ℕ) (one : Exchange) (past : List Exchange) (number : ℕ) → locks number one.request ≡ true → among suites number ≡ true
+    → among servers one.server ≡ true → 1 + total_of servers suites past ≤ total_of servers suites (one ∷ past)
 lock_more servers suites one past number is named asked =
-    hit_lock servers suites _ _ _ _ _ _ _ _ number one.server (more_of one past) (one_now ((one.server == one.server) && locks number one.request) (asked_for_locks past number one.server) (both (one.server == one.server) (locks number one.request) (self one.server) is)) named asked
+    hit_lock servers suites _ _ _ _ _ _ _ _ number one.server (more_of one past)
+    (one_now ((one.server == one.server) && locks number one.request) (asked_for_locks past number one.server)
+    (both (one.server == one.server) (locks number one.request) (self one.server) is)) named asked
 
 content_more : (servers suites : List ℕ) (one : Exchange) (past : List Exchange) (number : ℕ) → fetches number one.request ≡ true → among suites number ≡ true → 1 + total_of servers suites past ≤ total_of servers suites (one ∷ past)
 content_more servers suites one past number is named = hit_content servers suites _ _ _ _ _ _ _ _ number (more_of one past) (one_now (fetches number one.request) (fetched_in number past) is) named
 
 telling_more : (servers suites : List ℕ) (one : Exchange) (past : List Exchange) → tells one.request ≡ true → among servers one.server ≡ true → 1 + total_of servers suites past ≤ total_of servers suites (one ∷ past)
 telling_more servers suites one past is asked =
-    hit_telling servers suites _ _ _ _ _ _ _ _ one.server (more_of one past) (one_now ((one.server == one.server) && tells one.request) (told_to one.server past) (both (one.server == one.server) (tells one.request) (self one.server) is)) asked
+    hit_telling servers suites _ _ _ _ _ _ _ _ one.server (more_of one past)
+    (one_now ((one.server == one.server) && tells one.request) (told_to one.server past) (both (one.server == one.server) (tells one.request) (self one.server) is)) asked
 
 decision_more : (servers suites : List ℕ) (one : Exchange) (past : List Exchange) → is_decide one.request ≡ true → 1 + total_of servers suites past ≤ total_of servers suites (one ∷ past)
 decision_more servers suites one past is = hit_decision servers suites _ _ _ _ _ _ _ _ (more_of one past) (one_now (is_decide one.request) (count_of (λ one. is_decide one.request) past) is)
@@ -156,7 +160,8 @@ decision_more servers suites one past is = hit_decision servers suites _ _ _ _ _
 same_request : (p : Request → Bool) (b : Bool) (asked other : Request) → asked ≡ other → p other ≡ b → p asked ≡ b
 same_request p b asked other same is = ap p same ∙ is
 
-one_more : (servers suites : List ℕ) (one : Exchange) (past : List Exchange) → among servers one.server ≡ true → is_ours one.request ≡ true → names_of suites one.request ≡ true → 1 + total_of servers suites past ≤ total_of servers suites (one ∷ past)
+one_more : (servers suites : List ℕ) (one : Exchange) (past : List Exchange) → among servers one.server ≡ true → is_ours one.request ≡ true → names_of suites one.request ≡ true
+    → 1 + total_of servers suites past ≤ total_of servers suites (one ∷ past)
 one_more servers suites one past asked ours named = of one.request refl ours named
   where
     of : (what : Request) → one.request ≡ what → is_ours what ≡ true → names_of suites what ≡ true → 1 + total_of servers suites past ≤ total_of servers suites (one ∷ past)

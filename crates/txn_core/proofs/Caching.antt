@@ -21,7 +21,8 @@ use Rattle.txn_core.proofs.Upheld.{Begins, Started, started_is, Runs, DoingStand
 
 module _ (fixed : Fixed) (agent : Agent) (job : Job) (events : List Event) (response : Response) where
   -- what a response puts was fetched
-  put_fetched : (running : TransactionRun) (asked : ℕ × Request) (x : Entry) → next_of fixed (after_all fixed (begin fixed agent job) events) ≡ Some asked → request_in fixed running.task running.suites running.phase ≡ Some asked → Runs fixed agent job events running
+  put_fetched : (running : TransactionRun) (asked : ℕ × Request) (x : Entry) → next_of fixed (after_all fixed (begin fixed agent job) events) ≡ Some asked
+      → request_in fixed running.task running.suites running.phase ≡ Some asked → Runs fixed agent job events running
       → PutBy fixed running.task running.suites running.phase response x → IsFetched fixed agent job events response x
   put_fetched running asked x next is runs put = subst (IsFetched fixed agent job events response) (sym put.is) (record {
     caller = runs.caller;
@@ -49,8 +50,10 @@ module _ (fixed : Fixed) (agent : Agent) (job : Job) (events : List Event) (resp
       kept : Kept fixed running.task (started_from (Started fixed agent job events)) (of_job fixed agent job events) put.number put.suite
       kept = stands.1 put.number put.suite put.there
 
-  told_has : (doing : Option Doing) (asked : Option (ℕ × Request)) (x : Entry) → (after_all fixed (begin fixed agent job) events).doing ≡ doing → next_of fixed (after_all fixed (begin fixed agent job) events) ≡ asked → next_in fixed doing ≡ asked
-      → DoingStands fixed agent job events doing → Has (take_in fixed (after_all fixed (begin fixed agent job) events) response doing asked).agent.cache x → Has (after_all fixed (begin fixed agent job) events).cache x ⊎ IsFetched fixed agent job events response x
+  told_has : (doing : Option Doing) (asked : Option (ℕ × Request)) (x : Entry) → (after_all fixed (begin fixed agent job) events).doing ≡ doing
+      → next_of fixed (after_all fixed (begin fixed agent job) events) ≡ asked → next_in fixed doing ≡ asked
+      → DoingStands fixed agent job events doing → Has (take_in fixed (after_all fixed (begin fixed agent job) events) response doing asked).agent.cache x
+      → Has (after_all fixed (begin fixed agent job) events).cache x ⊎ IsFetched fixed agent job events response x
   told_has (Some (Running running)) (Some asked) x was next is stands has =
       elim (response_has fixed running.task (after_all fixed (begin fixed agent job) events).cache running.suites x running.phase asked.0 asked.1 response has) [
         | inl before ↦ inl before

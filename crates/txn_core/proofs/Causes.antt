@@ -39,12 +39,84 @@ use Rattle.txn_core.specs.declared.response.Response.TheVariants.{Replied, Lacke
 use Rattle.txn_core.specs.declared.ending.Cause.TheVariants.{Unavailable, Busy, Lost, Overruled, HomeDown, Full, Memory}
 use Rattle.txn_core.specs.declared.ending.Ending.TheVariants.{Answered, Refused, Swept, Undecided}
 use Rattle.txn_core.specs.Doing.{Granted, home_of, Fixed, Task, Proposal, Phase, Gathering, Fetching, Widening, Preparing, Deciding, Finishing, TransactionRun, After, GoesOn, Ends}
-use Rattle.txn_core.specs.Transactions.{Step, Gathered, tell_end, give_up, prepare, locked_at, short_cause, gather_by, widen_by, widen_one, widened, widen_all, to_widen, opened, start_from, heard_on, raised_or_new, keep_content, heard_of, said_to, proceed, execute, collected, hear, fetched, prepared, after_lack, after_response, asked_by, asked_for, fetched_at, fetched_for, request_in, changes_of, decision_of, given_in, verdict_in, ending_by, cause_of_abort, lack_cause}
+use Rattle.txn_core.specs.Transactions.{
+  Step,
+  Gathered,
+  tell_end,
+  give_up,
+  prepare,
+  locked_at,
+  short_cause,
+  gather_by,
+  widen_by,
+  widen_one,
+  widened,
+  widen_all,
+  to_widen,
+  opened,
+  start_from,
+  heard_on,
+  raised_or_new,
+  keep_content,
+  heard_of,
+  said_to,
+  proceed,
+  execute,
+  collected,
+  hear,
+  fetched,
+  prepared,
+  after_lack,
+  after_response,
+  asked_by,
+  asked_for,
+  fetched_at,
+  fetched_for,
+  request_in,
+  changes_of,
+  decision_of,
+  given_in,
+  verdict_in,
+  ending_by,
+  cause_of_abort,
+  lack_cause,
+}
 use Rattle.txn_core.specs.Laws.{Exchange, locks, is_decide, told_of, told_by, more_told, fits_response, all_fit}
 use Rattle.txn_core.specs.Undecided.{Was, loses, says_aborted, says_down, is_finish, stops}
 use Rattle.txn_core.proofs.Asks.{asks_same, asked_as, fetched_as}
 use Rattle.txn_core.proofs.Fetches.{exclusive_needed}
-use Rattle.txn_core.proofs.Gathers.{self, with_at, at_with, Each, EachBut, each_but, each_with, but_with, tell_start, Base, Knows, AllGathered, Wants, Sets, Grants, wants_more, sets_more, grants_more, Kept, Asking, wide_told, wants_told, wide_widened, kept_same, kept_more, kept_told, asking_of, asks_new, asks_on, settles_on}
+use Rattle.txn_core.proofs.Gathers.{
+  self,
+  with_at,
+  at_with,
+  Each,
+  EachBut,
+  each_but,
+  each_with,
+  but_with,
+  tell_start,
+  Base,
+  Knows,
+  AllGathered,
+  Wants,
+  Sets,
+  Grants,
+  wants_more,
+  sets_more,
+  grants_more,
+  Kept,
+  Asking,
+  wide_told,
+  wants_told,
+  wide_widened,
+  kept_same,
+  kept_more,
+  kept_told,
+  asking_of,
+  asks_new,
+  asks_on,
+  settles_on,
+}
 use Rattle.txn_core.proofs.Cached.{given_is}
 use Rattle.txn_core.proofs.Contents.{Free, each_opened, FreeIn, free_before, GivenTo, GivenIn}
 use Rattle.txn_core.proofs.Locks.{Are, are_with, are_same, are_opened, told_raised, all_told-tell, asks_lock}
@@ -169,12 +241,18 @@ abbrev pub Leaves : Fixed → Task → (Old : Base) (Loose : ℕ → Prefix → 
 Leaves fixed task Old Loose past step = LeftOf fixed task Old Loose past step.cache step.after
 
 pub was_now : (past : List Exchange) (server : ℕ) (asked : Request) (response : Response) (kind : Request → Response → Bool) → kind asked response ≡ true → Was (push past server asked response) server kind
-was_now past server asked response kind is = record { one = record { server = server; request = asked; response = response }; there = Contains-push past (record { server = server; request = asked; response = response }); at = refl; is = is }
+was_now past server asked response kind is = record {
+  one = record { server = server; request = asked; response = response };
+  there = Contains-push past (record { server = server; request = asked; response = response });
+  at = refl;
+  is = is;
+}
 
 was_more : (past more : List Exchange) (server : ℕ) (kind : Request → Response → Bool) → Was past server kind → Was (past ++ more) server kind
 was_more past more server kind was = record { one = was.one; there = Contains-append_left past more was.one was.there; at = was.at; is = was.is }
 
-told-push : (number : ℕ) (before : List Told) (past : List Exchange) (one : Exchange) → told_of number before (past ++ one ∷ []) ≡ cond (locks number one.request) (told_by (told_of number before past) one one.response) (told_of number before past)
+told-push : (number : ℕ) (before : List Told) (past : List Exchange) (one : Exchange) → told_of number before (past ++ one ∷ []) ≡ cond (locks number one.request) (told_by (told_of number before past) one one.response)
+    (told_of number before past)
 told-push number before [] one = refl
 told-push number before (first ∷ past) one = told-push number (cond (locks number first.request) (told_by before first first.response) before) past one
 
@@ -204,7 +282,8 @@ last_fits past server asked response fine = of (fits_response asked response) (b
 
 -- ---- what is told
 
-lost_asked : (task : Task) (number : ℕ) (after : Next) (server : ℕ) (asked : Request) (said : Reply) → asked_by task number after ≡ Some (server, asked) → fits asked said ≡ true → said_to asked said ≡ None → loses asked (Replied said) ≡ true
+lost_asked : (task : Task) (number : ℕ) (after : Next) (server : ℕ) (asked : Request) (said : Reply) → asked_by task number after ≡ Some (server, asked) → fits asked said ≡ true → said_to asked said ≡ None
+    → loses asked (Replied said) ≡ true
 lost_asked task number (Ask who question) server asked said is =
     subst (λ asked. fits asked said ≡ true → said_to asked said ≡ None → loses asked (Replied said) ≡ true) (asks_same who server (request_for task.t number question) asked is) (lost_lock task.t number question said)
 lost_asked task number (Current prefix dver members) server asked said is = cc
@@ -218,7 +297,8 @@ tells_heard past number server asked said heard lock was other =
     ∙ ap (λ b. cond b (more_told (Tells past other) server asked (said_to asked said)) (Tells past other)) (lock other)
     ∙ ap (λ heard. cond (number == other) (more_told (Tells past other) server asked heard) (Tells past other)) was
 
-are_heard : (told new : ℕ → List Told) (suites : Suites) (number : ℕ) (one : Told) (now : GatheredSuite) → Are told suites → ((other : ℕ) → new other ≡ cond (number == other) (one ∷ told other) (told other)) → all_told now.collector ≡ one ∷ told number
+are_heard : (told new : ℕ → List Told) (suites : Suites) (number : ℕ) (one : Told) (now : GatheredSuite) → Are told suites → ((other : ℕ) → new other ≡ cond (number == other) (one ∷ told other) (told other))
+    → all_told now.collector ≡ one ∷ told number
     → Are new (with_suite number now suites)
 are_heard told new suites number one now are newly same =
     let with' = are_with told suites number now are in
@@ -241,7 +321,8 @@ module _ (fixed : Fixed) (task : Task) (Old : Base) (Loose : ℕ → Prefix → 
   Keeps past number suite = Kept fixed task Old past number suite
 
   -- what no lock is asked for leaves causes as they were
-  short_still : (past : List Exchange) (cache : Cache) (server : ℕ) (asked : Request) (response : Response) → ((number : ℕ) → locks number asked ≡ false) → (suite had wanting : ℕ) (busy : Option (ℕ × ℕ)) → ShortBy fixed task Old Loose past suite had wanting busy
+  short_still : (past : List Exchange) (cache : Cache) (server : ℕ) (asked : Request) (response : Response) → ((number : ℕ) → locks number asked ≡ false) → (suite had wanting : ℕ) (busy : Option (ℕ × ℕ))
+      → ShortBy fixed task Old Loose past suite had wanting busy
       → ShortBy fixed task Old (OrFresh fixed task cache (push past server asked response) Loose) (push past server asked response) suite had wanting busy
   short_still past cache server asked response none suite had wanting busy by = record {
     collector = by.collector;
@@ -269,7 +350,8 @@ module _ (fixed : Fixed) (task : Task) (Old : Base) (Loose : ℕ → Prefix → 
   still_ended past cache server asked response none (Refused refusal) is fine = tt
   still_ended past cache server asked response none (Swept broken finished left) is fine = tt
 
-  short_caused : (L : ℕ → Prefix → Type 0) (past : List Exchange) (number : ℕ) (collector : Collector) (had wanting : ℕ) (busy : Option (ℕ × ℕ)) → all_told collector ≡ Tells past number → next collector ≡ Short had wanting busy → Begun Old.start L number collector
+  short_caused : (L : ℕ → Prefix → Type 0) (past : List Exchange) (number : ℕ) (collector : Collector) (had wanting : ℕ) (busy : Option (ℕ × ℕ)) → all_told collector ≡ Tells past number → next collector ≡ Short had wanting busy
+      → Begun Old.start L number collector
       → ((w : collecting.Widening) → collector.widening ≡ Some w → Sets fixed task Old past number w.votes) → Wants fixed task Old past number collector.mode → CausedBy fixed task Old L past (short_cause number had wanting busy)
   short_caused L past number collector had wanting None same is begun wide wanted = record { collector = collector; told = same; short = is; begun = begun; wide = wide; wanted = wanted }
   short_caused L past number collector had wanting (Some busy) same is begun wide wanted = (number, had, wanting, record { collector = collector; told = same; short = is; begun = begun; wide = wide; wanted = wanted })
@@ -285,7 +367,8 @@ module _ (fixed : Fixed) (task : Task) (Old : Base) (Loose : ℕ → Prefix → 
   caused_end past cache suites v ending [] is = is
   caused_end past cache suites v ending (server ∷ servers) is = (refl, is)
 
-  caused_give_up : (past : List Exchange) (cache : Cache) (suites : Suites) (cause : Cause) → (all_fit past ≡ true → CausedBy fixed task Old (OrFresh fixed task cache past Loose) past cause) → Leaves fixed task Old Loose past (give_up task cache suites cause)
+  caused_give_up : (past : List Exchange) (cache : Cache) (suites : Suites) (cause : Cause) → (all_fit past ≡ true → CausedBy fixed task Old (OrFresh fixed task cache past Loose) past cause)
+      → Leaves fixed task Old Loose past (give_up task cache suites cause)
   caused_give_up past cache suites cause is = caused_end past cache suites verdict.Aborted (Undecided cause) (locked_at suites) is
 
   caused_prepare : (past : List Exchange) (cache : Cache) (suites : Suites) (outcome : Proposal) (servers : List ℕ) → Leaves fixed task Old Loose past (prepare task cache suites outcome servers)
@@ -293,7 +376,8 @@ module _ (fixed : Fixed) (task : Task) (Old : Base) (Loose : ℕ → Prefix → 
   caused_prepare past cache suites outcome (server ∷ servers) = (refl, tt)
 
   caused_gather : (past : List Exchange) (cache : Cache) (suites : Suites) (number : ℕ) (suite : GatheredSuite) (after : Next) → Are (Tells past) suites → EachBut (Keeps past) number suites → suite_of suites number ≡ Some suite
-      → all_told suite.collector ≡ Tells past number → Asking fixed task Old (OrFresh fixed task cache past Old.start) past number suite → next suite.collector ≡ after → Leaves fixed task Old Loose past (gather_by task cache suites number after)
+      → all_told suite.collector ≡ Tells past number → Asking fixed task Old (OrFresh fixed task cache past Old.start) past number suite → next suite.collector ≡ after
+      → Leaves fixed task Old Loose past (gather_by task cache suites number after)
   caused_gather past cache suites number suite (Short had wanting busy) are others there same asking is =
       caused_give_up past cache suites (short_cause number had wanting busy) (λ _. short_caused (OrFresh fixed task cache past Loose) past number suite.collector had wanting busy same is
       (elim asking.start [ inl old ↦ inl old | inr fresh ↦ inr (inr fresh, same ∙ fresh.untold) ]) asking.wide asking.wanted)
@@ -303,7 +387,8 @@ module _ (fixed : Fixed) (task : Task) (Old : Base) (Loose : ℕ → Prefix → 
       (refl, (are, others, λ found at. subst (Asking fixed task Old (OrFresh fixed task cache past Old.start) past number) (same_Some suite found (sym there ∙ at)) asking))
 
   -- what is gathered: a suite that is there, or a new one
-  gathers : (past : List Exchange) (cache : Cache) (number : ℕ) (mode : LockMode) (found : Option GatheredSuite) → ((suite : GatheredSuite) → found ≡ Some suite → Keeps past number suite) → (found ≡ None → told_of number [] past ≡ []) → Wants fixed task Old past number mode
+  gathers : (past : List Exchange) (cache : Cache) (number : ℕ) (mode : LockMode) (found : Option GatheredSuite) → ((suite : GatheredSuite) → found ≡ Some suite → Keeps past number suite) → (found ≡ None → told_of number [] past ≡ [])
+      → Wants fixed task Old past number mode
       → ((suite : GatheredSuite) (first : ReadPoint) → found ≡ Some suite → suite.first ≡ Some first → mode ≡ Exclusive)
       → Asking fixed task Old (OrFresh fixed task cache past Old.start) past number (raised_or_new fixed task cache number mode found)
   gathers past cache number mode (Some suite) kept untold wants exclusive =
@@ -321,15 +406,19 @@ module _ (fixed : Fixed) (task : Task) (Old : Base) (Loose : ℕ → Prefix → 
       asks_new fixed task Old past number (OrFresh fixed task cache past Old.start) mode Shared (start_from fixed task cache number) (untold refl) (inr (record { from = refl; untold = untold refl })) wants
 
   caused_widen_by : (past : List Exchange) (cache : Cache) (suites : Suites) (left : List ℕ) (granted : Granted) (number : ℕ) (collector : Collector) (after : Next) (go_on : Suites → Step)
-      → StandsOn fixed task Old (OrFresh fixed task cache past Old.start) (OrFresh fixed task cache past Loose) past suites (Widening left granted) → all_told collector ≡ Tells past number → next collector ≡ after → Old.start number collector.start
-      → ((w : collecting.Widening) → collector.widening ≡ Some w → Sets fixed task Old past number w.votes) → Wants fixed task Old past number collector.mode → Leaves fixed task Old Loose past (go_on suites) → Leaves fixed task Old Loose past (widen_by task cache suites (Widening left granted) number after go_on)
+      → StandsOn fixed task Old (OrFresh fixed task cache past Old.start) (OrFresh fixed task cache past Loose) past suites (Widening left granted) → all_told collector ≡ Tells past number → next collector ≡ after
+      → Old.start number collector.start
+      → ((w : collecting.Widening) → collector.widening ≡ Some w → Sets fixed task Old past number w.votes) → Wants fixed task Old past number collector.mode → Leaves fixed task Old Loose past (go_on suites)
+      → Leaves fixed task Old Loose past (widen_by task cache suites (Widening left granted) number after go_on)
   caused_widen_by past cache suites left granted number collector (Current prefix dver members) go_on stands same is old wide wanted more = more
   caused_widen_by past cache suites left granted number collector (Ask server asked) go_on stands same is old wide wanted more = (refl, stands)
   caused_widen_by past cache suites left granted number collector (Short had wanting busy) go_on stands same is old wide wanted more =
       caused_give_up past cache suites (short_cause number had wanting busy) (λ _. short_caused (OrFresh fixed task cache past Loose) past number collector had wanting busy same is (inl old) wide wanted)
 
-  caused_widen_one : (past : List Exchange) (cache : Cache) (suites : Suites) (number : ℕ) (left : List ℕ) (granted : Granted) (found : Option GatheredSuite) (go_on : Suites → Step) → suite_of suites number ≡ found → Are (Tells past) suites → Each (Keeps past) suites
-      → Grants fixed task Old past granted.answers granted.changes → ((n : ℕ) → Has (number ∷ left) n → Has (to_widen granted.changes) n) → ((suites : Suites) → Are (Tells past) suites → Each (Keeps past) suites → Leaves fixed task Old Loose past (go_on suites))
+  caused_widen_one : (past : List Exchange) (cache : Cache) (suites : Suites) (number : ℕ) (left : List ℕ) (granted : Granted) (found : Option GatheredSuite) (go_on : Suites → Step) → suite_of suites number ≡ found
+      → Are (Tells past) suites → Each (Keeps past) suites
+      → Grants fixed task Old past granted.answers granted.changes → ((n : ℕ) → Has (number ∷ left) n → Has (to_widen granted.changes) n)
+      → ((suites : Suites) → Are (Tells past) suites → Each (Keeps past) suites → Leaves fixed task Old Loose past (go_on suites))
       → Leaves fixed task Old Loose past (widen_one task cache suites (Widening (number ∷ left) granted) granted.changes number found go_on)
   caused_widen_one past cache suites number left granted None go_on there are each grants gets more = more suites are each
   caused_widen_one past cache suites number left granted (Some suite) go_on there are each grants gets more =
@@ -338,7 +427,8 @@ module _ (fixed : Fixed) (task : Task) (Old : Base) (Loose : ℕ → Prefix → 
       let kept = kept_same fixed task Old past number suite now refl refl was.content (wide_widened fixed task Old past granted.changes granted.answers number suite grants (gets number (inl refl))) was.wanted was in
       let are' = are_same (Tells past) suites number now are (sym (ap told_in there)) in
       let each' = each_with (Keeps past) number suites now (each_but (Keeps past) number suites each) kept in
-      caused_widen_by past cache (with_suite number now suites) (number ∷ left) granted number now.collector (next now.collector) go_on (are', each', grants, gets) (told_there past suites number (Some suite) there are) refl kept.start kept.wide kept.wanted
+      caused_widen_by past cache (with_suite number now suites) (number ∷ left) granted number now.collector (next now.collector) go_on (are', each', grants, gets)
+      (told_there past suites number (Some suite) there are) refl kept.start kept.wide kept.wanted
       (more (with_suite number now suites) are' each')
 
   caused_widen : (past : List Exchange) (cache : Cache) (suites : Suites) (granted : Granted) (left : List ℕ) → Are (Tells past) suites → Each (Keeps past) suites → Grants fixed task Old past granted.answers granted.changes
@@ -350,7 +440,8 @@ module _ (fixed : Fixed) (task : Task) (Old : Base) (Loose : ℕ → Prefix → 
   gathered : (past : List Exchange) (suites : Suites) → Each (Keeps past) suites → AllGathered Old past suites
   gathered past suites each n suite there = let kept = each n suite there in (kept.start, kept.first, kept.content)
 
-  caused_proceed : (past : List Exchange) (cache : Cache) (suites : Suites) (heard : Executed) → heard_on fixed task suites ≡ heard → Are (Tells past) suites → Each (Keeps past) suites → Leaves fixed task Old Loose past (proceed fixed task cache suites heard)
+  caused_proceed : (past : List Exchange) (cache : Cache) (suites : Suites) (heard : Executed) → heard_on fixed task suites ≡ heard → Are (Tells past) suites → Each (Keeps past) suites
+      → Leaves fixed task Old Loose past (proceed fixed task cache suites heard)
   caused_proceed past cache suites (exec.Need (Hold number mode)) is are each =
       let suite = raised_or_new fixed task cache number mode (suite_of suites number) in
       let same = told_raised fixed task cache number mode (suite_of suites number) in
@@ -369,7 +460,8 @@ module _ (fixed : Fixed) (task : Task) (Old : Base) (Loose : ℕ → Prefix → 
       caused_proceed past open'.cache open'.suites (heard_on fixed task open'.suites) refl (are_opened (Tells past) (length all.suites) fixed task all are)
       (each_opened all.cache task (Keeps past) opens (length all.suites) fixed all (λ number dver. refl) each)
     where
-      opens : (number : ℕ) (suite : GatheredSuite) (first : ReadPoint) (content : Content) → suite.first ≡ Some first → Free task all.cache first number content → Keeps past number suite → Keeps past number (record suite { content = Some content })
+      opens : (number : ℕ) (suite : GatheredSuite) (first : ReadPoint) (content : Content) → suite.first ≡ Some first → Free task all.cache first number content → Keeps past number suite
+          → Keeps past number (record suite { content = Some content })
       opens number suite first content was found kept =
           kept_same fixed task Old past number suite (record suite { content = Some content }) refl refl
           (λ other at. (first, was, subst (Old.content number first) (same_Some content other at) (free number first content found)))
@@ -388,11 +480,13 @@ module _ (fixed : Fixed) (task : Task) (Old : Base) (Loose : ℕ → Prefix → 
     settles : (prefix : Prefix) (dver : ℕ) (members : List ℕ) → next now.collector ≡ Current prefix dver members → Keeps past number (settled prefix dver members now)
     more : (it : GatheredSuite) → Are (Tells past) (with_suite number it suites) → Keeps past number it → Leaves fixed task Old Loose past (go_on (with_suite number it suites))
 
-  caused_collected : (past : List Exchange) (cache : Cache) (suites : Suites) (phase : Phase) (number : ℕ) (go_on : Suites → Step) (now : GatheredSuite) (after : Next) → Hears past cache suites phase number go_on now → next now.collector ≡ after
+  caused_collected : (past : List Exchange) (cache : Cache) (suites : Suites) (phase : Phase) (number : ℕ) (go_on : Suites → Step) (now : GatheredSuite) (after : Next) → Hears past cache suites phase number go_on now
+      → next now.collector ≡ after
       → Leaves fixed task Old Loose past (collected task cache suites phase number now after (λ suite. go_on (with_suite number suite suites)))
   caused_collected past cache suites phase number go_on now (Ask server asked) hears is = (refl, hears.asks server asked is)
   caused_collected past cache suites phase number go_on now (Short had wanting busy) hears is =
-      caused_give_up past cache (with_suite number now suites) (short_cause number had wanting busy) (λ _. short_caused (OrFresh fixed task cache past Loose) past number now.collector had wanting busy hears.told is (inl hears.begun) hears.wide hears.wanted)
+      caused_give_up past cache (with_suite number now suites) (short_cause number had wanting busy)
+      (λ _. short_caused (OrFresh fixed task cache past Loose) past number now.collector had wanting busy hears.told is (inl hears.begun) hears.wide hears.wanted)
   caused_collected past cache suites phase number go_on now (Current prefix dver members) hears is =
       hears.more (settled prefix dver members now) (hears.are (settled prefix dver members now) refl) (hears.settles prefix dver members is)
 
@@ -401,8 +495,10 @@ module _ (fixed : Fixed) (task : Task) (Old : Base) (Loose : ℕ → Prefix → 
       → ((suite : GatheredSuite) (one : Told) → found ≡ Some suite → (heard : all_told (tell one suite.collector) ≡ Tells (push past server asked (Replied said)) number)
       → Are (Tells (push past server asked (Replied said))) (with_suite number (record suite { collector = tell one suite.collector }) suites)
       → Asking fixed task Old Old.start (push past server asked (Replied said)) number (record suite { collector = tell one suite.collector })
-      → StandsOn fixed task Old (OrFresh fixed task cache (push past server asked (Replied said)) Old.start) (OrFresh fixed task cache (push past server asked (Replied said)) Loose) (push past server asked (Replied said)) (with_suite number (record suite { collector = tell one suite.collector }) suites) phase)
-      → ((it : GatheredSuite) → Are (Tells (push past server asked (Replied said))) (with_suite number it suites) → Keeps (push past server asked (Replied said)) number it → Leaves fixed task Old Loose (push past server asked (Replied said)) (go_on (with_suite number it suites)))
+      → StandsOn fixed task Old (OrFresh fixed task cache (push past server asked (Replied said)) Old.start) (OrFresh fixed task cache (push past server asked (Replied said)) Loose) (push past server asked (Replied said))
+      (with_suite number (record suite { collector = tell one suite.collector }) suites) phase)
+      → ((it : GatheredSuite) → Are (Tells (push past server asked (Replied said))) (with_suite number it suites) → Keeps (push past server asked (Replied said)) number it
+      → Leaves fixed task Old Loose (push past server asked (Replied said)) (go_on (with_suite number it suites)))
       → Leaves fixed task Old Loose (push past server asked (Replied said)) (heard_of task cache suites phase number found server asked said go_on)
   caused_heard past cache suites phase number None server asked said go_on are there is own keep more = cc
   caused_heard past cache suites phase number (Some suite) server asked said go_on are there is own keep more = at (next suite.collector) refl is
@@ -410,12 +506,14 @@ module _ (fixed : Fixed) (task : Task) (Old : Base) (Loose : ℕ → Prefix → 
       px : List Exchange
       px = push past server asked (Replied said)
 
-      at : (after : Next) → next suite.collector ≡ after → asked_by task number after ≡ Some (server, asked) → Leaves fixed task Old Loose (push past server asked (Replied said)) (hear task cache suites phase number suite server asked (said_to asked said) (λ suite. go_on (with_suite number suite suites)))
+      at : (after : Next) → next suite.collector ≡ after → asked_by task number after ≡ Some (server, asked) → Leaves fixed task Old Loose (push past server asked (Replied said))
+          (hear task cache suites phase number suite server asked (said_to asked said) (λ suite. go_on (with_suite number suite suites)))
       at (Current prefix dver members) asks is = cc
       at (Short had wanting busy) asks is = cc
       at (Ask who question) asks is = of (said_to asked said) refl
         where
-          of : (heard : Option Said) → said_to asked said ≡ heard → Leaves fixed task Old Loose (push past server asked (Replied said)) (hear task cache suites phase number suite server asked heard (λ suite. go_on (with_suite number suite suites)))
+          of : (heard : Option Said) → said_to asked said ≡ heard → Leaves fixed task Old Loose (push past server asked (Replied said))
+              (hear task cache suites phase number suite server asked heard (λ suite. go_on (with_suite number suite suites)))
           of None was =
               caused_give_up (push past server asked (Replied said)) cache suites (Lost server)
               (λ fine. was_now past server asked (Replied said) loses (lost_asked task number (Ask who question) server asked said is (last_fits past server asked (Replied said) fine) was))
@@ -443,8 +541,10 @@ module _ (fixed : Fixed) (task : Task) (Old : Base) (Loose : ℕ → Prefix → 
 
   -- ---- other responses
 
-  caused_fetched : (past : List Exchange) (cache : Cache) (suites : Suites) (number : ℕ) (found : Option GatheredSuite) (server : ℕ) (asked : Request) (said : Reply) → Are (Tells past) suites → Each (Keeps past) suites → suite_of suites number ≡ found
-      → fetched_for task number found ≡ Some (server, asked) → GivenTo Old.content task server asked said → FreeIn Old.content task (fetched fixed task cache suites number found server (given_in said)).cache → Leaves fixed task Old Loose (push past server asked (Replied said)) (fetched fixed task cache suites number found server (given_in said))
+  caused_fetched : (past : List Exchange) (cache : Cache) (suites : Suites) (number : ℕ) (found : Option GatheredSuite) (server : ℕ) (asked : Request) (said : Reply) → Are (Tells past) suites → Each (Keeps past) suites
+      → suite_of suites number ≡ found
+      → fetched_for task number found ≡ Some (server, asked) → GivenTo Old.content task server asked said → FreeIn Old.content task (fetched fixed task cache suites number found server (given_in said)).cache
+      → Leaves fixed task Old Loose (push past server asked (Replied said)) (fetched fixed task cache suites number found server (given_in said))
   caused_fetched past cache suites number None server asked said are each there is given free = cc
   caused_fetched past cache suites number (Some suite) server asked said are each there is given free = of (given_in said) refl free
     where
@@ -461,7 +561,8 @@ module _ (fixed : Fixed) (task : Task) (Old : Base) (Loose : ℕ → Prefix → 
           kept_same fixed task Old (past ++ x ∷ []) number suite (record suite { content = Some content }) refl refl knows (λ w is. kept.wide w is) kept.wanted kept
 
       kept : (content : Content) (first : Option ReadPoint) → suite.first ≡ first → fetched_at task number first ≡ Some (server, asked) → given_in said ≡ Some content
-          → FreeIn Old.content task (keep_content fixed task cache suites number suite content first server).cache → Leaves fixed task Old Loose (push past server asked (Replied said)) (keep_content fixed task cache suites number suite content first server)
+          → FreeIn Old.content task (keep_content fixed task cache suites number suite content first server).cache → Leaves fixed task Old Loose (push past server asked (Replied said))
+          (keep_content fixed task cache suites number suite content first server)
       kept content None was is told free = cc
       kept content (Some first) was is told free =
           let all : Gathered = record {
@@ -473,16 +574,20 @@ module _ (fixed : Fixed) (task : Task) (Old : Base) (Loose : ℕ → Prefix → 
           let knows : Knows Old.content number (record suite { content = Some content }) =
           λ other is'. (first, was, subst (Old.content number first) (same_Some content other is') (given number first content said_is.0 at (sym (what (Some first) is)) said_is.1)) in
           caused_execute (push past server asked (Replied said)) all (free_before Old.content fixed task all free)
-          (are_same (Tells (push past server asked (Replied said))) suites number (record suite { content = Some content }) (are_quiet past suites server asked (Replied said) (λ number. ap (locks number) (sym (what (Some first) is))) are) (sym (ap told_in there)))
+          (are_same (Tells (push past server asked (Replied said))) suites number (record suite { content = Some content })
+          (are_quiet past suites server asked (Replied said) (λ number. ap (locks number) (sym (what (Some first) is))) are) (sym (ap told_in there)))
           (each_with (Keeps (past ++ x ∷ [])) number suites (record suite { content = Some content }) (λ n other _ at. kept_more fixed task Old past n (x ∷ []) other (each n other at)) (opens content knows))
 
-      of : (given : Option Content) → given_in said ≡ given → FreeIn Old.content task (fetched fixed task cache suites number (Some suite) server given).cache → Leaves fixed task Old Loose (push past server asked (Replied said)) (fetched fixed task cache suites number (Some suite) server given)
+      of : (given : Option Content) → given_in said ≡ given → FreeIn Old.content task (fetched fixed task cache suites number (Some suite) server given).cache
+          → Leaves fixed task Old Loose (push past server asked (Replied said)) (fetched fixed task cache suites number (Some suite) server given)
       of (Some content) was free = kept content suite.first refl is was free
       of None was free =
           caused_give_up (push past server asked (Replied said)) cache suites (Lost server)
-          (λ fine. was_now past server asked (Replied said) loses (subst (λ asked. fits asked said ≡ true → loses asked (Replied said) ≡ true) (what suite.first is) (λ fine. lost_fetch task.t number said fine was) (last_fits past server asked (Replied said) fine)))
+          (λ fine. was_now past server asked (Replied said) loses (subst (λ asked. fits asked said ≡ true → loses asked (Replied said) ≡ true) (what suite.first is) (λ fine. lost_fetch task.t number said fine was)
+          (last_fits past server asked (Replied said) fine)))
 
-  caused_lack : (past : List Exchange) (cache : Cache) (suites : Suites) (phase : Phase) (server : ℕ) (asked : Request) (lacked : Lack) → request_in fixed task suites phase ≡ Some (server, asked) → StandsOn fixed task Old Old.start Loose past suites phase
+  caused_lack : (past : List Exchange) (cache : Cache) (suites : Suites) (phase : Phase) (server : ℕ) (asked : Request) (lacked : Lack) → request_in fixed task suites phase ≡ Some (server, asked)
+      → StandsOn fixed task Old Old.start Loose past suites phase
       → Leaves fixed task Old Loose (push past server asked (Lacked lacked)) (after_lack task cache suites phase server lacked)
   caused_lack past cache suites (Gathering number) server asked lacked is stands =
       caused_give_up _ cache suites (lack_cause server lacked) (λ _. lack_caused _ past server asked lacked (asked_as is_finish false task number (suite_of suites number) server asked (λ _. refl) refl is))
@@ -517,7 +622,8 @@ module _ (fixed : Fixed) (task : Task) (Old : Base) (Loose : ℕ → Prefix → 
   decided_caused L past server t decision reply.Done fine = cc
   decided_caused L past server t decision (reply.Locked locks) fine = cc
 
-  pub caused_response : (past : List Exchange) (cache : Cache) (suites : Suites) (phase : Phase) (server : ℕ) (asked : Request) (response : Response) → request_in fixed task suites phase ≡ Some (server, asked) → StandsOn fixed task Old Old.start Loose past suites phase
+  pub caused_response : (past : List Exchange) (cache : Cache) (suites : Suites) (phase : Phase) (server : ℕ) (asked : Request) (response : Response) → request_in fixed task suites phase ≡ Some (server, asked)
+      → StandsOn fixed task Old Old.start Loose past suites phase
       → FreeIn Old.content task cache → GivenIn Old.content task server asked response → FreeIn Old.content task (after_response fixed (record { task = task; suites = suites; phase = phase }) cache server asked response).cache
       → Leaves fixed task Old Loose (push past server asked response) (after_response fixed (record { task = task; suites = suites; phase = phase }) cache server asked response)
   caused_response past cache suites phase server asked (Lacked lacked) is stands free given then' = caused_lack past cache suites phase server asked lacked is stands
@@ -528,7 +634,8 @@ module _ (fixed : Fixed) (task : Task) (Old : Base) (Loose : ℕ → Prefix → 
       (λ suite one there heard are asking. (
         are,
         but_with (Keeps (past ++ x ∷ [])) number suites (record suite { collector = tell one suite.collector }) others,
-        λ found at. subst (Asking fixed task Old (OrFresh fixed task cache (past ++ x ∷ []) Old.start) (past ++ x ∷ []) number) (at_with number (record suite { collector = tell one suite.collector }) found suites at) (record { start = inl asking.start; first = asking.first; content = asking.content; wide = asking.wide; wanted = asking.wanted }),
+        λ found at. subst (Asking fixed task Old (OrFresh fixed task cache (past ++ x ∷ []) Old.start) (past ++ x ∷ []) number) (at_with number (record suite { collector = tell one suite.collector }) found suites at)
+            (record { start = inl asking.start; first = asking.first; content = asking.content; wide = asking.wide; wanted = asking.wanted }),
       ))
       (λ it are kept. caused_execute (push past server asked (Replied said)) (record { suites = with_suite number it suites; cache = cache }) free are (each_with (Keeps (past ++ x ∷ [])) number suites it others kept))
   caused_response past cache suites (Fetching number) server asked (Replied said) is stands free given then' = caused_fetched past cache suites number (suite_of suites number) server asked said stands.0 stands.1 refl is given then'
@@ -543,7 +650,8 @@ module _ (fixed : Fixed) (task : Task) (Old : Base) (Loose : ℕ → Prefix → 
         grants_more fixed task Old past (x ∷ []) granted.answers granted.changes stands.2,
         stands.3,
       ))
-      (λ it are kept. caused_widen (push past server asked (Replied said)) cache (with_suite number it suites) granted left are (each_with (Keeps (past ++ x ∷ [])) number suites it others kept) (grants_more fixed task Old past (x ∷ []) granted.answers granted.changes stands.2) (λ n has. stands.3 n (inr has)))
+      (λ it are kept. caused_widen (push past server asked (Replied said)) cache (with_suite number it suites) granted left are (each_with (Keeps (past ++ x ∷ [])) number suites it others kept)
+      (grants_more fixed task Old past (x ∷ []) granted.answers granted.changes stands.2) (λ n has. stands.3 n (inr has)))
   caused_response past cache suites (Preparing [] outcome) server asked (Replied said) is stands free given then' = cc
   caused_response past cache suites (Preparing (now ∷ left) outcome) server asked (Replied said) is stands free given then' =
       elim (is_prepared said) as (λ b. is_prepared said ≡ b → Leaves fixed task Old Loose (push past server asked (Replied said)) (cond b (prepare task cache suites outcome left) (give_up task cache suites (Lost server)))) [
@@ -556,9 +664,12 @@ module _ (fixed : Fixed) (task : Task) (Old : Base) (Loose : ℕ → Prefix → 
       what = asks_same now server (request.Prepare task.t (parts_at suites (changes_of outcome) now)) asked is
   caused_response past cache suites (Deciding outcome) server asked (Replied said) is stands free given then' =
       caused_end (push past server asked (Replied said)) cache suites (verdict_in said verdict.Aborted) (ending_by (verdict_in said verdict.Aborted) (cause_of_abort said)) (locked_at suites)
-      (λ fine. subst (λ asked. fits asked said ≡ true → EndIs fixed task Old (OrFresh fixed task cache (push past server asked (Replied said)) Loose) (push past server asked (Replied said)) (ending_by (verdict_in said verdict.Aborted) (cause_of_abort said)))
+      (λ fine. subst (λ asked. fits asked said ≡ true → EndIs fixed task Old (OrFresh fixed task cache (push past server asked (Replied said)) Loose) (push past server asked (Replied said))
+      (ending_by (verdict_in said verdict.Aborted) (cause_of_abort said)))
       (asks_same (home_of fixed.service task.t) server (request.Decide task.t (decision_of task outcome)) asked is)
-      (decided_caused (OrFresh fixed task cache (push past server (request.Decide task.t (decision_of task outcome)) (Replied said)) Loose) past server task.t (decision_of task outcome) said) (last_fits past server asked (Replied said) fine))
+      (decided_caused (OrFresh fixed task cache (push past server (request.Decide task.t (decision_of task outcome)) (Replied said)) Loose) past server task.t (decision_of task outcome) said)
+      (last_fits past server asked (Replied said) fine))
   caused_response past cache suites (Finishing [] v ending) server asked (Replied said) is stands free given then' = cc
   caused_response past cache suites (Finishing (now ∷ left) v ending) server asked (Replied said) is stands free given then' =
-      caused_end (push past server asked (Replied said)) cache suites v ending left (still_ended past cache server asked (Replied said) (λ number. ap (locks number) (sym (asks_same now server (request.Finish task.t v) asked is))) ending stands)
+      caused_end (push past server asked (Replied said)) cache suites v ending left (still_ended past cache server asked (Replied said)
+      (λ number. ap (locks number) (sym (asks_same now server (request.Finish task.t v) asked is))) ending stands)

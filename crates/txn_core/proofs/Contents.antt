@@ -81,7 +81,8 @@ each_opened start task K opening (suc n) fixed all same each = of (heard_on fixe
     back first number content (inl none) = inl none
     back first number content (inr found) = inr (sym (same number first.dver) ∙ found)
 
-    with_content : (number : ℕ) (suite : GatheredSuite) (first : ReadPoint) (content : Option Content) (more : Gathered) → suite_of all.suites number ≡ Some suite → suite.first ≡ Some first → free_content task all.cache number first ≡ content
+    with_content : (number : ℕ) (suite : GatheredSuite) (first : ReadPoint) (content : Option Content) (more : Gathered) → suite_of all.suites number ≡ Some suite
+        → suite.first ≡ Some first → free_content task all.cache number first ≡ content
         → opened_with task all number suite first content ≡ Some more → ((number dver : ℕ) → content_at more.cache task.site number dver ≡ content_at start task.site number dver) × Each K more.suites
     with_content number suite first (Some content) more there was given is =
         subst (λ (more : Gathered). ((number dver : ℕ) → content_at more.cache task.site number dver ≡ content_at start task.site number dver) × Each K more.suites) (same_Some _ more is) (

@@ -36,7 +36,8 @@ module _ (C : ℕ → ReadPoint → Content → Type 0) where
     KnowsAfter (GoesOn txn_run) = (txn_run.task ≡ task) × Each (Knows C) txn_run.suites
     KnowsAfter (Ends ending) = Unit {0}
 
-    knows_raised : (fixed : Fixed) (cache : Cache) (number : ℕ) (mode : LockMode) (found : Option GatheredSuite) → ((suite : GatheredSuite) → found ≡ Some suite → Knows C number suite) → Knows C number (raised_or_new fixed task cache number mode found)
+    knows_raised : (fixed : Fixed) (cache : Cache) (number : ℕ) (mode : LockMode) (found : Option GatheredSuite)
+        → ((suite : GatheredSuite) → found ≡ Some suite → Knows C number suite) → Knows C number (raised_or_new fixed task cache number mode found)
     knows_raised fixed cache number mode (Some suite) knows = knows suite refl
     knows_raised fixed cache number mode None knows = λ content is. cc
 
@@ -57,7 +58,8 @@ module _ (C : ℕ → ReadPoint → Content → Type 0) where
 
     moves_know : (fixed : Fixed) (at : Point) (step : Step) → MovesTo fixed task at step → FreeIn C task step.cache → Each (Knows C) at.suites → KnowsAfter step.after
     moves_know fixed at step moves free each =
-        let end = kept fixed task (λ at. FreeIn C task at.cache × Each (Knows C) at.suites) (λ at next move now. (free_next C fixed task move now.0, move_knows fixed move now.0 now.1)) moves.moves (free_start C fixed task at step moves free, each) in
+        let end = kept fixed task (λ at. FreeIn C task at.cache × Each (Knows C) at.suites)
+        (λ at next move now. (free_next C fixed task move now.0, move_knows fixed move now.0 now.1)) moves.moves (free_start C fixed task at step moves free, each) in
         left_by task (λ step. KnowsAfter step.after) moves.end step (λ phase. (refl, end.1)) (λ ending. tt) moves.ends
 
     pub knows_execute : (fixed : Fixed) (all : Gathered) → FreeIn C task (execute fixed task all).cache → Each (Knows C) all.suites → KnowsAfter (execute fixed task all).after
@@ -79,8 +81,10 @@ module _ (C : ℕ → ReadPoint → Content → Type 0) where
         (λ other at'. (first, was, subst (C number first) (same_Some content other at') (given number first content said.0 at (sym (asks_same first.source server (request.Fetch task.t number) asked is')) said.1)))
     knows_hears fixed cache suites server asked _ is each given = each
 
-    pub knows_response : (fixed : Fixed) (cache : Cache) (suites : Suites) (phase : Phase) (server : ℕ) (asked : Request) (response : Response) → request_in fixed task suites phase ≡ Some (server, asked) → Each (Knows C) suites → GivenIn C task server asked response
-        → FreeIn C task (after_response fixed (record { task = task; suites = suites; phase = phase }) cache server asked response).cache → KnowsAfter (after_response fixed (record { task = task; suites = suites; phase = phase }) cache server asked response).after
+    pub knows_response : (fixed : Fixed) (cache : Cache) (suites : Suites) (phase : Phase) (server : ℕ) (asked : Request) (response : Response)
+        → request_in fixed task suites phase ≡ Some (server, asked) → Each (Knows C) suites → GivenIn C task server asked response
+        → FreeIn C task (after_response fixed (record { task = task; suites = suites; phase = phase }) cache server asked response).cache
+        → KnowsAfter (after_response fixed (record { task = task; suites = suites; phase = phase }) cache server asked response).after
     knows_response fixed cache suites phase server asked response is each given free =
         let moves = response_moves fixed task cache suites server asked phase response in moves_know fixed moves.heard _ moves.moves free (knows_hears fixed cache suites server asked moves.hears is each given)
 
@@ -112,11 +116,14 @@ module _ (fixed : Fixed) (agent : Agent) (job : Job) where
       let site = running.task.site in
       left_knows (events ++ Take response ∷ []) running.task step.after
       (knows_response (Content_of fixed agent job (events ++ Take response ∷ []) site) running.task fixed (after_all fixed (begin fixed agent job) events).cache running.suites running.phase asked.0 asked.1 response is
-      (map_each (Content_of fixed agent job events site) (Content_of fixed agent job (events ++ Take response ∷ []) site) running.suites (content_more fixed agent job events (Take response) (exchange_of (Some asked) response) told site) knows)
-      (given_now fixed agent job events (events ++ Take response ∷ []) running.task asked.0 asked.1 response told) (free_now fixed agent job (events ++ Take response ∷ []) running.task step.cache (ap (λ (agent : Agent). agent.cache) after)))
+      (map_each (Content_of fixed agent job events site) (Content_of fixed agent job (events ++ Take response ∷ []) site) running.suites
+      (content_more fixed agent job events (Take response) (exchange_of (Some asked) response) told site) knows)
+      (given_now fixed agent job events (events ++ Take response ∷ []) running.task asked.0 asked.1 response told)
+      (free_now fixed agent job (events ++ Take response ∷ []) running.task step.cache (ap (λ (agent : Agent). agent.cache) after)))
   knows_take events response (Some (Running running)) None was is told after knows =
       subst (DoingKnows (events ++ Take response ∷ [])) (sym was)
-      (map_each (Content_of fixed agent job events running.task.site) (Content_of fixed agent job (events ++ Take response ∷ []) running.task.site) running.suites (content_more fixed agent job events (Take response) [] told running.task.site) knows)
+      (map_each (Content_of fixed agent job events running.task.site) (Content_of fixed agent job (events ++ Take response ∷ []) running.task.site) running.suites
+      (content_more fixed agent job events (Take response) [] told running.task.site) knows)
   knows_take events response (Some (RunningSweep sweep_run)) (Some asked) was is told after knows = round_knows (events ++ Take response ∷ []) (sweep.after_response fixed.service sweep_run asked.0 response)
   knows_take events response (Some (RunningSweep sweep_run)) None was is told after knows = cc
   knows_take events response None (Some asked) was is told after knows = cc
@@ -156,7 +163,8 @@ module _ (fixed : Fixed) (agent : Agent) (job : Job) where
       begun (Transaction caller site ops) is =
           let task = task_of agent caller site ops in
           let step = execute fixed task (record { suites = []; cache = agent.cache }) in
-          left_knows [] task step.after (knows_execute (Content_of fixed agent job [] site) task fixed (record { suites = []; cache = agent.cache }) (free_now fixed agent job [] task step.cache (ap (λ (agent : Agent). agent.cache) is)) (λ number suite there. cc))
+          left_knows [] task step.after (knows_execute (Content_of fixed agent job [] site) task fixed (record { suites = []; cache = agent.cache })
+          (free_now fixed agent job [] task step.cache (ap (λ (agent : Agent). agent.cache) is)) (λ number suite there. cc))
 
       of : (b : Bool) → (is_idle agent.doing && has_sense fixed job && nat_lt agent.count max_jobs) ≡ b → (j : Job) → job ≡ j → DoingKnows [] (begin fixed agent job).doing
       of true is j same =

@@ -27,7 +27,8 @@ lack_at_end : (task : Task) (cache : Cache) (suites : Suites) (server : ℕ) (la
 lack_at_end task cache suites server lacked [] verdict ending = refl
 lack_at_end task cache suites server lacked (now ∷ left) verdict ending = refl
 
-pub lacks_at_end : (task : Task) (cache : Cache) (suites : Suites) (phase : Phase) (server : ℕ) (lacked : Lack) (servers : List ℕ) (verdict : Verdict) (ending : Ending) (result : Option Ending) (after : TransactionRun) → phase ≡ Finishing servers verdict ending
+pub lacks_at_end : (task : Task) (cache : Cache) (suites : Suites) (phase : Phase) (server : ℕ) (lacked : Lack) (servers : List ℕ) (verdict : Verdict) (ending : Ending)
+    (result : Option Ending) (after : TransactionRun) → phase ≡ Finishing servers verdict ending
     → Steps (tell_end task cache suites verdict ending (drop 1 servers)) result after cache → Steps (after_lack task cache suites phase server lacked) result after cache
 lacks_at_end task cache suites phase server lacked servers verdict ending result after is steps =
     let Stepped : Step → Type 0 = λ step. Steps step result after cache in

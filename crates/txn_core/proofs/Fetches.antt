@@ -36,7 +36,40 @@ use Rattle.txn_core.specs.declared.ending.Ending.TheVariants.{Undecided}
 use Rattle.txn_core.specs.declared.job.Job.TheVariants.{Transaction}
 use Rattle.txn_core.specs.Doing.{home_of, Fixed, Task, Proposal, Phase, Gathering, Fetching, Widening, Preparing, Deciding, Finishing, TransactionRun, Doing, Running, RunningSweep, After, GoesOn, Ends}
 use Rattle.txn_core.specs.Writing.{parts_at}
-use Rattle.txn_core.specs.Moves.{Stage, Executes, Widens, Asks, Prepares, PreparesAt, GivesUp, Tells, TellsAt, Point, point, EndsIn, Move, opens, fetches as fetches', gathers, lacks_lock, refuses, grants, passes, widens, widens_by, lacks_wide, prepares, MovesTo, Collects, gathering, widening, Hears, asks_on, settles, gets}
+use Rattle.txn_core.specs.Moves.{
+  Stage,
+  Executes,
+  Widens,
+  Asks,
+  Prepares,
+  PreparesAt,
+  GivesUp,
+  Tells,
+  TellsAt,
+  Point,
+  point,
+  EndsIn,
+  Move,
+  opens,
+  fetches as fetches',
+  gathers,
+  lacks_lock,
+  refuses,
+  grants,
+  passes,
+  widens,
+  widens_by,
+  lacks_wide,
+  prepares,
+  MovesTo,
+  Collects,
+  gathering,
+  widening,
+  Hears,
+  asks_on,
+  settles,
+  gets,
+}
 use Rattle.txn_core.proofs.Moving.{kept, collects_asks, execute_moves, response_moves}
 use Rattle.txn_core.specs.Transactions.{Step, Gathered, tell_end, give_up, prepare, locked_at, heard_on, raised_or_new, execute, after_response, asked_for, fetched_at, fetched_for, request_in, changes_of, decision_of}
 use Rattle.txn_core.specs.Agents as agents
@@ -81,7 +114,8 @@ bounded_by : (before : ℕ → ℕ) (suites : Suites) → Keeps before suites �
 bounded_by before suites keeps number = let bound = keeps number in let most = one_most (suite_of suites number) in omega (arith, bound, most)
 
 -- a suite whose content stays there
-keeps_with : (before : ℕ → ℕ) (suites : Suites) (number : ℕ) (found : Option GatheredSuite) (now : GatheredSuite) → suite_of suites number ≡ found → content_in found ≤ content_in (Some now) → Keeps before suites → Keeps before (with_suite number now suites)
+keeps_with : (before : ℕ → ℕ) (suites : Suites) (number : ℕ) (found : Option GatheredSuite) (now : GatheredSuite) → suite_of suites number ≡ found
+    → content_in found ≤ content_in (Some now) → Keeps before suites → Keeps before (with_suite number now suites)
 keeps_with before suites number found now there more keeps other =
     subst (λ found. before other ≤ content_in found) (sym (get-insert nat_cmp_total suites number now other ∙ ap (λ b. cond b (Some now) (suite_of suites other)) (unsigned_tied number other)))
     (of (number == other) refl)
@@ -141,7 +175,8 @@ away fixed task suites number is suite first there was =
     (needed_first (known_of suites) (known.exec_of fixed.service (known_of suites) task.t task.caller task.ops) (Know number) is)
 
 -- a lock that is needed on a suite that had a Current is an exclusive one
-pub exclusive_needed : (fixed : Fixed) (task : Task) (suites : Suites) (number : ℕ) (mode : LockMode) (suite : GatheredSuite) (first : ReadPoint) → heard_on fixed task suites ≡ exec.Need (Hold number mode) → suite_of suites number ≡ Some suite → suite.first ≡ Some first → mode ≡ Exclusive
+pub exclusive_needed : (fixed : Fixed) (task : Task) (suites : Suites) (number : ℕ) (mode : LockMode) (suite : GatheredSuite) (first : ReadPoint)
+    → heard_on fixed task suites ≡ exec.Need (Hold number mode) → suite_of suites number ≡ Some suite → suite.first ≡ Some first → mode ≡ Exclusive
 exclusive_needed fixed task suites number mode suite first is there was =
     of suite.mode mode (sym (ap (known.is_held mode) (known_at suites number suite first there was))
     ∙ needs_what_is_unmet fixed.service (known_of suites) task.t task.caller task.ops (Hold number mode)
@@ -272,7 +307,8 @@ fetch_keeps before task suites number asked suite content fetch keeps away' othe
         omega (arith, bound, one)
 
 -- at most once, whatever is asked now
-response_bounded : (before : ℕ → ℕ) (fixed : Fixed) (task : Task) (suites : Suites) (phase : Phase) (server : ℕ) (asked : Request) → InPhase before suites phase → request_in fixed task suites phase ≡ Some (server, asked) → Bounded (plus before asked)
+response_bounded : (before : ℕ → ℕ) (fixed : Fixed) (task : Task) (suites : Suites) (phase : Phase) (server : ℕ) (asked : Request) → InPhase before suites phase
+    → request_in fixed task suites phase ≡ Some (server, asked) → Bounded (plus before asked)
 response_bounded before fixed task suites (Gathering number) server asked in' is = bounded_quiet before asked (asks_no_content task number (suite_of suites number) server asked is) (bounded_by before suites in')
 response_bounded before fixed task suites (Fetching number) server asked in' is = fetch_bounded before task suites number asked (is_fetch task suites number server asked (suite_of suites number) refl is) in'.0 in'.1
 response_bounded before fixed task suites (Widening [] granted) server asked in' is = cc
@@ -288,7 +324,8 @@ response_bounded before fixed task suites (Finishing (now ∷ left) v ending) se
 
 module _ (before : ℕ → ℕ) (fixed : Fixed) (task : Task) (cache : Cache) (suites : Suites) (server : ℕ) (asked : Request) where
   -- the collector of a suite was told
-  collected_in : {phase : Phase} {number : ℕ} {stage : Stage} (suite new : GatheredSuite) → Collects phase number stage → InPhase before suites phase → request_in fixed task suites phase ≡ Some (server, asked) → suite_of suites number ≡ Some suite
+  collected_in : {phase : Phase} {number : ℕ} {stage : Stage} (suite new : GatheredSuite) → Collects phase number stage → InPhase before suites phase
+      → request_in fixed task suites phase ≡ Some (server, asked) → suite_of suites number ≡ Some suite
       → new.content ≡ suite.content → Keeps (plus before asked) (with_suite number new suites)
   collected_in {number = number} suite new collects in' is there same =
       let none = asks_no_content task number (suite_of suites number) server asked (sym (collects_asks fixed task suites collects) ∙ is) in
@@ -298,7 +335,8 @@ module _ (before : ℕ → ℕ) (fixed : Fixed) (task : Task) (cache : Cache) (s
       of gathering in' = in'
       of widening in' = in'
 
-  hears_in : {phase : Phase} {response : Response} {heard : Point} → Hears fixed task cache suites server asked phase response heard → InPhase before suites phase → request_in fixed task suites phase ≡ Some (server, asked) → AtStage (plus before asked) heard.suites heard.stage
+  hears_in : {phase : Phase} {response : Response} {heard : Point} → Hears fixed task cache suites server asked phase response heard → InPhase before suites phase
+      → request_in fixed task suites phase ≡ Some (server, asked) → AtStage (plus before asked) heard.suites heard.stage
   hears_in (asks_on {suite = suite} gathering there says next) in' is = collected_in suite _ gathering in' is there refl
   hears_in (asks_on {suite = suite} (widening {left = left} {granted = granted}) there says next) in' is = collected_in suite _ (widening {left = left} {granted = granted}) in' is there refl
   hears_in (settles {suite = suite} gathering there says next) in' is = collected_in suite _ gathering in' is there refl
@@ -307,7 +345,8 @@ module _ (before : ℕ → ℕ) (fixed : Fixed) (task : Task) (cache : Cache) (s
       fetch_keeps before task suites number asked suite content (is_fetch task suites number server asked (suite_of suites number) refl is) in'.0 in'.1
   hears_in {phase = phase} _ in' is = response_bounded before fixed task suites phase server asked in' is
 
-l_response : (before : ℕ → ℕ) (fixed : Fixed) (task : Task) (cache : Cache) (suites : Suites) (phase : Phase) (server : ℕ) (asked : Request) (response : Response) → InPhase before suites phase → request_in fixed task suites phase ≡ Some (server, asked)
+l_response : (before : ℕ → ℕ) (fixed : Fixed) (task : Task) (cache : Cache) (suites : Suites) (phase : Phase) (server : ℕ) (asked : Request) (response : Response)
+    → InPhase before suites phase → request_in fixed task suites phase ≡ Some (server, asked)
     → Leaves (plus before asked) (after_response fixed (record { task = task; suites = suites; phase = phase }) cache server asked response).after
 l_response before fixed task cache suites phase server asked response in' is =
     let moves = response_moves fixed task cache suites server asked phase response in moves_in (plus before asked) fixed task moves.heard _ moves.moves (hears_in before fixed task cache suites server asked moves.hears in' is)
@@ -365,7 +404,8 @@ all_bounded before fixed agent (Take response ∷ events) number in' =
 
 begin_in : (fixed : Fixed) (agent : Agent) (caller : Identity) (site : ℕ) (ops : List Op) → is_idle agent.doing ≡ true → InDoing (λ number. 0) (begin fixed agent (Transaction caller site ops)).doing
 begin_in fixed agent caller site ops idle =
-    elim (is_idle agent.doing && has_sense fixed (Transaction caller site ops) && nat_lt agent.count max_jobs) as (λ b. InDoing (λ number. 0) (cond b (record (started fixed agent (Transaction caller site ops)) { count = agent.count + 1 }) agent).doing) [
+    elim (is_idle agent.doing && has_sense fixed (Transaction caller site ops) && nat_lt agent.count max_jobs) as
+    (λ b. InDoing (λ number. 0) (cond b (record (started fixed agent (Transaction caller site ops)) { count = agent.count + 1 }) agent).doing) [
       | true ↦ in_left (λ number. 0) _ (l_execute (λ number. 0) fixed (record { t = 64 * agent.count + agent.index; caller = caller; site = site; ops = ops }) (record { suites = []; cache = agent.cache }) (λ number. omega arith))
       | false ↦ at agent.doing idle
     ]
@@ -374,6 +414,7 @@ begin_in fixed agent caller site ops idle =
     at None idle = λ number. omega arith
     at (Some doing) idle = cc
 
-pub fetches_are_few : (fixed : Fixed) (agent : Agent) (caller : Identity) (site : ℕ) (ops : List Op) (events : List Event) (number : ℕ) → is_idle agent.doing ≡ true → fetched_in number (of_job fixed agent (Transaction caller site ops) events) ≤ 1
+pub fetches_are_few : (fixed : Fixed) (agent : Agent) (caller : Identity) (site : ℕ) (ops : List Op) (events : List Event) (number : ℕ) → is_idle agent.doing ≡ true
+    → fetched_in number (of_job fixed agent (Transaction caller site ops) events) ≤ 1
 fetches_are_few fixed agent caller site ops events number idle =
     let all = all_bounded (λ number. 0) fixed (begin fixed agent (Transaction caller site ops)) events number (begin_in fixed agent caller site ops idle) in omega (arith, all)

@@ -143,17 +143,21 @@ here_now who server now asked same = subst (λ at. now_told who server asked ≤
 at_server : (now server : ℕ) (question asked : Request) → ◌≡◌ {A = Option (ℕ × Request)} (Some (now, question)) (Some (server, asked)) → now ≡ server
 at_server now server question asked is = ap (λ (pair : ℕ × Request). pair.0) (same_Some (now, question) (server, asked) is)
 
-calm : (who : ℕ) (fixed : Fixed) (task : Task) (cache : Cache) (suites : Suites) (phase : Phase) (server : ℕ) (asked : Request) (response : Response) → IsEarly phase → tells asked ≡ false → now_told who server asked + then_may who fixed task cache suites phase server asked response ≤ 2
+calm : (who : ℕ) (fixed : Fixed) (task : Task) (cache : Cache) (suites : Suites) (phase : Phase) (server : ℕ) (asked : Request) (response : Response) → IsEarly phase
+    → tells asked ≡ false → now_told who server asked + then_may who fixed task cache suites phase server asked response ≤ 2
 calm who fixed task cache suites phase server asked response is other =
     let none = none_now who server asked other in
     let few = goes_response task (IsFew who) (few_early who task) (few_given_up who task) (few_prepares who task) fixed cache suites phase server asked response is in omega (arith, none, few)
 
 few_response : (who : ℕ) (fixed : Fixed) (task : Task) (cache : Cache) (suites : Suites) (phase : Phase) (server : ℕ) (asked : Request) (response : Response) → request_in fixed task suites phase ≡ Some (server, asked)
     → now_told who server asked + then_may who fixed task cache suites phase server asked response ≤ may_in who phase
-few_response who fixed task cache suites (Gathering number) server asked response is = calm who fixed task cache suites (Gathering number) server asked response tt (asked_as tells false task number (suite_of suites number) server asked (λ mode. refl) refl is)
-few_response who fixed task cache suites (Fetching number) server asked response is = calm who fixed task cache suites (Fetching number) server asked response tt (fetched_as tells false task number (suite_of suites number) server asked refl is)
+few_response who fixed task cache suites (Gathering number) server asked response is = calm who fixed task cache suites (Gathering number) server asked response tt
+    (asked_as tells false task number (suite_of suites number) server asked (λ mode. refl) refl is)
+few_response who fixed task cache suites (Fetching number) server asked response is = calm who fixed task cache suites (Fetching number) server asked response tt
+    (fetched_as tells false task number (suite_of suites number) server asked refl is)
 few_response who fixed task cache suites (Widening [] granted) server asked response is = cc
-few_response who fixed task cache suites (Widening (number ∷ left) granted) server asked response is = calm who fixed task cache suites (Widening (number ∷ left) granted) server asked response tt (asked_as tells false task number (suite_of suites number) server asked (λ mode. refl) refl is)
+few_response who fixed task cache suites (Widening (number ∷ left) granted) server asked response is = calm who fixed task cache suites
+    (Widening (number ∷ left) granted) server asked response tt (asked_as tells false task number (suite_of suites number) server asked (λ mode. refl) refl is)
 few_response who fixed task cache suites (Preparing [] outcome) server asked response is = cc
 few_response who fixed task cache suites (Preparing (now ∷ servers) outcome) server asked response is =
     let one = here_now who server now asked (at_server now server _ asked is) in let rest = of response in omega (arith, one, rest)
@@ -223,7 +227,8 @@ begin_few who fixed agent caller site ops idle =
     elim (is_idle agent.doing && has_sense fixed (Transaction caller site ops) && nat_lt agent.count max_jobs) as (λ b.
     IsNoRound (cond b (record (started fixed agent (Transaction caller site ops)) { count = agent.count + 1 }) agent).doing
     × (may who (cond b (record (started fixed agent (Transaction caller site ops)) { count = agent.count + 1 }) agent).doing ≤ 2)) [
-      | true ↦ let task : Task = record { t = 64 * agent.count + agent.index; caller = caller; site = site; ops = ops } in (no_round _, goes_execute task (IsFew who) (few_early who task) (few_given_up who task) (few_prepares who task) fixed (record { suites = []; cache = agent.cache }))
+      | true ↦ let task : Task = record { t = 64 * agent.count + agent.index; caller = caller; site = site; ops = ops } in
+          (no_round _, goes_execute task (IsFew who) (few_early who task) (few_given_up who task) (few_prepares who task) fixed (record { suites = []; cache = agent.cache }))
       | false ↦ at agent.doing idle
     ]
   where

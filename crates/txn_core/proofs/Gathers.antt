@@ -160,7 +160,8 @@ pub knows_settled : (C : ℕ → ReadPoint → Content → Type 0) (number : ℕ
 knows_settled C number suite prefix dver members knows content is =
     let was = knows content is in (was.0, ap (λ first. first_or first (record { prefix = prefix; dver = dver; source = source_of suite.collector dver members })) was.1, was.2)
 
-pub knows_map : (C D : ℕ → ReadPoint → Content → Type 0) (number : ℕ) (suite : GatheredSuite) → ((number : ℕ) (first : ReadPoint) (content : Content) → C number first content → D number first content) → Knows C number suite → Knows D number suite
+pub knows_map : (C D : ℕ → ReadPoint → Content → Type 0) (number : ℕ) (suite : GatheredSuite)
+    → ((number : ℕ) (first : ReadPoint) (content : Content) → C number first content → D number first content) → Knows C number suite → Knows D number suite
 knows_map C D number suite maps knows content is = let was = knows content is in (was.0, was.1, maps number was.0 content was.2)
 
 pub record FirstKept (past : List Exchange) (number : ℕ) (suite : GatheredSuite) : Type 0 where
@@ -254,7 +255,9 @@ listed_change (one ∷ changes) number has = of (is_at (nat_cmp number) one.0) r
     rest : is_at (nat_cmp number) one.0 ≡ false → (change : Change) × (change_of changes number ≡ Some change) → (change : Change) × (change_of (one ∷ changes) number ≡ Some change)
     rest other found = (found.0, ap (λ b. cond b (Some one.1) (change_of changes number)) other ∙ found.1)
 
-    of : (b : Bool) → is_at (nat_cmp number) one.0 ≡ b → (v : Bool) → Has (map (λ one. one.0) (cond v (one ∷ filter (λ one. one.1.votes) changes) (filter (λ one. one.1.votes) changes))) number → (Has (to_widen changes) number → (change : Change) × (change_of changes number ≡ Some change))
+    of : (b : Bool) → is_at (nat_cmp number) one.0 ≡ b → (v : Bool)
+        → Has (map (λ one. one.0) (cond v (one ∷ filter (λ one. one.1.votes) changes) (filter (λ one. one.1.votes) changes))) number
+        → (Has (to_widen changes) number → (change : Change) × (change_of changes number ≡ Some change))
         → (change : Change) × (change_of (one ∷ changes) number ≡ Some change)
     of true here v has later = (one.1, ap (λ b. cond b (Some one.1) (change_of changes number)) here)
     of false other false has later = rest other (later has)
@@ -304,7 +307,8 @@ module _ (fixed : Fixed) (task : Task) (Old : Base) (past : List Exchange) where
   pub wants_told : (number : ℕ) (suite : GatheredSuite) (one : Told) (more : List Exchange) → Wants fixed task Old past number suite.collector.mode → Wants fixed task Old (past ++ more) number (tell one suite.collector).mode
   wants_told number suite one more wanted = subst (Wants fixed task Old (past ++ more) number) (sym (tell_mode one suite.collector)) (wants_more fixed task Old past more number suite.collector.mode wanted)
 
-  pub wide_widened : (changes : Changes) (answers : List Answer) (number : ℕ) (suite : GatheredSuite) → Grants fixed task Old past answers changes → Has (to_widen changes) number → Wide fixed task Old past number (widened changes number suite)
+  pub wide_widened : (changes : Changes) (answers : List Answer) (number : ℕ) (suite : GatheredSuite) → Grants fixed task Old past answers changes → Has (to_widen changes) number
+      → Wide fixed task Old past number (widened changes number suite)
   wide_widened changes answers number suite grants gets after is =
       let change = listed_change changes number gets in
       let votes : change.0.row.votes ≡ after.votes = of change.0 change.1 in
@@ -331,8 +335,16 @@ none_same start other mode another number past same_start same_mode none early r
     none early rest parts (subst (λ mode. IsCurrent (next (gathered_from start mode number early))) same_mode (subst (λ start. IsCurrent (next (gathered_from start another number early))) same_start current))
 
 module _ (fixed : Fixed) (task : Task) (Old : Base) (past : List Exchange) (number : ℕ) where
-  pub kept_same : (suite other : GatheredSuite) → other.collector.start ≡ suite.collector.start → other.first ≡ suite.first → Knows Old.content number other → Wide fixed task Old past number other → Wants fixed task Old past number other.collector.mode → Kept fixed task Old past number suite → Kept fixed task Old past number other
-  kept_same suite other start first content wide wanted kept = record { start = subst (Old.start number) (sym start) kept.start; first = first_same past number suite other start first kept.first; content = content; wide = wide; wanted = wanted }
+  pub kept_same : (suite other : GatheredSuite) → other.collector.start ≡ suite.collector.start → other.first ≡ suite.first → Knows Old.content number other
+      → Wide fixed task Old past number other → Wants fixed task Old past number other.collector.mode → Kept fixed task Old past number suite
+      → Kept fixed task Old past number other
+  kept_same suite other start first content wide wanted kept = record {
+    start = subst (Old.start number) (sym start) kept.start;
+    first = first_same past number suite other start first kept.first;
+    content = content;
+    wide = wide;
+    wanted = wanted;
+  }
 
   pub kept_more : (more : List Exchange) (suite : GatheredSuite) → Kept fixed task Old past number suite → Kept fixed task Old (past ++ more) number suite
   kept_more more suite kept = record {
@@ -347,7 +359,8 @@ module _ (fixed : Fixed) (task : Task) (Old : Base) (past : List Exchange) (numb
   asking_of suite kept = record { start = kept.start; first = inl kept.first; content = kept.content; wide = kept.wide; wanted = kept.wanted }
 
   -- a suite that is new
-  pub asks_new : (Start : ℕ → Prefix → Type 0) (mode another : LockMode) (start : Prefix) → told_of number [] past ≡ [] → Start number start → Wants fixed task Old past number mode → Asking fixed task Old Start past number (record { collector = collect mode start; first = None; mode = another; content = None })
+  pub asks_new : (Start : ℕ → Prefix → Type 0) (mode another : LockMode) (start : Prefix) → told_of number [] past ≡ [] → Start number start
+      → Wants fixed task Old past number mode → Asking fixed task Old Start past number (record { collector = collect mode start; first = None; mode = another; content = None })
   asks_new Start mode another start untold old wanted = record {
     start = old;
     first = inr (refl, refl, λ server asked is early rest parts current. asks_not server asked (next (gathered_from start mode number early)) (nothing early rest parts ∙ is) current);

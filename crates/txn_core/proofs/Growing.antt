@@ -37,7 +37,8 @@ pub record IsOfSuite (suites : Suites) (number : ℕ) (it : KnownSuite) : Type 0
 other_number : (number key other : ℕ) → nat_cmp key other ≡ Less → number ≡ key → is_eq (nat_cmp number other) ≡ false
 other_number number key other less same = ap (λ n. is_eq (nat_cmp n other)) same ∙ ap is_eq less
 
-absent_here : (number : ℕ) (one : ℕ × GatheredSuite) (suites : Suites) → is_eq (nat_cmp number one.0) ≡ false → known.known_of (known_of suites) number ≡ None → (found : Option ReadPoint) → known.known_of (known_if one.0 one.1 found (known_of suites)) number ≡ None
+absent_here : (number : ℕ) (one : ℕ × GatheredSuite) (suites : Suites) → is_eq (nat_cmp number one.0) ≡ false → known.known_of (known_of suites) number ≡ None
+    → (found : Option ReadPoint) → known.known_of (known_if one.0 one.1 found (known_of suites)) number ≡ None
 absent_here number one suites other rest (Some first) = ap (λ b. cond b (Some (known_row one.1 first)) (known.known_of (known_of suites) number)) other ∙ rest
 absent_here number one suites other rest None = rest
 
@@ -50,7 +51,8 @@ known_from [] number it ordered is = absurd (none-some it is)
 known_from (one ∷ suites) number it ordered is =
     of (known_from suites number it (sorted_tail nat_cmp one.0 (keys_of suites) ordered)) (is_eq (nat_cmp number one.0)) refl one.1.first refl is
   where
-    of : (known.known_of (known_of suites) number ≡ Some it → IsOfSuite suites number it) → (b : Bool) → is_eq (nat_cmp number one.0) ≡ b → (found : Option ReadPoint) → one.1.first ≡ found → known.known_of (known_if one.0 one.1 found (known_of suites)) number ≡ Some it → IsOfSuite (one ∷ suites) number it
+    of : (known.known_of (known_of suites) number ≡ Some it → IsOfSuite suites number it) → (b : Bool) → is_eq (nat_cmp number one.0) ≡ b → (found : Option ReadPoint)
+        → one.1.first ≡ found → known.known_of (known_if one.0 one.1 found (known_of suites)) number ≡ Some it → IsOfSuite (one ∷ suites) number it
     of again true at (Some first) was is = record {
       suite = one.1;
       first = first;
@@ -98,7 +100,8 @@ no_less all suite = of (known.known_of all suite)
     of None = tt
 
 -- more is known once such a suite stands in the place of another, or where there was none
-pub more_known : (suites : Suites) (number : ℕ) (after : GatheredSuite) → IsOrdered nat_cmp suites → ((before : GatheredSuite) → suite_of suites number ≡ Some before → GoesOnFrom before after) → MoreKnown (known_of suites) (known_of (with_suite number after suites))
+pub more_known : (suites : Suites) (number : ℕ) (after : GatheredSuite) → IsOrdered nat_cmp suites
+    → ((before : GatheredSuite) → suite_of suites number ≡ Some before → GoesOnFrom before after) → MoreKnown (known_of suites) (known_of (with_suite number after suites))
 more_known suites number after ordered flow other = of (known.known_of (known_of suites) other) refl
   where
     more : Suites

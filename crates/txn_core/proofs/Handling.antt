@@ -55,7 +55,8 @@ module _ (before mid : TransactionRun) (number server : ℕ) (said : Reply) wher
     abbrev pub step_on : Hearing → Step
     step_on what = on_hearing before.task cache before.suites before.phase number server what go_on
 
-    pub lost_goes : (flow : Flow) (after : TransactionRun) → HearsAt found number Lost before said mid → GoesBy (give_up mid.task cache mid.suites (cause.Lost server)) flow after cache → GoesBy (step_on (heard_at found said)) flow after cache
+    pub lost_goes : (flow : Flow) (after : TransactionRun) → HearsAt found number Lost before said mid
+        → GoesBy (give_up mid.task cache mid.suites (cause.Lost server)) flow after cache → GoesBy (step_on (heard_at found said)) flow after cache
     lost_goes flow after hears up =
         let at = at_lost before mid number said found hears in
         let Goes' : Step → Type 0 = λ step. GoesBy step flow after cache in
@@ -67,7 +68,8 @@ module _ (before mid : TransactionRun) (number server : ℕ) (said : Reply) wher
         let Goes' : Step → Type 0 = λ step. GoesBy step On mid cache in
         subst Goes' (ap step_on (sym at.1)) (refl, (refl, at.2))
 
-    pub short_goes : (flow : Flow) (after : TransactionRun) → HearsAt found number Short before said mid → GoesBy (gather_again mid.task cache mid.suites number (suite_of mid.suites number)) flow after cache → GoesBy (step_on (heard_at found said)) flow after cache
+    pub short_goes : (flow : Flow) (after : TransactionRun) → HearsAt found number Short before said mid
+        → GoesBy (gather_again mid.task cache mid.suites number (suite_of mid.suites number)) flow after cache → GoesBy (step_on (heard_at found said)) flow after cache
     short_goes flow after hears gathers =
         let at = at_short before mid number said found hears in
         let new = at.0 in
@@ -118,7 +120,8 @@ module _ (resources : Resources) (before mid : TransactionRun) (number server : 
   pub keeps : Keeps resources resources
   keeps = record { fixed_parts = refl; limits = refl; unused = unused }
 
-  pub held_lost : (flow : Flow) (after : TransactionRun) → HearsAt found' number Lost before said mid → ((cache : Cache) → GoesBy (give_up mid.task cache mid.suites (cause.Lost server)) flow after cache) → IsStep resources held' flow after resources
+  pub held_lost : (flow : Flow) (after : TransactionRun) → HearsAt found' number Lost before said mid
+      → ((cache : Cache) → GoesBy (give_up mid.task cache mid.suites (cause.Lost server)) flow after cache) → IsStep resources held' flow after resources
   held_lost flow after hears up = record {
     steps = lost_goes before mid number server said resources.cache.entries go_on flow after hears (up resources.cache.entries);
     keeps = keeps;
@@ -178,7 +181,11 @@ module _ (before after : TransactionRun) (number : ℕ) (said : Reply) (none : N
   held_unasked resources unused reached =
       subst (λ (found : Option ℕ). IsStep resources (held_from (fixed_by resources) before resources.cache.entries number found said) On after resources) none
       (subst (λ (txn_run : TransactionRun). IsStep resources (held_from (fixed_by resources) before resources.cache.entries number None said) On txn_run resources) (sym same)
-      (record { steps = (refl, (refl, refl)); keeps = record { fixed_parts = refl; limits = refl; unused = unused }; reached = reached_at before.phase (IsReachedIn resources.fixed_parts before.task before.suites resources.progress) reached }))
+      (record {
+        steps = (refl, (refl, refl));
+        keeps = record { fixed_parts = refl; limits = refl; unused = unused };
+        reached = reached_at before.phase (IsReachedIn resources.fixed_parts before.task before.suites resources.progress) reached;
+      }))
 
   pub widened_unasked : IsWidenedFrom (asks_in before number) before number said On after
   widened_unasked = subst (λ (found : Option ℕ). IsWidenedFrom found before number said On after) none (refl, same)
@@ -195,7 +202,8 @@ module _ (resources : Resources) (txn_run : TransactionRun) (number server : ℕ
 
   pub held_unsettled : SettlesAt (suite_of txn_run.suites number) None said → give_up txn_run.task resources.cache.entries txn_run.suites (cause.Lost server) ≡ settling_step
   held_unsettled by =
-      ap (λ what. on_hearing txn_run.task resources.cache.entries txn_run.suites txn_run.phase number server what (λ suite. execute (fixed_by resources) txn_run.task (record { suites = with_suite number suite txn_run.suites; cache = resources.cache.entries })))
+      ap (λ what. on_hearing txn_run.task resources.cache.entries txn_run.suites txn_run.phase number server what
+      (λ suite. execute (fixed_by resources) txn_run.task (record { suites = with_suite number suite txn_run.suites; cache = resources.cache.entries })))
       (sym (settles_lost said (suite_of txn_run.suites number) by))
 
 -- ---- a suite that is widened
@@ -207,7 +215,8 @@ module _ (before mid : TransactionRun) (number server : ℕ) (said : Reply) (cac
   abbrev pub widens : Suites → Step
   widens suites = widen_all before.task cache suites granted left
 
-  pub widened_lost : (flow : Flow) (after : TransactionRun) → HearsAt (suite_of before.suites number) number Lost before said mid → GoesBy (give_up mid.task cache mid.suites (cause.Lost server)) flow after cache → GoesBy widened' flow after cache
+  pub widened_lost : (flow : Flow) (after : TransactionRun) → HearsAt (suite_of before.suites number) number Lost before said mid
+      → GoesBy (give_up mid.task cache mid.suites (cause.Lost server)) flow after cache → GoesBy widened' flow after cache
   widened_lost flow after hears up = lost_goes before mid number server said cache (λ suite. widens (with_suite number suite before.suites)) flow after hears up
 
   pub widened_asks : HearsAt (suite_of before.suites number) number Asks before said mid → GoesBy widened' On mid cache
@@ -284,7 +293,8 @@ untouched resources before left same reached = record {
   reached = subst (λ (txn_run : TransactionRun). IsReachedBy resources.fixed_parts txn_run resources.progress) (sym same) reached;
 }
 
-pub untouched_on : (resources : Resources) (before left : TransactionRun) (result : Result Flow AllocError) → OnErr result (left ≡ before) → IsReachedBy resources.fixed_parts before resources.progress → OnErr result (IsUntouched resources before left resources)
+pub untouched_on : (resources : Resources) (before left : TransactionRun) (result : Result Flow AllocError) → OnErr result (left ≡ before)
+    → IsReachedBy resources.fixed_parts before resources.progress → OnErr result (IsUntouched resources before left resources)
 untouched_on resources before left (Ok flow) same reached = tt
 untouched_on resources before left (Err why) same reached = untouched resources before left same reached
 

@@ -45,10 +45,59 @@ use Rattle.txn_core.specs.declared.response.Response.{Response}
 use Rattle.txn_core.specs.declared.job.Job.{Job}
 use Rattle.txn_core.specs.declared.response.Response.TheVariants.{Replied, Lacked}
 use Rattle.txn_core.specs.declared.job.Job.TheVariants.{Transaction, Sweep}
-use Rattle.txn_core.specs.Doing.{Changes, home_of, Fixed, Task, Phase, Gathering, Fetching, Widening, Preparing, Deciding, Finishing, TransactionRun, Sweeping, Listing, Resolving, Telling, Breaking, SweepRun, Doing, Running, RunningSweep, After, GoesOn, Ends}
+use Rattle.txn_core.specs.Doing.{
+  Changes,
+  home_of,
+  Fixed,
+  Task,
+  Phase,
+  Gathering,
+  Fetching,
+  Widening,
+  Preparing,
+  Deciding,
+  Finishing,
+  TransactionRun,
+  Sweeping,
+  Listing,
+  Resolving,
+  Telling,
+  Breaking,
+  SweepRun,
+  Doing,
+  Running,
+  RunningSweep,
+  After,
+  GoesOn,
+  Ends,
+}
 use Rattle.txn_core.specs.Moves.{Stage, Executes, Point, point, Move, opens, gathers, lacks_lock, widens, widens_by, lacks_wide, MovesTo, Collects, now_told, Hears, asks_on, falls_short, settles, loses, is_lacked, strays, told_all, gets}
 use Rattle.txn_core.proofs.Moving.{kept, left_by, collects_asks, asks_nothing, execute_moves, response_moves}
-use Rattle.txn_core.specs.Transactions.{Step, Gathered, opened, or_all, open_needed, open_suite, open_first, opened_with, free_content, heard_on, raised_or_new, is_poll, said_to, execute, prepared, after_response, asked_by, asked_for, fetched_at, fetched_for, request_in, changes_of, decision_of}
+use Rattle.txn_core.specs.Transactions.{
+  Step,
+  Gathered,
+  opened,
+  or_all,
+  open_needed,
+  open_suite,
+  open_first,
+  opened_with,
+  free_content,
+  heard_on,
+  raised_or_new,
+  is_poll,
+  said_to,
+  execute,
+  prepared,
+  after_response,
+  asked_by,
+  asked_for,
+  fetched_at,
+  fetched_for,
+  request_in,
+  changes_of,
+  decision_of,
+}
 use Rattle.txn_core.specs.Writing.{parts_at, part_of}
 use Rattle.txn_core.proofs.Asks.{asks_same, fetched_as}
 
@@ -101,11 +150,13 @@ pub are_opened : (told : ℕ → List Told) (n : ℕ) (fixed : Fixed) (task : Ta
 are_opened told zero fixed task all are = are
 are_opened told (suc n) fixed task all are = of (heard_on fixed task all.suites) (λ more are. are_opened told n fixed task more are)
   where
-    or' : (found : Option Gathered) → ((more : Gathered) → found ≡ Some more → Are told more.suites) → ((more : Gathered) → Are told more.suites → Are told (opened n fixed task more).suites) → Are told (or_all all found (λ all. opened n fixed task all)).suites
+    or' : (found : Option Gathered) → ((more : Gathered) → found ≡ Some more → Are told more.suites) → ((more : Gathered) → Are told more.suites → Are told (opened n fixed task more).suites)
+        → Are told (or_all all found (λ all. opened n fixed task all)).suites
     or' (Some more) found_are later = later more (found_are more refl)
     or' None found_are later = are
 
-    with_content : (number : ℕ) (suite : GatheredSuite) (first : ReadPoint) (content : Option Content) (more : Gathered) → suite_of all.suites number ≡ Some suite → opened_with task all number suite first content ≡ Some more → Are told more.suites
+    with_content : (number : ℕ) (suite : GatheredSuite) (first : ReadPoint) (content : Option Content) (more : Gathered) → suite_of all.suites number ≡ Some suite → opened_with task all number suite first content ≡ Some more
+        → Are told more.suites
     with_content number suite first (Some content) more there is =
         subst (λ (more : Gathered). Are told more.suites) (same_Some _ more is) (are_same told all.suites number (record suite { content = Some content }) are (sym (ap told_in there)))
     with_content number suite first None more there is = cc
@@ -300,8 +351,10 @@ record HeldAt (held : ℕ → ℕ → Bool) (at : Point) : Type 0 where
   agree : Held held told
 
 module _ (held : ℕ → ℕ → Bool) (told : ℕ → List Told) (fixed : Fixed) (task : Task) (cache : Cache) (suites : Suites) (server : ℕ) (asked : Request) (are : Are told suites) (agree : Held held told) where
-  held_told : {phase : Phase} {number : ℕ} {stage : Stage} (suite new : GatheredSuite) (reply : Reply) (said : Said) → request_in fixed task suites phase ≡ Some (server, asked) → Collects phase number stage → suite_of suites number ≡ Some suite
-      → said_to asked reply ≡ Some said → new.collector ≡ (now_told server asked said suite).collector → (stage' : Stage) (cache' : Cache) → HeldAt (plus held server asked (Replied reply)) (point stage' cache' (with_suite number new suites))
+  held_told : {phase : Phase} {number : ℕ} {stage : Stage} (suite new : GatheredSuite) (reply : Reply) (said : Said) → request_in fixed task suites phase ≡ Some (server, asked) → Collects phase number stage
+      → suite_of suites number ≡ Some suite
+      → said_to asked reply ≡ Some said → new.collector ≡ (now_told server asked said suite).collector → (stage' : Stage) (cache' : Cache)
+      → HeldAt (plus held server asked (Replied reply)) (point stage' cache' (with_suite number new suites))
   held_told {number = number} suite new reply said is collects there says same stage' cache' = record {
     told = told_with number (all_told new.collector) told;
     are = are_with told suites number new are;
@@ -310,7 +363,8 @@ module _ (held : ℕ → ℕ → Bool) (told : ℕ → List Told) (fixed : Fixed
         (asks_lock task number (suite_of suites number) server asked (sym (collects_asks fixed task suites collects) ∙ is)) (said_held asked reply said says) other who;
   }
 
-  held_hears : {phase : Phase} {response : Response} {heard : Point} → Hears fixed task cache suites server asked phase response heard → request_in fixed task suites phase ≡ Some (server, asked) → HeldAt (plus held server asked response) heard
+  held_hears : {phase : Phase} {response : Response} {heard : Point} → Hears fixed task cache suites server asked phase response heard → request_in fixed task suites phase ≡ Some (server, asked)
+      → HeldAt (plus held server asked response) heard
   held_hears (asks_on {suite = suite} {reply = reply} {said = said} collects there says next) is = held_told suite _ reply said is collects there says refl _ _
   held_hears (falls_short {suite = suite} {reply = reply} {said = said} collects there says next) is = held_told suite _ reply said is collects there says refl _ _
   held_hears (settles {suite = suite} {reply = reply} {said = said} collects there says next) is = held_told suite _ reply said is collects there says refl _ _
@@ -360,7 +414,8 @@ take_keeps : (held : ℕ → ℕ → Bool) (fixed : Fixed) (agent : Agent) (resp
 take_keeps held fixed agent response (Some (Running running)) (Some asked) was is keeps =
     same_keeps (plus held asked.0 asked.1 response) (plus_all held (exchange_of (Some asked) response)) _ (λ number who. ap (λ b. held number who || b) (sym (or_false (adds asked.0 asked.1 response number who))))
     (left_keeps (plus held asked.0 asked.1 response) _ (left_response held (told_at running.suites) fixed running.task agent.cache running.suites running.phase asked.0 asked.1 response (keeps.0, λ number. refl) keeps.1 is))
-take_keeps held fixed agent response (Some (Running running)) None was is keeps = subst (Keeps (plus_all held [])) (sym was) (same_keeps held (plus_all held []) (Some (Running running)) (λ number who. sym (or_false (held number who))) keeps)
+take_keeps held fixed agent response (Some (Running running)) None was is keeps = subst (Keeps (plus_all held [])) (sym was)
+    (same_keeps held (plus_all held []) (Some (Running running)) (λ number who. sym (or_false (held number who))) keeps)
 take_keeps held fixed agent response (Some (RunningSweep sweep_run)) (Some asked) was is keeps = round_keeps _ (sweep.after_response fixed.service sweep_run asked.0 response)
 take_keeps held fixed agent response (Some (RunningSweep sweep_run)) None was is keeps = cc
 take_keeps held fixed agent response None (Some asked) was is keeps = cc
@@ -435,7 +490,8 @@ any_at p (e ∷ es) number ordered =
 any_filtered : (changes : Changes) (server number : ℕ) (suites : Suites) → list_any (λ part. part.suite == number) (parts_at suites changes server) ≡ list_any (λ one. (one.0 == number) && holds_lock one.1 server) suites
 any_filtered changes server number [] = refl
 any_filtered changes server number (e ∷ es) =
-    elim (holds_lock e.1 server) as (λ b. list_any (λ part. part.suite == number) (map (part_of changes server) (cond b (e ∷ filter (λ one. holds_lock one.1 server) es) (filter (λ one. holds_lock one.1 server) es))) ≡ (((e.0 == number) && b) || list_any (λ one. (one.0 == number) && holds_lock one.1 server) es)) [
+    elim (holds_lock e.1 server) as (λ b. list_any (λ part. part.suite == number) (map (part_of changes server) (cond b (e ∷ filter (λ one. holds_lock one.1 server) es) (filter (λ one. holds_lock one.1 server) es)))
+    ≡ (((e.0 == number) && b) || list_any (λ one. (one.0 == number) && holds_lock one.1 server) es)) [
       | true ↦ of (e.0 == number) (any_filtered changes server number es)
       | false ↦ other (e.0 == number) (any_filtered changes server number es)
     ]
@@ -532,7 +588,8 @@ all_above : (k : ℕ) (changes : Changes) (server : ℕ) (suites : Suites) → A
 all_above k changes server [] above = tt
 all_above k changes server (e ∷ es) above =
     let rest = all_above k changes server es above.1 in
-    elim (holds_lock e.1 server) as (λ b. AllByRecursion (λ y. nat_cmp k y ≡ Less) (map (λ part. part.suite) (map (part_of changes server) (cond b (e ∷ filter (λ one. holds_lock one.1 server) es) (filter (λ one. holds_lock one.1 server) es))))) [
+    elim (holds_lock e.1 server) as
+    (λ b. AllByRecursion (λ y. nat_cmp k y ≡ Less) (map (λ part. part.suite) (map (part_of changes server) (cond b (e ∷ filter (λ one. holds_lock one.1 server) es) (filter (λ one. holds_lock one.1 server) es))))) [
       | true ↦ (above.0, rest)
       | false ↦ rest
     ]

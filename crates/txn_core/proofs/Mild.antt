@@ -60,7 +60,8 @@ mild_early task suites (Finishing servers told ending) is = absurd is
 mild_prepares : (task : Task) (cache : Cache) (suites : Suites) (outcome : Proposal) → IsMild (prepare task cache suites outcome (locked_at suites))
 mild_prepares task cache suites outcome = mild_prepare task cache suites outcome (locked_at suites)
 
-mild_response : (fixed : Fixed) (task : Task) (cache : Cache) (suites : Suites) (phase : Phase) (server : ℕ) (asked : Request) (response : Response) → IsEarly phase → IsMild (after_response fixed (record { task = task; suites = suites; phase = phase }) cache server asked response)
+mild_response : (fixed : Fixed) (task : Task) (cache : Cache) (suites : Suites) (phase : Phase) (server : ℕ) (asked : Request) (response : Response) → IsEarly phase
+    → IsMild (after_response fixed (record { task = task; suites = suites; phase = phase }) cache server asked response)
 mild_response fixed task cache suites phase server asked response is = goes_response task (LeftTells verdict.Aborted) (mild_early task) (mild_give_up task) (mild_prepares task) fixed cache suites phase server asked response is
 
 mild_prepared : (task : Task) (cache : Cache) (suites : Suites) (outcome : Proposal) (server : ℕ) (left : List ℕ) (said : Reply) → IsMild (prepared task cache suites outcome server left said)
@@ -104,9 +105,11 @@ response_tells fixed task cache suites (Preparing (now ∷ left) outcome) server
 response_tells fixed task cache suites (Deciding outcome) server asked response v is tells =
     let same = asks_same (home_of fixed.service task.t) server (request.Decide task.t (decision_of task outcome)) asked is in
     subst (λ asked. LeftTells (cond (is_decide asked) (said_by response v) v) (after_response fixed (record { task = task; suites = suites; phase = Deciding outcome }) cache server asked response).after) same
-    (subst (λ v. LeftTells (said_by response v) (after_response fixed (record { task = task; suites = suites; phase = Deciding outcome }) cache server (request.Decide task.t (decision_of task outcome)) response).after) (sym tells) (of response))
+    (subst (λ v. LeftTells (said_by response v) (after_response fixed (record { task = task; suites = suites; phase = Deciding outcome }) cache server
+    (request.Decide task.t (decision_of task outcome)) response).after) (sym tells) (of response))
   where
-    of : (response : Response) → LeftTells (said_by response verdict.Aborted) (after_response fixed (record { task = task; suites = suites; phase = Deciding outcome }) cache server (request.Decide task.t (decision_of task outcome)) response).after
+    of : (response : Response) → LeftTells (said_by response verdict.Aborted)
+        (after_response fixed (record { task = task; suites = suites; phase = Deciding outcome }) cache server (request.Decide task.t (decision_of task outcome)) response).after
     of (Replied said) = tells_decided task cache suites said
     of (Lacked lacked) = mild_give_up task cache suites (lack_cause server lacked)
 response_tells fixed task cache suites (Finishing [] told ending) server asked response v is tells = cc
@@ -169,7 +172,9 @@ begin_tells fixed agent job idle =
     at (Some doing) idle = cc
 
     of : (job : Job) → Tells verdict.Aborted (started fixed agent job).doing
-    of (Transaction caller site ops) = let task : Task = record { t = 64 * agent.count + agent.index; caller = caller; site = site; ops = ops } in left_tells verdict.Aborted _ (goes_execute task (LeftTells verdict.Aborted) (mild_early task) (mild_give_up task) (mild_prepares task) fixed (record { suites = []; cache = agent.cache }))
+    of (Transaction caller site ops) = let task : Task = record { t = 64 * agent.count + agent.index; caller = caller; site = site; ops = ops } in
+        left_tells verdict.Aborted _ (goes_execute task (LeftTells verdict.Aborted) (mild_early task) (mild_give_up task) (mild_prepares task) fixed
+        (record { suites = []; cache = agent.cache }))
     of (Sweep server) = tt
 
 pub finish_carries_the_verdict : FinishCarriesTheVerdict

@@ -21,8 +21,98 @@ use Rattle.txn_core.specs.declared.ending.Cause.TheVariants.{Lost}
 use Rattle.txn_core.specs.declared.ending.Ending.{Ending}
 use Rattle.rep_core.specs.declared.reply.Verdict.{Verdict}
 use Rattle.txn_core.specs.Doing.{Granted, Fixed, Task, Ends, Proposal, Phase, Gathering, Fetching, Widening, Preparing, Deciding, Finishing}
-use Rattle.txn_core.specs.Transactions.{Step, Gathered, request_in, asked_for, fetched_for, fetched_at, on_with, tell_end, locked_at, give_up, prepare, gather_by, widen_by, widen_one, widened, widen_all, free_content, opened_with, open_first, open_suite, open_needed, or_all, opened, heard_on, raised_or_new, proceed, execute, said_to, collected, hear, keep_content, given_in, fetched, prepared, heard_of, after_reply, after_lack, after_response}
-use Rattle.txn_core.specs.Moves.{Stage, Executes, Widens, Asks, Prepares, PreparesAt, GivesUp, Tells, TellsAt, Point, point, EndsIn, is_short, Move, opens, fetches, gathers, lacks_lock, refuses, grants, prepares, passes, widens, widens_by, lacks_wide, Moves, stays, goes, Collects, gathering, widening, now_told, AsksNothing, Hears, asks_on, falls_short, settles, loses, gets, misses, prepared_by, unprepared, decides, tells_next, told_all, is_lacked, strays, MovesTo, HearsTo, EveryResponseIsMoves}
+use Rattle.txn_core.specs.Transactions.{
+  Step,
+  Gathered,
+  request_in,
+  asked_for,
+  fetched_for,
+  fetched_at,
+  on_with,
+  tell_end,
+  locked_at,
+  give_up,
+  prepare,
+  gather_by,
+  widen_by,
+  widen_one,
+  widened,
+  widen_all,
+  free_content,
+  opened_with,
+  open_first,
+  open_suite,
+  open_needed,
+  or_all,
+  opened,
+  heard_on,
+  raised_or_new,
+  proceed,
+  execute,
+  said_to,
+  collected,
+  hear,
+  keep_content,
+  given_in,
+  fetched,
+  prepared,
+  heard_of,
+  after_reply,
+  after_lack,
+  after_response,
+}
+use Rattle.txn_core.specs.Moves.{
+  Stage,
+  Executes,
+  Widens,
+  Asks,
+  Prepares,
+  PreparesAt,
+  GivesUp,
+  Tells,
+  TellsAt,
+  Point,
+  point,
+  EndsIn,
+  is_short,
+  Move,
+  opens,
+  fetches,
+  gathers,
+  lacks_lock,
+  refuses,
+  grants,
+  prepares,
+  passes,
+  widens,
+  widens_by,
+  lacks_wide,
+  Moves,
+  stays,
+  goes,
+  Collects,
+  gathering,
+  widening,
+  now_told,
+  AsksNothing,
+  Hears,
+  asks_on,
+  falls_short,
+  settles,
+  loses,
+  gets,
+  misses,
+  prepared_by,
+  unprepared,
+  decides,
+  tells_next,
+  told_all,
+  is_lacked,
+  strays,
+  MovesTo,
+  HearsTo,
+  EveryResponseIsMoves,
+}
 
 -- what a phase in which a collector asks asks is the collector's; one that asks nothing asks nothing
 pub collects_asks : (fixed : Fixed) (task : Task) (suites : Suites) {phase : Phase} {number : ℕ} {stage : Stage} → Collects phase number stage → request_in fixed task suites phase ≡ asked_for task number (suite_of suites number)
@@ -100,7 +190,8 @@ module _ (fixed : Fixed) (task : Task) where
       of (Some suite) there rest = by suite there (next (widened granted.changes number suite).collector) refl rest
       of None there rest = more (passes there) (rest suites)
 
-  goes_gather : (cache : Cache) (suites : Suites) (number : ℕ) (mode : LockMode) (suite : GatheredSuite) → heard_on fixed task suites ≡ exec.Need (Hold number mode) → raised_or_new fixed task cache number mode (suite_of suites number) ≡ suite
+  goes_gather : (cache : Cache) (suites : Suites) (number : ℕ) (mode : LockMode) (suite : GatheredSuite) → heard_on fixed task suites ≡ exec.Need (Hold number mode)
+      → raised_or_new fixed task cache number mode (suite_of suites number) ≡ suite
       → (coming : Next) → next suite.collector ≡ coming → MovesTo fixed task (point Executes cache suites) (gather_by task cache (with_suite number suite suites) number coming)
   goes_gather cache suites number mode suite needs new (Short got wanting busy) is = last _ (lacks_lock needs new is) refl
   goes_gather cache suites number mode suite needs new (Ask server asked) is = last _ (gathers needs new (ap is_short is)) refl

@@ -10,7 +10,30 @@ use Rattle.txn_core.specs.declared.response.Response.{Response}
 use Rattle.txn_core.specs.declared.ending.Ending.{Ending}
 use Rattle.txn_core.specs.declared.response.Response.TheVariants.{Replied, Lacked}
 use Rattle.txn_core.specs.declared.ending.Ending.TheVariants.{Undecided}
-use Rattle.txn_core.specs.Doing.{Fixed, Task, Phase, Gathering, Fetching, Widening, Preparing, Deciding, Finishing, TransactionRun, Sweeping, Listing, Resolving, Telling, Breaking, SweepRun, Doing, Running, RunningSweep, After, GoesOn, Ends}
+use Rattle.txn_core.specs.Doing.{
+  Fixed,
+  Task,
+  Phase,
+  Gathering,
+  Fetching,
+  Widening,
+  Preparing,
+  Deciding,
+  Finishing,
+  TransactionRun,
+  Sweeping,
+  Listing,
+  Resolving,
+  Telling,
+  Breaking,
+  SweepRun,
+  Doing,
+  Running,
+  RunningSweep,
+  After,
+  GoesOn,
+  Ends,
+}
 use Rattle.txn_core.specs.Transactions.{tell_end, locked_at, after_response, request_in, changes_of, verdict_in, ending_by, cause_of_abort, lack_cause}
 use Rattle.txn_core.specs.Writing.{parts_at}
 use Rattle.txn_core.specs.Sweeps as sweep
@@ -63,10 +86,14 @@ response_once fixed task cache suites (Preparing (now ∷ left) outcome) server 
     calm asked _ (ap is_decide (sym (asks_same now server (request.Prepare task.t (parts_at suites (changes_of outcome) now)) asked is)))
 response_once fixed task cache suites (Deciding outcome) server asked (Replied said) is =
     let no' = no_more task cache suites (verdict_in said verdict.Aborted) (ending_by (verdict_in said verdict.Aborted) (cause_of_abort said)) (locked_at suites) in
-    elim (is_decide asked) as (λ b. cond b 1 0 + may (left Running (after_response fixed (record { task = task; suites = suites; phase = Deciding outcome }) cache server asked (Replied said)).after) ≤ 1) [ true ↦ omega (arith, no') | false ↦ omega (arith, no') ]
+    elim (is_decide asked) as
+    (λ b. cond b 1 0 + may (left Running (after_response fixed (record { task = task; suites = suites; phase = Deciding outcome }) cache server asked (Replied said)).after)
+    ≤ 1) [ true ↦ omega (arith, no') | false ↦ omega (arith, no') ]
 response_once fixed task cache suites (Deciding outcome) server asked (Lacked lacked) is =
     let no' = no_more task cache suites verdict.Aborted (Undecided (lack_cause server lacked)) (locked_at suites) in
-    elim (is_decide asked) as (λ b. cond b 1 0 + may (left Running (after_response fixed (record { task = task; suites = suites; phase = Deciding outcome }) cache server asked (Lacked lacked)).after) ≤ 1) [ true ↦ omega (arith, no') | false ↦ omega (arith, no') ]
+    elim (is_decide asked) as
+    (λ b. cond b 1 0 + may (left Running (after_response fixed (record { task = task; suites = suites; phase = Deciding outcome }) cache server asked (Lacked lacked)).after)
+    ≤ 1) [ true ↦ omega (arith, no') | false ↦ omega (arith, no') ]
 response_once fixed task cache suites (Finishing [] told ending) server asked response is = cc
 response_once fixed task cache suites (Finishing (now ∷ left) told ending) server asked response is =
     subst (λ b. cond b 1 0 + may (left' response) ≤ 0) (ap is_decide (asks_same now server (request.Finish task.t told) asked is)) (of response)

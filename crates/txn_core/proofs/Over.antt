@@ -19,7 +19,30 @@ use Rattle.txn_core.specs.declared.ending.Ending.{Ending}
 use Rattle.txn_core.specs.declared.response.Response.TheVariants.{Replied, Lacked}
 use Rattle.txn_core.specs.declared.ending.Cause.TheVariants.{Lost}
 use Rattle.txn_core.specs.declared.ending.Ending.TheVariants.{Undecided}
-use Rattle.txn_core.specs.Doing.{Fixed, Task, Phase, Gathering, Fetching, Widening, Preparing, Deciding, Finishing, TransactionRun, Sweeping, Listing, Resolving, Telling, Breaking, SweepRun, Doing, Running, RunningSweep, After, GoesOn, Ends}
+use Rattle.txn_core.specs.Doing.{
+  Fixed,
+  Task,
+  Phase,
+  Gathering,
+  Fetching,
+  Widening,
+  Preparing,
+  Deciding,
+  Finishing,
+  TransactionRun,
+  Sweeping,
+  Listing,
+  Resolving,
+  Telling,
+  Breaking,
+  SweepRun,
+  Doing,
+  Running,
+  RunningSweep,
+  After,
+  GoesOn,
+  Ends,
+}
 use Rattle.txn_core.specs.Transactions.{Step, tell_end, give_up, locked_at, prepare, prepared, fetched, heard_of, hear, is_poll, said_to, given_in, verdict_in, ending_by, cause_of_abort, lack_cause, after_lack, after_response, request_in}
 use Rattle.txn_core.specs.Sweeps as sweep
 use Rattle.txn_core.specs.Agents as agents
@@ -107,10 +130,12 @@ pub over_heard : (task : Task) (cache : Cache) (suites : Suites) (phase : Phase)
     → LeftOver (heard_of task cache suites phase number found server asked said go_on).after
 over_heard task cache suites phase number None server asked said go_on is = over_give_up task cache suites (Lost server)
 over_heard task cache suites phase number (Some suite) server asked said go_on is =
-    subst (λ heard. LeftOver (hear task cache suites phase number suite server asked heard (λ suite. go_on (with_suite number suite suites))).after) (sym (ends_said asked said (down_poll asked) is)) (over_give_up task cache suites (Lost server))
+    subst (λ heard. LeftOver (hear task cache suites phase number suite server asked heard (λ suite. go_on (with_suite number suite suites))).after)
+    (sym (ends_said asked said (down_poll asked) is)) (over_give_up task cache suites (Lost server))
 
 -- what ends it leaves nothing but the end; so does what comes after
-over_response : (fixed : Fixed) (task : Task) (cache : Cache) (suites : Suites) (phase : Phase) (server : ℕ) (asked : Request) (response : Response) → ends_it asked response ≡ true → LeftOver (after_response fixed (record { task = task; suites = suites; phase = phase }) cache server asked response).after
+over_response : (fixed : Fixed) (task : Task) (cache : Cache) (suites : Suites) (phase : Phase) (server : ℕ) (asked : Request) (response : Response)
+    → ends_it asked response ≡ true → LeftOver (after_response fixed (record { task = task; suites = suites; phase = phase }) cache server asked response).after
 over_response fixed task cache suites phase server asked (Lacked lacked) is = over_lack task cache suites phase server lacked
 over_response fixed task cache suites (Gathering number) server asked (Replied said) is = over_heard task cache suites (Gathering number) number (suite_of suites number) server asked said _ is
 over_response fixed task cache suites (Fetching number) server asked (Replied said) is =
@@ -129,7 +154,8 @@ over_response fixed task cache suites (Deciding outcome) server asked (Replied s
 over_response fixed task cache suites (Finishing [] v ending) server asked (Replied said) is = over_end task cache suites v ending []
 over_response fixed task cache suites (Finishing (now ∷ left) v ending) server asked (Replied said) is = over_end task cache suites v ending left
 
-pub stays_over : (fixed : Fixed) (task : Task) (cache : Cache) (suites : Suites) (phase : Phase) (server : ℕ) (asked : Request) (response : Response) → IsOver phase → LeftOver (after_response fixed (record { task = task; suites = suites; phase = phase }) cache server asked response).after
+pub stays_over : (fixed : Fixed) (task : Task) (cache : Cache) (suites : Suites) (phase : Phase) (server : ℕ) (asked : Request) (response : Response) → IsOver phase
+    → LeftOver (after_response fixed (record { task = task; suites = suites; phase = phase }) cache server asked response).after
 stays_over fixed task cache suites (Finishing [] v ending) server asked (Replied said) over = tt
 stays_over fixed task cache suites (Finishing (now ∷ left) v ending) server asked (Replied said) over = over_end task cache suites v ending left
 stays_over fixed task cache suites (Finishing [] v ending) server asked (Lacked lacked) over = tt

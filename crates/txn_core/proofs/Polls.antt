@@ -21,7 +21,31 @@ use Rattle.txn_core.specs.Suites.{ReadPoint, GatheredSuite, Suites, suite_of, wi
 use Rattle.txn_core.specs.declared.response.Response.{Response}
 use Rattle.txn_core.specs.declared.job.Job.{Job}
 use Rattle.txn_core.specs.declared.job.Job.TheVariants.{Transaction, Sweep}
-use Rattle.txn_core.specs.Doing.{home_of, Fixed, Task, Phase, Gathering, Fetching, Widening, Preparing, Deciding, Finishing, TransactionRun, Sweeping, Listing, Resolving, Telling, Breaking, SweepRun, Doing, Running, RunningSweep, After, GoesOn, Ends}
+use Rattle.txn_core.specs.Doing.{
+  home_of,
+  Fixed,
+  Task,
+  Phase,
+  Gathering,
+  Fetching,
+  Widening,
+  Preparing,
+  Deciding,
+  Finishing,
+  TransactionRun,
+  Sweeping,
+  Listing,
+  Resolving,
+  Telling,
+  Breaking,
+  SweepRun,
+  Doing,
+  Running,
+  RunningSweep,
+  After,
+  GoesOn,
+  Ends,
+}
 use Rattle.txn_core.specs.Transactions.{Step, locked_at, is_poll, after_response, asked_by, asked_for, fetched_at, fetched_for, request_in, changes_of, decision_of}
 use Rattle.txn_core.specs.Writing.{parts_at}
 use Rattle.txn_core.proofs.Asks.{asks_same}
@@ -178,7 +202,8 @@ module _ (before : ℕ → ℕ → ℕ) (told : ℕ → List Told) (fixed : Fixe
   knows_told : {phase : Phase} {number : ℕ} {stage : Stage} (suite new : GatheredSuite) (said : Said) → request_in fixed task suites phase ≡ Some (server, asked) → Collects phase number stage → suite_of suites number ≡ Some suite
       → new.collector ≡ (now_told server asked said suite).collector → (stage' : Stage) (cache' : Cache) → HeardAs (plus before server asked) (point stage' cache' (with_suite number new suites))
   knows_told {number = number} suite new said is collects there same stage' cache' =
-      let list : all_told new.collector ≡ record { server = server; mode = mode_of asked; said = said } ∷ all_told suite.collector = ap all_told same ∙ all_told-tell (record { server = server; mode = mode_of asked; said = said }) suite.collector in
+      let list : all_told new.collector ≡ record { server = server; mode = mode_of asked; said = said } ∷ all_told suite.collector = ap all_told same ∙ all_told-tell
+      (record { server = server; mode = mode_of asked; said = said }) suite.collector in
       let asks : asked_for task number (Some suite) ≡ Some (server, asked) = ap (asked_for task number) (sym there) ∙ sym (collects_asks fixed task suites collects) ∙ is in
       let more = told_more before told task suites number suite server asked said are agree few there asks in
       inr (record {
@@ -229,7 +254,8 @@ left_end before task at step ends (inl over) = inl (of at.stage ends over.0, ove
     of (Widens left granted) is tells = absurd tells
 left_end before task at step ends (inr knows) = inr (record { told = knows.told; leaves = left_by task (λ step. Leaves knows.told step.after) at step (λ phase. knows.are) (λ ending. tt) ends; agree = knows.agree; few = knows.few })
 
-left_response : (before : ℕ → ℕ → ℕ) (told : ℕ → List Told) (fixed : Fixed) (task : Task) (cache : Cache) (suites : Suites) (phase : Phase) (server : ℕ) (asked : Request) (response : Response) → Are told suites → Asked' before told → AllFew told
+left_response : (before : ℕ → ℕ → ℕ) (told : ℕ → List Told) (fixed : Fixed) (task : Task) (cache : Cache) (suites : Suites) (phase : Phase) (server : ℕ) (asked : Request)
+    (response : Response) → Are told suites → Asked' before told → AllFew told
     → request_in fixed task suites phase ≡ Some (server, asked) → LeftWith (plus before server asked) (after_response fixed (record { task = task; suites = suites; phase = phase }) cache server asked response).after
 left_response before told fixed task cache suites phase server asked response are agree few is =
     let moves = response_moves fixed task cache suites server asked phase response in
@@ -288,7 +314,8 @@ once_more : (before : ℕ → ℕ → ℕ) (server : ℕ) (asked : Request) (res
 once_more before server asked response number who = omega arith
 
 -- a sweep asks for no lock
-round_locks : (fixed : Fixed) (sweep_run : SweepRun) (now : Sweeping) (server : ℕ) (asked : Request) → ◌≡◌ {A = Option (ℕ × Request)} (Some (sweep.asked_now fixed.service sweep_run now)) (Some (server, asked)) → (number : ℕ) → locks number asked ≡ false
+round_locks : (fixed : Fixed) (sweep_run : SweepRun) (now : Sweeping) (server : ℕ) (asked : Request)
+    → ◌≡◌ {A = Option (ℕ × Request)} (Some (sweep.asked_now fixed.service sweep_run now)) (Some (server, asked)) → (number : ℕ) → locks number asked ≡ false
 round_locks fixed sweep_run Listing server asked is number = ap (locks number) (sym (asks_same _ server request.Locks asked is))
 round_locks fixed sweep_run (Resolving other left) server asked is number = ap (locks number) (sym (asks_same _ server (request.Resolve other) asked is))
 round_locks fixed sweep_run (Telling other v left) server asked is number = ap (locks number) (sym (asks_same _ server (request.Finish other v) asked is))
@@ -315,7 +342,8 @@ take_keeps before fixed agent response (Some (Running running)) (Some asked) was
 take_keeps before fixed agent response (Some (Running running)) None was is keeps = subst (Keeps (plus_all before [])) (sym was) (same_keeps before (plus_all before []) (Some (Running running)) (none_more before) keeps)
 take_keeps before fixed agent response (Some (RunningSweep sweep_run)) (Some asked) was is bounded =
     round_keeps _ (sweep.after_response fixed.service sweep_run asked.0 response)
-    (same_keeps (plus before asked.0 asked.1) (plus_all before (exchange_of (Some asked) response)) None (once_more before asked.0 asked.1 response) (quiet_bounded before asked.0 asked.1 bounded (round_locks fixed sweep_run sweep_run.now asked.0 asked.1 is)))
+    (same_keeps (plus before asked.0 asked.1) (plus_all before (exchange_of (Some asked) response)) None (once_more before asked.0 asked.1 response)
+    (quiet_bounded before asked.0 asked.1 bounded (round_locks fixed sweep_run sweep_run.now asked.0 asked.1 is)))
 take_keeps before fixed agent response (Some (RunningSweep sweep_run)) None was is keeps = cc
 take_keeps before fixed agent response None (Some asked) was is keeps = cc
 take_keeps before fixed agent response None None was is keeps = subst (Keeps (plus_all before [])) (sym was) (same_keeps before (plus_all before []) None (none_more before) keeps)
@@ -351,7 +379,13 @@ begin_keeps fixed agent job idle =
     of : (job : Job) → Keeps nobody (started fixed agent job).doing
     of (Transaction caller site ops) =
         let task : Task = record { t = 64 * agent.count + agent.index; caller = caller; site = site; ops = ops } in
-        left_keeps nobody _ (inr (record { told = λ number. []; leaves = leaves_execute (λ number. []) fixed task (record { suites = []; cache = agent.cache }) are_nil; agree = λ number who. refl; few = λ number who. (omega arith, λ _. omega arith) }))
+        left_keeps nobody _
+        (inr (record {
+          told = λ number. [];
+          leaves = leaves_execute (λ number. []) fixed task (record { suites = []; cache = agent.cache }) are_nil;
+          agree = λ number who. refl;
+          few = λ number who. (omega arith, λ _. omega arith);
+        }))
     of (Sweep server) = λ number who. omega arith
 
 -- ---- a Poll
@@ -364,7 +398,8 @@ number_same : {t u n m : ℕ} {a b : LockMode} → request.Poll t n a ≡ reques
 number_same is = cc
 
 -- a Poll of a suite is its collector's, to a server that was told nothing of
-poll_fresh : (task : Task) (who : ℕ) (suite : GatheredSuite) (server t number : ℕ) (mode : LockMode) → asked_by task who (next suite.collector) ≡ Some (server, request.Poll t number mode) → (who ≡ number) × (has_told (λ _. true) (all_told suite.collector) server ≡ false)
+poll_fresh : (task : Task) (who : ℕ) (suite : GatheredSuite) (server t number : ℕ) (mode : LockMode)
+    → asked_by task who (next suite.collector) ≡ Some (server, request.Poll t number mode) → (who ≡ number) × (has_told (λ _. true) (all_told suite.collector) server ≡ false)
 poll_fresh task who suite server t number mode is = of (next suite.collector) refl is
   where
     pair_of : (at : ℕ) (asked : Request) → ◌≡◌ {A = Option (ℕ × Request)} (Some (at, asked)) (Some (server, request.Poll t number mode)) → at ≡ server
@@ -407,7 +442,8 @@ fresh before fixed (Some (Running txn_run)) server t number mode keeps is = of t
     by_fetch who (Some suite) is = by_first who suite.first is
     by_fetch who None is = cc
 
-    of : (phase : Phase) → (IsOver phase × Bounded before) ⊎ (IsOrdered nat_cmp txn_run.suites × Asked' before (told_at txn_run.suites) × AllFew (told_at txn_run.suites)) → request_in fixed txn_run.task txn_run.suites phase ≡ Some (server, request.Poll t number mode) → before number server ≡ 0
+    of : (phase : Phase) → (IsOver phase × Bounded before) ⊎ (IsOrdered nat_cmp txn_run.suites × Asked' before (told_at txn_run.suites) × AllFew (told_at txn_run.suites))
+        → request_in fixed txn_run.task txn_run.suites phase ≡ Some (server, request.Poll t number mode) → before number server ≡ 0
     of (Gathering who) (inl over) is = absurd over.0
     of (Gathering who) (inr keeps) is = by_suite who (suite_of txn_run.suites who) refl keeps.1 is
     of (Fetching who) keeps is = by_fetch who (suite_of txn_run.suites who) is

@@ -44,7 +44,49 @@ use Rattle.txn_core.specs.declared.ending.Cause.TheVariants.{Lost}
 use Rattle.txn_core.specs.declared.ending.Ending.TheVariants.{Undecided}
 use Rattle.txn_core.specs.declared.job.Job.TheVariants.{Transaction, Sweep}
 use Rattle.txn_core.specs.Doing.{Changes, Granted, Fixed, Task, Proposal, Phase, Gathering, Fetching, Widening, Preparing, Deciding, Finishing, TransactionRun, SweepRun, Doing, Running, RunningSweep, After, GoesOn, Ends}
-use Rattle.txn_core.specs.Transactions.{Step, Gathered, tell_end, give_up, prepare, locked_at, short_cause, gather_by, widen_by, widen_one, widened, widen_all, to_widen, votes_then, votes_after, opened, or_all, open_needed, open_suite, open_first, opened_with, free_content, heard_on, raised_or_new, keep_content, heard_of, said_to, proceed, execute, collected, hear, fetched, prepared, after_lack, after_response, changes_of, given_in, verdict_in, ending_by, cause_of_abort, lack_cause}
+use Rattle.txn_core.specs.Transactions.{
+  Step,
+  Gathered,
+  tell_end,
+  give_up,
+  prepare,
+  locked_at,
+  short_cause,
+  gather_by,
+  widen_by,
+  widen_one,
+  widened,
+  widen_all,
+  to_widen,
+  votes_then,
+  votes_after,
+  opened,
+  or_all,
+  open_needed,
+  open_suite,
+  open_first,
+  opened_with,
+  free_content,
+  heard_on,
+  raised_or_new,
+  keep_content,
+  heard_of,
+  said_to,
+  proceed,
+  execute,
+  collected,
+  hear,
+  fetched,
+  prepared,
+  after_lack,
+  after_response,
+  changes_of,
+  given_in,
+  verdict_in,
+  ending_by,
+  cause_of_abort,
+  lack_cause,
+}
 use Rattle.txn_core.specs.Sweeps as sweep
 use Rattle.txn_core.specs.Agents as agents
 use Rattle.txn_core.specs.Agents.{Agent, Event, Take, Forget, next_in, next_of, take_in, take, begin, started, forget, is_idle, has_sense, max_jobs, after_event, after_all}
@@ -175,7 +217,8 @@ sound_settled suite prefix dver members grown narrow is = of suite.first refl
 abbrev Each : (ℕ → GatheredSuite → Type 0) → Suites → Type 0
 Each p suites = (number : ℕ) (suite : GatheredSuite) → suite_of suites number ≡ Some suite → p number suite
 
-each_with : (p q : ℕ → GatheredSuite → Type 0) (suites : Suites) (number : ℕ) (suite : GatheredSuite) → ((other : ℕ) (it : GatheredSuite) → (number == other) ≡ false → p other it → q other it) → q number suite → Each p suites → Each q (with_suite number suite suites)
+each_with : (p q : ℕ → GatheredSuite → Type 0) (suites : Suites) (number : ℕ) (suite : GatheredSuite) → ((other : ℕ) (it : GatheredSuite) → (number == other) ≡ false → p other it → q other it) → q number suite → Each p suites
+    → Each q (with_suite number suite suites)
 each_with p q suites number suite others here each other it is =
     of (number == other) refl (ap (λ b. cond b (Some suite) (suite_of suites other)) (sym (unsigned_tied number other)) ∙ sym (get-insert nat_cmp_total suites number suite other) ∙ is)
   where
@@ -254,7 +297,8 @@ still_ready : (changes : Changes) (now : ℕ) (left : List ℕ) (number : ℕ) (
 still_ready changes now left number suite other ready = (ready, λ same. absurd (false≢true (sym other ∙ same)))
 
 ready_widen_by : (task : Task) (cache : Cache) (suites : Suites) (left : List ℕ) (granted : Granted) (number : ℕ) (suite : GatheredSuite) (after : Next) (go_on : Suites → Step) → next suite.collector ≡ after
-    → Ready granted.changes (number ∷ left) number suite → IsWidened granted.changes number suite → Each (Ready granted.changes (number ∷ left)) suites → ((suites : Suites) → Each (Ready granted.changes left) suites → LeftReady (go_on suites).after)
+    → Ready granted.changes (number ∷ left) number suite → IsWidened granted.changes number suite → Each (Ready granted.changes (number ∷ left)) suites
+    → ((suites : Suites) → Each (Ready granted.changes left) suites → LeftReady (go_on suites).after)
     → LeftReady (widen_by task cache (with_suite number suite suites) (Widening (number ∷ left) granted) number after go_on).after
 ready_widen_by task cache suites left granted number suite (Current prefix dver members) go_on is ready wide each more =
     more (with_suite number suite suites) (each_with (Ready granted.changes (number ∷ left)) (Ready granted.changes left) suites number suite (less_to_do granted.changes number left)
@@ -300,7 +344,8 @@ to_do (e ∷ changes) number sets' = of (to_do changes number) (is_at (nat_cmp n
         subst (λ b. among (map (λ one. one.0) (cond b (e ∷ filter (λ one. one.1.votes) changes) (filter (λ one. one.1.votes) changes))) number ≡ true)
         (sym votes) (ap (λ b. b || among (to_widen changes) number) (ap (λ n. e.0 == n) (eqb-true number e.0 same) ∙ self e.0))
 
-    of : (sets_votes changes number ≡ true → among (to_widen changes) number ≡ true) → (b : Bool) → is_at (nat_cmp number) e.0 ≡ b → gets_votes (cond b (Some e.1) (change_of changes number)) ≡ true → among (to_widen (e ∷ changes)) number ≡ true
+    of : (sets_votes changes number ≡ true → among (to_widen changes) number ≡ true) → (b : Bool) → is_at (nat_cmp number) e.0 ≡ b → gets_votes (cond b (Some e.1) (change_of changes number)) ≡ true
+        → among (to_widen (e ∷ changes)) number ≡ true
     of again true at votes = here (sym (unsigned_tied number e.0) ∙ at) votes
     of again false _ is = later e.1.votes (again is)
 
@@ -324,11 +369,13 @@ settled_opened : (n : ℕ) (fixed : Fixed) (task : Task) (all : Gathered) → Ea
 settled_opened zero fixed task all each = each
 settled_opened (suc n) fixed task all each = of (heard_on fixed task all.suites) (λ more each. settled_opened n fixed task more each)
   where
-    or' : (found : Option Gathered) → ((more : Gathered) → found ≡ Some more → Each Settled more.suites) → ((more : Gathered) → Each Settled more.suites → Each Settled (opened n fixed task more).suites) → Each Settled (or_all all found (λ all. opened n fixed task all)).suites
+    or' : (found : Option Gathered) → ((more : Gathered) → found ≡ Some more → Each Settled more.suites) → ((more : Gathered) → Each Settled more.suites → Each Settled (opened n fixed task more).suites)
+        → Each Settled (or_all all found (λ all. opened n fixed task all)).suites
     or' (Some more) found_are later = later more (found_are more refl)
     or' None found_are later = each
 
-    with_content : (number : ℕ) (suite : GatheredSuite) (first : ReadPoint) (content : Option Content) (more : Gathered) → suite_of all.suites number ≡ Some suite → opened_with task all number suite first content ≡ Some more → Each Settled more.suites
+    with_content : (number : ℕ) (suite : GatheredSuite) (first : ReadPoint) (content : Option Content) (more : Gathered) → suite_of all.suites number ≡ Some suite → opened_with task all number suite first content ≡ Some more
+        → Each Settled more.suites
     with_content number suite first (Some content) more there is = subst (λ (more : Gathered). Each Settled more.suites) (same_Some _ more is) (settled_content all.suites number suite (Some content) there each)
     with_content number suite first None more there is = cc
 
@@ -358,7 +405,8 @@ ready_gather task cache suites number (Current prefix dver members) each = each
 but_here : (number : ℕ) (suite : GatheredSuite) → Grown suite → IsNarrow suite → But number number suite
 but_here number suite grown narrow = (grown, narrow, λ other. absurd (false≢true (sym other ∙ self number)))
 
-but_raised : (fixed : Fixed) (task : Task) (cache : Cache) (number : ℕ) (mode : LockMode) (suites : Suites) (found : Option GatheredSuite) → suite_of suites number ≡ found → Each Settled suites → But number number (raised_or_new fixed task cache number mode found)
+but_raised : (fixed : Fixed) (task : Task) (cache : Cache) (number : ℕ) (mode : LockMode) (suites : Suites) (found : Option GatheredSuite) → suite_of suites number ≡ found → Each Settled suites
+    → But number number (raised_or_new fixed task cache number mode found)
 but_raised fixed task cache number mode suites None there each = but_here number (raised_or_new fixed task cache number mode None) (λ first is. cc) refl
 but_raised fixed task cache number mode suites (Some suite) there each =
     let was = each number suite there in but_here number (raised_or_new fixed task cache number mode (Some suite)) (λ first is. sound_grown suite was.0 first is) was.1
@@ -370,7 +418,8 @@ ready_proceed fixed task cache suites (exec.Need (Hold number mode)) is each =
     (each_with Settled (But number) suites number suite (λ other it _ was. (sound_grown it was.0, was.1, λ _. was.0)) (but_raised fixed task cache number mode suites (suite_of suites number) refl each) each)
 ready_proceed fixed task cache suites (exec.Need (Know number)) is each = each
 ready_proceed fixed task cache suites (exec.Done answers changes) is each = ready_widen task cache suites (record { answers = answers; changes = changes }) (to_widen changes) (ready_done fixed task suites answers changes is each)
-ready_proceed fixed task cache suites (exec.Refused refusal) is each = ready_prepare task cache suites (Err refusal) (locked_at suites) (λ number suite there. ((each number suite there).0, λ changed'. cc, λ _ sets'. cc, λ change first is. cc))
+ready_proceed fixed task cache suites (exec.Refused refusal) is each = ready_prepare task cache suites (Err refusal) (locked_at suites)
+    (λ number suite there. ((each number suite there).0, λ changed'. cc, λ _ sets'. cc, λ change first is. cc))
 
 ready_execute : (fixed : Fixed) (task : Task) (all : Gathered) → Each Settled all.suites → LeftReady (execute fixed task all).after
 ready_execute fixed task all each =
@@ -445,7 +494,8 @@ sound_again suite prefix dver members sound = record {
   quorum = subst (λ (mode : LockMode). Enough mode (newest_of suite).votes (all_told suite.collector)) sound.mode sound.quorum;
 }
 
-ready_again : (changes : Changes) (now : ℕ) (left : List ℕ) (suite : GatheredSuite) (prefix : Prefix) (dver : ℕ) (members : List ℕ) → InWidening changes now left now suite → next suite.collector ≡ Current prefix dver members → Ready changes left now (settled prefix dver members suite)
+ready_again : (changes : Changes) (now : ℕ) (left : List ℕ) (suite : GatheredSuite) (prefix : Prefix) (dver : ℕ) (members : List ℕ) → InWidening changes now left now suite → next suite.collector ≡ Current prefix dver members
+    → Ready changes left now (settled prefix dver members suite)
 unfolding sound_again
 ready_again changes now left suite prefix dver members was is =
     let sound = was.0.0 in
@@ -457,7 +507,8 @@ ready_again changes now left suite prefix dver members was is =
       λ change first told is. was.0.3 change first told (sound.was ∙ sym again.was ∙ is),
     )
 
-ready_widened : (task : Task) (cache : Cache) (suites : Suites) (number : ℕ) (left : List ℕ) (granted : Granted) (found : Option GatheredSuite) (server : ℕ) (asked : Request) (said : Reply) → suite_of suites number ≡ found → Each (InWidening granted.changes number left) suites
+ready_widened : (task : Task) (cache : Cache) (suites : Suites) (number : ℕ) (left : List ℕ) (granted : Granted) (found : Option GatheredSuite) (server : ℕ) (asked : Request) (said : Reply) → suite_of suites number ≡ found
+    → Each (InWidening granted.changes number left) suites
     → LeftReady (heard_of task cache suites (Widening (number ∷ left) granted) number found server asked said (λ suites. widen_all task cache suites granted left)).after
 ready_widened task cache suites number left granted None server asked said there each = ready_give_up task cache suites (Lost server)
 ready_widened task cache suites number left granted (Some suite) server asked said there each = of (said_to asked said)
@@ -469,7 +520,8 @@ ready_widened task cache suites number left granted (Some suite) server asked sa
     by now was (Current prefix dver members) is =
         let new = settled prefix dver members now in
         ready_widen task cache (with_suite number new suites) granted left
-        (each_with (InWidening granted.changes number left) (Ready granted.changes left) suites number new (λ other it differs was. less_to_do granted.changes number left other it differs was.0) (ready_again granted.changes number left now prefix dver members was is) each)
+        (each_with (InWidening granted.changes number left) (Ready granted.changes left) suites number new (λ other it differs was. less_to_do granted.changes number left other it differs was.0)
+        (ready_again granted.changes number left now prefix dver members was is) each)
 
     of : (heard : Option Said) → LeftReady (hear task cache suites (Widening (number ∷ left) granted) number suite server asked heard (λ suite. widen_all task cache (with_suite number suite suites) granted left)).after
     of None = ready_give_up task cache suites (Lost server)
@@ -499,7 +551,8 @@ ready_lack task cache suites (Deciding outcome) server lacked = ready_give_up ta
 ready_lack task cache suites (Finishing [] v ending) server lacked = tt
 ready_lack task cache suites (Finishing (now ∷ left) v ending) server lacked = ready_end task cache suites v ending left
 
-ready_prepared : (task : Task) (cache : Cache) (suites : Suites) (outcome : Proposal) (server : ℕ) (left : List ℕ) (said : Reply) → Each (Ready (changes_of outcome) []) suites → LeftReady (prepared task cache suites outcome server left said).after
+ready_prepared : (task : Task) (cache : Cache) (suites : Suites) (outcome : Proposal) (server : ℕ) (left : List ℕ) (said : Reply) → Each (Ready (changes_of outcome) []) suites
+    → LeftReady (prepared task cache suites outcome server left said).after
 ready_prepared task cache suites outcome server left said each =
     elim (is_prepared said) as (λ b. LeftReady (cond b (prepare task cache suites outcome left) (give_up task cache suites (Lost server))).after) [
       | true ↦ ready_prepare task cache suites outcome left each

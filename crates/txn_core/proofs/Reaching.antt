@@ -38,7 +38,31 @@ use Rattle.txn_core.specs.declared.next_phase.NextPhase.{NextPhase}
 use Rattle.txn_core.specs.declared.next_phase.NextPhase.TheVariants.{Gather, Fetch, Grant, Refuse}
 use Rattle.txn_core.specs.Doing.{Fixed, Task, Granted, Proposal, Phase, Gathering, Fetching, Widening, Preparing, Deciding, Finishing, TransactionRun, After, GoesOn, Ends}
 use Rattle.txn_core.specs.Suites.{ReadPoint, GatheredSuite, Suites, suite_of, with_suite, known_row, known_of, settled}
-use Rattle.txn_core.specs.Transactions.{Gathered, Step, decided, short_cause, verdict_in, ending_by, cause_of_abort, raised_or_new, tell_end, give_up, locked_at, prepare, gather_by, to_widen, widened, widen_by, widen_one, widen_all, collected, hear, heard_of, said_to, after_reply}
+use Rattle.txn_core.specs.Transactions.{
+  Gathered,
+  Step,
+  decided,
+  short_cause,
+  verdict_in,
+  ending_by,
+  cause_of_abort,
+  raised_or_new,
+  tell_end,
+  give_up,
+  locked_at,
+  prepare,
+  gather_by,
+  to_widen,
+  widened,
+  widen_by,
+  widen_one,
+  widen_all,
+  collected,
+  hear,
+  heard_of,
+  said_to,
+  after_reply,
+}
 use Rattle.txn_core.specs.Agents.{is_idle}
 use Rattle.txn_core.specs.code.AgentFields.{Reaches, doing_of}
 use Rattle.txn_core.specs.declared.agent.Doing.{Doing as Coded}
@@ -113,12 +137,14 @@ module _ (service : Service) (reached : Reached) where
   goes_widen task cache suites granted [] = goes_prepare task cache suites (Ok granted) (locked_at suites)
   goes_widen task cache suites granted (number ∷ left) = of (λ suites. goes_widen task cache suites granted left) (suite_of suites number)
     where
-      by : ((suites : Suites) → Goes (widen_all task cache suites granted left).after) → (now : Suites) (what : Next) → Goes (widen_by task cache now (Widening (number ∷ left) granted) number what (λ suites. widen_all task cache suites granted left)).after
+      by : ((suites : Suites) → Goes (widen_all task cache suites granted left).after) → (now : Suites) (what : Next)
+          → Goes (widen_by task cache now (Widening (number ∷ left) granted) number what (λ suites. widen_all task cache suites granted left)).after
       by rest now (Current prefix dver members) = rest now
       by rest now (Ask server asked) = tt
       by rest now (Short got needed busy) = goes_up task cache now (short_cause number got needed busy)
 
-      of : ((suites : Suites) → Goes (widen_all task cache suites granted left).after) → (found : Option GatheredSuite) → Goes (widen_one task cache suites (Widening (number ∷ left) granted) granted.changes number found (λ suites. widen_all task cache suites granted left)).after
+      of : ((suites : Suites) → Goes (widen_all task cache suites granted left).after) → (found : Option GatheredSuite)
+          → Goes (widen_one task cache suites (Widening (number ∷ left) granted) granted.changes number found (λ suites. widen_all task cache suites granted left)).after
       of rest (Some suite) = by rest (with_suite number (widened granted.changes number suite) suites) (next (widened granted.changes number suite).collector)
       of rest None = rest suites
 
@@ -196,7 +222,8 @@ module _ (service : Service) (reached : Reached) where
       of (GoesOn more) reaches becomes = subst (λ txn_run. IsReachedBy service txn_run reached) (sym becomes.1) reaches
       of (Ends how) reaches becomes = absurd (none-some how becomes)
 
-  pub follows_unless : (task : Task) (suites : Suites) (next_phase : NextPhase) (flow : Going) (txn_run : TransactionRun) → IsReachedIn service task suites reached → ((cache : Cache) → GoesBy (follow task cache suites next_phase) flow txn_run cache)
+  pub follows_unless : (task : Task) (suites : Suites) (next_phase : NextPhase) (flow : Going) (txn_run : TransactionRun) → IsReachedIn service task suites reached
+      → ((cache : Cache) → GoesBy (follow task cache suites next_phase) flow txn_run cache)
       → IsReachedUnless flow service txn_run reached
   follows_unless task suites next_phase flow txn_run is steps = goes_unless (follow task [] suites next_phase) flow txn_run [] (goes_follow task [] suites next_phase is) (steps [])
 
@@ -244,7 +271,8 @@ asked_more fixed task all more keeps ordered (exec.Need (Hold number mode)) new 
     subst (λ new. MoreKnown (known_of more.suites) (known_of (with_asked_at number new more.suites))) (sym is)
     (of (suite_of all.suites number) (suite_of more.suites number) refl (keeps.there number))
   where
-    of : (before after : Option GatheredSuite) → suite_of more.suites number ≡ after → is_some after ≡ is_some before → MoreKnown (known_of more.suites) (known_of (with_asked_at number (new_unless fixed task all.cache number mode before) more.suites))
+    of : (before after : Option GatheredSuite) → suite_of more.suites number ≡ after → is_some after ≡ is_some before
+        → MoreKnown (known_of more.suites) (known_of (with_asked_at number (new_unless fixed task all.cache number mode before) more.suites))
     of None None at there = more_known more.suites number (raised_or_new fixed task all.cache number mode None) (keeps.ordered ordered) (λ before found. absurd (none-some before (sym at ∙ found)))
     of (Some before) (Some after) at there =
         let raised : GatheredSuite = record after { collector = raise after.collector } in
@@ -285,7 +313,9 @@ module _ (service : Service) (reached : Reached) where
   reached_short before after number suite new said ordered there short put is =
       subst (λ (txn_run : TransactionRun). IsReachedIn service txn_run.task txn_run.suites reached) (sym put)
       (reached_in service before.task before.suites (with_suite number new before.suites) reached
-      (more_known before.suites number new ordered (λ one found. collects one new (falls_short suite new said short.0 short.1 short.2 short.4 ∙ ap (λ (suite : GatheredSuite). record suite { collector = new.collector }) (same_Some suite one (sym there ∙ found))))) is)
+      (more_known before.suites number new ordered
+      (λ one found. collects one new (falls_short suite new said short.0 short.1 short.2 short.4 ∙ ap (λ (suite : GatheredSuite). record suite { collector = new.collector })
+      (same_Some suite one (sym there ∙ found))))) is)
 
   -- a suite is settled that had no quorum, or gets one in its mode or a stronger one
   pub reached_settled : (task : Task) (suites : Suites) (number : ℕ) (pending : PendingQuorum) → IsOrdered nat_cmp suites → ((suite : GatheredSuite) → suite_of suites number ≡ Some suite → GoesOnFrom suite (settled_with pending suite))
@@ -300,7 +330,8 @@ module _ (service : Service) (reached : Reached) where
       of None there = is
 
   -- a suite gets a content that it takes
-  pub reached_given : (task : Task) (suites now : Suites) (number : ℕ) (content : Content) → IsOrdered nat_cmp suites → takes_in (suite_of suites number) content ≡ true → now ≡ changed_at (with_content content) number (suite_of suites number) suites
+  pub reached_given : (task : Task) (suites now : Suites) (number : ℕ) (content : Content) → IsOrdered nat_cmp suites → takes_in (suite_of suites number) content ≡ true
+      → now ≡ changed_at (with_content content) number (suite_of suites number) suites
       → IsReachedIn service task suites reached → IsReachedIn service task now reached
   reached_given task suites now number content ordered may given is = of (suite_of suites number) refl may given
     where
@@ -318,7 +349,8 @@ module _ (service : Service) (reached : Reached) where
       of None there may given = cc
 
 -- something was learned by which more is known
-pub reached_learned : (service : Service) (reached : Reached) (task : Task) (suites : Suites) (just_learned : Learned) → IsOrdered nat_cmp suites → adds just_learned suites ≡ true → IsReachedIn service task suites reached → IsReachedIn service task (learned_suites just_learned suites) reached
+pub reached_learned : (service : Service) (reached : Reached) (task : Task) (suites : Suites) (just_learned : Learned) → IsOrdered nat_cmp suites → adds just_learned suites ≡ true
+    → IsReachedIn service task suites reached → IsReachedIn service task (learned_suites just_learned suites) reached
 reached_learned service reached task suites Nothing ordered may is = is
 reached_learned service reached task suites (Quorum number pending) ordered may is =
     reached_settled service reached task suites number pending ordered (λ suite there. settles pending suite (sym (ap goes_on there) ∙ may)) is
@@ -337,10 +369,12 @@ reached_opened known more task reached number content service suites may is =
 pub unbegun_on : (known : Knowledge) (task : Task) (reached : Reached) → reached ≡ unbegun → IsReachedOn known task reached
 unbegun_on known task reached is = subst (IsReachedOn known task) (sym is) (unbegun_is_reached known.service known.suites task.t task.caller task.ops)
 
-pub reached_as : (known : Knowledge) (service : Service) (suites : Suites) (task : Task) (reached : Reached) → known ≡ record { service = service; suites = known_of suites } → IsReachedOn known task reached → IsReachedIn service task suites reached
+pub reached_as : (known : Knowledge) (service : Service) (suites : Suites) (task : Task) (reached : Reached) → known ≡ record { service = service; suites = known_of suites }
+    → IsReachedOn known task reached → IsReachedIn service task suites reached
 reached_as known service suites task reached is on = subst (λ known. IsReachedOn known task reached) is on
 
-pub reached_from : (known : Knowledge) (service : Service) (suites : Suites) (task : Task) (reached : Reached) → known ≡ record { service = service; suites = known_of suites } → IsReachedIn service task suites reached → IsReachedOn known task reached
+pub reached_from : (known : Knowledge) (service : Service) (suites : Suites) (task : Task) (reached : Reached) → known ≡ record { service = service; suites = known_of suites }
+    → IsReachedIn service task suites reached → IsReachedOn known task reached
 reached_from known service suites task reached is in' = subst (λ known. IsReachedOn known task reached) (sym is) in'
 
 -- ---- by an agent

@@ -27,7 +27,31 @@ use Rattle.txn_core.specs.declared.response.Response.TheVariants.{Replied, Lacke
 use Rattle.txn_core.specs.declared.ending.Cause.TheVariants.{Lost}
 use Rattle.txn_core.specs.declared.ending.Ending.TheVariants.{Undecided}
 use Rattle.txn_core.specs.declared.job.Job.TheVariants.{Transaction, Sweep}
-use Rattle.txn_core.specs.Doing.{Fixed, Task, Proposal, Phase, Gathering, Fetching, Widening, Preparing, Deciding, Finishing, TransactionRun, Sweeping, Listing, Resolving, Telling, Breaking, SweepRun, Doing, Running, RunningSweep, After, GoesOn, Ends}
+use Rattle.txn_core.specs.Doing.{
+  Fixed,
+  Task,
+  Proposal,
+  Phase,
+  Gathering,
+  Fetching,
+  Widening,
+  Preparing,
+  Deciding,
+  Finishing,
+  TransactionRun,
+  Sweeping,
+  Listing,
+  Resolving,
+  Telling,
+  Breaking,
+  SweepRun,
+  Doing,
+  Running,
+  RunningSweep,
+  After,
+  GoesOn,
+  Ends,
+}
 use Rattle.txn_core.specs.Transactions.{tell_end, give_up, prepare, locked_at, after_response, request_in, changes_of, verdict_in, ending_by, cause_of_abort, lack_cause}
 use Rattle.txn_core.specs.Writing.{parts_at}
 use Rattle.txn_core.proofs.Walk.{IsEarly, goes_response, goes_execute}
@@ -231,7 +255,9 @@ begin_ready fixed agent job idle =
     at (Some doing) idle = cc
 
     of : (job : Job) → DoingReady nobody (started fixed agent job).doing
-    of (Transaction caller site ops) = let task : Task = record { t = 64 * agent.count + agent.index; caller = caller; site = site; ops = ops } in left_ready nobody _ (goes_execute task (LeftReady nobody) (ready_early nobody task) (ready_give_up nobody task) (ready_all nobody task) fixed (record { suites = []; cache = agent.cache }))
+    of (Transaction caller site ops) = let task : Task = record { t = 64 * agent.count + agent.index; caller = caller; site = site; ops = ops } in
+        left_ready nobody _ (goes_execute task (LeftReady nobody) (ready_early nobody task) (ready_give_up nobody task) (ready_all nobody task) fixed
+        (record { suites = []; cache = agent.cache }))
     of (Sweep server) = tt
 
 -- ---- a Decide
@@ -248,7 +274,8 @@ has_one (e ∷ es) number server is =
 no_decide : {P : Type 0} (a b t : ℕ) (asked : Request) (decision : Decision) → is_decide asked ≡ false → ◌≡◌ {A = Option (ℕ × Request)} (Some (a, asked)) (Some (b, request.Decide t decision)) → P
 no_decide a b t asked decision other is = absurd (false≢true (sym other ∙ ap is_decide (asks_same a b asked (request.Decide t decision) is)))
 
-decide_ready : (held : ℕ → ℕ → Bool) (done : ℕ → Bool) (fixed : Fixed) (doing : Option Doing) (home t number server : ℕ) (decision : Decision) → locks.Keeps held doing → DoingReady done doing → next_in fixed doing ≡ Some (home, request.Decide t decision)
+decide_ready : (held : ℕ → ℕ → Bool) (done : ℕ → Bool) (fixed : Fixed) (doing : Option Doing) (home t number server : ℕ) (decision : Decision) → locks.Keeps held doing
+    → DoingReady done doing → next_in fixed doing ≡ Some (home, request.Decide t decision)
     → nat_lt server max_servers ≡ true → held number server ≡ true → done server ≡ true
 decide_ready held done fixed None home t number server decision keeps ready is few has = cc
 decide_ready held done fixed (Some (RunningSweep sweep_run)) home t number server decision keeps ready is few has = of sweep_run.now is

@@ -32,11 +32,13 @@ pub asked_at : (fixed : Fixed) (txn_run : TransactionRun) (phase : Phase) (found
 asked_at fixed txn_run phase found is same = ap (λ phase. server_of (request_in fixed txn_run.task txn_run.suites phase)) is ∙ sym same
 
 -- the first of the servers that prepare, and of those that are told
-pub preparing_asks : (fixed : Fixed) (txn_run : TransactionRun) (servers : List ℕ) (outcome : Proposal) (server : ℕ) → txn_run.phase ≡ Preparing servers outcome → slice_get servers 0 ≡ Some server → server_of (request_of fixed txn_run) ≡ Some server
+pub preparing_asks : (fixed : Fixed) (txn_run : TransactionRun) (servers : List ℕ) (outcome : Proposal) (server : ℕ) → txn_run.phase ≡ Preparing servers outcome
+    → slice_get servers 0 ≡ Some server → server_of (request_of fixed txn_run) ≡ Some server
 preparing_asks fixed txn_run [] outcome server is first = cc
 preparing_asks fixed txn_run (now ∷ left) outcome server is first = asked_at fixed txn_run (Preparing (now ∷ left) outcome) (Some server) is (sym first)
 
-pub finishing_asks : (fixed : Fixed) (txn_run : TransactionRun) (servers : List ℕ) (verdict : Verdict) (ending : Ending) (server : ℕ) → txn_run.phase ≡ Finishing servers verdict ending → slice_get servers 0 ≡ Some server → server_of (request_of fixed txn_run) ≡ Some server
+pub finishing_asks : (fixed : Fixed) (txn_run : TransactionRun) (servers : List ℕ) (verdict : Verdict) (ending : Ending) (server : ℕ)
+    → txn_run.phase ≡ Finishing servers verdict ending → slice_get servers 0 ≡ Some server → server_of (request_of fixed txn_run) ≡ Some server
 finishing_asks fixed txn_run [] verdict ending server is first = cc
 finishing_asks fixed txn_run (now ∷ left) verdict ending server is first = asked_at fixed txn_run (Finishing (now ∷ left) verdict ending) (Some server) is (sym first)
 
@@ -47,7 +49,8 @@ pub record Asks (task : Task) (suites : Suites) (number server : ℕ) : Type 0 w
   pub there : suite_of suites number ≡ Some suite
   pub asks : next suite.collector ≡ Ask server asked
 
-asks_by : (task : Task) (suites : Suites) (number server : ℕ) (suite : GatheredSuite) (n : Next) → suite_of suites number ≡ Some suite → next suite.collector ≡ n → server_of (asked_by task number n) ≡ Some server → Asks task suites number server
+asks_by : (task : Task) (suites : Suites) (number server : ℕ) (suite : GatheredSuite) (n : Next) → suite_of suites number ≡ Some suite → next suite.collector ≡ n
+    → server_of (asked_by task number n) ≡ Some server → Asks task suites number server
 asks_by task suites number server suite (Current prefix dver members) there is asked = cc
 asks_by task suites number server suite (Short got needed busy) there is asked = cc
 asks_by task suites number server suite (Ask at what) there is asked = record {
@@ -106,7 +109,8 @@ module _ (fixed : Fixed) (txn_run : TransactionRun) (cache : Cache) (number serv
 -- ---- as the code goes about them
 
 -- the home decides
-pub replied_decided : (fixed : Fixed) (txn_run : TransactionRun) (cache : Cache) (said : Reply) (outcome : Proposal) → txn_run.phase ≡ Deciding outcome → taken fixed txn_run cache (request_of fixed txn_run) (Replied said) ≡ decided txn_run.task cache txn_run.suites said
+pub replied_decided : (fixed : Fixed) (txn_run : TransactionRun) (cache : Cache) (said : Reply) (outcome : Proposal) → txn_run.phase ≡ Deciding outcome
+    → taken fixed txn_run cache (request_of fixed txn_run) (Replied said) ≡ decided txn_run.task cache txn_run.suites said
 replied_decided fixed txn_run cache said outcome is =
     ap (λ asked. taken fixed txn_run cache asked (Replied said)) (ap (request_in fixed txn_run.task txn_run.suites) is)
     ∙ ap (λ phase. after_reply fixed txn_run.task cache txn_run.suites phase (home_of fixed.service txn_run.task.t) (request.Decide txn_run.task.t (decision_of txn_run.task outcome)) said) is
@@ -127,7 +131,8 @@ module _ (fixed : Fixed) (txn_run : TransactionRun) (cache : Cache) (server : �
   replied_held number is =
       let a : Asks txn_run.task txn_run.suites number server = gathering number is in
       gathered fixed txn_run cache number server said a is
-      ∙ ap (λ found. on_hearing txn_run.task cache txn_run.suites txn_run.phase number server (heard_at found said) (λ suite. execute fixed txn_run.task (record { suites = with_suite number suite txn_run.suites; cache = cache }))) (sym a.there)
+      ∙ ap (λ found. on_hearing txn_run.task cache txn_run.suites txn_run.phase number server (heard_at found said)
+      (λ suite. execute fixed txn_run.task (record { suites = with_suite number suite txn_run.suites; cache = cache }))) (sym a.there)
 
   pub replied_widened : (number : ℕ) (left : List ℕ) (granted : Granted) → txn_run.phase ≡ Widening (number ∷ left) granted
       → taken fixed txn_run cache (request_of fixed txn_run) (Replied said) ≡ widens txn_run cache number server left granted said

@@ -48,7 +48,8 @@ module _ (fixed : Fixed) (state : Agent) (response : Response) (ending : Option 
         let both = at_after state.cache (GoesOn running) steps.0 steps.1 in
         (both.0, both.1 ∙ ap (λ doing. record state { doing = doing }) (sym is))
 
-    pub took_response : (running : TransactionRun) → state.doing ≡ Some (Running running) → Steps (taken fixed running state.cache (request_of fixed running) response) ending after kept → Took fixed state response ending kept (Some (Running after))
+    pub took_response : (running : TransactionRun) → state.doing ≡ Some (Running running)
+        → Steps (taken fixed running state.cache (request_of fixed running) response) ending after kept → Took fixed state response ending kept (Some (Running after))
     took_response running is steps =
         let both = at_asked running (request_of fixed running) is steps in
         let same = take_of (Some (Running running)) is in
@@ -64,7 +65,9 @@ module _ (fixed : Fixed) (state : Agent) (response : Response) (ending : Option 
     )
     round_after (Ends how) came = (came, ap (λ ending. record state { doing = left_by ending (Some (RunningSweep after)) }) came)
 
-    pub swept_response : (sweep_run : SweepRun) → state.doing ≡ Some (RunningSweep sweep_run) → Comes (sweep.after_response fixed.service sweep_run (sweep.asked_now fixed.service sweep_run sweep_run.now).0 response) ending after → Took fixed state response ending state.cache (Some (RunningSweep after))
+    pub swept_response : (sweep_run : SweepRun) → state.doing ≡ Some (RunningSweep sweep_run)
+        → Comes (sweep.after_response fixed.service sweep_run (sweep.asked_now fixed.service sweep_run sweep_run.now).0 response) ending after
+        → Took fixed state response ending state.cache (Some (RunningSweep after))
     swept_response sweep_run is came =
         let both = round_after (sweep.after_response fixed.service sweep_run (sweep.asked_now fixed.service sweep_run sweep_run.now).0 response) came in
         let same = take_of (Some (RunningSweep sweep_run)) is in

@@ -48,7 +48,9 @@ module _ (just_learned : Learned) where
   told_at [] number = refl
   told_at (one ∷ suites) number = of (told_at suites number) (is_eq (nat_cmp number one.0)) refl
     where
-      of : suite_of (told_all suites) number ≡ option_map (told_of just_learned number) (suite_of suites number) → (b : Bool) → is_eq (nat_cmp number one.0) ≡ b → cond b (Some (told_of just_learned one.0 one.1)) (suite_of (told_all suites) number) ≡ option_map (told_of just_learned number) (cond b (Some one.1) (suite_of suites number))
+      of : suite_of (told_all suites) number ≡ option_map (told_of just_learned number) (suite_of suites number) → (b : Bool) → is_eq (nat_cmp number one.0) ≡ b
+          → cond b (Some (told_of just_learned one.0 one.1)) (suite_of (told_all suites) number) ≡ option_map (told_of just_learned number)
+          (cond b (Some one.1) (suite_of suites number))
       of rest true at = ap (λ n. Some (told_of just_learned n one.1)) (sym (exact_unsigned number one.0 (equal_if (nat_cmp number one.0) at)))
       of rest false at = rest
 

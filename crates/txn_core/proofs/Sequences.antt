@@ -28,7 +28,8 @@ gathers : (task : Task) (cache : Cache) (suites : Suites) (number : ℕ) (suite 
     gather_again task cache more number (suite_of more number) ≡ gather task cache suites number suite
 gathers task cache suites number suite = ap (gather_again task cache (with_suite number suite suites) number) (get_insert_here suites number suite)
 
-new_again : (fixed : Fixed) (task : Task) (cache more : Cache) (number : ℕ) (mode : LockMode) → hint more task.site number ≡ hint cache task.site number → raised_or_new fixed task more number mode None ≡ raised_or_new fixed task cache number mode None
+new_again : (fixed : Fixed) (task : Task) (cache more : Cache) (number : ℕ) (mode : LockMode) → hint more task.site number ≡ hint cache task.site number
+    → raised_or_new fixed task more number mode None ≡ raised_or_new fixed task cache number mode None
 new_again fixed task cache more number mode same =
     ap (λ h. record { collector = collect mode (unwrap_or h (absent_prefix fixed.service.c0)); first = None; mode = Shared; content = None }) same
 

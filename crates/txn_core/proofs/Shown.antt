@@ -39,12 +39,14 @@ told_now kind before one suite server = of (locks suite one.request) one.respons
     on true x b = refl
     on false x b = refl
 
-    of : (b : Bool) (response : Response) → has_told (kind_of kind) (cond b (told_by before one response) before) server ≡ ((((one.server == server) && b) && is_said kind one.request (heard_in one.request response)) || has_told (kind_of kind) before server)
+    of : (b : Bool) (response : Response) → has_told (kind_of kind) (cond b (told_by before one response) before) server
+        ≡ ((((one.server == server) && b) && is_said kind one.request (heard_in one.request response)) || has_told (kind_of kind) before server)
     of true (Replied said) = by (said_to one.request said) ∙ on (one.server == server) (is_said kind one.request (said_to one.request said)) (has_told (kind_of kind) before server)
     of true (Lacked lacked) = out (one.server == server) (has_told (kind_of kind) before server) ∙ on (one.server == server) false (has_told (kind_of kind) before server)
     of false response = off (one.server == server) (is_said kind one.request (heard_in one.request response)) (has_told (kind_of kind) before server)
 
-pub told_said : (kind : LockMode → Said → Bool) (suite server : ℕ) (before : List Told) (past : List Exchange) → has_told (kind_of kind) (told_of suite before past) server ≡ (has_told (kind_of kind) before server || has_said past suite kind server)
+pub told_said : (kind : LockMode → Said → Bool) (suite server : ℕ) (before : List Told) (past : List Exchange)
+    → has_told (kind_of kind) (told_of suite before past) server ≡ (has_told (kind_of kind) before server || has_said past suite kind server)
 told_said kind suite server before [] = of (has_told (kind_of kind) before server)
   where
     of : (b : Bool) → b ≡ (b || false)
@@ -112,7 +114,8 @@ busy_of (Ask server asked) = None
 pub tells_busy : (c : Collector) (had wanting : ℕ) (busy : Option (ℕ × ℕ)) → next c ≡ Short had wanting busy → busy ≡ first_busy (all_told c)
 tells_busy c had wanting busy is = of (nat_le (needed c) (got c)) (find (is_left c) (counted c).reps) is
   where
-    of : (b : Bool) (found : Option Representative) → cond b (Current (newest c.start c.told) (collecting.version c) (collecting.members_of (counted c) (is_member c))) (ask_or_short c found) ≡ Short had wanting busy → busy ≡ first_busy (all_told c)
+    of : (b : Bool) (found : Option Representative) → cond b (Current (newest c.start c.told) (collecting.version c) (collecting.members_of (counted c) (is_member c)))
+        (ask_or_short c found) ≡ Short had wanting busy → busy ≡ first_busy (all_told c)
     of true found is = cc
     of false (Some rep) is = cc
     of false None is = sym (ap busy_of is)

@@ -90,7 +90,9 @@ few_answer service sweep_run (Resolving t left) asked said server is = of said
     other : 1 + may (agents.left RunningSweep (cond (home_of service t == sweep_run.server) (lost sweep_run) (sweep_on (record sweep_run { left = sweep_run.left + 1 }) left))) ≤ 2 + 2 * length left + 2 * listed_in asked (Replied said)
     other =
         let few = few_on (record sweep_run { left = sweep_run.left + 1 }) left in
-        elim (home_of service t == sweep_run.server) as (λ b. 1 + may (agents.left RunningSweep (cond b (lost sweep_run) (sweep_on (record sweep_run { left = sweep_run.left + 1 }) left))) ≤ 2 + 2 * length left + 2 * listed_in asked (Replied said)) [
+        elim (home_of service t == sweep_run.server) as
+        (λ b. 1 + may (agents.left RunningSweep (cond b (lost sweep_run) (sweep_on (record sweep_run { left = sweep_run.left + 1 }) left))) ≤ 2 + 2 * length left + 2 *
+        listed_in asked (Replied said)) [
           | true ↦ omega arith
           | false ↦ omega (arith, few)
         ]

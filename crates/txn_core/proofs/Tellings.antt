@@ -36,7 +36,8 @@ one_then number suite (Some first) rest = refl
 abbrev pub IsTelling : Suites → Suites → Known → Type 0
 IsTelling suites left known = known ++ known_of left ≡ known_of suites
 
-pub telling_more : (suites : Suites) (i : ℕ) (one : ℕ × GatheredSuite) (known new : Known) → i < length suites → one ≡ get_or suites i one → new ≡ known ++ known_if one.0 one.1 one.1.first [] → IsTelling suites (drop i suites) known → IsTelling suites (drop (i + 1) suites) new
+pub telling_more : (suites : Suites) (i : ℕ) (one : ℕ × GatheredSuite) (known new : Known) → i < length suites → one ≡ get_or suites i one
+    → new ≡ known ++ known_if one.0 one.1 one.1.first [] → IsTelling suites (drop i suites) known → IsTelling suites (drop (i + 1) suites) new
 telling_more suites i one known new below here is at =
     let rest = drop (i + 1) suites in
     let split : drop i suites ≡ one ∷ rest =
@@ -51,7 +52,8 @@ telling_more suites i one known new below here is at =
 
 -- ---- what is known rises
 
-above_one : (number : ℕ) (one : ℕ × GatheredSuite) (first : Option ReadPoint) (known : Known) → nat_cmp number one.0 ≡ Less → AllByRecursion (λ y. nat_cmp number y ≡ Less) (keys_of known) → AllByRecursion (λ y. nat_cmp number y ≡ Less) (keys_of (known_if one.0 one.1 first known))
+above_one : (number : ℕ) (one : ℕ × GatheredSuite) (first : Option ReadPoint) (known : Known) → nat_cmp number one.0 ≡ Less
+    → AllByRecursion (λ y. nat_cmp number y ≡ Less) (keys_of known) → AllByRecursion (λ y. nat_cmp number y ≡ Less) (keys_of (known_if one.0 one.1 first known))
 above_one number one (Some first) known here all = (here, all)
 above_one number one None known here all = all
 

@@ -77,12 +77,17 @@ caused_sweep past swept sweep_run [] = tt
 caused_sweep past swept sweep_run (lock ∷ locks) = tt
 
 caused_lost : (past : List Exchange) (sweep_run : SweepRun) (server : ℕ) (asked : Request) → server ≡ sweep_run.server → RoundCaused (push past server asked (Replied reply.Down)) sweep_run.server (sweep.lost sweep_run)
-caused_lost past sweep_run server asked at = (refl, subst (λ who. Was (push past server asked (Replied reply.Down)) who (λ asked response. says_down response)) at (was_now past server asked (Replied reply.Down) (λ asked response. says_down response) refl))
+caused_lost past sweep_run server asked at = (
+  refl,
+  subst (λ who. Was (push past server asked (Replied reply.Down)) who (λ asked response. says_down response)) at
+      (was_now past server asked (Replied reply.Down) (λ asked response. says_down response) refl),
+)
 
 abbrev push_now : List Exchange → Service → SweepRun → Sweeping → Response → List Exchange
 push_now past service sweep_run now response = push past (sweep.asked_now service sweep_run now).0 (sweep.asked_now service sweep_run now).1 response
 
-caused_answer : (past : List Exchange) (service : Service) (sweep_run : SweepRun) (now : Sweeping) (said : Reply) → fits (sweep.asked_now service sweep_run now).1 said ≡ true → RoundCaused (push_now past service sweep_run now (Replied said)) sweep_run.server (sweep.after_answer service sweep_run now said)
+caused_answer : (past : List Exchange) (service : Service) (sweep_run : SweepRun) (now : Sweeping) (said : Reply) → fits (sweep.asked_now service sweep_run now).1 said ≡ true
+    → RoundCaused (push_now past service sweep_run now (Replied said)) sweep_run.server (sweep.after_answer service sweep_run now said)
 caused_answer past service sweep_run Listing (reply.Held prefix dver) fine = cc
 caused_answer past service sweep_run Listing (reply.Busy holder prepared) fine = cc
 caused_answer past service sweep_run Listing reply.Down fine = caused_lost past sweep_run sweep_run.server request.Locks refl
@@ -256,7 +261,8 @@ module _ (fixed : Fixed) (agent : Agent) (job : Job) (events : List Event) where
 
 -- ---- all responses
 
-course_ends : (fixed : Fixed) (task : Task) (Old : Base) (Loose : ℕ → Prefix → Type 0) (px : List Exchange) (cache : Cache) (after : After TransactionRun) (cause : Cause) → LeftOf fixed task Old Loose px cache after → end_of after ≡ Some (Undecided cause) → all_fit px ≡ true
+course_ends : (fixed : Fixed) (task : Task) (Old : Base) (Loose : ℕ → Prefix → Type 0) (px : List Exchange) (cache : Cache) (after : After TransactionRun) (cause : Cause)
+    → LeftOf fixed task Old Loose px cache after → end_of after ≡ Some (Undecided cause) → all_fit px ≡ true
     → CausedBy fixed task Old (OrFresh fixed task cache px Loose) px cause
 course_ends fixed task Old Loose px cache (GoesOn txn_run) cause left is fine = cc
 course_ends fixed task Old Loose px cache (Ends ending) cause left is fine = subst (EndIs fixed task Old (OrFresh fixed task cache px Loose) px) (same_Some ending (Undecided cause) is) (left fine)
@@ -285,7 +291,8 @@ module _ (fixed : Fixed) (agent : Agent) (job : Job) (events : List Event) (resp
         | inl before ↦ begins_more fixed agent job events (Take response ∷ []) n start before
         | inr fresh ↦ fresh_begins fixed agent job stands.caller stands.site stands.ops stands.transaction running.task stands.task px step.cache then' told (ap (λ (agent : Agent). agent.cache) after) n start fresh
       ] in
-      let mapped = map_cause fixed running.task (Base_of fixed agent job events then' running.task.site) (OrFresh fixed running.task step.cache px (Begins fixed agent job events)) (Base_of fixed agent job then' then' running.task.site) (Begins fixed agent job then') px
+      let mapped = map_cause fixed running.task (Base_of fixed agent job events then' running.task.site) (OrFresh fixed running.task step.cache px (Begins fixed agent job events))
+      (Base_of fixed agent job then' then' running.task.site) (Begins fixed agent job then') px
       (record { start = started_more fixed agent job events (Take response ∷ []); content = λ n first content is. is }) loose cause by in
       caused fixed agent job then' running.task (record { caller = stands.caller; site = stands.site; ops = stands.ops; transaction = stands.transaction; task_is = stands.task }) cause
       (subst (λ past. CausedBy fixed running.task (Base_of fixed agent job then' then' running.task.site) (Begins fixed agent job then') past cause) (sym told) mapped)
@@ -293,9 +300,11 @@ module _ (fixed : Fixed) (agent : Agent) (job : Job) (events : List Event) (resp
   ends (Some (RunningSweep sweep_run)) (Some asked) was is told after fine stands end' =
       let px = push (of_job fixed agent job events) asked.0 asked.1 response in
       let fits' = last_fits (of_job fixed agent job events) asked.0 asked.1 response (ap all_fit (sym told) ∙ fine) in
-      let caused' = subst (λ (asked : ℕ × Request). fits_response asked.1 response ≡ true → RoundCaused (push (of_job fixed agent job events) asked.0 asked.1 response) sweep_run.server (sweep.after_response fixed.service sweep_run asked.0 response))
+      let caused' = subst (λ (asked : ℕ × Request). fits_response asked.1 response ≡ true
+      → RoundCaused (push (of_job fixed agent job events) asked.0 asked.1 response) sweep_run.server (sweep.after_response fixed.service sweep_run asked.0 response))
       (same_Some (sweep.asked_now fixed.service sweep_run sweep_run.now) asked is) (caused_round (of_job fixed agent job events) fixed.service sweep_run response) fits' in
-      swept fixed agent job then' sweep_run.server stands cause (subst (λ past. SweepCaused past sweep_run.server cause) (sym told) (round_ends px sweep_run.server (sweep.after_response fixed.service sweep_run asked.0 response) cause caused' end'))
+      swept fixed agent job then' sweep_run.server stands cause (subst (λ past. SweepCaused past sweep_run.server cause) (sym told)
+      (round_ends px sweep_run.server (sweep.after_response fixed.service sweep_run asked.0 response) cause caused' end'))
   ends (Some (RunningSweep sweep_run)) None was is told after fine stands end' = cc
   ends None (Some asked) was is told after fine stands end' = cc
   ends None None was is told after fine stands end' = cc
@@ -303,4 +312,5 @@ module _ (fixed : Fixed) (agent : Agent) (job : Job) (events : List Event) (resp
 pub ends_are_caused : EndsAreCaused
 ends_are_caused fixed agent job events response cause idle fine end' =
     let now = after_all fixed (begin fixed agent job) events in
-    ends fixed agent job events response cause now.doing (next_of fixed now) refl refl (exchanges-take fixed (begin fixed agent job) events response) (after-append fixed (begin fixed agent job) events (Take response)) fine (stands_after fixed agent job events idle) end'
+    ends fixed agent job events response cause now.doing (next_of fixed now) refl refl (exchanges-take fixed (begin fixed agent job) events response)
+    (after-append fixed (begin fixed agent job) events (Take response)) fine (stands_after fixed agent job events idle) end'

@@ -80,7 +80,8 @@ tell_unused c one shows saw = at c.widening
       shown = λ server. of server (one.server == server);
     }
 
-told_shows : (next : Next) (answer : Reply) (one : Told) → told_by next answer ≡ Some one → shows_unused answer ≡ true → (other : Prefix) (dver : ℕ) → one.said ≡ said.Held other dver → (is_used_up other.pver ≡ false) × (is_used_up dver ≡ false)
+told_shows : (next : Next) (answer : Reply) (one : Told) → told_by next answer ≡ Some one → shows_unused answer ≡ true → (other : Prefix) (dver : ℕ)
+    → one.said ≡ said.Held other dver → (is_used_up other.pver ≡ false) × (is_used_up dver ≡ false)
 told_shows (Current prefix version members) answer one was unused other dver is = cc
 told_shows (Short got needed busy) answer one was unused other dver is = cc
 told_shows (Ask server asked) (reply.Held prefix version) one was unused other dver is =

@@ -21,7 +21,31 @@ use Rattle.txn_core.specs.declared.ending.Cause.TheVariants.{Unavailable, Busy, 
 use Rattle.txn_core.specs.declared.ending.Ending.TheVariants.{Answered, Refused, Swept, Undecided}
 use Rattle.txn_core.specs.declared.job.Job.{Job}
 use Rattle.txn_core.specs.declared.job.Job.TheVariants.{Transaction, Sweep}
-use Rattle.txn_core.specs.Doing.{home_of, Fixed, Task, Phase, Gathering, Fetching, Widening, Preparing, Deciding, Finishing, TransactionRun, Sweeping, Listing, Resolving, Telling, Breaking, SweepRun, Doing, Running, RunningSweep, After, GoesOn, Ends}
+use Rattle.txn_core.specs.Doing.{
+  home_of,
+  Fixed,
+  Task,
+  Phase,
+  Gathering,
+  Fetching,
+  Widening,
+  Preparing,
+  Deciding,
+  Finishing,
+  TransactionRun,
+  Sweeping,
+  Listing,
+  Resolving,
+  Telling,
+  Breaking,
+  SweepRun,
+  Doing,
+  Running,
+  RunningSweep,
+  After,
+  GoesOn,
+  Ends,
+}
 use Rattle.txn_core.specs.Transactions.{Step, Gathered, start_from, execute, after_response, request_in, request_of}
 use Rattle.txn_core.specs.Sweeps as sweep
 use Rattle.txn_core.specs.Agents.{Agent, Event, Take, Forget, next_in, next_of, left, take_in, take, begin, started, forget, is_idle, has_sense, max_jobs, after_event, after_all}
@@ -123,7 +147,8 @@ Base_of fixed agent job begun events site = record { start = Started fixed agent
 
 -- ---- the same of other starts and contents
 
-module _ (fixed : Fixed) (task : Task) (Old : Base) (Loose : ℕ → Prefix → Type 0) (Old' : Base) (Loose' : ℕ → Prefix → Type 0) (past : List Exchange) (old : Follows Old Old') (loose : (n : ℕ) (start : Prefix) → Loose n start → Loose' n start) where
+module _ (fixed : Fixed) (task : Task) (Old : Base) (Loose : ℕ → Prefix → Type 0) (Old' : Base) (Loose' : ℕ → Prefix → Type 0) (past : List Exchange) (old : Follows Old Old')
+    (loose : (n : ℕ) (start : Prefix) → Loose n start → Loose' n start) where
   map_kept : (n : ℕ) (suite : GatheredSuite) → Kept fixed task Old past n suite → Kept fixed task Old' past n suite
   map_kept n suite kept = record {
     start = old.start n suite.collector.start kept.start;
@@ -158,7 +183,8 @@ module _ (fixed : Fixed) (task : Task) (Old : Base) (Loose : ℕ → Prefix → 
   map_end (Refused refusal) is = tt
   map_end (Swept broken finished left) is = tt
 
-  pub map_stands : (Now : ℕ → Prefix → Type 0) (suites : Suites) (phase : Phase) → ((n : ℕ) (start : Prefix) → phase ≡ Gathering n → Now n start → Old'.start n start) → StandsOn fixed task Old Now Loose past suites phase → StandsOn fixed task Old' Old'.start Loose' past suites phase
+  pub map_stands : (Now : ℕ → Prefix → Type 0) (suites : Suites) (phase : Phase) → ((n : ℕ) (start : Prefix) → phase ≡ Gathering n → Now n start → Old'.start n start)
+      → StandsOn fixed task Old Now Loose past suites phase → StandsOn fixed task Old' Old'.start Loose' past suites phase
   map_stands Now suites (Gathering number) now stands = (
     stands.0,
     λ n suite other at. map_kept n suite (stands.1 n suite other at),
@@ -179,7 +205,8 @@ module _ (fixed : Fixed) (task : Task) (Old : Base) (Loose : ℕ → Prefix → 
   map_stands Now suites (Finishing servers v ending) now stands = λ fine. map_end ending (stands fine)
 
 -- where nothing is said of contents
-no_contents : (fixed : Fixed) (task : Task) (Old : Base) (Loose : ℕ → Prefix → Type 0) (past : List Exchange) (suites : Suites) (phase : Phase) → StandsOn fixed task Old Old.start Loose past suites phase → Stands fixed task Old.start Old.start Loose past suites phase
+no_contents : (fixed : Fixed) (task : Task) (Old : Base) (Loose : ℕ → Prefix → Type 0) (past : List Exchange) (suites : Suites) (phase : Phase)
+    → StandsOn fixed task Old Old.start Loose past suites phase → Stands fixed task Old.start Old.start Loose past suites phase
 no_contents fixed task Old Loose past suites phase stands =
     map_stands fixed task Old Loose (started_from Old.start) Loose past (record { start = λ n start is. is; content = λ n first content is. tt }) (λ n start is. is) Old.start suites phase (λ n start _ is. is) stands
 
@@ -215,7 +242,8 @@ module _ (fixed : Fixed) (agent : Agent) (job : Job) where
 
   runs_of : (events : List Event) (txn_run : TransactionRun) (caller : Identity) (site : ℕ) (ops : List Op) → job ≡ Transaction caller site ops → txn_run.task ≡ task_of agent caller site ops
       → ((asked : ℕ × Request) → request_of fixed txn_run ≡ Some asked
-      → StandsOn fixed txn_run.task (Base_of fixed agent job events events txn_run.task.site) (Started fixed agent job events) (Begins fixed agent job events) (of_job fixed agent job events) txn_run.suites txn_run.phase) → Runs events txn_run
+      → StandsOn fixed txn_run.task (Base_of fixed agent job events events txn_run.task.site) (Started fixed agent job events) (Begins fixed agent job events)
+      (of_job fixed agent job events) txn_run.suites txn_run.phase) → Runs events txn_run
   runs_of events txn_run caller site ops transaction task stands_on = record {
     caller = caller;
     site = site;
@@ -263,7 +291,8 @@ module _ (fixed : Fixed) (agent : Agent) (job : Job) where
           | inr fresh ↦ fresh_begins n start fresh
         ] in
         let base = Base_of fixed agent job events events task.site in
-        let mapped = map_stands fixed task Old (OrFresh fixed task cache px Loose) base (Begins fixed agent job events) px (record { start = old; content = contents }) also (OrFresh fixed task cache px Old.start) txn_run.suites txn_run.phase now leaves.1 in
+        let mapped = map_stands fixed task Old (OrFresh fixed task cache px Loose) base (Begins fixed agent job events) px (record { start = old; content = contents }) also
+        (OrFresh fixed task cache px Old.start) txn_run.suites txn_run.phase now leaves.1 in
         subst (λ past. StandsOn fixed txn_run.task (Base_of fixed agent job events events txn_run.task.site) (Started fixed agent job events) (Begins fixed agent job events) past txn_run.suites txn_run.phase) (sym told)
         (subst (λ (task : Task). StandsOn fixed task (Base_of fixed agent job events events task.site) (Started fixed agent job events) (Begins fixed agent job events) px txn_run.suites txn_run.phase) (sym leaves.0) mapped))
 
@@ -294,13 +323,15 @@ module _ (fixed : Fixed) (agent : Agent) (job : Job) where
   pub response_leaves : (events : List Event) (response : Response) (running : TransactionRun) (asked : ℕ × Request) → request_of fixed running ≡ Some asked
       → of_job fixed agent job (events ++ Take response ∷ []) ≡ push (of_job fixed agent job events) asked.0 asked.1 response
       → (After_all (events ++ Take response ∷ [])).cache ≡ (after_response fixed running (After_all events).cache asked.0 asked.1 response).cache → Runs events running
-      → Leaves fixed running.task (Base_of fixed agent job events (events ++ Take response ∷ []) running.task.site) (Begins fixed agent job events) (push (of_job fixed agent job events) asked.0 asked.1 response) (after_response fixed running (After_all events).cache asked.0 asked.1 response)
+      → Leaves fixed running.task (Base_of fixed agent job events (events ++ Take response ∷ []) running.task.site) (Begins fixed agent job events)
+      (push (of_job fixed agent job events) asked.0 asked.1 response) (after_response fixed running (After_all events).cache asked.0 asked.1 response)
   response_leaves events response running asked is told cache_is runs =
       let more = events ++ Take response ∷ [] in
       let task = running.task in
       let base = Base_of fixed agent job events more task.site in
       let goes_on = content_more fixed agent job events (Take response) (record { server = asked.0; request = asked.1; response = response } ∷ []) told task.site in
-      let mapped = map_stands fixed task (Base_of fixed agent job events events task.site) (Begins fixed agent job events) base (Begins fixed agent job events) (of_job fixed agent job events) (record { start = λ n start is. is; content = goes_on }) (λ n start is. is)
+      let mapped = map_stands fixed task (Base_of fixed agent job events events task.site) (Begins fixed agent job events) base (Begins fixed agent job events)
+      (of_job fixed agent job events) (record { start = λ n start is. is; content = goes_on }) (λ n start is. is)
       (Started fixed agent job events) running.suites running.phase (λ n start _ is. is) (runs.stands_on asked is) in
       caused_response fixed task base (Begins fixed agent job events) (of_job fixed agent job events) (After_all events).cache running.suites running.phase asked.0 asked.1 response is mapped
       (λ n first content found. goes_on n first content (free_now fixed agent job events task (After_all events).cache refl n first content found))
@@ -312,7 +343,8 @@ module _ (fixed : Fixed) (agent : Agent) (job : Job) where
       → DoingStands events doing → DoingStands (events ++ Take response ∷ []) (take_in fixed (After_all events) response doing asked).agent.doing
   stands_take events response (Some (Running running)) (Some asked) was is told after stands =
       let step = after_response fixed running (After_all events).cache asked.0 asked.1 response in
-      convert stands.caller stands.site stands.ops stands.transaction running.task stands.task (push (of_job fixed agent job events) asked.0 asked.1 response) step.cache (events ++ Take response ∷ []) told (ap (λ (agent : Agent). agent.cache) after)
+      convert stands.caller stands.site stands.ops stands.transaction running.task stands.task (push (of_job fixed agent job events) asked.0 asked.1 response) step.cache
+      (events ++ Take response ∷ []) told (ap (λ (agent : Agent). agent.cache) after)
       (Base_of fixed agent job events (events ++ Take response ∷ []) running.task.site) (Begins fixed agent job events) step.after (ap (λ (agent : Agent). agent.doing) after)
       (started_more fixed agent job events (Take response ∷ [])) (λ n first content is. is) (begins_more fixed agent job events (Take response ∷ []))
       (response_leaves events response running asked is told (ap (λ (agent : Agent). agent.cache) after) stands)
@@ -336,7 +368,8 @@ module _ (fixed : Fixed) (agent : Agent) (job : Job) where
       let same = exchanges-forget fixed (begin fixed agent job) events site in
       let goes_on = content_more fixed agent job events (Forget site) [] (same ∙ sym (append-nil (of_job fixed agent job events))) running.task.site in
       subst (λ past. StandsOn fixed running.task (Base_of fixed agent job more more running.task.site) (Started fixed agent job more) (Begins fixed agent job more) past running.suites running.phase) (sym same)
-      (map_stands fixed running.task (Base_of fixed agent job events events running.task.site) (Begins fixed agent job events) (Base_of fixed agent job more more running.task.site) (Begins fixed agent job more) (of_job fixed agent job events)
+      (map_stands fixed running.task (Base_of fixed agent job events events running.task.site) (Begins fixed agent job events)
+      (Base_of fixed agent job more more running.task.site) (Begins fixed agent job more) (of_job fixed agent job events)
       (record { start = started_more fixed agent job events (Forget site ∷ []); content = goes_on }) (begins_more fixed agent job events (Forget site ∷ [])) (Started fixed agent job events) running.suites running.phase
       (λ n start _ started. started_more fixed agent job events (Forget site ∷ []) n start started) (stands.stands_on asked is)))
   stands_forget events site (Some (RunningSweep sweep_run)) stands = stands
@@ -355,10 +388,12 @@ module _ (fixed : Fixed) (agent : Agent) (job : Job) where
   all_stand events (event ∷ more) stands =
       subst (λ events. DoingStands events (After_all events).doing) (append_assoc events (event ∷ []) more) (all_stand (events ++ event ∷ []) more (stands_more events event stands))
 
-  first_stands : (caller : Identity) (site : ℕ) (ops : List Op) → job ≡ Transaction caller site ops → (task : Task) → task ≡ task_of agent caller site ops → (step : Step) → (After_all []).cache ≡ step.cache → (After_all []).doing ≡ left Running step.after
+  first_stands : (caller : Identity) (site : ℕ) (ops : List Op) → job ≡ Transaction caller site ops → (task : Task) → task ≡ task_of agent caller site ops → (step : Step)
+      → (After_all []).cache ≡ step.cache → (After_all []).doing ≡ left Running step.after
       → Leaves fixed task (none_yet (Content_of fixed agent job [] task.site)) (λ _ _. ⊥) [] step → DoingStands [] (left Running step.after)
   first_stands caller site ops same task task_is step cache doing leaves =
-      convert caller site ops same task task_is [] step.cache [] refl cache (none_yet (Content_of fixed agent job [] task.site)) (λ _ _. ⊥) step.after doing (λ n start no. absurd no) (λ n first content is. is) (λ n start no. absurd no) leaves
+      convert caller site ops same task task_is [] step.cache [] refl cache (none_yet (Content_of fixed agent job [] task.site)) (λ _ _. ⊥) step.after doing
+      (λ n start no. absurd no) (λ n first content is. is) (λ n start no. absurd no) leaves
 
   begin_stands : is_idle agent.doing ≡ true → DoingStands [] (begin fixed agent job).doing
   begin_stands idle = of (is_idle agent.doing && has_sense fixed job && nat_lt agent.count max_jobs) refl job refl

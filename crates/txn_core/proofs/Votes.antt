@@ -134,7 +134,8 @@ module _ (start : TransactionRun) (from : ℕ) (granted : Granted) (now : Transa
           of (inl found) = absurd (none-some found.0 (sym none ∙ found.2))
           of (inr over) = drop_of_length-le l over.0
 
-  module _ (number : ℕ) (change : Change) (votes : Configuration) (after : TransactionRun) (is : slice_get granted.changes at ≡ Some (number, change)) (up : IsOrdered nat_cmp granted.changes) (sets : change.votes ≡ true) (own : votes ≡ change.row.votes) where
+  module _ (number : ℕ) (change : Change) (votes : Configuration) (after : TransactionRun) (is : slice_get granted.changes at ≡ Some (number, change))
+      (up : IsOrdered nat_cmp granted.changes) (sets : change.votes ≡ true) (own : votes ≡ change.row.votes) where
     there : change_of granted.changes number ≡ Some change
     there = change_at granted.changes at (number, change) up is
 

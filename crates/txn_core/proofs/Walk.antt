@@ -7,7 +7,32 @@ use Rattle.txn_core.specs.Suites.{Suites}
 use Rattle.txn_core.specs.declared.response.Response.{Response}
 use Rattle.txn_core.specs.declared.ending.Cause.{Cause}
 use Rattle.txn_core.specs.Doing.{Fixed, Task, Proposal, Phase, Gathering, Fetching, Widening, TransactionRun, After, GoesOn}
-use Rattle.txn_core.specs.Moves.{Stage, Executes, Widens, Asks, Prepares, PreparesAt, GivesUp, Tells, TellsAt, Point, point, EndsIn, Move, prepares, MovesTo, gathering, widening, Hears, settles, prepared_by, decides, tells_next, told_all, asks_on}
+use Rattle.txn_core.specs.Moves.{
+  Stage,
+  Executes,
+  Widens,
+  Asks,
+  Prepares,
+  PreparesAt,
+  GivesUp,
+  Tells,
+  TellsAt,
+  Point,
+  point,
+  EndsIn,
+  Move,
+  prepares,
+  MovesTo,
+  gathering,
+  widening,
+  Hears,
+  settles,
+  prepared_by,
+  decides,
+  tells_next,
+  told_all,
+  asks_on,
+}
 use Rattle.txn_core.proofs.Moving.{kept, execute_moves, response_moves}
 use Rattle.txn_core.specs.Transactions.{Step, Gathered, give_up, prepare, locked_at, execute, after_response}
 
@@ -54,7 +79,8 @@ module _ (task : Task) (Left : After TransactionRun → Type 0)
   pub goes_execute : (fixed : Fixed) (all : Gathered) → Left (execute fixed task all).after
   goes_execute fixed all = goes_moves fixed (point Executes all.cache all.suites) (execute fixed task all) (execute_moves fixed task all) tt
 
-  hears_early : {fixed : Fixed} {cache : Cache} {suites : Suites} {server : ℕ} {asked : Request} {phase : Phase} {response : Response} {heard : Point} → Hears fixed task cache suites server asked phase response heard → IsEarly phase → Early heard.stage
+  hears_early : {fixed : Fixed} {cache : Cache} {suites : Suites} {server : ℕ} {asked : Request} {phase : Phase} {response : Response} {heard : Point}
+      → Hears fixed task cache suites server asked phase response heard → IsEarly phase → Early heard.stage
   hears_early (settles gathering there says next) is = tt
   hears_early (settles widening there says next) is = tt
   hears_early (prepared_by prepared) is = absurd is

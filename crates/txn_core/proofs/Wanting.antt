@@ -87,7 +87,8 @@ module _ (fixed : Fixed) (txn_run : TransactionRun) (said : Reply) (number : ℕ
       (asked_at fixed txn_run (Widening (number ∷ left) granted) (asks_in txn_run number) is refl) some
 
 -- the home decides
-pub deciding_wants : (fixed : Fixed) (txn_run : TransactionRun) (said : Reply) (outcome : Proposal) (result : Result Flow AllocError) → txn_run.phase ≡ Deciding outcome → IfErr result (λ _. is_answered (verdict_in said verdict.Aborted) ≡ true)
+pub deciding_wants : (fixed : Fixed) (txn_run : TransactionRun) (said : Reply) (outcome : Proposal) (result : Result Flow AllocError) → txn_run.phase ≡ Deciding outcome
+    → IfErr result (λ _. is_answered (verdict_in said verdict.Aborted) ≡ true)
     → IfErr result (λ _. by_taking (request_of fixed txn_run) (Replied said) ≡ true)
 deciding_wants fixed txn_run said outcome (Ok ending) is answered = tt
 deciding_wants fixed txn_run said outcome (Err why) is answered = ap (λ phase. by_taking (request_in fixed txn_run.task txn_run.suites phase) (Replied said)) is ∙ answered

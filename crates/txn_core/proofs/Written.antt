@@ -17,7 +17,32 @@ use Rattle.txn_core.specs.declared.ending.Ending.{Ending}
 use Rattle.txn_core.specs.declared.response.Response.TheVariants.{Replied, Lacked}
 use Rattle.txn_core.specs.declared.ending.Cause.TheVariants.{Lost}
 use Rattle.txn_core.specs.declared.ending.Ending.TheVariants.{Undecided}
-use Rattle.txn_core.specs.Doing.{Changes, home_of, Fixed, Task, Proposal, Phase, Gathering, Fetching, Widening, Preparing, Deciding, Finishing, Sweeping, Listing, Resolving, Telling, Breaking, SweepRun, Doing, Running, RunningSweep, After, GoesOn, Ends}
+use Rattle.txn_core.specs.Doing.{
+  Changes,
+  home_of,
+  Fixed,
+  Task,
+  Proposal,
+  Phase,
+  Gathering,
+  Fetching,
+  Widening,
+  Preparing,
+  Deciding,
+  Finishing,
+  Sweeping,
+  Listing,
+  Resolving,
+  Telling,
+  Breaking,
+  SweepRun,
+  Doing,
+  Running,
+  RunningSweep,
+  After,
+  GoesOn,
+  Ends,
+}
 use Rattle.txn_core.specs.Transactions.{tell_end, give_up, prepare, locked_at, after_response, request_in, changes_of, decision_of, verdict_in, ending_by, cause_of_abort, lack_cause}
 use Rattle.txn_core.specs.Sweeps as sweep
 use Rattle.txn_core.specs.Agents as agents
@@ -71,11 +96,13 @@ some_doing (Some (Running txn_run)) later in' = some_phase txn_run.suites txn_ru
 some_doing (Some (RunningSweep sweep_run)) later in' = some_of in'
 some_doing None later in' = some_of in'
 
-all_ended : (task : Task) (cache : Cache) (suites : Suites) (v : Verdict) (ending : Ending) (servers : List ℕ) (later : List Exchange) → InDoing (agents.left Running (tell_end task cache suites v ending servers).after) later → AllWrite later
+all_ended : (task : Task) (cache : Cache) (suites : Suites) (v : Verdict) (ending : Ending) (servers : List ℕ) (later : List Exchange)
+    → InDoing (agents.left Running (tell_end task cache suites v ending servers).after) later → AllWrite later
 all_ended task cache suites v ending [] later in' = in'
 all_ended task cache suites v ending (server ∷ servers) later in' = in'
 
-writes_prepare : (task : Task) (cache : Cache) (suites : Suites) (outcome : Proposal) (servers : List ℕ) (later : List Exchange) → InDoing (agents.left Running (prepare task cache suites outcome servers).after) later → Writes suites (changes_of outcome) later
+writes_prepare : (task : Task) (cache : Cache) (suites : Suites) (outcome : Proposal) (servers : List ℕ) (later : List Exchange)
+    → InDoing (agents.left Running (prepare task cache suites outcome servers).after) later → Writes suites (changes_of outcome) later
 writes_prepare task cache suites outcome [] later in' = in'
 writes_prepare task cache suites outcome (server ∷ servers) later in' = in'
 
@@ -84,7 +111,8 @@ writes_prepare task cache suites outcome (server ∷ servers) later in' = in'
 no_from : (suites : Suites) (changes : Changes) (server : ℕ) (asked : Request) → is_prepare asked ≡ false → IsFrom suites changes server asked
 no_from suites changes server asked other = λ t parts is. absurd (false≢true (sym other ∙ ap is_prepare is))
 
-no_prepare_round : (fixed : Fixed) (sweep_run : SweepRun) (now : Sweeping) (server : ℕ) (asked : Request) → ◌≡◌ {A = Option (ℕ × Request)} (Some (sweep.asked_now fixed.service sweep_run now)) (Some (server, asked)) → is_prepare asked ≡ false
+no_prepare_round : (fixed : Fixed) (sweep_run : SweepRun) (now : Sweeping) (server : ℕ) (asked : Request)
+    → ◌≡◌ {A = Option (ℕ × Request)} (Some (sweep.asked_now fixed.service sweep_run now)) (Some (server, asked)) → is_prepare asked ≡ false
 no_prepare_round fixed sweep_run Listing server asked is = ap is_prepare (sym (asks_same _ server request.Locks asked is))
 no_prepare_round fixed sweep_run (Resolving t others) server asked is = ap is_prepare (sym (asks_same _ server (request.Resolve t) asked is))
 no_prepare_round fixed sweep_run (Telling t v others) server asked is = ap is_prepare (sym (asks_same _ server (request.Finish t v) asked is))
@@ -106,7 +134,8 @@ response_writes fixed task cache suites (Fetching number) server asked response 
     one_more server asked response later (fetched_as is_prepare false task number (suite_of suites number) server asked refl is) (some_doing (after' fixed task cache suites (Fetching number) server asked response) later in')
 response_writes fixed task cache suites (Widening [] granted) server asked response later is in' = cc
 response_writes fixed task cache suites (Widening (number ∷ left) granted) server asked response later is in' =
-    one_more server asked response later (asked_as is_prepare false task number (suite_of suites number) server asked (λ mode. refl) refl is) (some_doing (after' fixed task cache suites (Widening (number ∷ left) granted) server asked response) later in')
+    one_more server asked response later (asked_as is_prepare false task number (suite_of suites number) server asked (λ mode. refl) refl is)
+    (some_doing (after' fixed task cache suites (Widening (number ∷ left) granted) server asked response) later in')
 response_writes fixed task cache suites (Preparing [] outcome) server asked response later is in' = cc
 response_writes fixed task cache suites (Preparing (now ∷ left) outcome) server asked response later is in' = (from, rest response in')
   where

@@ -26,7 +26,31 @@ use Rattle.txn_core.specs.declared.ending.Cause.TheVariants.{Lost}
 use Rattle.txn_core.specs.declared.ending.Ending.{Ending}
 use Rattle.txn_core.specs.declared.ending.Cause.{Cause}
 use Rattle.txn_core.specs.Doing.{Changes, Granted, Fixed, Task, Proposal, Phase, Gathering, Fetching, Widening, Preparing, Deciding, Finishing, TransactionRun}
-use Rattle.txn_core.specs.Transactions.{Step, on_with, tell_end, finish, give_up, prepare, locked_at, short_cause, raised_or_new, widened, to_widen, free_content, after_search, heard_on, said_to, given_in, verdict_in, ending_by, cause_of_abort, lack_cause, Gathered, execute, after_response}
+use Rattle.txn_core.specs.Transactions.{
+  Step,
+  on_with,
+  tell_end,
+  finish,
+  give_up,
+  prepare,
+  locked_at,
+  short_cause,
+  raised_or_new,
+  widened,
+  to_widen,
+  free_content,
+  after_search,
+  heard_on,
+  said_to,
+  given_in,
+  verdict_in,
+  ending_by,
+  cause_of_abort,
+  lack_cause,
+  Gathered,
+  execute,
+  after_response,
+}
 
 -- ---- where it stands between a word and what it asks next
 

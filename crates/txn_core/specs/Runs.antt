@@ -131,7 +131,8 @@ pub record WorkedRuns : Type 0 where
   -- the content is read where the votes went, and found there
   pub moved_ends : moved.ends ≡ (16, Answered (answer.Read (104 ∷ 105 ∷ []) ∷ [])) ∷ (17, Answered (answer.Set ∷ [])) ∷ (10, Answered (answer.Made 1 ∷ answer.Wrote ∷ [])) ∷ []
   -- what one read is refused to it after the list was changed, with hint and content in its cache
-  pub revoked_ends : revoked.ends ≡ (9, Refused (record { op = 1; why = why.Denied (record { suite = 1; wanted = to_read; decider = Other }) })) ∷ (11, Answered (answer.Set ∷ [])) ∷ (9, Answered (answer.Read (104 ∷ 105 ∷ []) ∷ [])) ∷ (11, Answered (answer.Read (104 ∷ 105 ∷ []) ∷ [])) ∷ (10, Answered (answer.Made 1 ∷ answer.Wrote ∷ [])) ∷ []
+  pub revoked_ends : revoked.ends ≡ (9, Refused (record { op = 1; why = why.Denied (record { suite = 1; wanted = to_read; decider = Other }) })) ∷ (11, Answered (answer.Set ∷ []))
+      ∷ (9, Answered (answer.Read (104 ∷ 105 ∷ []) ∷ [])) ∷ (11, Answered (answer.Read (104 ∷ 105 ∷ []) ∷ [])) ∷ (10, Answered (answer.Made 1 ∷ answer.Wrote ∷ [])) ∷ []
   -- swept before the decision
   pub overruled_ends : (swept_after 7).ends ≡ (10, Undecided Overruled) ∷ (3, Swept 0 1 0) ∷ (3, Swept 0 1 0) ∷ (10, Answered (answer.Made 1 ∷ answer.Wrote ∷ [])) ∷ []
   -- swept after it

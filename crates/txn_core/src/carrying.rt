@@ -20,7 +20,10 @@ use weak_cache::WeakCache;
 
 impl Plan {
     /// Makes room for a suite that is asked for the first time.
-    pub(crate) fn make_room(&self, suites: &mut RoomyMap<u64, GatheredSuite>) -> Result<(), AllocError>
+    pub(crate) fn make_room(
+        &self,
+        suites: &mut RoomyMap<u64, GatheredSuite>,
+    ) -> Result<(), AllocError>
         ensures ok { OnOk result (IsSome self.now.new → 0 < suites.new.room) }
         ensures pairs { suites.new.pairs ≡ suites.old.pairs }
     {

@@ -50,7 +50,8 @@ none_own limits n c site suite none own =
 -- and what else was kept is kept
 pub kept_other : (limits : Limits) (n : Entry) (c : Cache) (site suite : ℕ) → (IsTrue (has_room limits n.content) → ⊥) → is_of site suite n ≡ false → entry_of c site suite ≡ entry_of (put limits n c) site suite
 kept_other limits n c site suite none other =
-    let kept : entry_of (without n.site n.suite c) site suite ≡ entry_of c site suite = find_kept (is_of site suite) (λ x. not (is_of n.site n.suite x)) (λ x here. ap not (of_same site suite n.site n.suite x here ∙ key_turned site suite n ∙ other)) c in
+    let kept : entry_of (without n.site n.suite c) site suite ≡ entry_of c site suite = find_kept (is_of site suite) (λ x. not (is_of n.site n.suite x))
+    (λ x here. ap not (of_same site suite n.site n.suite x here ∙ key_turned site suite n ∙ other)) c in
     sym (left limits n c site suite none ∙ kept)
 
 pub none_is_none : (o : Option Entry) → o ≡ None → IsSome o → ⊥
@@ -95,7 +96,8 @@ last_behind (x ∷ []) e = refl
 last_behind (x ∷ y ∷ newer) e = last_behind (y ∷ newer) e
 
 -- where there are slots for the others, what was kept is kept
-pub others_stay : (site suite new_site new_suite quota budget slots : ℕ) (c : Cache) → ((new_site == site) && (new_suite == suite)) ≡ false → (sum_of c ≤ budget) × (sum_of (list_of new_site c) ≤ quota) → length (without new_site new_suite c) ≤ slots
+pub others_stay : (site suite new_site new_suite quota budget slots : ℕ) (c : Cache) → ((new_site == site) && (new_suite == suite)) ≡ false
+    → (sum_of c ≤ budget) × (sum_of (list_of new_site c) ≤ quota) → length (without new_site new_suite c) ≤ slots
     → entry_of c site suite ≡ entry_of (stays new_site new_suite quota budget slots c) site suite
 others_stay site suite new_site new_suite quota budget slots c other bytes few =
     let r : Entry → Bool = λ x. not (is_of new_site new_suite x) in
@@ -119,7 +121,8 @@ one_for_one site suite new_site new_suite quota budget slots c other bytes few t
     others_stay site suite new_site new_suite quota budget slots c other bytes (let less = one_less new_site new_suite c there in omega (arith, few, less))
 
 -- where the oldest goes
-module _ (new_site new_suite quota budget slots : ℕ) (c : Cache) (last : Entry) (bytes : (sum_of c ≤ budget) × (sum_of (list_of new_site c) ≤ quota)) (few : length c ≤ slots + 1) (above : slots < length c) (none : entry_of c new_site new_suite ≡ None) (is : last_of c ≡ Some last) where
+module _ (new_site new_suite quota budget slots : ℕ) (c : Cache) (last : Entry) (bytes : (sum_of c ≤ budget) × (sum_of (list_of new_site c) ≤ quota)) (few : length c ≤ slots + 1)
+    (above : slots < length c) (none : entry_of c new_site new_suite ≡ None) (is : last_of c ≡ Some last) where
   but_last : (newer : Cache) × (c ≡ newer ++ last ∷ []) × (stays new_site new_suite quota budget slots c ≡ newer)
   but_last =
       let cut = last_cut c last is in
@@ -187,7 +190,8 @@ module _ (site : ℕ) (e : Entry) (c : Cache) where
   pub walk_gone : (room : Option ℕ) → is_at site e ≡ true → room_after room (size_of e.content) ≡ None → within_room site room (e ∷ c) ≡ within_room site None c
   walk_gone None at none = rw at refl
   walk_gone (Some room) at none =
-      elim (leb (size_of e.content) room) as (λ t. cond t (Some (room - size_of e.content)) None ≡ None → cond (is_at site e) (cond t (e ∷ within_quota site (room - size_of e.content) c) (forgotten site c)) (e ∷ within_quota site room c) ≡ forgotten site c) [
+      elim (leb (size_of e.content) room) as (λ t. cond t (Some (room - size_of e.content)) None ≡ None
+      → cond (is_at site e) (cond t (e ∷ within_quota site (room - size_of e.content) c) (forgotten site c)) (e ∷ within_quota site room c) ≡ forgotten site c) [
         | true ↦ λ none. absurd (cc none)
         | false ↦ λ _. rw at refl
       ] none
@@ -196,7 +200,8 @@ module _ (site : ℕ) (e : Entry) (c : Cache) where
   pub walk_kept : (room left : Option ℕ) → is_at site e ≡ true → room_after room (size_of e.content) ≡ left → (left ≡ None → ⊥) → within_room site room (e ∷ c) ≡ e ∷ within_room site left c
   walk_kept None left at is some = absurd (some (sym is))
   walk_kept (Some room) left at is some =
-      elim (leb (size_of e.content) room) as (λ t. cond t (Some (room - size_of e.content)) None ≡ left → cond (is_at site e) (cond t (e ∷ within_quota site (room - size_of e.content) c) (forgotten site c)) (e ∷ within_quota site room c) ≡ e ∷ within_room site left c) [
+      elim (leb (size_of e.content) room) as (λ t. cond t (Some (room - size_of e.content)) None ≡ left
+      → cond (is_at site e) (cond t (e ∷ within_quota site (room - size_of e.content) c) (forgotten site c)) (e ∷ within_quota site room c) ≡ e ∷ within_room site left c) [
         | true ↦ λ is. rw (at, sym is) refl
         | false ↦ λ is. absurd (some (sym is))
       ] is
@@ -213,7 +218,8 @@ walk_ends site suite budget slots e c ends =
       | false ↦ λ _. refl
     ] refl
 
-pub walk_on : (site suite budget slots : ℕ) (e : Entry) (c : Cache) → (slots ≡ 0 → ⊥) → size_of e.content ≤ budget → entry_of (within_budget budget slots (e ∷ c)) site suite ≡ cond (is_of site suite e) (Some e) (entry_of (within_budget (budget - size_of e.content) (slots - 1) c) site suite)
+pub walk_on : (site suite budget slots : ℕ) (e : Entry) (c : Cache) → (slots ≡ 0 → ⊥) → size_of e.content ≤ budget
+    → entry_of (within_budget budget slots (e ∷ c)) site suite ≡ cond (is_of site suite e) (Some e) (entry_of (within_budget (budget - size_of e.content) (slots - 1) c) site suite)
 walk_on site suite budget slots e c some fits =
     let in_budget : leb (size_of e.content) budget ≡ true = le-leb _ _ fits in
     let slot : ltb 0 slots ≡ true = lt-ltb 0 slots (above_zero slots some) in

@@ -53,8 +53,10 @@ tally_dropped t newer e older small h = record {
   sites = λ site fits. elim (is_at site e) as (λ b. is_at site e ≡ b → slice_index (set t.sites e.site (slice_index t.sites e.site - size_of e.content)) site ≡ sum_of (list_of site (newer ++ older))) [
     | true ↦ λ own.
         let same : e.site ≡ site = eqb-true e.site site own in
-        let here : slice_index (set t.sites e.site (slice_index t.sites e.site - size_of e.content)) e.site ≡ slice_index t.sites e.site - size_of e.content = get_or-set_same t.sites e.site (slice_index t.sites e.site - size_of e.content) 0 (omega (arith, h.all, small)) in
-        let value : slice_index (set t.sites e.site (slice_index t.sites e.site - size_of e.content)) e.site ≡ sum_of (list_of e.site (newer ++ older)) = omega (arith, here, h.sites e.site small, own_between e.site newer e older (at_own e)) in
+        let here : slice_index (set t.sites e.site (slice_index t.sites e.site - size_of e.content)) e.site
+        ≡ slice_index t.sites e.site - size_of e.content = get_or-set_same t.sites e.site (slice_index t.sites e.site - size_of e.content) 0 (omega (arith, h.all, small)) in
+        let value : slice_index (set t.sites e.site (slice_index t.sites e.site - size_of e.content)) e.site ≡ sum_of (list_of e.site (newer ++ older)) = omega
+        (arith, here, h.sites e.site small, own_between e.site newer e older (at_own e)) in
         ap (slice_index (set t.sites e.site (slice_index t.sites e.site - size_of e.content))) (sym same) ∙ value ∙ ap (λ s. sum_of (list_of s (newer ++ older))) same
     | false ↦ λ other. get_or-set_other t.sites e.site site (slice_index t.sites e.site - size_of e.content) 0 (apart site e other) ∙ h.sites site fits ∙ ap sum_of (other_between site newer e older other)
   ] refl;
@@ -68,7 +70,8 @@ tally_added t e c small h = record {
   sites = λ site fits. elim (is_at site e) as (λ b. is_at site e ≡ b → slice_index (set t.sites e.site (slice_index t.sites e.site + size_of e.content)) site ≡ sum_of (cond b (e ∷ list_of site c) (list_of site c))) [
     | true ↦ λ own.
         let same : e.site ≡ site = eqb-true e.site site own in
-        let here : slice_index (set t.sites e.site (slice_index t.sites e.site + size_of e.content)) e.site ≡ slice_index t.sites e.site + size_of e.content = get_or-set_same t.sites e.site (slice_index t.sites e.site + size_of e.content) 0 (omega (arith, h.all, small)) in
+        let here : slice_index (set t.sites e.site (slice_index t.sites e.site + size_of e.content)) e.site
+        ≡ slice_index t.sites e.site + size_of e.content = get_or-set_same t.sites e.site (slice_index t.sites e.site + size_of e.content) 0 (omega (arith, h.all, small)) in
         let value : slice_index (set t.sites e.site (slice_index t.sites e.site + size_of e.content)) e.site ≡ size_of e.content + sum_of (list_of e.site c) = omega (arith, here, h.sites e.site small) in
         ap (slice_index (set t.sites e.site (slice_index t.sites e.site + size_of e.content))) (sym same) ∙ value ∙ ap (λ s. size_of e.content + sum_of (list_of s c)) same
     | false ↦ λ other. get_or-set_other t.sites e.site site (slice_index t.sites e.site + size_of e.content) 0 (apart site e other) ∙ h.sites site fits

@@ -69,11 +69,13 @@ pub fewer_moved : (newer : Cache) (e : Entry) (older : Cache) → Fewer (e ∷ n
 fewer_moved [] e older m q = fewer_same (e ∷ older) m q
 fewer_moved (x ∷ newer) e older m q =
     let rest = fewer_moved newer e older m q in
-    elim (q x) as (λ t. total m (cond (q e) (e ∷ cond t (x ∷ filter q (newer ++ older)) (filter q (newer ++ older))) (cond t (x ∷ filter q (newer ++ older)) (filter q (newer ++ older)))) ≤ total m (cond t (x ∷ filter q (newer ++ e ∷ older)) (filter q (newer ++ e ∷ older)))) [
-      | true ↦ elim (q e) as (λ u. total m (cond u (e ∷ filter q (newer ++ older)) (filter q (newer ++ older))) ≤ total m (filter q (newer ++ e ∷ older)) → total m (cond u (e ∷ x ∷ filter q (newer ++ older)) (x ∷ filter q (newer ++ older))) ≤ m x + total m (filter q (newer ++ e ∷ older))) [
-        | true ↦ λ h. omega (arith, h)
-        | false ↦ λ h. omega (arith, h)
-      ] rest
+    elim (q x) as (λ t. total m (cond (q e) (e ∷ cond t (x ∷ filter q (newer ++ older)) (filter q (newer ++ older)))
+    (cond t (x ∷ filter q (newer ++ older)) (filter q (newer ++ older)))) ≤ total m (cond t (x ∷ filter q (newer ++ e ∷ older)) (filter q (newer ++ e ∷ older)))) [
+      | true ↦ elim (q e) as (λ u. total m (cond u (e ∷ filter q (newer ++ older)) (filter q (newer ++ older))) ≤ total m (filter q (newer ++ e ∷ older))
+          → total m (cond u (e ∷ x ∷ filter q (newer ++ older)) (x ∷ filter q (newer ++ older))) ≤ m x + total m (filter q (newer ++ e ∷ older))) [
+            | true ↦ λ h. omega (arith, h)
+            | false ↦ λ h. omega (arith, h)
+          ] rest
       | false ↦ rest
     ]
 

@@ -77,7 +77,9 @@ quota_found site suite other room e (x ∷ c) h =
     let p = is_of site suite in
     let more : (room' : ℕ) → find p (x ∷ within_quota other room' c) ≡ Some e → find p (x ∷ c) ≡ Some e = λ room'.
     elim (p x) as (λ t. cond t (Some x) (find p (within_quota other room' c)) ≡ Some e → cond t (Some x) (find p c) ≡ Some e) [ true ↦ λ h. h | false ↦ λ h. quota_found site suite other room' e c h ] in
-    elim (is_at other x) as (λ b. is_at other x ≡ b → find p (cond b (cond (leb (size_of x.content) room) (x ∷ within_quota other (room - size_of x.content) c) (forgotten other c)) (x ∷ within_quota other room c)) ≡ Some e → find p (x ∷ c) ≡ Some e) [
+    elim (is_at other x) as (λ b. is_at other x ≡ b
+    → find p (cond b (cond (leb (size_of x.content) room) (x ∷ within_quota other (room - size_of x.content) c) (forgotten other c)) (x ∷ within_quota other room c)) ≡ Some e
+    → find p (x ∷ c) ≡ Some e) [
       | true ↦ λ own. elim (leb (size_of x.content) room) as (λ t. find p (cond t (x ∷ within_quota other (room - size_of x.content) c) (forgotten other c)) ≡ Some e → find p (x ∷ c) ≡ Some e) [
         | true ↦ λ h. more (room - size_of x.content) h
         | false ↦ λ h.
@@ -95,7 +97,8 @@ budget_found site suite room slots e [] h = h
 budget_found site suite room slots e (x ∷ c) h =
     let p = is_of site suite in
     elim (leb (size_of x.content) room && ltb 0 slots) as (λ t. find p (cond t (x ∷ within_budget (room - size_of x.content) (slots - 1) c) []) ≡ Some e → find p (x ∷ c) ≡ Some e) [
-      | true ↦ elim (p x) as (λ t. cond t (Some x) (find p (within_budget (room - size_of x.content) (slots - 1) c)) ≡ Some e → cond t (Some x) (find p c) ≡ Some e) [ true ↦ λ h. h | false ↦ λ h. budget_found site suite (room - size_of x.content) (slots - 1) e c h ]
+      | true ↦ elim (p x) as (λ t. cond t (Some x) (find p (within_budget (room - size_of x.content) (slots - 1) c)) ≡ Some e → cond t (Some x) (find p c) ≡ Some e)
+          [ true ↦ λ h. h | false ↦ λ h. budget_found site suite (room - size_of x.content) (slots - 1) e c h ]
       | false ↦ λ h. absurd (none_is_no_entry e h)
     ] h
 
@@ -193,7 +196,8 @@ after_found limits (ContentAt other number dver) site suite e c h = inl (sym (se
 after_found limits (Put n) site suite e c h = put_found limits n site suite e c h
 after_found limits (Forget other) site suite e c h = inl (found_forgotten site suite other e c h)
 
-run_found : (limits : Limits) (calls : List Call) (c : Cache) (site suite : ℕ) (e : Entry) → entry_of (run limits calls c) site suite ≡ Some e → ((entry_of c site suite ≡ Some e) × (list_all (spares site suite) calls ≡ true)) ⊎ WasPut site suite e calls
+run_found : (limits : Limits) (calls : List Call) (c : Cache) (site suite : ℕ) (e : Entry) → entry_of (run limits calls c) site suite ≡ Some e
+    → ((entry_of c site suite ≡ Some e) × (list_all (spares site suite) calls ≡ true)) ⊎ WasPut site suite e calls
 run_found limits [] c site suite e h = inl (h, refl)
 run_found limits (call ∷ calls) c site suite e h =
     elim (run_found limits calls (after limits call c) site suite e h) [

@@ -31,7 +31,8 @@ sum_of-append (e ∷ a) b = omega (arith, sum_of-append a b)
 pub quota_fits : (site room : ℕ) (c : Cache) → sum_of (list_of site c) ≤ room → within_quota site room c ≡ c
 quota_fits site room [] h = refl
 quota_fits site room (e ∷ c) h =
-    elim (is_at site e) as (λ b. sum_of (cond b (e ∷ list_of site c) (list_of site c)) ≤ room → cond b (cond (leb (size_of e.content) room) (e ∷ within_quota site (room - size_of e.content) c) (forgotten site c)) (e ∷ within_quota site room c) ≡ e ∷ c) [
+    elim (is_at site e) as (λ b. sum_of (cond b (e ∷ list_of site c) (list_of site c)) ≤ room
+    → cond b (cond (leb (size_of e.content) room) (e ∷ within_quota site (room - size_of e.content) c) (forgotten site c)) (e ∷ within_quota site room c) ≡ e ∷ c) [
       | true ↦ λ h. let fits : leb (size_of e.content) room ≡ true = le-leb _ _ (omega (arith, h)) in rw fits (ap (with' e) (quota_fits site (room - size_of e.content) c (omega (arith, h))))
       | false ↦ λ h. ap (with' e) (quota_fits site room c h)
     ] h
@@ -53,17 +54,23 @@ pub forgotten_own : (site : ℕ) (e : Entry) (c : Cache) → is_at site e ≡ tr
 forgotten_own site e c own = rw own refl
 
 -- where a site has too much, its oldest entry is none of those that stay
-pub quota_evicts : (site room : ℕ) (newer : Cache) (e : Entry) (older : Cache) → is_at site e ≡ true → list_of site older ≡ [] → room < sum_of (list_of site (newer ++ e ∷ older)) → within_quota site room (newer ++ e ∷ older) ≡ within_quota site room (newer ++ older)
+pub quota_evicts : (site room : ℕ) (newer : Cache) (e : Entry) (older : Cache) → is_at site e ≡ true → list_of site older ≡ [] → room < sum_of (list_of site (newer ++ e ∷ older))
+    → within_quota site room (newer ++ e ∷ older) ≡ within_quota site room (newer ++ older)
 quota_evicts site room [] e older own last above =
     let sum : sum_of (list_of site (e ∷ older)) ≡ size_of e.content = rw (own, last) (omega arith) in
     let too_large : leb (size_of e.content) room ≡ false = large _ _ (omega (arith, above, sum)) in
     rw (own, too_large, forgotten_none site older last, quota_none site room older last) refl
 quota_evicts site room (x ∷ newer) e older own last above =
-    elim (is_at site x) as (λ b. room < sum_of (cond b (x ∷ list_of site (newer ++ e ∷ older)) (list_of site (newer ++ e ∷ older))) → cond b (cond (leb (size_of x.content) room) (x ∷ within_quota site (room - size_of x.content) (newer ++ e ∷ older)) (forgotten site (newer ++ e ∷ older))) (x ∷ within_quota site room (newer ++ e ∷ older)) ≡ cond b (cond (leb (size_of x.content) room) (x ∷ within_quota site (room - size_of x.content) (newer ++ older)) (forgotten site (newer ++ older))) (x ∷ within_quota site room (newer ++ older))) [
-      | true ↦ λ above. elim (leb (size_of x.content) room) as (λ t. leb (size_of x.content) room ≡ t → cond t (x ∷ within_quota site (room - size_of x.content) (newer ++ e ∷ older)) (forgotten site (newer ++ e ∷ older)) ≡ cond t (x ∷ within_quota site (room - size_of x.content) (newer ++ older)) (forgotten site (newer ++ older))) [
-        | true ↦ λ fits. ap (with' x) (quota_evicts site (room - size_of x.content) newer e older own last (omega (arith, above, leb-true _ _ fits)))
-        | false ↦ λ _. filter-append _ newer (e ∷ older) ∙ ap (λ l. forgotten site newer ++ l) (forgotten_own site e older own) ∙ sym (filter-append _ newer older)
-      ] refl
+    elim (is_at site x) as (λ b. room < sum_of (cond b (x ∷ list_of site (newer ++ e ∷ older)) (list_of site (newer ++ e ∷ older)))
+    → cond b (cond (leb (size_of x.content) room) (x ∷ within_quota site (room - size_of x.content) (newer ++ e ∷ older)) (forgotten site (newer ++ e ∷ older)))
+    (x ∷ within_quota site room (newer ++ e ∷ older)) ≡ cond b (cond (leb (size_of x.content) room) (x ∷ within_quota site (room - size_of x.content) (newer ++ older))
+    (forgotten site (newer ++ older))) (x ∷ within_quota site room (newer ++ older))) [
+      | true ↦ λ above. elim (leb (size_of x.content) room) as (λ t. leb (size_of x.content) room ≡ t
+          → cond t (x ∷ within_quota site (room - size_of x.content) (newer ++ e ∷ older)) (forgotten site (newer ++ e ∷ older)) ≡ cond t
+          (x ∷ within_quota site (room - size_of x.content) (newer ++ older)) (forgotten site (newer ++ older))) [
+            | true ↦ λ fits. ap (with' x) (quota_evicts site (room - size_of x.content) newer e older own last (omega (arith, above, leb-true _ _ fits)))
+            | false ↦ λ _. filter-append _ newer (e ∷ older) ∙ ap (λ l. forgotten site newer ++ l) (forgotten_own site e older own) ∙ sym (filter-append _ newer older)
+          ] refl
       | false ↦ λ above. ap (with' x) (quota_evicts site room newer e older own last above)
     ] above
 
@@ -115,10 +122,12 @@ budget_evicts room slots [] e above =
       | false ↦ λ _. refl
     ] refl
 budget_evicts room slots (x ∷ newer) e above =
-    elim (leb (size_of x.content) room && ltb 0 slots) as (λ t. (leb (size_of x.content) room && ltb 0 slots) ≡ t → cond t (x ∷ within_budget (room - size_of x.content) (slots - 1) (newer ++ e ∷ [])) [] ≡ cond t (x ∷ within_budget (room - size_of x.content) (slots - 1) newer) []) [
+    elim (leb (size_of x.content) room && ltb 0 slots) as (λ t. (leb (size_of x.content) room && ltb 0 slots) ≡ t
+    → cond t (x ∷ within_budget (room - size_of x.content) (slots - 1) (newer ++ e ∷ [])) [] ≡ cond t (x ∷ within_budget (room - size_of x.content) (slots - 1) newer) []) [
       | true ↦ λ h.
           let fits = both (leb (size_of x.content) room) (ltb 0 slots) h in
-          let above' : (room - size_of x.content < sum_of (newer ++ e ∷ [])) ⊎ (slots - 1 < length (newer ++ e ∷ [])) = elim above [ inl sum ↦ inl (omega (arith, sum, leb-true _ _ fits.0)) | inr count ↦ inr (omega (arith, count, ltb-true _ _ fits.1)) ] in
+          let above' : (room - size_of x.content < sum_of (newer ++ e ∷ [])) ⊎ (slots - 1 < length (newer ++ e ∷ [])) = elim above
+          [ inl sum ↦ inl (omega (arith, sum, leb-true _ _ fits.0)) | inr count ↦ inr (omega (arith, count, ltb-true _ _ fits.1)) ] in
           ap (with' x) (budget_evicts (room - size_of x.content) (slots - 1) newer e above')
       | false ↦ λ _. refl
     ] refl
@@ -135,7 +144,9 @@ budget_fewer room slots (e ∷ c) =
 pub budget_sum : (room slots : ℕ) (c : Cache) → (sum_of (within_budget room slots c) ≤ room) × (length (within_budget room slots c) ≤ slots)
 budget_sum room slots [] = (omega arith, omega arith)
 budget_sum room slots (e ∷ c) =
-    elim (leb (size_of e.content) room && ltb 0 slots) as (λ t. (leb (size_of e.content) room && ltb 0 slots) ≡ t → (sum_of (cond t (e ∷ within_budget (room - size_of e.content) (slots - 1) c) []) ≤ room) × (length (cond t (e ∷ within_budget (room - size_of e.content) (slots - 1) c) []) ≤ slots)) [
+    elim (leb (size_of e.content) room && ltb 0 slots) as (λ t. (leb (size_of e.content) room && ltb 0 slots) ≡ t
+    → (sum_of (cond t (e ∷ within_budget (room - size_of e.content) (slots - 1) c) []) ≤ room)
+    × (length (cond t (e ∷ within_budget (room - size_of e.content) (slots - 1) c) []) ≤ slots)) [
       | true ↦ λ h.
           let fits = both (leb (size_of e.content) room) (ltb 0 slots) h in
           let rest = budget_sum (room - size_of e.content) (slots - 1) c in
@@ -151,12 +162,14 @@ pub record EndsAt (site : ℕ) (cache newer : Cache) (entry : Entry) (older : Ca
 
 -- ---- steps of the loops
 
-pub quota_step : (site room : ℕ) (before after newer : Cache) (e : Entry) (older : Cache) → EndsAt site before newer e older → after ≡ newer ++ older → room < sum_of (list_of site before) → within_quota site room after ≡ within_quota site room before
+pub quota_step : (site room : ℕ) (before after newer : Cache) (e : Entry) (older : Cache) → EndsAt site before newer e older → after ≡ newer ++ older
+    → room < sum_of (list_of site before) → within_quota site room after ≡ within_quota site room before
 quota_step site room before after newer e older cut left above =
     let above' : room < sum_of (list_of site (newer ++ e ∷ older)) = omega (arith, above, ap (λ c. sum_of (list_of site c)) cut.parts) in
     rw (cut.parts, left) (sym (quota_evicts site room newer e older cut.own cut.last above'))
 
-pub budget_step : (room slots : ℕ) (before after newer : Cache) (e : Entry) → before ≡ newer ++ e ∷ [] → after ≡ newer ++ [] → (room < sum_of before) ⊎ (slots < length before) → within_budget room slots after ≡ within_budget room slots before
+pub budget_step : (room slots : ℕ) (before after newer : Cache) (e : Entry) → before ≡ newer ++ e ∷ [] → after ≡ newer ++ [] → (room < sum_of before) ⊎ (slots < length before)
+    → within_budget room slots after ≡ within_budget room slots before
 budget_step room slots before after newer e parts left above =
     let above' : (room < sum_of (newer ++ e ∷ [])) ⊎ (slots < length (newer ++ e ∷ [])) = elim above [ inl sum ↦ inl (omega (arith, sum, ap sum_of parts)) | inr count ↦ inr (omega (arith, count, ap length parts)) ] in
     rw (parts, left, append-nil newer) (sym (budget_evicts room slots newer e above'))

@@ -40,13 +40,16 @@ sum_at_turned site (e ∷ n) =
 quota_other : (site room : ℕ) (e : Entry) → is_at site e ≡ false → (c : Cache) → within_quota site room (c ++ e ∷ []) ≡ within_quota site room c ++ e ∷ []
 quota_other site room e other [] = rw other refl
 quota_other site room e other (x ∷ c) =
-    elim (is_at site x) as (λ b. cond b (cond (leb (size_of x.content) room) (x ∷ within_quota site (room - size_of x.content) (c ++ e ∷ [])) (forgotten site (c ++ e ∷ []))) (x ∷ within_quota site room (c ++ e ∷ [])) ≡ cond b (cond (leb (size_of x.content) room) (x ∷ within_quota site (room - size_of x.content) c) (forgotten site c)) (x ∷ within_quota site room c) ++ e ∷ []) [
-      | true ↦ elim (leb (size_of x.content) room) as (λ t. cond t (x ∷ within_quota site (room - size_of x.content) (c ++ e ∷ [])) (forgotten site (c ++ e ∷ [])) ≡ cond t (x ∷ within_quota site (room - size_of x.content) c) (forgotten site c) ++ e ∷ []) [
-        | true ↦ ap (with' x) (quota_other site (room - size_of x.content) e other c)
-        | false ↦
-            let stays : forgotten site (e ∷ []) ≡ e ∷ [] = rw other refl in
-            filter-append (λ y. not (is_at site y)) c (e ∷ []) ∙ ap (λ l. forgotten site c ++ l) stays
-      ]
+    elim (is_at site x) as (λ b. cond b (cond (leb (size_of x.content) room) (x ∷ within_quota site (room - size_of x.content) (c ++ e ∷ [])) (forgotten site (c ++ e ∷ [])))
+    (x ∷ within_quota site room (c ++ e ∷ [])) ≡ cond b (cond (leb (size_of x.content) room) (x ∷ within_quota site (room - size_of x.content) c) (forgotten site c))
+    (x ∷ within_quota site room c) ++ e ∷ []) [
+      | true ↦ elim (leb (size_of x.content) room) as (λ t. cond t (x ∷ within_quota site (room - size_of x.content) (c ++ e ∷ [])) (forgotten site (c ++ e ∷ [])) ≡ cond t
+          (x ∷ within_quota site (room - size_of x.content) c) (forgotten site c) ++ e ∷ []) [
+            | true ↦ ap (with' x) (quota_other site (room - size_of x.content) e other c)
+            | false ↦
+                let stays : forgotten site (e ∷ []) ≡ e ∷ [] = rw other refl in
+                filter-append (λ y. not (is_at site y)) c (e ∷ []) ∙ ap (λ l. forgotten site c ++ l) stays
+          ]
       | false ↦ ap (with' x) (quota_other site room e other c)
     ]
 
@@ -83,7 +86,8 @@ budget_words limits (e ∷ n) =
     elim (is_above limits (e ∷ n)) as (λ t. is_above limits (e ∷ n) ≡ t → within_budget limits.budget limits.slots (reverse (e ∷ n)) ≡ reverse (cond t (lets_go limits n) (e ∷ n))) [
       | true ↦ λ above.
           let above' : (limits.budget < sum_of (reverse n ++ e ∷ [])) ⊎ (limits.slots < length (reverse n ++ e ∷ [])) =
-          elim (either (ltb limits.budget (sum_of (e ∷ n))) (ltb limits.slots (length (e ∷ n))) above) [ inl s ↦ inl (omega (arith, ltb-true _ _ s, sum, ap sum_of (turned e n))) | inr s ↦ inr (omega (arith, ltb-true _ _ s, count, ap length (turned e n))) ] in
+          elim (either (ltb limits.budget (sum_of (e ∷ n))) (ltb limits.slots (length (e ∷ n))) above)
+          [ inl s ↦ inl (omega (arith, ltb-true _ _ s, sum, ap sum_of (turned e n))) | inr s ↦ inr (omega (arith, ltb-true _ _ s, count, ap length (turned e n))) ] in
           ap kept (turned e n) ∙ budget_evicts limits.budget limits.slots (reverse n) e above' ∙ budget_words limits n
       | false ↦ λ fits.
           let within = neither (ltb limits.budget (sum_of (e ∷ n))) (ltb limits.slots (length (e ∷ n))) fits in

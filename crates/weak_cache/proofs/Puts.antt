@@ -7,7 +7,8 @@ use Rattle.weak_cache.specs.Cache.{Limits, IsWithin, has_room, put, within_quota
 use Rattle.weak_cache.proofs.Fewer.{Fewer, fewer_filter, fewer_then, fewer_moved, within_fewer, list_fewer, once_fewer}
 use Rattle.weak_cache.proofs.Keeping.{both, quota_fewer, quota_sum, budget_fewer, budget_sum}
 
-pub within_moved : (limits : Limits) (c moved newer : Cache) (e : Entry) (older : Cache) → c ≡ newer ++ e ∷ older → moved ≡ e ∷ newer ++ older → IsWithin (record { limits = limits; entries = c }) → IsWithin (record { limits = limits; entries = moved })
+pub within_moved : (limits : Limits) (c moved newer : Cache) (e : Entry) (older : Cache) → c ≡ newer ++ e ∷ older → moved ≡ e ∷ newer ++ older
+    → IsWithin (record { limits = limits; entries = c }) → IsWithin (record { limits = limits; entries = moved })
 within_moved limits c moved newer e older parts is h = within_fewer limits moved c h (rw (parts, is) (fewer_moved newer e older))
 
 -- what is kept beside a new entry

@@ -54,11 +54,13 @@ module _ {X : Type 0} (p : X → Bool) where
       ]
 
   -- the only one that passes
-  pub alone : (newer : List X) (x : X) (older : List X) → p x ≡ true → length (filter p (newer ++ older)) ≤ 0 → (find p (newer ++ x ∷ older) ≡ Some x) × (filter (λ x. not (p x)) (newer ++ x ∷ older) ≡ newer ++ older) × (find p (newer ++ older) ≡ None)
+  pub alone : (newer : List X) (x : X) (older : List X) → p x ≡ true → length (filter p (newer ++ older)) ≤ 0
+      → (find p (newer ++ x ∷ older) ≡ Some x) × (filter (λ x. not (p x)) (newer ++ x ∷ older) ≡ newer ++ older) × (find p (newer ++ older) ≡ None)
   alone [] x older own few = let r = none_found older few in (rw own refl, rw own r.1, r.0)
   alone (y ∷ newer) x older own few =
       elim (p y) as (λ t. length (cond t (y ∷ filter p (newer ++ older)) (filter p (newer ++ older))) ≤ 0
-      → (cond t (Some y) (find p (newer ++ x ∷ older)) ≡ Some x) × (cond (not t) (y ∷ filter (λ x. not (p x)) (newer ++ x ∷ older)) (filter (λ x. not (p x)) (newer ++ x ∷ older)) ≡ y ∷ (newer ++ older)) × (cond t (Some y) (find p (newer ++ older)) ≡ None)) [
+      → (cond t (Some y) (find p (newer ++ x ∷ older)) ≡ Some x) × (cond (not t) (y ∷ filter (λ x. not (p x)) (newer ++ x ∷ older))
+      (filter (λ x. not (p x)) (newer ++ x ∷ older)) ≡ y ∷ (newer ++ older)) × (cond t (Some y) (find p (newer ++ older)) ≡ None)) [
         | true ↦ λ few. absurd (omega (arith, few))
         | false ↦ λ few. let r = alone newer x older own few in (r.0, ap (λ l. y ∷ l) r.1, r.2)
       ] few
@@ -181,7 +183,9 @@ key_gone site suite newer s older once own =
     sym (filter_values (λ e. not (is_of site suite e)) (newer ++ s ∷ older) ∙ ap values (alone (has_key site suite) newer s older own (key_alone site suite newer s older once own)).1)
 
 -- what a key's slot holds is what is kept of the key
-pub key_found : (site suite slot : ℕ) (shelved : List Slotted) → Once (slots_of shelved) → slot_in site suite shelved ≡ Some slot → (newer : List Slotted) × (s : Slotted) × (older : List Slotted) × CutAt slot shelved newer s older × (has_key site suite s ≡ true) × (entry_of (values shelved) site suite ≡ Some s.value) × (value_of slot shelved ≡ Some s.value)
+pub key_found : (site suite slot : ℕ) (shelved : List Slotted) → Once (slots_of shelved) → slot_in site suite shelved ≡ Some slot
+    → (newer : List Slotted) × (s : Slotted) × (older : List Slotted) × CutAt slot shelved newer s older × (has_key site suite s ≡ true)
+    × (entry_of (values shelved) site suite ≡ Some s.value) × (value_of slot shelved ≡ Some s.value)
 key_found site suite slot shelved once is =
     elim (find (has_key site suite) shelved) as (λ o. find (has_key site suite) shelved ≡ o → option_map (λ (s : Slotted). s.slot) o ≡ Some slot
     → (newer : List Slotted) × (s : Slotted) × (older : List Slotted) × CutAt slot shelved newer s older × (has_key site suite s ≡ true) × (entry_of (values shelved) site suite ≡ Some s.value) × (value_of slot shelved ≡ Some s.value)) [
@@ -233,8 +237,10 @@ list_is site [] h = refl
 list_is site (s ∷ shelved) h =
     let e : (s.site == site) ≡ is_at site s.value = ap (λ n. n == site) h.0 in
     by_flag (list_of site (values (s ∷ shelved)) ≡ values (shelf.of_site site (s ∷ shelved))) (is_at site s.value)
-    (λ own. ap (λ t. cond t (s.value ∷ list_of site (values shelved)) (list_of site (values shelved))) own ∙ ap (λ l. s.value ∷ l) (list_is site shelved h.1) ∙ sym (ap (λ t. values (cond t (s ∷ shelf.of_site site shelved) (shelf.of_site site shelved))) (e ∙ own)))
-    (λ other. ap (λ t. cond t (s.value ∷ list_of site (values shelved)) (list_of site (values shelved))) other ∙ list_is site shelved h.1 ∙ sym (ap (λ t. values (cond t (s ∷ shelf.of_site site shelved) (shelf.of_site site shelved))) (e ∙ other)))
+    (λ own. ap (λ t. cond t (s.value ∷ list_of site (values shelved)) (list_of site (values shelved))) own ∙ ap (λ l. s.value ∷ l) (list_is site shelved h.1) ∙ sym
+    (ap (λ t. values (cond t (s ∷ shelf.of_site site shelved) (shelf.of_site site shelved))) (e ∙ own)))
+    (λ other. ap (λ t. cond t (s.value ∷ list_of site (values shelved)) (list_of site (values shelved))) other ∙ list_is site shelved h.1 ∙ sym
+    (ap (λ t. values (cond t (s ∷ shelf.of_site site shelved) (shelf.of_site site shelved))) (e ∙ other)))
 
 -- ---- the ends of a list
 
@@ -351,7 +357,8 @@ one_key site suite a b own =
 
 few_left : (site suite : ℕ) (newer : Cache) (e : Entry) (older : Cache) → length (filter (is_of site suite) (newer ++ older)) ≤ length (filter (is_of site suite) (newer ++ e ∷ older))
 few_left site suite newer e older =
-    once_fewer site suite (newer ++ older) (newer ++ e ∷ older) (fewer_then (newer ++ older) (e ∷ newer ++ older) (newer ++ e ∷ older) (fewer_without e (newer ++ older) (newer ++ older) (fewer_same (newer ++ older))) (fewer_moved newer e older))
+    once_fewer site suite (newer ++ older) (newer ++ e ∷ older) (fewer_then (newer ++ older) (e ∷ newer ++ older) (newer ++ e ∷ older)
+    (fewer_without e (newer ++ older) (newer ++ older) (fewer_same (newer ++ older))) (fewer_moved newer e older))
 
 -- nothing has changed
 pub kept_same : (k k' : Kept) → IsKept k → k'.shelf ≡ k.shelf → k'.index.entries ≡ k.index.entries → k'.tally ≡ k.tally → k'.slots ≡ k.slots → IsKept k'
@@ -387,7 +394,8 @@ module _ (k k' : Kept) (h : IsKept k) (slots : k'.slots ≡ k.slots) where
             (by_flag (length (filter (is_of site suite) (v ∷ values all)) ≤ 1) (is_of site suite v)
             (λ own.
             let b = both (v.site == site) (v.suite == suite) own in
-            let few : length (filter (is_of site suite) (values all)) ≤ 0 = none_counted (is_of site suite) (values all) (ap (λ n. entry_of (values all) n suite) (sym (eqb-true v.site site b.0)) ∙ ap (entry_of (values all) v.site) (sym (eqb-true v.suite suite b.1)) ∙ none) in
+            let few : length (filter (is_of site suite) (values all)) ≤ 0 = none_counted (is_of site suite) (values all)
+            (ap (λ n. entry_of (values all) n suite) (sym (eqb-true v.site site b.0)) ∙ ap (entry_of (values all) v.site) (sym (eqb-true v.suite suite b.1)) ∙ none) in
             rw own (omega (arith, few)))
             (λ other. rw other (h.once site suite)));
         slots = slots ∙ h.slots ∙ sym (ap (λ (t : Shelf Entry). t.slots) same);
@@ -411,7 +419,13 @@ module _ (k k' : Kept) (h : IsKept k) (slots : k'.slots ≡ k.slots) where
     none_left site suite own = ap (option_map (λ (s : Slotted). s.slot)) (alone (has_key site suite) c.newer c.s c.older own (key_alone site suite c.newer c.s c.older whole own)).2
 
     few : (site suite : ℕ) → length (filter (is_of site suite) (values left)) ≤ 1
-    few site suite = omega (arith, few_left site suite (values c.newer) c.s.value (values c.older), ap (λ l. length (filter (is_of site suite) l)) (values_append c.newer c.older), ap (λ l. length (filter (is_of site suite) l)) parted, h.once site suite)
+    few site suite = omega (
+      arith,
+      few_left site suite (values c.newer) c.s.value (values c.older),
+      ap (λ l. length (filter (is_of site suite) l)) (values_append c.newer c.older),
+      ap (λ l. length (filter (is_of site suite) l)) parted,
+      h.once site suite,
+    )
 
     sites : (c.s.site ≡ c.s.value.site) × Sited left
     sites = sited_between c.newer c.s c.older (subst Sited c.cut.parts h.sited)
@@ -427,7 +441,9 @@ module _ (k k' : Kept) (h : IsKept k) (slots : k'.slots ≡ k.slots) where
               (λ own. rw own (sym (none_left site suite (ap (is_of site suite) c.value ∙ own)))) (λ other. rw other (elsewhere site suite (ap (is_of site suite) c.value ∙ other)))
               ∙ sym (ap (slot_in site suite) is);
           sited = subst Sited (sym is) sites.1;
-          counted = subst (λ (l : List Slotted). IsTally k'.tally (values l)) (sym is) (subst (IsTally k'.tally) (sym (values_append c.newer c.older)) (tally (values c.newer) c.s.value (values c.older) (subst (IsTally k.tally) parted h.counted) c.value));
+          counted = subst (λ (l : List Slotted). IsTally k'.tally (values l)) (sym is)
+              (subst (IsTally k'.tally) (sym (values_append c.newer c.older))
+              (tally (values c.newer) c.s.value (values c.older) (subst (IsTally k.tally) parted h.counted) c.value));
           once = λ site suite. subst (λ (l : List Slotted). length (filter (is_of site suite) (values l)) ≤ 1) (sym is) (few site suite);
           slots = slots ∙ h.slots ∙ sym (ap (λ (t : Shelf Entry). t.slots) same);
           small = omega (arith, slots, h.small);
@@ -443,7 +459,8 @@ module _ (k k' : Kept) (h : IsKept k) (slots : k'.slots ≡ k.slots) where
         let one : (site suite : ℕ) → has_key site suite c.s ≡ is_of site suite e = λ site suite. ap (is_of site suite) c.value ∙ one_key site suite v e own in
         record {
           known = λ site suite. index (site, suite)
-              ∙ by_flag (cond (is_of site suite e) (Some place) (get_by (same_key (site, suite)) k.index) ≡ slot_in site suite (s ∷ left)) (is_of site suite e) (λ own. rw own refl) (λ other. rw other (elsewhere site suite (one site suite ∙ other)))
+              ∙ by_flag (cond (is_of site suite e) (Some place) (get_by (same_key (site, suite)) k.index) ≡ slot_in site suite (s ∷ left)) (is_of site suite e)
+              (λ own. rw own refl) (λ other. rw other (elsewhere site suite (one site suite ∙ other)))
               ∙ sym (ap (slot_in site suite) is);
           sited = subst Sited (sym is) (refl, sites.1);
           counted = subst (λ (l : List Slotted). IsTally k'.tally (values l)) (sym is) (subst (λ (l : Cache). IsTally k'.tally (e ∷ l)) (sym (values_append c.newer c.older)) counted);
@@ -467,7 +484,8 @@ module _ (k k' : Kept) (h : IsKept k) (slots : k'.slots ≡ k.slots) where
               (λ other. ap (option_map (λ (s : Slotted). s.slot)) (find_skip (has_key site suite) c.newer c.s c.older other) ∙ rw other refl)
               ∙ sym (ap (slot_in site suite) is);
           sited = subst Sited (sym is) sites;
-          counted = subst (IsTally k'.tally) (sym front) (subst (λ (t : Sums). IsTally t (c.s.value ∷ (values c.newer ++ values c.older))) (sym tally) (tally_moved k.tally (values c.newer) c.s.value (values c.older) (subst (IsTally k.tally) parted h.counted)));
+          counted = subst (IsTally k'.tally) (sym front) (subst (λ (t : Sums). IsTally t (c.s.value ∷ (values c.newer ++ values c.older))) (sym tally)
+              (tally_moved k.tally (values c.newer) c.s.value (values c.older) (subst (IsTally k.tally) parted h.counted)));
           once = λ site suite. omega (
             arith,
             once_fewer site suite (c.s.value ∷ values c.newer ++ values c.older) (values c.newer ++ c.s.value ∷ values c.older) (fewer_moved (values c.newer) c.s.value (values c.older)),

@@ -79,7 +79,8 @@ found_own site suite c = find_kept (is_of site suite) (is_at site) (own_at site 
 
 searched_own : (site suite dver : ℕ) (c : Cache) → list_of site (searched site suite dver c) ≡ searched site suite dver (list_of site c)
 searched_own site suite dver c =
-    let front : (o : Option Entry) → entry_of c site suite ≡ o → list_of site (cond (is_some (at_version dver o)) (in_front o site suite c) c) ≡ cond (is_some (at_version dver o)) (in_front o site suite (list_of site c)) (list_of site c) = λ o.
+    let front : (o : Option Entry) → entry_of c site suite ≡ o → list_of site (cond (is_some (at_version dver o)) (in_front o site suite c) c) ≡ cond (is_some (at_version dver o))
+    (in_front o site suite (list_of site c)) (list_of site c) = λ o.
     elim o as (λ o. entry_of c site suite ≡ o → list_of site (cond (is_some (at_version dver o)) (in_front o site suite c) c) ≡ cond (is_some (at_version dver o)) (in_front o site suite (list_of site c)) (list_of site c)) [
       | None ↦ λ _. refl
       | Some e ↦ λ there.
@@ -109,18 +110,24 @@ searched_others site suite dver other c apart =
 quota_own : (site room : ℕ) (c : Cache) → list_of site (within_quota site room c) ≡ within_quota site room (list_of site c)
 quota_own site room [] = refl
 quota_own site room (e ∷ c) =
-    elim (is_at site e) as (λ b. is_at site e ≡ b → list_of site (cond b (cond (leb (size_of e.content) room) (e ∷ within_quota site (room - size_of e.content) c) (forgotten site c)) (e ∷ within_quota site room c)) ≡ within_quota site room (cond b (e ∷ list_of site c) (list_of site c))) [
-      | true ↦ λ own. elim (leb (size_of e.content) room) as (λ t. list_of site (cond t (e ∷ within_quota site (room - size_of e.content) c) (forgotten site c)) ≡ cond (is_at site e) (cond t (e ∷ within_quota site (room - size_of e.content) (list_of site c)) (forgotten site (list_of site c))) (e ∷ within_quota site room (list_of site c))) [
-        | true ↦ rw own (ap (with' e) (quota_own site (room - size_of e.content) c))
-        | false ↦ rw own (filter_swap (is_at site) (λ x. not (is_at site x)) c)
-      ]
+    elim (is_at site e) as (λ b. is_at site e ≡ b → list_of site
+    (cond b (cond (leb (size_of e.content) room) (e ∷ within_quota site (room - size_of e.content) c) (forgotten site c)) (e ∷ within_quota site room c))
+    ≡ within_quota site room (cond b (e ∷ list_of site c) (list_of site c))) [
+      | true ↦ λ own. elim (leb (size_of e.content) room) as (λ t. list_of site (cond t (e ∷ within_quota site (room - size_of e.content) c) (forgotten site c)) ≡ cond
+          (is_at site e) (cond t (e ∷ within_quota site (room - size_of e.content) (list_of site c)) (forgotten site (list_of site c)))
+          (e ∷ within_quota site room (list_of site c))) [
+            | true ↦ rw own (ap (with' e) (quota_own site (room - size_of e.content) c))
+            | false ↦ rw own (filter_swap (is_at site) (λ x. not (is_at site x)) c)
+          ]
       | false ↦ λ other. rw other (quota_own site room c)
     ] refl
 
 quota_others : (site room other : ℕ) → other ≢ site → (c : Cache) → list_of other (within_quota site room c) ≡ list_of other c
 quota_others site room other apart [] = refl
 quota_others site room other apart (e ∷ c) =
-    elim (is_at site e) as (λ b. is_at site e ≡ b → list_of other (cond b (cond (leb (size_of e.content) room) (e ∷ within_quota site (room - size_of e.content) c) (forgotten site c)) (e ∷ within_quota site room c)) ≡ list_of other (e ∷ c)) [
+    elim (is_at site e) as (λ b. is_at site e ≡ b → list_of other
+    (cond b (cond (leb (size_of e.content) room) (e ∷ within_quota site (room - size_of e.content) c) (forgotten site c)) (e ∷ within_quota site room c)) ≡ list_of other
+    (e ∷ c)) [
       | true ↦ λ own.
           let none : is_at other e ≡ false = apart_at site other apart e own in
           elim (leb (size_of e.content) room) as (λ t. list_of other (cond t (e ∷ within_quota site (room - size_of e.content) c) (forgotten site c)) ≡ list_of other (e ∷ c)) [

@@ -45,7 +45,8 @@ swept : (agent : Agent) (after : After SweepRun)
 swept agent (GoesOn more) = refl
 swept agent (Ends ending) = refl
 
-takes : (fixed : Fixed) (agent : Agent) (response : Response) (doing : Option Doing) (asked : Option (ℕ × Request)) → take_in fixed (cut_agent agent) response (option_map cut_doing doing) asked ≡ cut_taken (take_in fixed agent response doing asked)
+takes : (fixed : Fixed) (agent : Agent) (response : Response) (doing : Option Doing) (asked : Option (ℕ × Request))
+    → take_in fixed (cut_agent agent) response (option_map cut_doing doing) asked ≡ cut_taken (take_in fixed agent response doing asked)
 takes fixed agent response (Some (Running running)) (Some asked) =
     let step = txn_run.after_response fixed running agent.cache asked.0 asked.1 response in
     ap (with_step (cut_agent agent)) (hears_response running.task fixed agent.cache running.suites running.phase asked.0 asked.1 response)

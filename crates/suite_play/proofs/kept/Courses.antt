@@ -23,7 +23,44 @@ use Rattle.txn_core.specs.declared.ending.Cause.TheVariants.{Lost}
 use Rattle.txn_core.specs.declared.ending.Ending.{Ending}
 use Rattle.txn_core.specs.declared.ending.Ending.TheVariants.{Undecided}
 use Rattle.txn_core.specs.Doing.{Changes, Granted, Fixed, Task, Proposal, Phase, Gathering, Fetching, Widening, Preparing, Deciding, Finishing, TransactionRun, After, GoesOn, Ends}
-use Rattle.txn_core.specs.Transactions.{Step, Gathered, tell_end, give_up, prepare, locked_at, short_cause, gather_by, raised_or_new, widen_by, widen_one, widened, widen_all, to_widen, heard_on, or_all, open_needed, opened, proceed, execute, request_of, collected, hear, keep_content, fetched, given_in, heard_of, said_to, after_reply, lack_cause, after_lack, after_response, decided, verdict_in, ending_by, cause_of_abort}
+use Rattle.txn_core.specs.Transactions.{
+  Step,
+  Gathered,
+  tell_end,
+  give_up,
+  prepare,
+  locked_at,
+  short_cause,
+  gather_by,
+  raised_or_new,
+  widen_by,
+  widen_one,
+  widened,
+  widen_all,
+  to_widen,
+  heard_on,
+  or_all,
+  open_needed,
+  opened,
+  proceed,
+  execute,
+  request_of,
+  collected,
+  hear,
+  keep_content,
+  fetched,
+  given_in,
+  heard_of,
+  said_to,
+  after_reply,
+  lack_cause,
+  after_lack,
+  after_response,
+  decided,
+  verdict_in,
+  ending_by,
+  cause_of_abort,
+}
 use Rattle.suite_play.proofs.kept.Executed.{few, same_executed}
 
 -- a transaction with the operations that are kept of it
@@ -80,7 +117,8 @@ module _ (task : Task) where
   widens : (cache : Cache) (suites : Suites) (granted : Granted) (left : List ℕ) → widen_all (cut task) cache suites granted left ≡ cut_step (widen_all task cache suites granted left)
   widens cache suites granted [] = prepares cache suites (Ok granted) (locked_at suites)
   widens cache suites granted (number ∷ left) =
-      widens_one cache suites (Widening (number ∷ left) granted) granted.changes number (suite_of suites number) (λ suites. widen_all task cache suites granted left) (λ suites. widen_all (cut task) cache suites granted left) (λ suites. widens cache suites granted left)
+      widens_one cache suites (Widening (number ∷ left) granted) granted.changes number (suite_of suites number) (λ suites. widen_all task cache suites granted left)
+      (λ suites. widen_all (cut task) cache suites granted left) (λ suites. widens cache suites granted left)
 
   hears_the_same : (fixed : Fixed) (suites : Suites) → heard_on fixed (cut task) suites ≡ heard_on fixed task suites
   hears_the_same fixed suites = ap (answered (known_of suites)) (same_executed fixed.service (known_of suites) task.t task.caller task.ops)
@@ -115,13 +153,15 @@ module _ (task : Task) where
   collects cache suites phase number suite (Short got needed busy) go_on go_on' same = gives_up cache (with_suite number suite suites) (short_cause number got needed busy)
   collects cache suites phase number suite (Current prefix dver members) go_on go_on' same = same (settled prefix dver members suite)
 
-  hears : (cache : Cache) (suites : Suites) (phase : Phase) (number : ℕ) (suite : GatheredSuite) (server : ℕ) (asked : Request) (heard : Option Said) (go_on go_on' : GatheredSuite → Step) → ((suite : GatheredSuite) → go_on' suite ≡ cut_step (go_on suite))
+  hears : (cache : Cache) (suites : Suites) (phase : Phase) (number : ℕ) (suite : GatheredSuite) (server : ℕ) (asked : Request) (heard : Option Said)
+      (go_on go_on' : GatheredSuite → Step) → ((suite : GatheredSuite) → go_on' suite ≡ cut_step (go_on suite))
       → hear (cut task) cache suites phase number suite server asked heard go_on' ≡ cut_step (hear task cache suites phase number suite server asked heard go_on)
   hears cache suites phase number suite server asked (Some heard) go_on go_on' same =
       let now : GatheredSuite = record suite { collector = tell (record { server = server; mode = mode_of asked; said = heard }) suite.collector } in collects cache suites phase number now (next now.collector) go_on go_on' same
   hears cache suites phase number suite server asked None go_on go_on' same = gives_up cache suites (Lost server)
 
-  hears_of : (cache : Cache) (suites : Suites) (phase : Phase) (number : ℕ) (found : Option GatheredSuite) (server : ℕ) (asked : Request) (said : Reply) (go_on go_on' : Suites → Step) → ((suites : Suites) → go_on' suites ≡ cut_step (go_on suites))
+  hears_of : (cache : Cache) (suites : Suites) (phase : Phase) (number : ℕ) (found : Option GatheredSuite) (server : ℕ) (asked : Request) (said : Reply)
+      (go_on go_on' : Suites → Step) → ((suites : Suites) → go_on' suites ≡ cut_step (go_on suites))
       → heard_of (cut task) cache suites phase number found server asked said go_on' ≡ cut_step (heard_of task cache suites phase number found server asked said go_on)
   hears_of cache suites phase number (Some suite) server asked said go_on go_on' same =
       hears cache suites phase number suite server asked (said_to asked said) (λ suite. go_on (with_suite number suite suites)) (λ suite. go_on' (with_suite number suite suites)) (λ suite. same (with_suite number suite suites))
@@ -151,11 +191,13 @@ module _ (task : Task) where
   replies : (fixed : Fixed) (cache : Cache) (suites : Suites) (phase : Phase) (server : ℕ) (asked : Request) (said : Reply)
       → after_reply fixed (cut task) cache suites phase server asked said ≡ cut_step (after_reply fixed task cache suites phase server asked said)
   replies fixed cache suites (Gathering number) server asked said =
-      hears_of cache suites (Gathering number) number (suite_of suites number) server asked said (λ suites. execute fixed task (record { suites = suites; cache = cache })) (λ suites. execute fixed (cut task) (record { suites = suites; cache = cache })) (λ suites. executes fixed (record { suites = suites; cache = cache }))
+      hears_of cache suites (Gathering number) number (suite_of suites number) server asked said (λ suites. execute fixed task (record { suites = suites; cache = cache }))
+      (λ suites. execute fixed (cut task) (record { suites = suites; cache = cache })) (λ suites. executes fixed (record { suites = suites; cache = cache }))
   replies fixed cache suites (Fetching number) server asked said = fetches fixed cache suites number (suite_of suites number) server (given_in said)
   replies fixed cache suites (Widening [] granted) server asked said = gives_up cache suites (Lost server)
   replies fixed cache suites (Widening (number ∷ left) granted) server asked said =
-      hears_of cache suites (Widening (number ∷ left) granted) number (suite_of suites number) server asked said (λ suites. widen_all task cache suites granted left) (λ suites. widen_all (cut task) cache suites granted left) (λ suites. widens cache suites granted left)
+      hears_of cache suites (Widening (number ∷ left) granted) number (suite_of suites number) server asked said (λ suites. widen_all task cache suites granted left)
+      (λ suites. widen_all (cut task) cache suites granted left) (λ suites. widens cache suites granted left)
   replies fixed cache suites (Preparing [] outcome) server asked said = gives_up cache suites (Lost server)
   replies fixed cache suites (Preparing (now ∷ left) outcome) server asked said = goes_prepared cache suites outcome server left (is_prepared said)
   replies fixed cache suites (Deciding outcome) server asked said = decides cache suites said

@@ -16,7 +16,32 @@ use Rattle.txn_core.specs.Agents.{Agent, Taken, begin, forget, next_of, take}
 use Rattle.run_core.specs.declared.event.Event.{Event}
 use Rattle.run_core.specs.declared.event.Event.TheVariants.{Begin, Step, Crash, Return, Forget, Lack}
 use Rattle.run_core.specs.declared.done.Served.{Served}
-use Rattle.run_core.specs.Worlds.{Actor, World, Stepped, actor_at, actors_from, after_serving, answered, asks, asks_at, becomes, lacks, lacks_for, moved, opening, operated, operates, outcome_of, quiet, serve, server_at, step, steps_once, took, with_actor}
+use Rattle.run_core.specs.Worlds.{
+  Actor,
+  World,
+  Stepped,
+  actor_at,
+  actors_from,
+  after_serving,
+  answered,
+  asks,
+  asks_at,
+  becomes,
+  lacks,
+  lacks_for,
+  moved,
+  opening,
+  operated,
+  operates,
+  outcome_of,
+  quiet,
+  serve,
+  server_at,
+  step,
+  steps_once,
+  took,
+  with_actor,
+}
 use Rattle.suite_play.specs.code.Kept.{kept_event, kept_job}
 use Rattle.suite_play.proofs.kept.Agents.{begin_same, cut_agent, cut_taken, next_same, take_same}
 

@@ -36,4 +36,5 @@ returns-in_default-3 c = λ front is.
 
 pub returns-in_default-5 : goal.returns-in_default-5
 returns-in_default-5 c = λ front is.
-    spoils c.args.letters front c.args.byte is (λ here. absurd (omega (arith, here, c.in_default))) (λ here. absurd (omega (arith, here, c.in_default))) (λ here. absurd (omega (arith, here, c.in_default))) (λ here. absurd (omega (arith, here, c.in_default)))
+    spoils c.args.letters front c.args.byte is (λ here. absurd (omega (arith, here, c.in_default))) (λ here. absurd (omega (arith, here, c.in_default)))
+    (λ here. absurd (omega (arith, here, c.in_default))) (λ here. absurd (omega (arith, here, c.in_default)))

@@ -76,4 +76,5 @@ returns-clause-spelled c =
     sym (append-nil invariant.0) ∙ sym (ap (λ left. invariant.0 ++ filter_map entry_said left) nothing_left) ∙ invariant.2 in
     let faultless : first_item_fault 1 (readings text names) ≡ None =
     sym c.loop-item.invariant.3 ∙ ap (first_item_fault (c.loop-item.number + 1)) nothing_left in
-    lists_spelled c.finish.result c.loop-item.tallies text names (said_in text names) (subst (AreTallied c.loop-item.tallies) all invariant.1) (spelled_from_faultless text names faultless) c.finish.ensures.same_access c.finish.ensures.same_default
+    lists_spelled c.finish.result c.loop-item.tallies text names (said_in text names) (subst (AreTallied c.loop-item.tallies) all invariant.1)
+    (spelled_from_faultless text names faultless) c.finish.ensures.same_access c.finish.ensures.same_default

@@ -48,7 +48,9 @@ loop-one-preserved c =
           c.in_ok-place_all.ensures.filled (sitting seats) (players_of worked) on.seat.player w.player (is_of jobs seats worked w n on num)
           (subst (λ (ds : List JobDone). AllDone jobs (begins on.seat.player.entries) w.player ds) (sym c.deref.ensures.value) on.work.done) (was.0 seats works)),
       order.0,
-      subst (λ l. AreOfThese l c.place_all.new.slots) (sym (take_numbers c.args.worked.now index w c.loop-one-test.true (search rules) ∙ ap (λ m. take index ns ++ m ∷ []) (sym num))) (of_more (take index ns) n order.1.0 order.1.1 c.place_all.new.slots order.1.2),
+      subst (λ l. AreOfThese l c.place_all.new.slots)
+          (sym (take_numbers c.args.worked.now index w c.loop-one-test.true (search rules) ∙ ap (λ m. take index ns ++ m ∷ []) (sym num)))
+          (of_more (take index ns) n order.1.0 order.1.1 c.place_all.new.slots order.1.2),
       (let all = c.in_ok-place_all.ensures.many in let done = ap length c.deref.ensures.value in let were = was.3 in let more = more_many worked index w low here_is in omega arith),
       c.in_ok-place_all.ensures.long ∙ was.4,
       (let before = places (take index worked) in

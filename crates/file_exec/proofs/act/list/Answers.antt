@@ -18,4 +18,5 @@ pub returns-clause-answer : goal.returns-clause-answer
 returns-clause-answer c = goes _ c.in_ok-place.ensures.place (ruled _ (sym c.in_ok-permit.ensures) (ruled _ (sym c.in_ok-require_folder.ensures) (goes _ c.in_ok-entries.ensures (rw c.in_ok-list.ensures (record { told = refl })))))
 
 pub returns-in_err-list-clause-answer : goal.returns-in_err-list-clause-answer
-returns-in_err-list-clause-answer c = goes _ c.in_ok-place.ensures.place (ruled _ (sym c.in_ok-permit.ensures) (ruled _ (sym c.in_ok-require_folder.ensures) (goes _ c.in_ok-entries.ensures (out_of_memory refl c.from_residual-in_err-list.ensures))))
+returns-in_err-list-clause-answer c = goes _ c.in_ok-place.ensures.place (ruled _ (sym c.in_ok-permit.ensures)
+    (ruled _ (sym c.in_ok-require_folder.ensures) (goes _ c.in_ok-entries.ensures (out_of_memory refl c.from_residual-in_err-list.ensures))))

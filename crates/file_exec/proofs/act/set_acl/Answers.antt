@@ -23,12 +23,14 @@ returns-in_err-require_placed-clause-answer c = goes _ c.in_ok-place.ensures.pla
 
 pub returns-in_err-acl-clause-answer : goal.returns-in_err-acl-clause-answer
 returns-in_err-acl-clause-answer c =
-    goes _ c.in_ok-place.ensures.place (ruled _ (placed _ c.args.acl.now c.is_some.ensures c.in_ok-require_placed.ensures) (unset (owns c.args.transaction.caller.now c.args.names.now c.in_ok-place.ensures.place) refl c.from_residual-in_err-acl.ensures))
+    goes _ c.in_ok-place.ensures.place (ruled _ (placed _ c.args.acl.now c.is_some.ensures c.in_ok-require_placed.ensures)
+    (unset (owns c.args.transaction.caller.now c.args.names.now c.in_ok-place.ensures.place) refl c.from_residual-in_err-acl.ensures))
 
 pub returns-in_err-set-clause-answer : goal.returns-in_err-set-clause-answer
 returns-in_err-set-clause-answer c =
     let copied : c.in_ok-acl.acl ≡ c.args.acl.now = c.in_ok-acl.ensures.cases in
-    goes _ c.in_ok-place.ensures.place (ruled _ (placed _ c.args.acl.now c.is_some.ensures c.in_ok-require_placed.ensures) (stopped_set refl (same_set (ap (λ x. SetAcl x) copied) c.in_err-set.ensures.set) c.from_residual-in_err-set.ensures))
+    goes _ c.in_ok-place.ensures.place (ruled _ (placed _ c.args.acl.now c.is_some.ensures c.in_ok-require_placed.ensures)
+    (stopped_set refl (same_set (ap (λ x. SetAcl x) copied) c.in_err-set.ensures.set) c.from_residual-in_err-set.ensures))
 
 pub returns-clause-answer : goal.returns-clause-answer
 returns-clause-answer c =

@@ -17,10 +17,12 @@ pub returns-in_err-place-clause-answer : goal.returns-in_err-place-clause-answer
 returns-in_err-place-clause-answer c = ruled _ (voted c.args.given.now c.service-service.ensures c.in_ok-votes.ensures) (stops _ c.in_err-place.ensures.place c.from_residual-in_err-place.ensures)
 
 pub returns-in_err-content_of-clause-answer : goal.returns-in_err-content_of-clause-answer
-returns-in_err-content_of-clause-answer c = ruled _ (voted c.args.given.now c.service-service.ensures c.in_ok-votes.ensures) (goes _ c.in_ok-place.ensures.place (stops _ c.in_err-content_of.ensures c.from_residual-in_err-content_of.ensures))
+returns-in_err-content_of-clause-answer c = ruled _ (voted c.args.given.now c.service-service.ensures c.in_ok-votes.ensures)
+    (goes _ c.in_ok-place.ensures.place (stops _ c.in_err-content_of.ensures c.from_residual-in_err-content_of.ensures))
 
 pub returns-in_err-set-clause-answer : goal.returns-in_err-set-clause-answer
-returns-in_err-set-clause-answer c = ruled _ (voted c.args.given.now c.service-service.ensures c.in_ok-votes.ensures) (goes _ c.in_ok-place.ensures.place (goes _ c.in_ok-content_of.ensures (stopped_set refl c.in_err-set.ensures.set c.from_residual-in_err-set.ensures)))
+returns-in_err-set-clause-answer c = ruled _ (voted c.args.given.now c.service-service.ensures c.in_ok-votes.ensures)
+    (goes _ c.in_ok-place.ensures.place (goes _ c.in_ok-content_of.ensures (stopped_set refl c.in_err-set.ensures.set c.from_residual-in_err-set.ensures)))
 
 pub returns-clause-answer : goal.returns-clause-answer
 returns-clause-answer c = ruled _ (voted c.args.given.now c.service-service.ensures c.in_ok-votes.ensures) (goes _ c.in_ok-place.ensures.place (goes _ c.in_ok-content_of.ensures (after_set c.in_ok-set.ensures.set (record { told = refl }))))

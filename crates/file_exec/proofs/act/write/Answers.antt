@@ -15,14 +15,24 @@ pub returns-in_err-permit-clause-answer : goal.returns-in_err-permit-clause-answ
 returns-in_err-permit-clause-answer c = ruled _ (sym c.in_ok-require_fit.ensures) (goes _ c.in_ok-place.ensures.place (overruled _ (sym c.in_err-permit.ensures) c.from_residual-in_err-permit.ensures))
 
 pub returns-in_err-require_file-clause-answer : goal.returns-in_err-require_file-clause-answer
-returns-in_err-require_file-clause-answer c = ruled _ (sym c.in_ok-require_fit.ensures) (goes _ c.in_ok-place.ensures.place (ruled _ (sym c.in_ok-permit.ensures) (overruled _ (sym c.in_err-require_file.ensures) c.from_residual-in_err-require_file.ensures)))
+returns-in_err-require_file-clause-answer c = ruled _ (sym c.in_ok-require_fit.ensures)
+    (goes _ c.in_ok-place.ensures.place (ruled _ (sym c.in_ok-permit.ensures) (overruled _ (sym c.in_err-require_file.ensures) c.from_residual-in_err-require_file.ensures)))
 
 pub returns-in_err-set-clause-answer : goal.returns-in_err-set-clause-answer
-returns-in_err-set-clause-answer c = let copied : c.in_ok-bytes.bytes ≡ c.args.bytes.now = c.in_ok-bytes.ensures.cases in ruled _ (sym c.in_ok-require_fit.ensures) (goes _ c.in_ok-place.ensures.place (ruled _ (sym c.in_ok-permit.ensures) (ruled _ (sym c.in_ok-require_file.ensures) (stopped_set refl (same_set (ap (λ x. SetContent (Bytes x)) copied) c.in_err-set.ensures.set) c.from_residual-in_err-set.ensures))))
+returns-in_err-set-clause-answer c = let copied : c.in_ok-bytes.bytes ≡ c.args.bytes.now = c.in_ok-bytes.ensures.cases in
+    ruled _ (sym c.in_ok-require_fit.ensures)
+    (goes _ c.in_ok-place.ensures.place (ruled _ (sym c.in_ok-permit.ensures)
+    (ruled _ (sym c.in_ok-require_file.ensures) (stopped_set refl (same_set (ap (λ x. SetContent (Bytes x)) copied) c.in_err-set.ensures.set) c.from_residual-in_err-set.ensures))))
 
 pub returns-clause-answer : goal.returns-clause-answer
-returns-clause-answer c = let copied : c.in_ok-bytes.bytes ≡ c.args.bytes.now = c.in_ok-bytes.ensures.cases in ruled _ (sym c.in_ok-require_fit.ensures) (goes _ c.in_ok-place.ensures.place (ruled _ (sym c.in_ok-permit.ensures) (ruled _ (sym c.in_ok-require_file.ensures) (after_set (same_set (ap (λ x. SetContent (Bytes x)) copied) c.in_ok-set.ensures.set) (record { told = refl })))))
+returns-clause-answer c = let copied : c.in_ok-bytes.bytes ≡ c.args.bytes.now = c.in_ok-bytes.ensures.cases in
+    ruled _ (sym c.in_ok-require_fit.ensures)
+    (goes _ c.in_ok-place.ensures.place (ruled _ (sym c.in_ok-permit.ensures)
+    (ruled _ (sym c.in_ok-require_file.ensures) (after_set (same_set (ap (λ x. SetContent (Bytes x)) copied) c.in_ok-set.ensures.set) (record { told = refl })))))
 
 pub returns-in_err-bytes-clause-answer : goal.returns-in_err-bytes-clause-answer
 returns-in_err-bytes-clause-answer c =
-    ruled _ (sym c.in_ok-require_fit.ensures) (goes _ c.in_ok-place.ensures.place (ruled _ (sym c.in_ok-permit.ensures) (ruled _ (sym c.in_ok-require_file.ensures) (unset (reached c.args.transaction.caller.now c.args.names.now c.in_ok-place.ensures.place) refl c.from_residual-in_err-bytes.ensures))))
+    ruled _ (sym c.in_ok-require_fit.ensures)
+    (goes _ c.in_ok-place.ensures.place (ruled _ (sym c.in_ok-permit.ensures)
+    (ruled _ (sym c.in_ok-require_file.ensures) (unset (reached c.args.transaction.caller.now c.args.names.now c.in_ok-place.ensures.place) refl
+    c.from_residual-in_err-bytes.ensures))))

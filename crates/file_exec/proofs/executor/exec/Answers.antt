@@ -41,7 +41,8 @@ returns-in-Some-Need-clause-answer c =
     let known = c.args.known.now in
     let all = exec_plays known.suites known.service c.args.t c.args.caller.now c.args.ops.now (well_counted c.args.ops.now c.if-is_empty.ensures c.if-ops-gt-MAX_OPERATIONS.false) in
     let needs : told.Need c.in-Some-Need.need ≡ answered known.suites (exec_of known.service known.suites c.args.t c.args.caller.now c.args.ops.now) =
-    said (record { alloc = c.alloc.result; known = c.args.known; t = c.args.t; caller = c.args.caller }) c.args.ops.now c.play_on.new.stage (c.in-Some-Need.is ∙ ap (λ outcome. Some outcome) c.in-Some-Need.field-0-is) c.in_ok-need.ensures.ends ∙ ap (answered known.suites) (sym all) in
+    said (record { alloc = c.alloc.result; known = c.args.known; t = c.args.t; caller = c.args.caller }) c.args.ops.now c.play_on.new.stage
+    (c.in-Some-Need.is ∙ ap (λ outcome. Some outcome) c.in-Some-Need.field-0-is) c.in_ok-need.ensures.ends ∙ ap (answered known.suites) (sym all) in
     cc (c.in-Some-Need.need-is, needs)
 
 pub returns-in-Some : goal.returns-in-Some
@@ -63,7 +64,9 @@ pub returns-in-None-clause-answer : goal.returns-in-None-clause-answer
 returns-in-None-clause-answer c =
     let known = c.args.known.now in
     let all = exec_plays known.suites known.service c.args.t c.args.caller.now c.args.ops.now (well_counted c.args.ops.now c.if-is_empty.ensures c.if-ops-gt-MAX_OPERATIONS.false) in
-    finished c.finish.result known.suites c.play_on.new.stage (exec_of known.service known.suites c.args.t c.args.caller.now c.args.ops.now) c.finish.ensures (all ∙ said (record { alloc = c.alloc.result; known = c.args.known; t = c.args.t; caller = c.args.caller }) c.args.ops.now c.play_on.new.stage c.in-None.is c.in_ok-need.ensures.ends)
+    finished c.finish.result known.suites c.play_on.new.stage (exec_of known.service known.suites c.args.t c.args.caller.now c.args.ops.now) c.finish.ensures
+    (all ∙ said (record { alloc = c.alloc.result; known = c.args.known; t = c.args.t; caller = c.args.caller }) c.args.ops.now c.play_on.new.stage c.in-None.is
+    c.in_ok-need.ensures.ends)
 
 pub returns-in-None-clause-first : goal.returns-in-None-clause-first
 returns-in-None-clause-first c =
@@ -71,4 +74,5 @@ returns-in-None-clause-first c =
     let any = some c.args.ops.now c.if-is_empty.ensures in
     on_err c.finish.result
     (begun_first known.suites known.service c.args.t c.args.caller.now c.args.ops.now (length c.args.ops.now) (record { given = c.play_on.new.stage.answers.items; edits = c.play_on.new.stage.log }) any any
-    (ap (λ ops. run known.suites [] (play known.service [] c.args.t 0 c.args.caller.now ops)) (take_all (length c.args.ops.now) c.args.ops.now (grind arith)) ∙ said (record { alloc = c.alloc.result; known = c.args.known; t = c.args.t; caller = c.args.caller }) c.args.ops.now c.play_on.new.stage c.in-None.is c.in_ok-need.ensures.ends))
+    (ap (λ ops. run known.suites [] (play known.service [] c.args.t 0 c.args.caller.now ops)) (take_all (length c.args.ops.now) c.args.ops.now (grind arith)) ∙ said
+    (record { alloc = c.alloc.result; known = c.args.known; t = c.args.t; caller = c.args.caller }) c.args.ops.now c.play_on.new.stage c.in-None.is c.in_ok-need.ensures.ends))

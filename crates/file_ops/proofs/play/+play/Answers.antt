@@ -14,10 +14,12 @@ pub returns-in-Err-Memory-clause-first : goal.returns-in-Err-Memory-clause-first
 returns-in-Err-Memory-clause-first t c =
     let parted : c.args.ops.now ≡ c.in-Some.op.now ∷ c.in-Some.later.now = search rules in
     let ok : IsOk (operation c.args.transaction.service.now (plain c.args.rows.now) c.args.transaction.t c.args.at c.args.transaction.caller.now c.in-Some.op.now) = search rules in
-    rw parted (first_done (Err Memory) c.args.transaction.service.now (record { answers = c.args.answers.now; rows = plain c.args.rows.now }) c.args.transaction.t c.args.at c.args.transaction.caller.now c.in-Some.op.now c.in-Some.later.now ok)
+    rw parted (first_done (Err Memory) c.args.transaction.service.now (record { answers = c.args.answers.now; rows = plain c.args.rows.now }) c.args.transaction.t c.args.at
+    c.args.transaction.caller.now c.in-Some.op.now c.in-Some.later.now ok)
 
 pub returns-clause-first : goal.returns-clause-first
 returns-clause-first t c =
     let parted : c.args.ops.now ≡ c.in-Some.op.now ∷ c.in-Some.later.now = search rules in
     let ok : IsOk (operation c.args.transaction.service.now (plain c.args.rows.now) c.args.transaction.t c.args.at c.args.transaction.caller.now c.in-Some.op.now) = search rules in
-    rw parted (first_done c.match-push.outcome c.args.transaction.service.now (record { answers = c.args.answers.now; rows = plain c.args.rows.now }) c.args.transaction.t c.args.at c.args.transaction.caller.now c.in-Some.op.now c.in-Some.later.now ok)
+    rw parted (first_done c.match-push.outcome c.args.transaction.service.now (record { answers = c.args.answers.now; rows = plain c.args.rows.now }) c.args.transaction.t
+    c.args.at c.args.transaction.caller.now c.in-Some.op.now c.in-Some.later.now ok)

@@ -8,7 +8,8 @@ use Rattle.rep_core.proofs.packed_names.entries_in.Goals as goal
 
 pub known-requires : goal.known-requires
 known-requires c =
-    let turn = YieldsList-turn (YieldsList-from_slice_split _ (λ b. eqb b 44) c.args.text.now (cc) (cc) (cc) (λ x b q k. search (rules, tests))) c.loop-name.yielded _ c.loop-name.yielded_by _ _ c.in-Some.name c.in-Some.is c.next.ensures.steps in
+    let turn = YieldsList-turn (YieldsList-from_slice_split _ (λ b. eqb b 44) c.args.text.now (cc) (cc) (cc) (λ x b q k. search (rules, tests))) c.loop-name.yielded _
+    c.loop-name.yielded_by _ _ c.in-Some.name c.in-Some.is c.next.ensures.steps in
     name_at (slice_split (λ (b : ℕ). eqb b 44) c.args.text.now) (length c.loop-name.yielded) c.in-Some.name.now turn.0 turn.1 c.requires
 
 pub loop-name-preserved : goal.loop-name-preserved

@@ -34,7 +34,8 @@ returns-in_err-rest-clause-mismatch c =
     let ts = c.args.transcripts.now in
     let start = started s c.as_slice-histories.result.now hs c.as_slice-transcripts.result.now ts c.in_ok-walk.walk c.as_slice-histories.ensures c.as_slice-transcripts.ensures c.in_ok-walk.ensures in
     let p = err_from_is_err_and c.from_residual-in_err-rest.result c.from_residual-in_err-rest.ensures.1 in
-    rw (p.1, p.2) (λ is. walked_no_further s hs ts c.in_ok-walk.walk start c.fits.ensures.accepted (fails_further c.in_ok-walk.walk c.items.new.self [] [] c.in_ok-items.ensures.ok (c.in_err-rest.ensures.mismatch (told_on c.in_err-rest.field-0.0 Mismatch is))))
+    rw (p.1, p.2) (λ is. walked_no_further s hs ts c.in_ok-walk.walk start c.fits.ensures.accepted
+    (fails_further c.in_ok-walk.walk c.items.new.self [] [] c.in_ok-items.ensures.ok (c.in_err-rest.ensures.mismatch (told_on c.in_err-rest.field-0.0 Mismatch is))))
 
 pub returns-clause-certified : goal.returns-clause-certified
 returns-clause-certified c =

@@ -63,7 +63,8 @@ returns-in_err-server-clause-memory c =
     let found = slice_get_read _ _ _ _ refl item.3.0 item.1 in
     let there = rw c.from.ensures at found in
     held c.from_residual.result
-    (λ fixed all. (steps_there fixed c.args.servers.now.items c.args.seats.now.items c.args.number c.in-Some.seat.now _ all there refl (asking_wants (world_of c.args.servers.now.items c.args.seats.now.items) c.in-Some.seat.now.actor _ c.in_err-server.ensures.memory)))
+    (λ fixed all. (steps_there fixed c.args.servers.now.items c.args.seats.now.items c.args.number c.in-Some.seat.now _ all there refl
+    (asking_wants (world_of c.args.servers.now.items c.args.seats.now.items) c.in-Some.seat.now.actor _ c.in_err-server.ensures.memory)))
 
 pub returns-clause-memory : goal.returns-clause-memory
 returns-clause-memory c =

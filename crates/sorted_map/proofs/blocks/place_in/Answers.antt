@@ -10,4 +10,5 @@ place-requires-clause-ordered g c =
 
 pub returns-clause-place : goal.returns-clause-place
 returns-clause-place g c =
-    subst (λ l. IsIn g.K.Ord.cmp c.args.key.now (c.args.first.now ∷ l) c.place.result) c.deref.ensures.value (c.place.ensures.place c.args.first.now (subst (λ l. IsOrdered g.K.Ord.cmp (joined (c.args.first.now ∷ l))) (sym c.deref.ensures.value) c.requires.ordered))
+    subst (λ l. IsIn g.K.Ord.cmp c.args.key.now (c.args.first.now ∷ l) c.place.result) c.deref.ensures.value
+    (c.place.ensures.place c.args.first.now (subst (λ l. IsOrdered g.K.Ord.cmp (joined (c.args.first.now ∷ l))) (sym c.deref.ensures.value) c.requires.ordered))

@@ -32,8 +32,10 @@ returns-in-Some-clause-pairs g c =
     let e : c.args.at + 1 ≡ suc c.args.at = omega arith in
     ap joined c.insert_block.ensures.items
     ∙ ap (λ k. joined (list.insert (set rest c.args.at put.new.block) k upper)) e
-    ∙ halves_at g.met.K.Ord.total c.args.key rest c.args.at c.index_mut.result.now put.new.block upper c.args.value c.requires.place (put.ensures.halves upper c.in-Some.is ∙ ap (λ x. insert g.K.Ord.cmp x.pairs c.args.key c.args.value) c.index_mut.ensures.value)
+    ∙ halves_at g.met.K.Ord.total c.args.key rest c.args.at c.index_mut.result.now put.new.block upper c.args.value c.requires.place
+    (put.ensures.halves upper c.in-Some.is ∙ ap (λ x. insert g.K.Ord.cmp x.pairs c.args.key c.args.value) c.index_mut.ensures.value)
 
 pub returns-in-None-clause-pairs : goal.returns-in-None-clause-pairs
 returns-in-None-clause-pairs g c =
-    insert_at g.met.K.Ord.total c.args.key c.args.rest.now.items c.args.at c.index_mut.result.now c.put-before.new.block c.args.value c.requires.place (c.put-before.ensures.pairs c.in-None.is ∙ ap (λ x. insert g.K.Ord.cmp x.pairs c.args.key c.args.value) c.index_mut.ensures.value)
+    insert_at g.met.K.Ord.total c.args.key c.args.rest.now.items c.args.at c.index_mut.result.now c.put-before.new.block c.args.value c.requires.place
+    (c.put-before.ensures.pairs c.in-None.is ∙ ap (λ x. insert g.K.Ord.cmp x.pairs c.args.key c.args.value) c.index_mut.ensures.value)

@@ -6,11 +6,13 @@ use Rattle.sorted_map.proofs.blocks.remove_in.Goals as goal
 
 pub returns-then-len-eq0-clause-before : goal.returns-then-len-eq0-clause-before
 returns-then-len-eq0-clause-before g c =
-    c.remove-value.ensures.before ∙ ap (λ b. get g.K.Ord.cmp b.pairs c.args.key.now) c.index_mut-block.ensures.value ∙ sym (get_at g.met.K.Ord.total c.args.key.now c.args.rest.now.items c.args.at c.index_mut-block.result.now c.requires.place)
+    c.remove-value.ensures.before ∙ ap (λ b. get g.K.Ord.cmp b.pairs c.args.key.now) c.index_mut-block.ensures.value ∙ sym
+    (get_at g.met.K.Ord.total c.args.key.now c.args.rest.now.items c.args.at c.index_mut-block.result.now c.requires.place)
 
 pub returns-else-len-eq0-clause-before : goal.returns-else-len-eq0-clause-before
 returns-else-len-eq0-clause-before g c =
-    c.remove-value.ensures.before ∙ ap (λ b. get g.K.Ord.cmp b.pairs c.args.key.now) c.index_mut-block.ensures.value ∙ sym (get_at g.met.K.Ord.total c.args.key.now c.args.rest.now.items c.args.at c.index_mut-block.result.now c.requires.place)
+    c.remove-value.ensures.before ∙ ap (λ b. get g.K.Ord.cmp b.pairs c.args.key.now) c.index_mut-block.ensures.value ∙ sym
+    (get_at g.met.K.Ord.total c.args.key.now c.args.rest.now.items c.args.at c.index_mut-block.result.now c.requires.place)
 
 pub returns-then-len-eq0-clause-pairs : goal.returns-then-len-eq0-clause-pairs
 returns-then-len-eq0-clause-pairs g c =
@@ -22,7 +24,8 @@ returns-then-len-eq0-clause-pairs g c =
 
 pub returns-else-len-eq0-clause-pairs : goal.returns-else-len-eq0-clause-pairs
 returns-else-len-eq0-clause-pairs g c =
-    remove_at g.met.K.Ord.total c.args.key.now c.args.rest.now.items c.args.at c.index_mut-block.result.now c.remove-value.new.self c.requires.place (c.remove-value.ensures.pairs ∙ ap (λ b. remove g.K.Ord.cmp b.pairs c.args.key.now) c.index_mut-block.ensures.value)
+    remove_at g.met.K.Ord.total c.args.key.now c.args.rest.now.items c.args.at c.index_mut-block.result.now c.remove-value.new.self c.requires.place
+    (c.remove-value.ensures.pairs ∙ ap (λ b. remove g.K.Ord.cmp b.pairs c.args.key.now) c.index_mut-block.ensures.value)
 
 pub returns-else-len-eq0-clause-blocks : goal.returns-else-len-eq0-clause-blocks
 returns-else-len-eq0-clause-blocks g c =

@@ -27,14 +27,16 @@ returns-in_err-list g c =
     let error = c.in_err-list.field-0.0 in
     let gives = rw c.deref.ensures.value at c.in_err-list.ensures in
     rw (failed c.from_residual-in_err-list.result error c.from_residual-in_err-list.ensures, c.in_ok-names.ensures)
-    (λ status after failures told. not_listed error (acl_output c.in_ok-names.names) (streams_of _ _ _ (g.I.ByteIn.failed_reads c.args.reader.now) _ _ _) status c.in_ok-text.text.items _ c.in_ok-text.ensures.ok c.in_ok-text.ensures.kept gives told)
+    (λ status after failures told. not_listed error (acl_output c.in_ok-names.names) (streams_of _ _ _ (g.I.ByteIn.failed_reads c.args.reader.now) _ _ _) status
+    c.in_ok-text.text.items _ c.in_ok-text.ensures.ok c.in_ok-text.ensures.kept gives told)
 
 pub returns-in_err-write_all : goal.returns-in_err-write_all
 returns-in_err-write_all g c =
     let now = g.O.ByteOut.written c.write_all.new.stream in
     let failures = g.O.ByteOut.failed_writes c.write_all.new.stream in
     rw (failed c.from_residual-in_err-write_all.result Stream c.from_residual-in_err-write_all.ensures, c.in_ok-names.ensures)
-    (λ status after failures_after told. not_written (acl_output c.in_ok-names.names) (streams_of _ _ _ (g.I.ByteIn.failed_reads c.args.reader.now) _ (g.O.ByteOut.failed_writes c.args.writer.now) _) status _ now failures c.in_err-write_all.ensures.err told)
+    (λ status after failures_after told. not_written (acl_output c.in_ok-names.names)
+    (streams_of _ _ _ (g.I.ByteIn.failed_reads c.args.reader.now) _ (g.O.ByteOut.failed_writes c.args.writer.now) _) status _ now failures c.in_err-write_all.ensures.err told)
 
 pub returns : goal.returns
 returns g c =
@@ -43,4 +45,5 @@ returns g c =
     let list = c.in_ok-list.list.items in
     let is = rw c.deref.ensures.value at c.in_ok-list.ensures in
     let added = rw c.deref-2.ensures.value at c.in_ok-write_all.ensures.ok in
-    rw c.in_ok-names.ensures (all_written output (streams_of _ _ _ (g.I.ByteIn.failed_reads c.args.reader.now) _ (g.O.ByteOut.failed_writes c.args.writer.now) _) done text _ c.in_ok-text.ensures.ok (writes_text (output text) list _ _ is added))
+    rw c.in_ok-names.ensures (all_written output (streams_of _ _ _ (g.I.ByteIn.failed_reads c.args.reader.now) _ (g.O.ByteOut.failed_writes c.args.writer.now) _) done text _
+    c.in_ok-text.ensures.ok (writes_text (output text) list _ _ is added))

@@ -18,4 +18,5 @@ returns-in_err-play_script g c =
     let failures = g.O.ByteOut.failed_writes c.play_script.new.writer in
     let plays = rw c.deref.ensures.value at c.in_err-play_script.ensures in
     rw (failed c.from_residual-in_err-play_script.result (of_play error) c.from_residual-in_err-play_script.ensures)
-    (λ status after failures_after told. not_played error output (streams_of _ _ _ (g.I.ByteIn.failed_reads c.args.reader.now) _ _ _) status c.in_ok-text.text.items _ now failures c.in_ok-text.ensures.ok c.in_ok-text.ensures.kept plays told)
+    (λ status after failures_after told. not_played error output (streams_of _ _ _ (g.I.ByteIn.failed_reads c.args.reader.now) _ _ _) status c.in_ok-text.text.items _ now failures
+    c.in_ok-text.ensures.ok c.in_ok-text.ensures.kept plays told)

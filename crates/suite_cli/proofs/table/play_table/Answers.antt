@@ -15,7 +15,8 @@ pub returns : goal.returns
 returns g c =
     let read = ap (headed is_known (codes "root") root_in) (sym c.new-script.ensures.whole) ∙ c.in_ok-root.ensures.root in
     let plays = rw (c.in_ok-table.ensures, c.settings_of.ensures) at c.play_lines.ensures in
-    subst (λ (output : Output). Plays c.play_lines.result output (g.O.ByteOut.written c.args.writer.now) (g.O.ByteOut.written c.play_lines.new.writer) (g.O.ByteOut.failed_writes c.args.writer.now) (g.O.ByteOut.failed_writes c.play_lines.new.writer))
+    subst (λ (output : Output). Plays c.play_lines.result output (g.O.ByteOut.written c.args.writer.now) (g.O.ByteOut.written c.play_lines.new.writer)
+    (g.O.ByteOut.failed_writes c.args.writer.now) (g.O.ByteOut.failed_writes c.play_lines.new.writer))
     (played_output c.args.text.now c.in_ok-root.root c.read_root.new.script read) plays
 
 pub returns-in_err-root : goal.returns-in_err-root

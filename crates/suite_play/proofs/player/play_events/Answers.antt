@@ -25,7 +25,8 @@ pub returns-clause-plays : goal.returns-clause-plays
 returns-clause-plays g c =
     let read = ap header (sym c.new-script.ensures.whole) ∙ c.in_ok-settings.ensures in
     let plays = rw (c.in_ok-world.ensures, c.places_of-places.ensures) at c.play_lines.ensures in
-    subst (λ (output : Output). Plays c.play_lines.result output (g.O.ByteOut.written c.args.writer.now) (g.O.ByteOut.written c.play_lines.new.writer) (g.O.ByteOut.failed_writes c.args.writer.now) (g.O.ByteOut.failed_writes c.play_lines.new.writer))
+    subst (λ (output : Output). Plays c.play_lines.result output (g.O.ByteOut.written c.args.writer.now) (g.O.ByteOut.written c.play_lines.new.writer)
+    (g.O.ByteOut.failed_writes c.args.writer.now) (g.O.ByteOut.failed_writes c.play_lines.new.writer))
     (played_output c.args.text.now c.in_ok-settings.settings c.read_header.new.script read) plays
 
 on_ok : {A E P : Type 0} (result : Result A E) → P → OnOk result P

@@ -32,4 +32,5 @@ loop-item-preserved g c =
 -- memory ran out in the first line
 pub returns-in_err-push_audit_head : goal.returns-in_err-push_audit_head
 returns-in_err-push_audit_head g c =
-    rw (failed c.from_residual.result Memory c.from_residual.ensures) (prints_nothing (g.O.ByteOut.written c.args.writer.now) (c.args.text.now.items ++ audit_lines c.args.server c.args.items.now) [] (g.O.ByteOut.failed_writes c.args.writer.now))
+    rw (failed c.from_residual.result Memory c.from_residual.ensures) (prints_nothing (g.O.ByteOut.written c.args.writer.now)
+    (c.args.text.now.items ++ audit_lines c.args.server c.args.items.now) [] (g.O.ByteOut.failed_writes c.args.writer.now))

@@ -23,7 +23,8 @@ lines g stage number = prints_from g.S.Stage.line g.S.Stage.after stage number
 
 -- a line is read, and those after it are looked through where they were to be: what it prints is left, and what they print
 line_read : (g : Over) (c : Joined-not-is_faultless g) → IsPlayed c.if-not-is_faultless.is_faultless (comes_to [] (lines g c.args.stage.now 0) (owns (of g c.args.language.now) c.args.script.now))
-    (comes_to (c.loop-text.text.items ++ g.S.Stage.line c.loop-text.stage c.loop-text.number c.in-Some.own) (lines g (g.S.Stage.after c.loop-text.stage c.loop-text.number c.in-Some.own) (c.loop-text.number + 1)) (owns (of g c.args.language.now) c.next_own.new.self))
+    (comes_to (c.loop-text.text.items ++ g.S.Stage.line c.loop-text.stage c.loop-text.number c.in-Some.own)
+    (lines g (g.S.Stage.after c.loop-text.stage c.loop-text.number c.in-Some.own) (c.loop-text.number + 1)) (owns (of g c.args.language.now) c.next_own.new.self))
     (g.O.ByteOut.written c.args.writer.now) (g.O.ByteOut.written c.loop-text.writer) (g.O.ByteOut.failed_writes c.args.writer.now) (g.O.ByteOut.failed_writes c.loop-text.writer)
 line_read g c =
     let here = c.loop-text in
@@ -63,7 +64,8 @@ loop-text-preserved g c =
       played = elim c.if-is_faultless.branch [
         | then-is_faultless+in_ok-write_line w ↦
             rw (w.text-is, w.stage-is, w.writer-is, w.in_ok-write_line.ensures.after)
-            (moved_so (g.O.ByteOut.written w.write_line.new.writer) (g.O.ByteOut.failed_writes w.write_line.new.writer) printed w.write_line.new.text.items (lines g stage (here.number + 1)) (owns (of g c.args.language.now) c.next_own.new.self) w.if-is_faultless.true w.in_ok-write_line.ensures.printed is)
+            (moved_so (g.O.ByteOut.written w.write_line.new.writer) (g.O.ByteOut.failed_writes w.write_line.new.writer) printed w.write_line.new.text.items
+            (lines g stage (here.number + 1)) (owns (of g c.args.language.now) c.next_own.new.self) w.if-is_faultless.true w.in_ok-write_line.ensures.printed is)
         | else-is_faultless+in_ok-play_line w ↦ rw (w.text-is, w.stage-is, w.writer-is, w.in_ok-play_line.ensures.printed, w.in_ok-play_line.ensures.after) is
       ];
       numbers = omega (arith, here.invariant.numbers, fewer);
@@ -98,7 +100,8 @@ returns-in_err-write_line g c =
     let stage = g.S.Stage.after here.stage here.number c.in-Some.own in
     let printed = here.text.items ++ g.S.Stage.line here.stage here.number c.in-Some.own in
     rw (failed c.from_residual-in_err-write_line.result error c.from_residual-in_err-write_line.ensures)
-    (broken_line error (g.O.ByteOut.written c.write_line.new.writer) (g.O.ByteOut.failed_writes c.write_line.new.writer) printed c.write_line.new.text.items (lines g stage (here.number + 1)) (owns (of g c.args.language.now) c.next_own.new.self)
+    (broken_line error (g.O.ByteOut.written c.write_line.new.writer) (g.O.ByteOut.failed_writes c.write_line.new.writer) printed c.write_line.new.text.items
+    (lines g stage (here.number + 1)) (owns (of g c.args.language.now) c.next_own.new.self)
     c.if-is_faultless.true c.in_err-write_line.ensures.printed (line_read g (goal.at.returns-in_err-write_line g c).Joined-not-is_faultless))
 
 pub returns-in_err-play_line : goal.returns-in_err-play_line

@@ -23,8 +23,12 @@ returns g c =
     let second = c.in_ok-agents-3.field-0 in
     let above = c.split_at.result.0.now in
     let below = c.split_at.result.1.now in
-    let one : IsPoolOf above c.in_ok-first.first.items c.args.opened.passes.items first = subst (λ (r : Result Pool PoolFault). IfOk r (λ (pool : Pool). IsPoolOf above c.in_ok-first.first.items c.args.opened.passes.items pool)) c.in_ok-agents.ensures c.run_pool.ensures.pool in
-    let two : IsPoolOf below c.in_ok-agents-2.agents.items first.passes.items second = subst (λ (r : Result Pool PoolFault). IfOk r (λ (pool : Pool). IsPoolOf below c.in_ok-agents-2.agents.items first.passes.items pool)) c.in_ok-agents-3.ensures c.run_pool-2.ensures.pool in
+    let one : IsPoolOf above c.in_ok-first.first.items c.args.opened.passes.items first = subst
+    (λ (r : Result Pool PoolFault). IfOk r (λ (pool : Pool). IsPoolOf above c.in_ok-first.first.items c.args.opened.passes.items pool)) c.in_ok-agents.ensures
+    c.run_pool.ensures.pool in
+    let two : IsPoolOf below c.in_ok-agents-2.agents.items first.passes.items second = subst
+    (λ (r : Result Pool PoolFault). IfOk r (λ (pool : Pool). IsPoolOf below c.in_ok-agents-2.agents.items first.passes.items pool)) c.in_ok-agents-3.ensures
+    c.run_pool-2.ensures.pool in
     let alone : c.in_ok-first.first.items ≡ first_player given 0 ∷ [] = c.in_ok-first.ensures.first ∙ ap (λ (s : Opening). first_player s 0 ∷ []) c.settings.ensures in
     let all : first_player given 0 ∷ c.in_ok-first.others.items ≡ players_from given 0 given.agents =
     ap (λ (ps : List Played). ps ++ c.in_ok-first.others.items) (sym alone) ∙ c.in_ok-first.ensures.all ∙ ap (λ (s : Opening). players_from s 0 s.agents) c.settings.ensures

@@ -8,4 +8,5 @@ returns-in_default-first-clause-suites c =
 
 pub returns-clause-suites : goal.returns-clause-suites
 returns-clause-suites c =
-    opens_some c.args.task.now (record { suites = c.args.suites.now.pairs; cache = c.args.cache.now.entries }) c.args.number c.args.content c.in-Some.suite.now _ _ c.get_mut.ensures.ordered c.in-Some.ensures.value (sym c.in-Some-first.ensures.value) c.open.ensures
+    opens_some c.args.task.now (record { suites = c.args.suites.now.pairs; cache = c.args.cache.now.entries }) c.args.number c.args.content c.in-Some.suite.now _ _
+    c.get_mut.ensures.ordered c.in-Some.ensures.value (sym c.in-Some-first.ensures.value) c.open.ensures

@@ -29,7 +29,8 @@ returns-in-Some-clause-accepted c = accepted_iff c.args.entries.items
 
 pub returns-in_err-entries-clause-fault : goal.returns-in_err-entries-clause-fault
 returns-in_err-entries-clause-fault c =
-    memory_alone c.from_residual.result c.from_residual.ensures.1 ∙ sym c.in_default.is ∙ c.first_fault_of.ensures ∙ same_fault c.args.entries.items c.into_sorted-sorted.result.items c.deref.result.now c.into_sorted-sorted.ensures c.deref.ensures.value
+    memory_alone c.from_residual.result c.from_residual.ensures.1 ∙ sym c.in_default.is ∙ c.first_fault_of.ensures
+    ∙ same_fault c.args.entries.items c.into_sorted-sorted.result.items c.deref.result.now c.into_sorted-sorted.ensures c.deref.ensures.value
 
 pub returns-in_err-entries-clause-accepted : goal.returns-in_err-entries-clause-accepted
 returns-in_err-entries-clause-accepted c = accepted_iff c.args.entries.items

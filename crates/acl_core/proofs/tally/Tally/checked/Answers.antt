@@ -16,7 +16,8 @@ returns-then-has_twice-clause-fault c =
     let group_obj : told_fault tally NoGroupObj ≡ false = ne_eqb tally.group_objs 0 (λ e. c.if-self-eq0-2.false (ap (λ t. t.group_objs) seen ∙ e)) in
     let other : told_fault tally NoOther ≡ false = ne_eqb tally.others 0 (λ e. c.if-self-eq0-3.false (ap (λ t. t.others) seen ∙ e)) in
     let single : told_fault tally TwiceSingle ≡ true = sym c.has_single_twice-has_twice.ensures ∙ c.if-has_twice.true in
-    let told : find (told_fault tally) faults ≡ Some TwiceSingle = λ i. first_of_eight (user_obj i) (group_obj i) (other i) (single i) (told_fault tally UserTwice) (told_fault tally GroupTwice) (told_fault tally MaskMissing) (told_fault tally TooMany) in
+    let told : find (told_fault tally) faults ≡ Some TwiceSingle = λ i. first_of_eight (user_obj i) (group_obj i) (other i) (single i) (told_fault tally UserTwice)
+    (told_fault tally GroupTwice) (told_fault tally MaskMissing) (told_fault tally TooMany) in
     λ entries is. sym (first_told tally entries is) ∙ told
 
 pub returns-then-has_doubled-clause-fault : goal.returns-then-has_doubled-clause-fault

@@ -26,7 +26,8 @@ returns-in_default-delivery_from g c =
     let answer = c.ask-pass.result.1 in
     let none = sym c.delivery_from.ensures ∙ c.in_default-delivery_from.is in
     did_stick _ _ _ _ _ _ (search rules) (search rules) (search rules) (search rules)
-    (inr (stale_seen c.in-Some.server answer.before c.in-Some.request answer.reply c.args.pass _ none (λ long e. c.ask-pass.ensures.stale.0 (subst (λ (n : ℕ). answer.reply ≡ Err (Stale n)) (c.ask-pass.ensures.told.stale long e) e)) (search rules)))
+    (inr (stale_seen c.in-Some.server answer.before c.in-Some.request answer.reply c.args.pass _ none
+    (λ long e. c.ask-pass.ensures.stale.0 (subst (λ (n : ℕ). answer.reply ≡ Err (Stale n)) (c.ask-pass.ensures.told.stale long e) e)) (search rules)))
 
 pub invariant_of-self-2 : goal.invariant_of-self-2
 invariant_of-self-2 g c =
@@ -36,7 +37,8 @@ invariant_of-self-2 g c =
     let h = c.hear-came.ensures in
     record {
       number = h.1 ∙ c.self.invariant.number;
-      counted = h.2 ∙ c.self.invariant.counted ∙ sym (heard_begins c.self.inside.number c.args.begun delivery c.self.inside.agent c.reserve.new.self.items c.hear-came.new.agent c.hear-came.new.entries.items c.hear-came.result asks h ∙ ap begins c.reserve.ensures.items);
+      counted = h.2 ∙ c.self.invariant.counted ∙ sym (heard_begins c.self.inside.number c.args.begun delivery c.self.inside.agent c.reserve.new.self.items c.hear-came.new.agent
+          c.hear-came.new.entries.items c.hear-came.result asks h ∙ ap begins c.reserve.ensures.items);
       known = ap length c.learn.ensures.known ∙ known_long c.in-Some.server c.stamp_in-stamp.result c.self.inside.known.items ∙ c.self.invariant.known;
     }
 
@@ -47,7 +49,9 @@ returns g c =
     let is = sym c.delivery_from.ensures ∙ c.in-Some-delivery_from.is in
     let mine : c.self.inside.known.items ≡ c.args.self.now.known = search rules in
     let goes = goes_by c.in-Some.server answer.before answer.reply delivery c.args.pass is c.ask-pass.ensures.front c.ask-pass.ensures.rises in
-    heard_in _ c.args.begun c.self.inside.number delivery c.args.self.now (record { agent = c.hear-came.new.agent; entries = c.hear-came.new.entries.items; known = c.learn.new.known.items }) c.self.inside.agent c.reserve.new.self.items c.args.pass c.ask-pass.result.0 c.hear-came.result
+    heard_in _ c.args.begun c.self.inside.number delivery c.args.self.now
+    (record { agent = c.hear-came.new.agent; entries = c.hear-came.new.entries.items; known = c.learn.new.known.items }) c.self.inside.agent c.reserve.new.self.items
+    c.args.pass c.ask-pass.result.0 c.hear-came.result
     (search rules) (search rules) (search rules) (search rules)
     (delivery_asks c.in-Some.server answer.reply delivery is) (subst (λ (q : Held). GoesOn (delivery.entry ∷ []) c.args.pass q) (sym c.ask-pass.ensures.pass) goes)
     (subst (λ (ks : List ℕ). Learns ks (delivery.entry ∷ []) c.learn.new.known.items) mine

@@ -16,10 +16,15 @@ pub returns-in_err-require_folder-clause-parent : goal.returns-in_err-require_fo
 returns-in_err-require_folder-clause-parent c = goes _ c.in_ok-place.ensures.place (overruled _ (sym c.in_err-require_folder.ensures) c.from_residual-in_err-require_folder.ensures)
 
 pub returns-in_err-permit-clause-parent : goal.returns-in_err-permit-clause-parent
-returns-in_err-permit-clause-parent c = goes _ c.in_ok-place.ensures.place (ruled _ (sym c.in_ok-require_folder.ensures) (overruled _ (wanted c.args.caller.now (seen_place c.in_ok-place.place) c.to_change.ensures ∙ sym c.in_err-permit.ensures) c.from_residual-in_err-permit.ensures))
+returns-in_err-permit-clause-parent c = goes _ c.in_ok-place.ensures.place
+    (ruled _ (sym c.in_ok-require_folder.ensures) (overruled _ (wanted c.args.caller.now (seen_place c.in_ok-place.place) c.to_change.ensures ∙ sym c.in_err-permit.ensures)
+    c.from_residual-in_err-permit.ensures))
 
 pub returns-in_err-names-clause-parent : goal.returns-in_err-names-clause-parent
-returns-in_err-names-clause-parent c = goes _ c.in_ok-place.ensures.place (ruled _ (sym c.in_ok-require_folder.ensures) (ruled _ (wanted c.args.caller.now (seen_place c.in_ok-place.place) c.to_change.ensures ∙ sym c.in_ok-permit.ensures) (stops _ c.in_err-names.ensures c.from_residual-in_err-names.ensures)))
+returns-in_err-names-clause-parent c = goes _ c.in_ok-place.ensures.place
+    (ruled _ (sym c.in_ok-require_folder.ensures) (ruled _ (wanted c.args.caller.now (seen_place c.in_ok-place.place) c.to_change.ensures ∙ sym c.in_ok-permit.ensures)
+    (stops _ c.in_err-names.ensures c.from_residual-in_err-names.ensures)))
 
 pub returns-clause-parent : goal.returns-clause-parent
-returns-clause-parent c = goes _ c.in_ok-place.ensures.place (ruled _ (sym c.in_ok-require_folder.ensures) (ruled _ (wanted c.args.caller.now (seen_place c.in_ok-place.place) c.to_change.ensures ∙ sym c.in_ok-permit.ensures) (goes _ c.in_ok-names.ensures (record { told = refl }))))
+returns-clause-parent c = goes _ c.in_ok-place.ensures.place (ruled _ (sym c.in_ok-require_folder.ensures)
+    (ruled _ (wanted c.args.caller.now (seen_place c.in_ok-place.place) c.to_change.ensures ∙ sym c.in_ok-permit.ensures) (goes _ c.in_ok-names.ensures (record { told = refl }))))

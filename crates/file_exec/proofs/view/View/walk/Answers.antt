@@ -11,4 +11,5 @@ returns-in_err-next-clause-suite c =
 
 pub loop-point-preserved : goal.loop-point-preserved
 loop-point-preserved c =
-    leads_on c.args.self.known.now.suites c.args.self.log.now c.args.caller.now c.args.names.now c.loop-point.point.depth c.loop-point.point.suite c.loop-point.invariant _ c.in_ok-next.next c.loop-point-test.true c.index-names-point.is c.in_ok-next.ensures.told
+    leads_on c.args.self.known.now.suites c.args.self.log.now c.args.caller.now c.args.names.now c.loop-point.point.depth c.loop-point.point.suite c.loop-point.invariant _
+    c.in_ok-next.next c.loop-point-test.true c.index-names-point.is c.in_ok-next.ensures.told

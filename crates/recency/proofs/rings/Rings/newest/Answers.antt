@@ -17,7 +17,9 @@ pub returns : goal.returns
 returns c =
     let i = c.self.inside in
     let base = vec_ptr i.nodes in
-    let s = older_slot i.slots i.nodes _ _ c.self.invariant c.place_of-all.result.ptr c.look.result.now c.look-2.result.now (i.slots + 17) (omega arith) c.place_of-all.ensures.node c.place_of-all.ensures.index c.look.ensures c.look-2.ensures in
+    let s = older_slot i.slots i.nodes _ _ c.self.invariant c.place_of-all.result.ptr c.look.result.now c.look-2.result.now (i.slots + 17)
+    (omega arith) c.place_of-all.ensures.node c.place_of-all.ensures.index c.look.ensures c.look-2.ensures in
     c.then_some.ensures ∙ ap (λ (k : ℕ). then_some (nat_lt k i.slots) k) s
-    ∙ first_is (older_in true base i.nodes.items) (newer_in true base i.nodes.items) i.slots (i.slots + 17) (i.slots + 17) (listed_in i.slots base i.nodes.items).order c.self.invariant.ringed.all_path (omega arith) c.self.invariant.ringed.all_below
+    ∙ first_is (older_in true base i.nodes.items) (newer_in true base i.nodes.items) i.slots (i.slots + 17) (i.slots + 17)
+    (listed_in i.slots base i.nodes.items).order c.self.invariant.ringed.all_path (omega arith) c.self.invariant.ringed.all_below
     ∙ ap (λ (t : Listed). option_map (λ (e : Mark). e.0) (first_of t.order)) c.self.view_is

@@ -27,7 +27,8 @@ returns c =
     let order = (listed_in i.slots base i.nodes.items).order in
     let there : In c.args.slot (keys order) = subst (λ (t : Listed). In c.args.slot (keys t.order)) (sym c.self.view_is) c.requires in
     let below = c.self.invariant.ringed.all_below c.args.slot there in
-    let s = older_slot i.slots i.nodes _ _ c.self.invariant c.place_of-here.result.ptr c.look.result.now c.look-2.result.now c.args.slot (omega arith) c.place_of-here.ensures.node c.place_of-here.ensures.index c.look.ensures c.look-2.ensures in
+    let s = older_slot i.slots i.nodes _ _ c.self.invariant c.place_of-here.result.ptr c.look.result.now c.look-2.result.now c.args.slot
+    (omega arith) c.place_of-here.ensures.node c.place_of-here.ensures.index c.look.ensures c.look-2.ensures in
     c.then_some.ensures ∙ ap (λ (k : ℕ). then_some (nat_lt k i.slots) k) s
     ∙ next_is (older_in true base i.nodes.items) (newer_in true base i.nodes.items) i.slots c.args.slot (i.slots + 17) (i.slots + 17) order c.self.invariant.ringed.all_path (omega arith) c.self.invariant.ringed.all_below there
     ∙ ap (λ (t : Listed). option_map (λ (e : Mark). e.0) (older_than c.args.slot t.order)) c.self.view_is

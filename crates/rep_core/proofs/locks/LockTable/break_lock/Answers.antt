@@ -14,13 +14,18 @@ invariant_of-self c =
     let all = c.self.invariant in
     let locks = c.self.inside.few.items ++ c.self.inside.many.locks in
     let kept = c.break_lock.ensures in
-    few_tabled c.self.inside.few.items c.self.inside.many.locks all (locking.broken c.args.t c.args.suite) (rise_filter (λ l. not (is_own c.args.t c.args.suite l && not l.prepared)) locks all.rising) (still_alone (λ l. not (is_own c.args.t c.args.suite l && not l.prepared)) locks all.alone) (sym c.is_empty.ensures ∙ c.if-is_empty.true) _ kept
+    few_tabled c.self.inside.few.items c.self.inside.many.locks all (locking.broken c.args.t c.args.suite)
+    (rise_filter (λ l. not (is_own c.args.t c.args.suite l && not l.prepared)) locks all.rising)
+    (still_alone (λ l. not (is_own c.args.t c.args.suite l && not l.prepared)) locks all.alone) (sym c.is_empty.ensures ∙ c.if-is_empty.true) _ kept
 
 pub invariant_of-self-else-is_empty : goal.invariant_of-self-else-is_empty
 invariant_of-self-else-is_empty c =
     let all = c.self.invariant in
     let locks = c.self.inside.few.items ++ c.self.inside.many.locks in
-    many_tabled c.self.inside.few.items c.self.inside.many.locks all (locking.broken c.args.t c.args.suite) (rise_filter (λ l. not (is_own c.args.t c.args.suite l && not l.prepared)) locks all.rising) (still_alone (λ l. not (is_own c.args.t c.args.suite l && not l.prepared)) locks all.alone) (sym c.is_empty.ensures ∙ c.if-is_empty.false) _ c.break_lock-else-is_empty.ensures
+    many_tabled c.self.inside.few.items c.self.inside.many.locks all (locking.broken c.args.t c.args.suite)
+    (rise_filter (λ l. not (is_own c.args.t c.args.suite l && not l.prepared)) locks all.rising)
+    (still_alone (λ l. not (is_own c.args.t c.args.suite l && not l.prepared)) locks all.alone)
+    (sym c.is_empty.ensures ∙ c.if-is_empty.false) _ c.break_lock-else-is_empty.ensures
 
 pub returns-then-is_empty : goal.returns-then-is_empty
 returns-then-is_empty c =

@@ -15,13 +15,15 @@ invariant_of-self c =
     let all = c.self.invariant in
     let locks = c.self.inside.few.items ++ c.self.inside.many.locks in
     let kept = filter_same _ _ _ (λ x b f' k. search rules) _ _ c.retain.ensures.filtered in
-    few_tabled c.self.inside.few.items c.self.inside.many.locks all (locking.released c.args.t) (rise_filter (λ l. not (l.t == c.args.t)) locks all.rising) (still_alone (λ l. not (l.t == c.args.t)) locks all.alone) (sym c.is_empty.ensures ∙ c.if-is_empty.true) _ kept
+    few_tabled c.self.inside.few.items c.self.inside.many.locks all (locking.released c.args.t) (rise_filter (λ l. not (l.t == c.args.t)) locks all.rising)
+    (still_alone (λ l. not (l.t == c.args.t)) locks all.alone) (sym c.is_empty.ensures ∙ c.if-is_empty.true) _ kept
 
 pub invariant_of-self-else-is_empty : goal.invariant_of-self-else-is_empty
 invariant_of-self-else-is_empty c =
     let all = c.self.invariant in
     let locks = c.self.inside.few.items ++ c.self.inside.many.locks in
-    many_tabled c.self.inside.few.items c.self.inside.many.locks all (locking.released c.args.t) (rise_filter (λ l. not (l.t == c.args.t)) locks all.rising) (still_alone (λ l. not (l.t == c.args.t)) locks all.alone) (sym c.is_empty.ensures ∙ c.if-is_empty.false) _ c.release.ensures
+    many_tabled c.self.inside.few.items c.self.inside.many.locks all (locking.released c.args.t) (rise_filter (λ l. not (l.t == c.args.t)) locks all.rising)
+    (still_alone (λ l. not (l.t == c.args.t)) locks all.alone) (sym c.is_empty.ensures ∙ c.if-is_empty.false) _ c.release.ensures
 
 pub returns-then-is_empty : goal.returns-then-is_empty
 returns-then-is_empty c =

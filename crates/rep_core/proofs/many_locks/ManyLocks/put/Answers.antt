@@ -23,12 +23,14 @@ insert_in_room-requires-2 c = λ none.
 pub invariant_of-self : goal.invariant_of-self
 invariant_of-self c =
     rw (c.insert_in_room.ensures.pairs, c.insert_in_room-2.ensures.pairs, c.remove.ensures.pairs)
-    (kept_tight c.self.inside.locks.pairs c.self.inside.holders.pairs c.self.inside.loose.pairs c.self.invariant c.args.t c.args.suite (c.args.mode, c.args.prepared) c.if-prepared.true (omega (arith, c.ranges.t.fits)) (omega (arith, c.ranges.suite.fits)))
+    (kept_tight c.self.inside.locks.pairs c.self.inside.holders.pairs c.self.inside.loose.pairs c.self.invariant c.args.t c.args.suite
+    (c.args.mode, c.args.prepared) c.if-prepared.true (omega (arith, c.ranges.t.fits)) (omega (arith, c.ranges.suite.fits)))
 
 pub invariant_of-self-else-prepared : goal.invariant_of-self-else-prepared
 invariant_of-self-else-prepared c =
     rw (c.insert_in_room.ensures.pairs, c.insert_in_room-2.ensures.pairs, c.insert_in_room-else-prepared.ensures.pairs)
-    (kept_loose c.self.inside.locks.pairs c.self.inside.holders.pairs c.self.inside.loose.pairs c.self.invariant c.args.t c.args.suite (c.args.mode, c.args.prepared) c.if-prepared.false (omega (arith, c.ranges.t.fits)) (omega (arith, c.ranges.suite.fits)))
+    (kept_loose c.self.inside.locks.pairs c.self.inside.holders.pairs c.self.inside.loose.pairs c.self.invariant c.args.t c.args.suite
+    (c.args.mode, c.args.prepared) c.if-prepared.false (omega (arith, c.ranges.t.fits)) (omega (arith, c.ranges.suite.fits)))
 
 pub returns-then-prepared-clause-put : goal.returns-then-prepared-clause-put
 returns-then-prepared-clause-put c =

@@ -23,7 +23,10 @@ returns-else-most-gt-MAX_SUITES c = λ t.
     let same : old ≡ c.args.self.now.store = ap (λ (shown : Storing). shown.store) c.self.view_is in
     let most : c.saturating_add-most.result ≡ min (min (length old.copies + length old.intentions) 18446744073709551615 + length parts) 18446744073709551615 =
     c.saturating_add-most.ensures
-    ∙ ap (λ n. min (n + length parts) 18446744073709551615) (c.saturating_add.ensures ∙ (λ i. min ((c.len.ensures.len ∙ sym (length_copies c.self.inside.copies.pairs)) i + (c.len-2.ensures.len ∙ sym (length_in c.self.inside.intentions.pairs)) i) 18446744073709551615)) in
+    ∙ ap (λ n. min (n + length parts) 18446744073709551615)
+    (c.saturating_add.ensures
+    ∙ (λ i. min ((c.len.ensures.len ∙ sym (length_copies c.self.inside.copies.pairs)) i + (c.len-2.ensures.len ∙ sym (length_in c.self.inside.intentions.pairs)) i)
+    18446744073709551615)) in
     let few : nat_lt max_suites c.saturating_add-most.result ≡ false = grind (arith, nat_tests, c.if-most-gt-MAX_SUITES.false) in
     few
     ∙ sym (not_over old t parts c.saturating_add-most.result c.requires (rising_in c.self.inside.intentions.pairs c.len-2.ensures.ordered) most few)

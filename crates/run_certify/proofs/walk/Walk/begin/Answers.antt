@@ -13,4 +13,5 @@ returns-clause-ok c =
     (subst (λ (event : Event). IsEvent c.args.self.now event (what_was_done c.in_ok-step.field-0 c.step.new.served c.step.new.ended) c.step.new.self) c.in_ok-event.ensures c.in_ok-step.ensures) c.count.ensures
 
 pub returns-clause-shorter : goal.returns-clause-shorter
-returns-clause-shorter c = begun_shorter c.args.self.now c.step.new.self c.count.new.self c.args.agent c.in_ok-event.event c.args.job.now (what_was_done c.in_ok-step.field-0 c.step.new.served c.step.new.ended) c.in_ok-step.ensures c.count.ensures
+returns-clause-shorter c = begun_shorter c.args.self.now c.step.new.self c.count.new.self c.args.agent c.in_ok-event.event c.args.job.now
+    (what_was_done c.in_ok-step.field-0 c.step.new.served c.step.new.ended) c.in_ok-step.ensures c.count.ensures

@@ -11,7 +11,8 @@ returns-then-from-agents-clause-mismatch c = λ _. forget_fails c.args.self.now 
     c.then-from-agents.either)
 
 pub returns-clause-ok : goal.returns-clause-ok
-returns-clause-ok c = forgot_goes c.args.self.now c.step.new.self c.args.agent c.args.site (what_was_done c.in_ok-step.field-0 c.step.new.served c.step.new.ended) (omega (arith, c.if-from-agents.false, c.agents.ensures, c.from.ensures)) (omega (arith, c.if-site-ge-MAX_SITES.false)) c.in_ok-step.ensures
+returns-clause-ok c = forgot_goes c.args.self.now c.step.new.self c.args.agent c.args.site (what_was_done c.in_ok-step.field-0 c.step.new.served c.step.new.ended)
+    (omega (arith, c.if-from-agents.false, c.agents.ensures, c.from.ensures)) (omega (arith, c.if-site-ge-MAX_SITES.false)) c.in_ok-step.ensures
 
 pub returns-clause-shorter : goal.returns-clause-shorter
 returns-clause-shorter c = event_shorter c.args.self.now c.step.new.self c.args.agent (Forget c.args.agent c.args.site) (what_was_done c.in_ok-step.field-0 c.step.new.served c.step.new.ended) c.in_ok-step.ensures

@@ -27,13 +27,17 @@ returns-then-ne-clause-mismatch c = λ _. lack_fails c.args.self.now c.args.agen
 pub returns-clause-ok : goal.returns-clause-ok
 returns-clause-ok c =
     on_ok_weaker c.end.result
-    (λ end. lacked_goes c.args.self.now c.step.new.self c.end.new.self c.args.agent c.args.server c.args.lack (what_was_done c.in_ok-step.field-0 c.step.new.served c.step.new.ended) (sym c.asked.ensures ∙ asks_it c.asked.result c.args.server (sym c.ne.ensures ∙ c.if-ne.false)) c.in_ok-step.ensures end)
+    (λ end. lacked_goes c.args.self.now c.step.new.self c.end.new.self c.args.agent c.args.server c.args.lack
+    (what_was_done c.in_ok-step.field-0 c.step.new.served c.step.new.ended) (sym c.asked.ensures ∙ asks_it c.asked.result c.args.server (sym c.ne.ensures ∙ c.if-ne.false))
+    c.in_ok-step.ensures end)
     c.end.ensures.ok
 
 pub returns-clause-shorter : goal.returns-clause-shorter
 returns-clause-shorter c =
-    on_ok_weaker c.end.result (λ end. lacked_shorter c.args.self.now c.step.new.self c.end.new.self c.args.agent (Lack c.args.agent c.args.lack) (what_was_done c.in_ok-step.field-0 c.step.new.served c.step.new.ended) c.in_ok-step.ensures end) c.end.ensures.ok
+    on_ok_weaker c.end.result (λ end. lacked_shorter c.args.self.now c.step.new.self c.end.new.self c.args.agent (Lack c.args.agent c.args.lack)
+    (what_was_done c.in_ok-step.field-0 c.step.new.served c.step.new.ended) c.in_ok-step.ensures end) c.end.ensures.ok
 
 pub returns-clause-mismatch : goal.returns-clause-mismatch
 returns-clause-mismatch c = λ is.
-    lacked_otherwise c.args.self.now c.step.new.self c.args.agent c.args.server c.args.lack (what_was_done c.in_ok-step.field-0 c.step.new.served c.step.new.ended) (sym c.asked.ensures ∙ asks_it c.asked.result c.args.server (sym c.ne.ensures ∙ c.if-ne.false)) c.in_ok-step.ensures (c.end.ensures.mismatch is)
+    lacked_otherwise c.args.self.now c.step.new.self c.args.agent c.args.server c.args.lack (what_was_done c.in_ok-step.field-0 c.step.new.served c.step.new.ended)
+    (sym c.asked.ensures ∙ asks_it c.asked.result c.args.server (sym c.ne.ensures ∙ c.if-ne.false)) c.in_ok-step.ensures (c.end.ensures.mismatch is)

@@ -14,7 +14,9 @@ returns-in_default-clause-mismatch c = λ _. ⊎_elim
 
 pub returns-then-is_served-clause-ok : goal.returns-then-is_served-clause-ok
 returns-then-is_served-clause-ok c =
-    operate_goes c.args.self.now c.step.new.self c.args.server c.args.item.now c.in-Some.event (what_was_done c.in_ok-was_served.was_served c.step.new.served c.step.new.ended) c.requires c.in-Some.ensures c.in_ok-was_served.ensures (c.is_served.ensures.0 c.if-is_served.true)
+    operate_goes c.args.self.now c.step.new.self c.args.server c.args.item.now c.in-Some.event
+    (what_was_done c.in_ok-was_served.was_served c.step.new.served c.step.new.ended) c.requires c.in-Some.ensures c.in_ok-was_served.ensures
+    (c.is_served.ensures.0 c.if-is_served.true)
 
 pub returns-clause-mismatch : goal.returns-clause-mismatch
 returns-clause-mismatch c = λ _.

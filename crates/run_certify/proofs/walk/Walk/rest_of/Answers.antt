@@ -34,7 +34,8 @@ returns-in_default-try_from c =
 
 pub loop-entry-smaller : goal.loop-entry-smaller
 loop-entry-smaller c =
-    less_of c.loop-entry.self c.next_entry.new.self c.replay.new.self c.args.agent c.in-Some.entry.now c.in-Some.ensures.used (subst (λ (n : ℕ). IsShorter c.next_entry.new.self n c.replay.new.self) c.in-Ok.ensures.1 c.in_ok-replay.ensures.shorter)
+    less_of c.loop-entry.self c.next_entry.new.self c.replay.new.self c.args.agent c.in-Some.entry.now c.in-Some.ensures.used
+    (subst (λ (n : ℕ). IsShorter c.next_entry.new.self n c.replay.new.self) c.in-Ok.ensures.1 c.in_ok-replay.ensures.shorter)
 
 pub loop-entry-preserved : goal.loop-entry-preserved
 loop-entry-preserved c =

@@ -19,7 +19,8 @@ pub returns-in_ok-begin-in-Begin-clause-ok : goal.returns-in_ok-begin-in-Begin-c
 returns-in_ok-begin-in-Begin-clause-ok c =
     rw (← c.self.view_is, c.in-Begin.is)
     (comes_to_nothing _ _ _ c.args.ended.now
-    (becomes_there (fixed_of c.self.inside.settings) c.self.inside.servers.items c.self.inside.seats.items c.begin.new.seats.items c.in-Begin.agent (λ fixed agent. begin fixed agent c.in-Begin.job) c.self.invariant c.in_ok-begin-in-Begin.ensures.ok))
+    (becomes_there (fixed_of c.self.inside.settings) c.self.inside.servers.items c.self.inside.seats.items c.begin.new.seats.items c.in-Begin.agent
+    (λ fixed agent. begin fixed agent c.in-Begin.job) c.self.invariant c.in_ok-begin-in-Begin.ensures.ok))
 
 pub returns-in-Step-clause-ok : goal.returns-in-Step-clause-ok
 returns-in-Step-clause-ok c =

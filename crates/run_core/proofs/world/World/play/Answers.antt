@@ -15,7 +15,8 @@ loop-event-preserved c =
       played = omega arith;
       world = world_played c.args.self.now.given c.loop-event.self.given c.args.self.now.world c.loop-event.self.world c.advance.new.self.world c.args.events.now c.loop-event.event-index c.loop-event.event-index c.event-item.result
           within so_far.given refl so_far.world c.event-item.is stepped.ok.world_is;
-      outcomes = outcomes_played c.args.self.now.given c.loop-event.self.given c.args.self.now.world c.loop-event.self.world c.args.events.now c.loop-event.event-index c.event-item.result c.advance.new.ended c.loop-event.outcomes.items c.keep.new.outcomes.items
+      outcomes = outcomes_played c.args.self.now.given c.loop-event.self.given c.args.self.now.world c.loop-event.self.world c.args.events.now c.loop-event.event-index
+          c.event-item.result c.advance.new.ended c.loop-event.outcomes.items c.keep.new.outcomes.items
           within so_far.given so_far.world c.event-item.is (stepped.ok.told.ended_is ∙ or_nothing _) so_far.outcomes kept;
     }
 

@@ -37,8 +37,13 @@ pub returns-else-at-eq0-clause-ordered : goal.returns-else-at-eq0-clause-ordered
 returns-else-at-eq0-clause-ordered g c = subst (IsOrdered g.K.Ord.cmp) (sym (removed_in g c)) (IsOrdered-remove g.met.K.Ord.total _ _ c.self.invariant.0)
 
 pub invariant_of-self-else-at-eq0 : goal.invariant_of-self-else-at-eq0
-invariant_of-self-else-at-eq0 g c =
-    (subst (IsOrdered g.K.Ord.cmp) (sym (removed_in g c)) (IsOrdered-remove g.met.K.Ord.total _ _ c.self.invariant.0), c.remove_in.ensures.blocks, c.self.invariant.2, c.self.invariant.3, omega (arith, c.remove_in.ensures.fewer, c.remove_in.ensures.capacity, c.self.invariant.4))
+invariant_of-self-else-at-eq0 g c = (
+  subst (IsOrdered g.K.Ord.cmp) (sym (removed_in g c)) (IsOrdered-remove g.met.K.Ord.total _ _ c.self.invariant.0),
+  c.remove_in.ensures.blocks,
+  c.self.invariant.2,
+  c.self.invariant.3,
+  omega (arith, c.remove_in.ensures.fewer, c.remove_in.ensures.capacity, c.self.invariant.4),
+)
 
 pub returns-else-at-eq0-clause-before : goal.returns-else-at-eq0-clause-before
 returns-else-at-eq0-clause-before g c =

@@ -14,7 +14,8 @@ pub invariant_of-self : goal.invariant_of-self
 invariant_of-self g c = rw (written g c) (IsOrdered-insert g.met.K.Ord.total _ _ _ c.self.invariant)
 
 pub invariant_of-self-in-Err : goal.invariant_of-self-in-Err
-invariant_of-self-in-Err g c = rw (c.in_ok-insert-in-Err.ensures.items, ap (λ v. v.pairs) c.self.view_is, c.in-Err.ensures.absent.inserted c.args.value) (IsOrdered-insert g.met.K.Ord.total _ _ _ (rw (ap (λ v. v.pairs) c.self.view_is) at c.self.invariant))
+invariant_of-self-in-Err g c = rw (c.in_ok-insert-in-Err.ensures.items, ap (λ v. v.pairs) c.self.view_is, c.in-Err.ensures.absent.inserted c.args.value)
+    (IsOrdered-insert g.met.K.Ord.total _ _ _ (rw (ap (λ v. v.pairs) c.self.view_is) at c.self.invariant))
 
 pub returns-in-Ok-clause-ok : goal.returns-in-Ok-clause-ok
 returns-in-Ok-clause-ok g c = rw (← ap (λ v. v.pairs) c.self.view_is) (written g c)

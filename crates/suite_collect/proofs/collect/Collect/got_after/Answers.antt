@@ -32,7 +32,9 @@ votes_with-requires c =
     let last = told_of c.args.last in
     let stay : counted (tell last now) ≡ counted now = search rules in
     let had : c.self.inside.tally.got ≡ got now = search rules in
-    let held : is_member now ≡ contains c.holders.result = λ i other. (sym (c.holders.ensures other ∙ ap (λ mode. holds mode c.heard-heard.result.now other) c.wanted-wanted.ensures ∙ ap (λ told. holds (wanted now) told other) c.heard-heard.ensures)) i in
+    let held : is_member now ≡ contains c.holders.result = λ i other.
+    (sym (c.holders.ensures other ∙ ap (λ mode. holds mode c.heard-heard.result.now other) c.wanted-wanted.ensures ∙ ap
+    (λ told. holds (wanted now) told other) c.heard-heard.ensures)) i in
     had ∙ ap (λ (votes : Configuration). votes_in votes.reps (is_member now)) (sym stay ∙ sym c.requires.votes) ∙ ap (votes_in c.args.votes.now.reps) held
 
 pub returns : goal.returns

@@ -15,7 +15,8 @@ returns c =
     let after : Collector = record now { told = last ∷ now.told; widening = None } in
     let told : c.add.new.self ≡ last ∷ now.told = c.add.ensures ∙ ap (λ (one : Told). one ∷ c.same-told.result) c.lend.ensures ∙ ap (λ told. last ∷ told) (c.same-told.ensures ∙ ap (λ (it : Collecting). it.collector.told) c.self.view_is) in
     let mode : c.self.inside.mode ≡ now.mode = ap (λ (it : Collecting). it.collector.mode) c.self.view_is in
-    let prefix : c.newer_of-prefix.result.now ≡ newest now.start (last ∷ now.told) = c.newer_of-prefix.ensures ∙ ap (λ (one : Told). newer c.newest.result.now one.said) c.lend-2.ensures ∙ ap (λ prefix. newer prefix last.said) c.newest.ensures in
+    let prefix : c.newer_of-prefix.result.now ≡ newest now.start (last ∷ now.told) = c.newer_of-prefix.ensures ∙ ap
+    (λ (one : Told). newer c.newest.result.now one.said) c.lend-2.ensures ∙ ap (λ prefix. newer prefix last.said) c.newest.ensures in
     let held : contains c.holders.result ≡ holds now.mode (last ∷ now.told) = (λ i other. c.holders.ensures other i) ∙ ap (λ mode. holds mode c.add.new.self) mode ∙ ap (holds now.mode) told in
     let members : c.members_of-members.result.items ≡ first_members after =
     c.members_of-members.ensures.members ∙ ap (λ (prefix : Prefix). members_of prefix.votes (contains c.holders.result)) (c.deref.ensures ∙ prefix) ∙ ap (members_of (newest now.start (last ∷ now.told)).votes) held in

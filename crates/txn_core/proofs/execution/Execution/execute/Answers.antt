@@ -31,5 +31,7 @@ pub returns-clause-reached : goal.returns-clause-reached
 returns-clause-reached c =
     let just_learned = c.args.just_learned in
     let old = c.args.suites.now.pairs in
-    reached_carried c.args.self.fixed_parts.now c.prepare.new.progress (fixed_in c.args.self c.args.cache.now) c.args.self.task.now c.args.cache.now c.set.new.cache (learned_suites just_learned old) c.set.new.suites.pairs c.carry_out.new.suites.pairs (kept_by just_learned) (kept_by just_learned)
-    c.in_ok-plan.plan c.in_ok-plan.ensures.plan refl c.in_ok-set.ensures.cache (c.in_ok-set.ensures.suites ∙ ap (learned_suites just_learned) c.prepare.ensures.pairs) (learned_ordered old just_learned c.in_ok-plan.ensures.ordered) c.carry_out.ensures.suites c.in_ok-plan.ensures.reached
+    reached_carried c.args.self.fixed_parts.now c.prepare.new.progress (fixed_in c.args.self c.args.cache.now) c.args.self.task.now c.args.cache.now c.set.new.cache
+    (learned_suites just_learned old) c.set.new.suites.pairs c.carry_out.new.suites.pairs (kept_by just_learned) (kept_by just_learned)
+    c.in_ok-plan.plan c.in_ok-plan.ensures.plan refl c.in_ok-set.ensures.cache (c.in_ok-set.ensures.suites ∙ ap (learned_suites just_learned) c.prepare.ensures.pairs)
+    (learned_ordered old just_learned c.in_ok-plan.ensures.ordered) c.carry_out.ensures.suites c.in_ok-plan.ensures.reached

@@ -17,4 +17,5 @@ pub returns-clause-reached : goal.returns-clause-reached
 returns-clause-reached c =
     let suites = learned_suites c.args.just_learned.now c.args.suites.now.pairs in
     let task = c.args.self.task.now in
-    subst (λ one. IsReachedIn c.args.self.fixed_parts.now task (opened_all task c.in_ok-plan.plan.opened.items (record { suites = suites; cache = shelved c.args.cache.now one })).suites c.plan.new.progress) c.fetched.ensures c.in_ok-plan.ensures.reached
+    subst (λ one. IsReachedIn c.args.self.fixed_parts.now task (opened_all task c.in_ok-plan.plan.opened.items
+    (record { suites = suites; cache = shelved c.args.cache.now one })).suites c.plan.new.progress) c.fetched.ensures c.in_ok-plan.ensures.reached

@@ -29,7 +29,8 @@ returns-in-Finishing-clause-ok c =
     let Said : Option ℕ → Type 0 = λ server. (ending : Ending) (fixed : Fixed) → put server ≡ request_in fixed now.task now.suites (Finishing c.in-Finishing.servers c.in-Finishing.verdict ending) in
     let Asked : Option ℕ → Type 0 = λ server. (limits : Limits) → put server ≡ request_of (record { service = c.args.fixed_parts.now; limits = limits }) now in
     IfOk-weaker c.ask_finish.result Said Asked
-    (λ server same limits. same c.in-Finishing.field-2 (record { service = c.args.fixed_parts.now; limits = limits }) ∙ ap (request_in (record { service = c.args.fixed_parts.now; limits = limits }) now.task now.suites) (sym is)) c.ask_finish.ensures.ok
+    (λ server same limits. same c.in-Finishing.field-2 (record { service = c.args.fixed_parts.now; limits = limits }) ∙ ap
+    (request_in (record { service = c.args.fixed_parts.now; limits = limits }) now.task now.suites) (sym is)) c.ask_finish.ensures.ok
 
 pub returns-in-Preparing-clause-memory : goal.returns-in-Preparing-clause-memory
 returns-in-Preparing-clause-memory c =
@@ -38,7 +39,8 @@ returns-in-Preparing-clause-memory c =
     let Said : AllocError → Type 0 = λ _. (fixed : Fixed) → by_asking (request_in fixed now.task now.suites (Preparing c.in-Preparing.servers c.in-Preparing.outcome)) ≡ true in
     let Asked : AllocError → Type 0 = λ _. (limits : Limits) → by_asking (request_of (record { service = c.args.fixed_parts.now; limits = limits }) now) ≡ true in
     IfErr-weaker c.ask_prepare.result Said Asked
-    (λ refused wants limits. ap (λ phase. by_asking (request_in (record { service = c.args.fixed_parts.now; limits = limits }) now.task now.suites phase)) is ∙ wants (record { service = c.args.fixed_parts.now; limits = limits })) c.ask_prepare.ensures.memory
+    (λ refused wants limits. ap (λ phase. by_asking (request_in (record { service = c.args.fixed_parts.now; limits = limits }) now.task now.suites phase)) is ∙ wants
+    (record { service = c.args.fixed_parts.now; limits = limits })) c.ask_prepare.ensures.memory
 
 pub returns-in-Finishing-clause-memory : goal.returns-in-Finishing-clause-memory
 returns-in-Finishing-clause-memory c =
@@ -47,7 +49,8 @@ returns-in-Finishing-clause-memory c =
     let Said : AllocError → Type 0 = λ _. (ending : Ending) (fixed : Fixed) → by_asking (request_in fixed now.task now.suites (Finishing c.in-Finishing.servers c.in-Finishing.verdict ending)) ≡ true in
     let Asked : AllocError → Type 0 = λ _. (limits : Limits) → by_asking (request_of (record { service = c.args.fixed_parts.now; limits = limits }) now) ≡ true in
     IfErr-weaker c.ask_finish.result Said Asked
-    (λ refused wants limits. ap (λ phase. by_asking (request_in (record { service = c.args.fixed_parts.now; limits = limits }) now.task now.suites phase)) is ∙ wants c.in-Finishing.field-2 (record { service = c.args.fixed_parts.now; limits = limits })) c.ask_finish.ensures.memory
+    (λ refused wants limits. ap (λ phase. by_asking (request_in (record { service = c.args.fixed_parts.now; limits = limits }) now.task now.suites phase)) is
+    ∙ wants c.in-Finishing.field-2 (record { service = c.args.fixed_parts.now; limits = limits })) c.ask_finish.ensures.memory
 
 pub returns-in-Deciding-clause-ok : goal.returns-in-Deciding-clause-ok
 returns-in-Deciding-clause-ok c =

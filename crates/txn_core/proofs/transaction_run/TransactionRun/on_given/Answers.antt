@@ -13,7 +13,8 @@ returns-in_default-clause-ok c =
     let resources = c.args.resources.now in
     let now = c.args.self.now in
     let none : given_in c.args.said.now ≡ None = search rules in
-    up_step resources c.requires.unused now (cause.Lost c.args.server) (given' resources now c.args.number c.args.server c.args.said.now) c.give_up.result c.give_up.new.self (not_given resources now c.args.number c.args.server c.args.said.now none) c.give_up.ensures
+    up_step resources c.requires.unused now (cause.Lost c.args.server) (given' resources now c.args.number c.args.server c.args.said.now) c.give_up.result c.give_up.new.self
+    (not_given resources now c.args.number c.args.server c.args.said.now none) c.give_up.ensures
 
 pub returns-in-None-clause-ok : goal.returns-in-None-clause-ok
 returns-in-None-clause-ok c =

@@ -42,7 +42,8 @@ returns-in-Some-2-clause-ok c =
     let pending = c.in-Some-2.pending in
     let hears = subst Hears c.in-Quorum.is heard in
     widened_asked now number server c.args.said.now asks c.widen_on.result c.widen_on.new.self (λ left granted cache phase.
-    let by = subst (λ (pending : Option PendingQuorum). SettlesAt (suite_of mid.suites number) pending c.args.said.now) c.in-Some-2.is (c.in_ok-pending-in-Quorum.ensures c.args.said.now (widened_completes now mid number server c.args.said.now cache left granted c.in-Quorum.last hears)) in
+    let by = subst (λ (pending : Option PendingQuorum). SettlesAt (suite_of mid.suites number) pending c.args.said.now) c.in-Some-2.is
+    (c.in_ok-pending-in-Quorum.ensures c.args.said.now (widened_completes now mid number server c.args.said.now cache left granted c.in-Quorum.last hears)) in
     let set : Suites → TransactionRun = λ suites. record { task = c.self.inside.task; suites = suites; phase = phase_of c.self.inside.phase } in
     let settled : TransactionRun → TransactionRun = λ txn_run. record txn_run { suites = changed_at (settled_with pending) number (suite_of txn_run.suites number) txn_run.suites } in
     let then' : TransactionRun = set c.settle.new.suites.pairs in
@@ -62,5 +63,6 @@ returns-in-None-clause-ok c =
     let server = c.in-Some.server in
     let hears = subst Hears c.in-Quorum.is heard in
     widened_asked now number server c.args.said.now asks c.give_up-in-None.result c.give_up-in-None.new.self (λ left granted cache phase.
-    let by = subst (λ (pending : Option PendingQuorum). SettlesAt (suite_of mid.suites number) pending c.args.said.now) c.in-None.is (c.in_ok-pending-in-Quorum.ensures c.args.said.now (widened_completes now mid number server c.args.said.now cache left granted c.in-Quorum.last hears)) in
+    let by = subst (λ (pending : Option PendingQuorum). SettlesAt (suite_of mid.suites number) pending c.args.said.now) c.in-None.is
+    (c.in_ok-pending-in-Quorum.ensures c.args.said.now (widened_completes now mid number server c.args.said.now cache left granted c.in-Quorum.last hears)) in
     widened_unsettled now mid number server c.args.said.now cache left granted c.in-Quorum.last hears c.give_up-in-None.result c.give_up-in-None.new.self by (c.give_up-in-None.ensures cache))

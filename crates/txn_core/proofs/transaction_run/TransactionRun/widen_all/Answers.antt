@@ -20,9 +20,13 @@ loop-number-preserved c =
     let one = c.in-Some.field-0.now in
     let same : c.granted.inside.changes ≡ granted.changes = ap (λ (g : Granted). g.changes) (c.granted.view_is ∙ loop.invariant.1) in
     let given : c.as_slice.result.now ≡ granted.changes = c.as_slice.ensures.value ∙ same in
-    let is : slice_get granted.changes loop.after ≡ Some (one.0, one.1) = ap (λ l. slice_get l loop.after) (sym given) ∙ slice_get-get_or c.as_slice.result.now loop.after one (ltb-true _ _ (sym c.in-Some.ensures.lookup.0)) ∙ ap (λ (it : ℕ × Change). Some it) (sym c.in-Some.ensures.lookup.1) in
-    let Up : Changes → Type 0 = λ l. IsOrdered nat_cmp l in
-    (left_met c.args.self.now c.args.from granted loop.self loop.after loop.invariant.0 one.0 one.1 c.votes.result.now c.widen.new.self is (subst Up same c.as_slice.ensures.ordered) c.if-not-change.false c.votes.ensures c.in-Current.ensures, loop.invariant.1)
+    let is : slice_get granted.changes loop.after ≡ Some (one.0, one.1) = ap (λ l. slice_get l loop.after) (sym given) ∙ slice_get-get_or c.as_slice.result.now loop.after one
+    (ltb-true _ _ (sym c.in-Some.ensures.lookup.0)) ∙ ap (λ (it : ℕ × Change). Some it) (sym c.in-Some.ensures.lookup.1) in
+    let Up : Changes → Type 0 = λ l. IsOrdered nat_cmp l in (
+      left_met c.args.self.now c.args.from granted loop.self loop.after loop.invariant.0 one.0 one.1 c.votes.result.now c.widen.new.self is
+          (subst Up same c.as_slice.ensures.ordered) c.if-not-change.false c.votes.ensures c.in-Current.ensures,
+      loop.invariant.1,
+    )
 
 pub returns-in-Ask : goal.returns-in-Ask
 returns-in-Ask c = λ cache.
@@ -31,12 +35,16 @@ returns-in-Ask c = λ cache.
     let one = c.in-Some.field-0.now in
     let same : c.granted.inside.changes ≡ granted.changes = ap (λ (g : Granted). g.changes) (c.granted.view_is ∙ loop.invariant.1) in
     let given : c.as_slice.result.now ≡ granted.changes = c.as_slice.ensures.value ∙ same in
-    let is : slice_get granted.changes loop.after ≡ Some (one.0, one.1) = ap (λ l. slice_get l loop.after) (sym given) ∙ slice_get-get_or c.as_slice.result.now loop.after one (ltb-true _ _ (sym c.in-Some.ensures.lookup.0)) ∙ ap (λ (it : ℕ × Change). Some it) (sym c.in-Some.ensures.lookup.1) in
+    let is : slice_get granted.changes loop.after ≡ Some (one.0, one.1) = ap (λ l. slice_get l loop.after) (sym given) ∙ slice_get-get_or c.as_slice.result.now loop.after one
+    (ltb-true _ _ (sym c.in-Some.ensures.lookup.0)) ∙ ap (λ (it : ℕ × Change). Some it) (sym c.in-Some.ensures.lookup.1) in
     let Up : Changes → Type 0 = λ l. IsOrdered nat_cmp l in
-    let asks = left_asks c.args.self.now c.args.from granted loop.self loop.after loop.invariant.0 one.0 one.1 c.votes.result.now c.widen.new.self is (subst Up same c.as_slice.ensures.ordered) c.if-not-change.false c.votes.ensures c.in-Ask.server c.in-Ask.asked cache c.in-Ask.ensures in
+    let asks = left_asks c.args.self.now c.args.from granted loop.self loop.after loop.invariant.0 one.0 one.1 c.votes.result.now c.widen.new.self is
+    (subst Up same c.as_slice.ensures.ordered) c.if-not-change.false c.votes.ensures c.in-Ask.server c.in-Ask.asked cache c.in-Ask.ensures in
     let widening : Granted → TransactionRun → TransactionRun = λ g txn_run. record txn_run { phase = Widening (one.0 ∷ to_widen (drop (loop.after + 1) g.changes)) g } in
     let After : TransactionRun → Type 0 = λ after. Steps (widen_all c.args.self.now.task cache c.args.self.now.suites granted (to_widen (drop c.args.from granted.changes))) None after cache in
-    subst After (ap (widening granted) (sym c.self.view_is) ∙ ap (λ g. widening g (record { task = c.self.inside.task; suites = c.self.inside.suites.pairs; phase = Widening (one.0 ∷ to_widen (drop (loop.after + 1) g.changes)) g })) (sym loop.invariant.1)) asks
+    subst After (ap (widening granted) (sym c.self.view_is) ∙ ap
+    (λ g. widening g (record { task = c.self.inside.task; suites = c.self.inside.suites.pairs; phase = Widening (one.0 ∷ to_widen (drop (loop.after + 1) g.changes)) g }))
+    (sym loop.invariant.1)) asks
 
 pub returns-in-Short : goal.returns-in-Short
 returns-in-Short c = λ cache.
@@ -46,11 +54,14 @@ returns-in-Short c = λ cache.
     let short = c.in-Short in
     let same : c.granted.inside.changes ≡ granted.changes = ap (λ (g : Granted). g.changes) (c.granted.view_is ∙ loop.invariant.1) in
     let given : c.as_slice.result.now ≡ granted.changes = c.as_slice.ensures.value ∙ same in
-    let is : slice_get granted.changes loop.after ≡ Some (one.0, one.1) = ap (λ l. slice_get l loop.after) (sym given) ∙ slice_get-get_or c.as_slice.result.now loop.after one (ltb-true _ _ (sym c.in-Some.ensures.lookup.0)) ∙ ap (λ (it : ℕ × Change). Some it) (sym c.in-Some.ensures.lookup.1) in
+    let is : slice_get granted.changes loop.after ≡ Some (one.0, one.1) = ap (λ l. slice_get l loop.after) (sym given) ∙ slice_get-get_or c.as_slice.result.now loop.after one
+    (ltb-true _ _ (sym c.in-Some.ensures.lookup.0)) ∙ ap (λ (it : ℕ × Change). Some it) (sym c.in-Some.ensures.lookup.1) in
     let Up : Changes → Type 0 = λ l. IsOrdered nat_cmp l in
     let widened = c.widen.new.self in
     let Gives : Cause → Type 0 = λ cause. Steps (give_up widened.task cache widened.suites cause) (ending_of c.give_up.result) c.give_up.new.self cache in
-    left_short c.args.self.now c.args.from granted loop.self loop.after loop.invariant.0 one.0 one.1 c.votes.result.now widened is (subst Up same c.as_slice.ensures.ordered) c.if-not-change.false c.votes.ensures short.got short.needed short.busy cache (ending_of c.give_up.result) c.give_up.new.self short.ensures
+    left_short c.args.self.now c.args.from granted loop.self loop.after loop.invariant.0 one.0 one.1 c.votes.result.now widened is
+    (subst Up same c.as_slice.ensures.ordered) c.if-not-change.false c.votes.ensures short.got short.needed short.busy cache
+    (ending_of c.give_up.result) c.give_up.new.self short.ensures
     (subst Gives c.of_short.ensures (c.give_up.ensures cache))
 
 pub returns : goal.returns

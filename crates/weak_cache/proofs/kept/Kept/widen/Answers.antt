@@ -27,7 +27,8 @@ add-requires-clause-none c =
     let i = c.loop-oldest.invariant in
     let e : c.in-Some-take.entry ≡ o.last.value = same_entry _ _ (c.in-Some-take.ensures.value ∙ o.there) in
     subst (λ (x : Entry). entry_of (values c.loop-oldest.wider.shelf.entries) x.site x.suite ≡ None) (sym e)
-    (not_moved o.newer o.last c.loop-oldest.self.shelf.entries o.parts (values c.loop-oldest.wider.shelf.entries) (values c.args.self.now.shelf.entries) i.same (c.requires.kept.once o.last.value.site o.last.value.suite) (key_own o.last.value))
+    (not_moved o.newer o.last c.loop-oldest.self.shelf.entries o.parts (values c.loop-oldest.wider.shelf.entries) (values c.args.self.now.shelf.entries) i.same
+    (c.requires.kept.once o.last.value.site o.last.value.suite) (key_own o.last.value))
 
 pub add-requires-clause-sum : goal.add-requires-clause-sum
 add-requires-clause-sum c =

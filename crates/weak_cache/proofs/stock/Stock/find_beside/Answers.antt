@@ -28,7 +28,8 @@ returns-then-is_of c =
     let above : n.slots < length all = omega (arith, c.if-is_full.true, c.self.invariant.counted.count, ap length c.self.view_is) in
     let none = sym c.find-then-is_full.ensures ∙ none_copied c.find-then-is_full.result (c.is_none.ensures ∙ ap not c.if-is_none.true) in
     let once = subst (λ (l : Cache). length (filter (is_of c.args.site c.args.suite) l) ≤ 1) c.self.view_is (c.self.invariant.once c.args.site c.args.suite) in
-    last_goes n.site n.suite n.quota n.budget n.slots all c.in_ok-oldest.field-0.now bytes c.requires.few above none (sym c.oldest.ensures ∙ ap option_copied c.in_ok-oldest.was) c.args.site c.args.suite once (sym c.is_of.ensures ∙ c.if-is_of.true)
+    last_goes n.site n.suite n.quota n.budget n.slots all c.in_ok-oldest.field-0.now bytes c.requires.few above none
+    (sym c.oldest.ensures ∙ ap option_copied c.in_ok-oldest.was) c.args.site c.args.suite once (sym c.is_of.ensures ∙ c.if-is_of.true)
 
 pub returns : goal.returns
 returns c =
@@ -39,7 +40,8 @@ returns c =
       | else-is_full-via-then-is_full+then-is_none+in_ok-oldest+else-is_of w ↦
           let above : n.slots < length all = omega (arith, w.if-is_full.true, c.self.invariant.counted.count, ap length c.self.view_is) in
           let none = sym w.find-then-is_full.ensures ∙ none_copied w.find-then-is_full.result (w.is_none.ensures ∙ ap not w.if-is_none.true) in
-          others_kept n.site n.suite n.quota n.budget n.slots all w.in_ok-oldest.field-0.now bytes c.requires.few above none (sym w.oldest.ensures ∙ ap option_copied w.in_ok-oldest.was) c.args.site c.args.suite (sym w.is_of.ensures ∙ w.if-is_of.false)
+          others_kept n.site n.suite n.quota n.budget n.slots all w.in_ok-oldest.field-0.now bytes c.requires.few above none
+          (sym w.oldest.ensures ∙ ap option_copied w.in_ok-oldest.was) c.args.site c.args.suite (sym w.is_of.ensures ∙ w.if-is_of.false)
       | else-is_full-via-then-is_full+else-is_none w ↦
           let there = ap is_some (sym w.find-then-is_full.ensures) ∙ some_copied w.find-then-is_full.result (w.is_none.ensures ∙ ap not w.if-is_none.false) in
           one_for_one c.args.site c.args.suite n.site n.suite n.quota n.budget n.slots all c.requires.other bytes c.requires.few there

@@ -58,7 +58,8 @@ loop-next-preserved-then-is_of c =
     let n = c.args.new in
     let to_come = come (goal.at.loop-next-preserved-then-is_of c).After-older-next in
     sym (ap (λ l. entry_of (within_budget c.loop-next.budget c.loop-next.slots (within_room n.site c.loop-next.quota (without n.site n.suite l))) c.args.site c.args.suite) to_come
-    ∙ ap (λ l. entry_of (within_budget c.loop-next.budget c.loop-next.slots (within_room n.site c.loop-next.quota l)) c.args.site c.args.suite) (walk_own n.site n.suite c.in-Some-get.entry.now (values (from_on c.older-next.result c.self.inside.kept.shelf.entries)) (sym c.is_of.ensures ∙ c.if-is_of.true)))
+    ∙ ap (λ l. entry_of (within_budget c.loop-next.budget c.loop-next.slots (within_room n.site c.loop-next.quota l)) c.args.site c.args.suite)
+    (walk_own n.site n.suite c.in-Some-get.entry.now (values (from_on c.older-next.result c.self.inside.kept.shelf.entries)) (sym c.is_of.ensures ∙ c.if-is_of.true)))
     ∙ c.loop-next.invariant
 
 pub loop-next-smaller-then-is_none : goal.loop-next-smaller-then-is_none
@@ -72,7 +73,8 @@ loop-next-preserved-then-is_none c =
     let none : c.quota_after-quota.result ≡ None = no_room c.quota_after-quota.result (c.is_none.ensures ∙ ap not c.if-is_none.true) in
     let left = walk_gone n.site e (rest a) c.loop-next.quota (sym c.is_at.ensures ∙ c.if-is_at.true) (sym (ap (room_after c.loop-next.quota) c.size.ensures) ∙ sym c.quota_after-quota.ensures ∙ none) in
     sym (ap (λ l. entry_of (within_budget c.loop-next.budget c.loop-next.slots (within_room n.site c.loop-next.quota (without n.site n.suite l))) c.args.site c.args.suite) (come a)
-    ∙ ap (λ l. entry_of (within_budget c.loop-next.budget c.loop-next.slots (within_room n.site c.loop-next.quota l)) c.args.site c.args.suite) (walk_past n.site n.suite e (values (from_on c.older-next.result c.self.inside.kept.shelf.entries)) (sym c.is_of.ensures ∙ c.if-is_of.false))
+    ∙ ap (λ l. entry_of (within_budget c.loop-next.budget c.loop-next.slots (within_room n.site c.loop-next.quota l)) c.args.site c.args.suite)
+    (walk_past n.site n.suite e (values (from_on c.older-next.result c.self.inside.kept.shelf.entries)) (sym c.is_of.ensures ∙ c.if-is_of.false))
     ∙ ap (λ l. entry_of (within_budget c.loop-next.budget c.loop-next.slots l) c.args.site c.args.suite) (left ∙ ap (λ q. within_room n.site q (rest a)) (sym none)))
     ∙ c.loop-next.invariant
 
@@ -96,7 +98,9 @@ returns-then-slots-eq0 c =
 
 -- where the budget and the slots have room
 judged : (c : After-older-next) → IsOther c → (quota : Option ℕ) → Leaves c quota → (c.loop-next.slots ≡ 0 → ⊥) → size_of c.in-Some-get.entry.now.content ≤ c.loop-next.budget
-    → cond (is_of c.args.site c.args.suite c.in-Some-get.entry.now) (Some c.in-Some-get.entry.now) (entry_of (within_budget (c.loop-next.budget - size_of c.in-Some-get.entry.now.content) (c.loop-next.slots - 1) (within_room c.args.new.site quota (rest c))) c.args.site c.args.suite)
+    → cond (is_of c.args.site c.args.suite c.in-Some-get.entry.now) (Some c.in-Some-get.entry.now)
+    (entry_of (within_budget (c.loop-next.budget - size_of c.in-Some-get.entry.now.content) (c.loop-next.slots - 1) (within_room c.args.new.site quota (rest c))) c.args.site
+    c.args.suite)
     ≡ entry_of (stays c.args.new.site c.args.new.suite c.args.new.quota c.args.new.budget c.args.new.slots (values c.self.inside.kept.shelf.entries)) c.args.site c.args.suite
 judged c other quota leaves some fits =
     sym (walk_on c.args.site c.args.suite c.loop-next.budget c.loop-next.slots c.in-Some-get.entry.now (within_room c.args.new.site quota (rest c)) some fits)
@@ -113,7 +117,9 @@ returns-then-is_of-2 c =
       | else-is_at w ↦ walk_other n.site e (rest a) c.loop-next.quota (sym c.is_at.ensures ∙ w.if-is_at.false) ∙ ap (λ q. e ∷ within_room n.site q (rest a)) (sym w.quota-is)
     ] in
     let j = judged a (sym c.is_of.ensures ∙ c.if-is_of.false) c.if-is_at.quota leaves c.if-slots-eq0.false (omega (arith, c.if-budget-size.false, c.size-else-slots-eq0.ensures)) in
-    sym (ap (λ t. cond t (Some e) (entry_of (within_budget (c.loop-next.budget - size_of e.content) (c.loop-next.slots - 1) (within_room n.site c.if-is_at.quota (rest a))) c.args.site c.args.suite)) (sym c.is_of-in-Some.ensures ∙ c.if-is_of-2.true))
+    sym
+    (ap (λ t. cond t (Some e) (entry_of (within_budget (c.loop-next.budget - size_of e.content) (c.loop-next.slots - 1) (within_room n.site c.if-is_at.quota (rest a)))
+    c.args.site c.args.suite)) (sym c.is_of-in-Some.ensures ∙ c.if-is_of-2.true))
     ∙ j ∙ ap (λ l. entry_of (stays n.site n.suite n.quota n.budget n.slots l) c.args.site c.args.suite) c.self.view_is
 
 pub loop-next-smaller : goal.loop-next-smaller
@@ -131,5 +137,7 @@ loop-next-preserved c =
     ] in
     let j = judged a (sym c.is_of.ensures ∙ c.if-is_of.false) c.if-is_at.quota leaves c.if-slots-eq0.false (omega (arith, c.if-budget-size.false, c.size-else-slots-eq0.ensures)) in
     ap (λ size. entry_of (within_budget (c.loop-next.budget - size) (c.loop-next.slots - 1) (within_room n.site c.if-is_at.quota (rest a))) c.args.site c.args.suite) c.size-budget.ensures
-    ∙ sym (ap (λ t. cond t (Some e) (entry_of (within_budget (c.loop-next.budget - size_of e.content) (c.loop-next.slots - 1) (within_room n.site c.if-is_at.quota (rest a))) c.args.site c.args.suite)) (sym c.is_of-in-Some.ensures ∙ c.if-is_of-2.false))
+    ∙ sym
+    (ap (λ t. cond t (Some e) (entry_of (within_budget (c.loop-next.budget - size_of e.content) (c.loop-next.slots - 1) (within_room n.site c.if-is_at.quota (rest a)))
+    c.args.site c.args.suite)) (sym c.is_of-in-Some.ensures ∙ c.if-is_of-2.false))
     ∙ j
