@@ -38,14 +38,6 @@ MOST_LINES, WIDEST = 60, 120
 PAGE = re.compile(r"^//!.*$", re.M)
 MODULE = re.compile(r"^(?:pub )?mod (\w+);", re.M)
 UNNAMED = {"Lib.antt", "code.antt"}
-# Faults of the pages of low crates, kept until the crate changes for another reason: a byte of it has all crates
-# above proved anew.
-KEPT = {
-    "crates/sorted_map/src/lib.rt": ("the page has a line that is too long",),
-    "crates/acl_text/src/lib.rt": ("the page has a line that is too long",),
-    "crates/rep_core/src/lib.rt": ("the page has a line that is too long", "the page does not name `Again`"),
-    "crates/txn_core/src/lib.rt": ("the page does not name `Sameness`",),
-}
 
 
 def content(path: str) -> str:
@@ -174,11 +166,9 @@ def main() -> int:
             lost += 1
             print(f"{os.path.relpath(path, TOP)}:{number}: {what}")
     for path in pages():
-        kept = KEPT.get(os.path.relpath(path, TOP), ())
         for what in page_faults(path):
-            if what not in kept:
-                lost += 1
-                print(f"{os.path.relpath(path, TOP)}: {what}")
+            lost += 1
+            print(f"{os.path.relpath(path, TOP)}: {what}")
     return 1 if lost else 0
 
 

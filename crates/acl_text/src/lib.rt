@@ -30,8 +30,8 @@
 //! `laws`.
 //!
 //! **Definitions** (`specs/`): `Layout`, `Places`, `Keywords`, `Qualifiers`, `Tables`, `Sides`, `Grammar`, `Faults`,
-//! `Texts`, `Codes`, `Writing`, `Callers`, `Laws`. `Items` says how an item is written; `items_read_as_written` ties it to
-//! `Grammar`, so that one of the two need not be believed.
+//! `Texts`, `Codes`, `Writing`, `Callers`, `Laws`. `Items` says how an item is written; `items_read_as_written` ties
+//! it to `Grammar`, so that one of the two need not be believed.
 #![tactic(auto)]
 
 mod caller;

@@ -2,7 +2,9 @@
 
 ghost use Rattle.std.specs.Prelude.{◌≡◌};
 ghost use Rattle.byte_streams.specs.Endings.{Finishes, FinishesLine, SaysMemory, no_memory};
+ghost use Rattle.byte_streams.specs.Programs.{ToldUnread};
 
+use crate::reading::ReadError;
 use crate::traits::ByteOut;
 use crate::writing::write_all;
 use std::alloc::AllocError;
@@ -55,4 +57,15 @@ pub fn lack_memory<O: ByteOut>(writer: &mut O) -> u8
 {
     let _ = write_all(writer, b"fault memory\n");
     NO_MEMORY
+}
+
+/// Tells why an input was not read: `fault memory`, and of a stream that failed, or was too long, nothing.
+pub fn tell_unread<O: ByteOut>(writer: &mut O, error: ReadError) -> u8
+    ensures { ToldUnread error result (O.written writer.old) (O.written writer.new)
+        (O.failed_writes writer.old) (O.failed_writes writer.new) }
+{
+    match error {
+        ReadError::Memory => lack_memory(writer),
+        ReadError::Failed | ReadError::TooLong => NO_STREAM,
+    }
 }

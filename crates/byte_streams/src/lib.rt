@@ -6,7 +6,8 @@
 //!
 //! **Promises.** `read_all` gives all bytes of a stream, or says why not (`IsWhole`, `Explains`). `write_all` adds
 //! a text whole, or fails with one failure more (`Adds`). A system read that a signal broke off is made again.
-//! `finish`, `finish_line` and `lack_memory` end a program: its last line, and its exit status (`specs/Endings.antt`).
+//! `finish`, `finish_line`, `lack_memory` and `tell_unread` end a program: its last line, and its exit status
+//! (`specs/Endings.antt`, `specs/Programs.antt`).
 //!
 //! **The caller owes** a limit below 2^62 for `read_all`, and a buffer with room for `read`.
 //!
@@ -24,7 +25,7 @@ mod wanted;
 mod writing;
 
 pub use ending::{
-    COMMAND_LINE, DONE, FAULTY, MAX_INPUT, NO_STREAM, finish, finish_line, lack_memory,
+    COMMAND_LINE, DONE, FAULTY, MAX_INPUT, NO_STREAM, finish, finish_line, lack_memory, tell_unread,
 };
 pub use memory::{MemoryIn, MemoryOut};
 pub use reading::{ReadError, read_all};

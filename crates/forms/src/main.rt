@@ -64,8 +64,8 @@ mod whose;
 mod word;
 
 use byte_streams::{
-    ByteIn, ByteOut, COMMAND_LINE, DONE, MAX_INPUT, NO_STREAM, ReadError, SystemIn, SystemOut,
-    Wanted, finish, lack_memory, read_all, read_wanted,
+    ByteIn, ByteOut, COMMAND_LINE, DONE, MAX_INPUT, SystemIn, SystemOut, Wanted, finish,
+    lack_memory, read_all, read_wanted, tell_unread,
 };
 use finding::found_in;
 use lists::found_in_list;
@@ -157,8 +157,7 @@ fn answer<I: ByteIn, O: ByteOut>(
 ) -> u8 {
     let given = match read_all(alloc, reader, MAX_INPUT) {
         Ok(given) => given,
-        Err(ReadError::Memory) => return lack_memory(writer),
-        Err(_) => return NO_STREAM,
+        Err(error) => return tell_unread(writer, error),
     };
     let told = match question {
         Question::Line(forms, number) => found_in(alloc, forms, &given, number),

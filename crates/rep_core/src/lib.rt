@@ -43,7 +43,7 @@
 //! `server_state`, `evaluate`, `answering`, `server`, `effect`, `types_fit`, `laws`.
 //!
 //! **Definitions** (`specs/`): `Locks`, `Intentions`, `Store`, `State`, `Service`, `Serving`, `Fits`, `Roomed`,
-//! `Evaluated`, `Wanting`, `Bare`; of the laws `Consistency`, `Steps`, `ValidCopies`, `Laws`.
+//! `Evaluated`, `Wanting`, `Bare`; of the laws `Consistency`, `Steps`, `ValidCopies`, `Again`, `Laws`.
 #![tactic(auto)]
 
 mod answering;

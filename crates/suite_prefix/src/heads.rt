@@ -33,7 +33,13 @@ impl<'a> Model for HeadParts<'a> {
 
     ghost Value = { Head };
 
-    ghost view = { λ head. record { identity = head.identity; entries = head.entries; default = head.default; votes = record { reps = head.reps.now; r = head.r; w = head.w }; dver = head.dver } };
+    ghost view = { λ head. record {
+      identity = head.identity;
+      entries = head.entries;
+      default = head.default;
+      votes = record { reps = head.reps.now; r = head.r; w = head.w };
+      dver = head.dver;
+    } };
 }
 
 impl<'a> HeadParts<'a> {

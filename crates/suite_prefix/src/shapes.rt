@@ -60,7 +60,15 @@ impl<'a> Model for Parts<'a> {
 
     ghost Value = { Shape };
 
-    ghost view = { λ parts. record { form = parts.form; identity = parts.identity; entries = parts.entries.now; default = parts.default.now; votes = record { reps = parts.reps.now; r = parts.r; w = parts.w }; dver = parts.dver; content = content_in parts.content } };
+    ghost view = { λ parts. record {
+      form = parts.form;
+      identity = parts.identity;
+      entries = parts.entries.now;
+      default = parts.default.now;
+      votes = record { reps = parts.reps.now; r = parts.r; w = parts.w };
+      dver = parts.dver;
+      content = content_in parts.content;
+    } };
 }
 
 /// Names with their numbers: how many there are, and the bytes that begin with them.

@@ -70,7 +70,8 @@ fn setting_fault(word: &[u8], least: u64, most: u64, fault: SettingsFault) -> Op
 
 /// What is wrong with the servers that a word lists.
 fn servers_fault(word: &[u8], last: u8) -> Option<LineFault>
-    ensures { result ≡ (if list_all (λ part. is_some (number_up_to last part)) (slice_split (λ byte. byte == 44) word.now) then None else Some LineFault.Form) }
+    ensures { result ≡ (if list_all (λ part. is_some (number_up_to last part)) (slice_split (λ byte. byte == 44) word.now)
+        then None else Some LineFault.Form) }
 {
     for part in Parts::new(word, b',') {
         if read_number(part, u64::from(last)).is_none() {

@@ -43,8 +43,8 @@
 //! `sorting`, `finishing`. The whole: `asking`, `transaction_run`, `sweep_run`, `sameness`, `agent`, `laws`.
 //!
 //! **Definitions** (`specs/`): `Suites`, `Doing`, `Transactions`, `Writing`, `Sweeps`, `Agents`, `Standing`,
-//! `Stages`, `Wanting`, `Moves`; for the laws `Undecided`, `Caching`, `Worlds`, `Runs`, `Laws`. The laws' proofs are
-//! one walk (`proofs/Walk.antt`).
+//! `Stages`, `Wanting`, `Moves`, `Sameness`; for the laws `Undecided`, `Caching`, `Worlds`, `Runs`, `Laws`. The laws'
+//! proofs are one walk (`proofs/Walk.antt`).
 #![tactic(auto)]
 
 mod agent;

@@ -46,7 +46,8 @@ impl Table {
 
     pub fn give(&mut self, number: u64, owner: u32) -> bool
         ensures there { result ≡ is_some (map.get nat_cmp self.old.rows number) }
-        ensures given { IfSome (map.get nat_cmp self.old.rows number) (λ row. self.new ≡ record self.old { rows = map.replace nat_cmp self.old.rows number (record row { owner = owner }) }) }
+        ensures given { IfSome (map.get nat_cmp self.old.rows number) (λ row.
+            self.new ≡ record self.old { rows = map.replace nat_cmp self.old.rows number (record row { owner = owner }) }) }
         ensures absent { map.get nat_cmp self.old.rows number ≡ None → self.new ≡ self.old }
     {
         match self.rows.get_mut(&number) {
