@@ -19,7 +19,7 @@ use Rattle.file_exec.specs.Following.{Edits, changed, seen, sets_content, is_set
 use Rattle.file_exec.specs.Known.{Known, known_of, known_rows, is_held, is_opened, is_held_for}
 use Rattle.file_exec.specs.Laws.{TellsAt, ChangesBySuite, ChangesLeadOn}
 use Rattle.file_exec.proofs.Alike.{head_seen, content_seen, held_head, opened_same}
-use Rattle.file_exec.proofs.OnTable.{row_of-with_edits}
+use Rattle.file_exec.proofs.StepOnTable.{row_of-with_edits}
 use Rattle.file_exec.proofs.VotesRead.{knows_whose_votes}
 use Rattle.file_exec.proofs.Unmet.{sets_what_is_held}
 

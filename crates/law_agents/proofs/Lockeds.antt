@@ -29,7 +29,7 @@ use Rattle.txn_core.specs.Transactions.{numbers_from, is_poll, said_to, locked_a
 use Rattle.txn_core.specs.Laws.{Exchange, locks, says_held, was_held, told_of, told_by, more_told}
 use Rattle.txn_core.proofs.Gathers.{self}
 use Rattle.txn_core.proofs.Locks.{Are, serves_shared}
-use Rattle.txn_core.proofs.Quorums.{or_true}
+use Rattle.txn_core.proofs.SuiteQuorums.{or_true}
 use Rattle.txn_core.proofs.Ready.{has_one}
 use Rattle.law_agents.specs.Orders.{wants_lock, was_locked, locked}
 

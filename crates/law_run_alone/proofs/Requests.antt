@@ -37,7 +37,7 @@ use Rattle.txn_core.specs.Agents.{Agent, fixed_of, next_in, next_of, is_idle}
 use Rattle.txn_core.specs.Laws.{is_prepare}
 use Rattle.txn_core.specs.Undecided.{stands_on_locks}
 use Rattle.txn_core.proofs.Asks.{asks_same, asked_as, fetched_as}
-use Rattle.txn_core.proofs.Locks.{a_prepare_rises}
+use Rattle.txn_core.proofs.PrepareParts.{a_prepare_rises}
 use Rattle.run_core.specs.declared.event.Event.{Event}
 use Rattle.run_core.specs.Worlds as worlds
 use Rattle.run_core.specs.Worlds.{Actor, server_at, actor_at}

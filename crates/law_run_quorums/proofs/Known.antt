@@ -18,7 +18,7 @@ use Rattle.suite_collect.specs.Laws.{among, IsCurrent}
 use Rattle.suite_collect.proofs.Collected.{gives_of, current_is_a_quorum}
 use Rattle.suite_collect.proofs.Sources.{some_needed}
 use Rattle.txn_core.specs.Suites.{ReadPoint, GatheredSuite}
-use Rattle.txn_core.proofs.Quorums.{votes_more}
+use Rattle.txn_core.proofs.SuiteQuorums.{votes_more}
 use Rattle.law_suite_machine.specs.Registers.{Beginning, Known, WasPrefix}
 use Rattle.law_suite_machine.specs.Machine.{Told, World, IsQuorum}
 use Rattle.law_suite_machine.proofs.Invariant.{Inv}

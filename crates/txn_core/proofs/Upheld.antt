@@ -53,7 +53,8 @@ use Rattle.txn_core.specs.Laws.{Exchange, exchange_of, exchanges, of_job, told_o
 use Rattle.txn_core.proofs.Locks.{are_nil, asks_lock}
 use Rattle.txn_core.proofs.Gathers.{self, Base, Follows, knows_map, wants_map, sets_map, grants_map, Kept}
 use Rattle.txn_core.proofs.Contents.{FreeIn, free_before, Content_of, content_more, free_now, given_now}
-use Rattle.txn_core.proofs.Causes.{push, ShortBy, CausedBy, EndIs, StandsOn, started_from, Stands, Fresh, OrFresh, LeftOf, Leaves, caused_execute, caused_response}
+use Rattle.txn_core.proofs.Causes.{push, ShortBy, CausedBy, EndIs, StandsOn, started_from, Stands, Fresh, OrFresh, LeftOf, Leaves}
+use Rattle.txn_core.proofs.CausedSteps.{caused_execute, caused_response}
 
 -- ---- events
 

@@ -1,4 +1,4 @@
-use Rattle.txn_core.proofs.Locks.{a_prepare_rises}
+use Rattle.txn_core.proofs.PrepareParts.{a_prepare_rises}
 use Rattle.txn_core.proofs.laws.a_prepare_rises.Goals as goal
 
 pub returns : goal.returns

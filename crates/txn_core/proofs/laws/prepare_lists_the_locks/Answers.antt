@@ -1,4 +1,4 @@
-use Rattle.txn_core.proofs.Locks.{prepare_lists_the_locks}
+use Rattle.txn_core.proofs.PrepareParts.{prepare_lists_the_locks}
 use Rattle.txn_core.proofs.laws.prepare_lists_the_locks.Goals as goal
 
 pub returns : goal.returns
