@@ -145,23 +145,66 @@ def bits_of(caller: Caller, path: str) -> int:
     return sum(bit for (_, bit), one in zip(BITS, said) if one == GRANTED)
 
 
+def is_judged(path: str) -> bool:
+    """Whether a path is there, no link, walked to its end, and may be changed."""
+    if os.path.islink(path) or not os.path.exists(path):
+        return False
+    walked = way(path, 4)
+    return not walked.end and not walked.places[-1].attributes & FIXED
+
+
+def an_entry(dice: Dice, is_put: bool) -> str:
+    """An entry that is put, or one that is taken away."""
+    named = [f"u:{dice.choice(trees.UIDS)}", f"g:{dice.choice(trees.GIDS)}"]
+    text = dice.choice(named + ["m:", "u:", "g:", "o:"] * is_put)
+    return text + f":{lists.letters(dice.perms())}" * is_put
+
+
+def bits_with(path: str, words: list[str], callers: list[Caller]) -> tuple[list[int], lists.List] | None:
+    """What callers may once setfacl has changed a list, and the list, which is taken back; none where it refuses."""
+    value = os.getxattr(path, lists.ACCESS) if lists.ACCESS in os.listxattr(path) else None
+    mode = os.stat(path).st_mode & 0o7777
+    if subprocess.run(["setfacl", *words, path], stderr=subprocess.PIPE, text=True).returncode != 0:
+        return None
+    after = [bits_of(caller, path) for caller in callers]
+    kept = lists.of_file(path, os.stat(path).st_mode)
+    if lists.ACCESS in os.listxattr(path):
+        os.removexattr(path, lists.ACCESS)
+    os.chmod(path, mode)
+    if value is not None:
+        os.setxattr(path, lists.ACCESS, value)
+    return after, kept
+
+
+def moved(word: str, callers: list[Caller], less: list[int], more: list[int]) -> set[str]:
+    """Who has which bits of one list of bits alone."""
+    return {
+        f"{word} {lists.letters(new & ~old)} {caller.name}"
+        for caller, old, new in zip(callers, less, more)
+        if new & ~old
+    }
+
+
+def told_in(lines: list[str]) -> set[str]:
+    """The same as it is told."""
+    return {
+        f"{word} {lists.letters(lists.perms_of(perms))} {name}"
+        for line in lines
+        for word, perms, rest in [line.replace(":", "").split(None, 2)]
+        if word in ("gains", "loses")
+        for name in rest.split(", ")
+    }
+
+
 def ask_changes(dice: Dice, tree: Tree, count: int) -> Count:
     """Who gains and who loses? setfacl makes the change, which is tried before and after, and taken back."""
     asked, wrong = 0, 0
     while asked < count:
         path = dice.choice(tree.paths)
-        if (
-            os.path.islink(path)
-            or not os.path.exists(path)
-            or way(path, 4).end
-            or way(path, 4).places[-1].attributes & FIXED
-        ):
+        if not is_judged(path):
             continue
         is_put, computes = dice.random() < 0.6, dice.random() < 0.7
-        text = dice.choice(
-            [f"u:{dice.choice(trees.UIDS)}", f"g:{dice.choice(trees.GIDS)}"] + ["m:", "u:", "g:", "o:"] * is_put
-        )
-        text += f":{lists.letters(dice.perms())}" * is_put
+        text = an_entry(dice, is_put)
         callers = [dice.caller()._replace(name=f"n{number}") for number in range(6)]
         try:
             change = changes.Change(changes.read_entry(text, is_put), is_put, computes)
@@ -169,39 +212,12 @@ def ask_changes(dice: Dice, tree: Tree, count: int) -> Count:
         except (Bad, Unread):
             continue
         before = [bits_of(caller, path) for caller in callers]
-        value = os.getxattr(path, lists.ACCESS) if lists.ACCESS in os.listxattr(path) else None
-        mode = os.stat(path).st_mode & 0o7777
-        done = subprocess.run(
-            ["setfacl", *([] if computes else ["-n"]), "-m" if is_put else "-x", text, path],
-            stderr=subprocess.PIPE,
-            text=True,
-        )
-        if done.returncode != 0:
+        done = bits_with(path, [*([] if computes else ["-n"]), "-m" if is_put else "-x", text], callers)
+        if done is None:
             continue
-        after = [bits_of(caller, path) for caller in callers]
-        kept = lists.of_file(path, os.stat(path).st_mode)
-        if lists.ACCESS in os.listxattr(path):
-            os.removexattr(path, lists.ACCESS)
-        os.chmod(path, mode)
-        if value is not None:
-            os.setxattr(path, lists.ACCESS, value)
-        wanted = {
-            f"gains {lists.letters(new & ~old)} {caller.name}"
-            for caller, old, new in zip(callers, before, after)
-            if new & ~old
-        }
-        wanted |= {
-            f"loses {lists.letters(old & ~new)} {caller.name}"
-            for caller, old, new in zip(callers, before, after)
-            if old & ~new
-        }
-        told = {
-            f"{word} {lists.letters(lists.perms_of(perms))} {name}"
-            for line in lines
-            for word, perms, rest in [line.replace(":", "").split(None, 2)]
-            if word in ("gains", "loses")
-            for name in rest.split(", ")
-        }
+        after, kept = done
+        wanted = moved("gains", callers, before, after) | moved("loses", callers, after, before)
+        told = told_in(lines)
         if told != wanted or lists.list_text(kept, lists.name_of) != lines[0].rpartition("  would be  ")[2]:
             wrong += differs(f"{text} {path}", f"{sorted(told)}", f"{sorted(wanted)}, {lists.list_text(kept)}", lines)
         asked += len(callers) * 3

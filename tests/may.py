@@ -93,6 +93,28 @@ def asks(tally: Tally, words: list[str], status: int, last: str, strict: bool = 
     )
 
 
+# Words that are refused, each with where to read.
+BAD_WORDS: tuple[list[str], ...] = (
+    [],
+    ["root", "r"],
+    ["root", "q", "/"],
+    ["no one", "r", "/"],
+    ["--groups", "a", "1", "r", "/"],
+    ["--json", "root", "r", "/"],
+    ["--who", "r"],
+    ["--who", "q", "/"],
+    ["--with", "u:1", "/"],
+    ["--without", "u::", "/"],
+    ["--with", "x:1:r", "/"],
+    ["--denied", "0", "r", "/"],
+    ["--lint", "/", "/"],
+    ["--no-mask", "0", "r", "/"],
+    ["--who", "r", "--lint", "/"],
+    ["--with", "m:7:r", "/"],
+    ["--without", "u:no one", "/"],
+)
+
+
 def asks_of_files(tally: Tally) -> None:
     with tempfile.TemporaryDirectory(prefix="suites-") as room:
         os.chmod(room, 0o755)
@@ -116,26 +138,7 @@ def asks_of_files(tally: Tally) -> None:
         asks(tally, ["0", "rw", file], 0, "Linux lets root pass")
         asks(tally, ["0", "x", file], 1, "Linux lets root execute no file that nobody may execute")
         asks(tally, ["0", "x", folder, "--under", room], 2, "a user and what it wants are told")
-    bad: tuple[list[str], ...] = (
-        [],
-        ["root", "r"],
-        ["root", "q", "/"],
-        ["no one", "r", "/"],
-        ["--groups", "a", "1", "r", "/"],
-        ["--json", "root", "r", "/"],
-        ["--who", "r"],
-        ["--who", "q", "/"],
-        ["--with", "u:1", "/"],
-        ["--without", "u::", "/"],
-        ["--with", "x:1:r", "/"],
-        ["--denied", "0", "r", "/"],
-        ["--lint", "/", "/"],
-        ["--no-mask", "0", "r", "/"],
-        ["--who", "r", "--lint", "/"],
-        ["--with", "m:7:r", "/"],
-        ["--without", "u:no one", "/"],
-    )
-    for words in bad:
+    for words in BAD_WORDS:
         asks(tally, list(words), 2, "(./suites may --help)")
 
 
@@ -181,6 +184,50 @@ def base(perms: int = 0) -> list[tuple[int, int, int]]:
     ]
 
 
+def put_lists(many: str, twice: str) -> bool:
+    """Puts a list of 154 entries, and one with a user and a group; tells whether lists can be put."""
+    longest = sorted(
+        [*base(), *((lists.USER, 4, 2000 + one) for one in range(150))], key=lambda one: (one[0], one[2])
+    )
+    both = [*base()[:1], (lists.USER, 4, 1001), *base(4)[1:2], (lists.GROUP, 4, 200), *base()[2:]]
+    try:
+        os.setxattr(many, lists.ACCESS, value_of(longest))
+        os.setxattr(twice, lists.ACCESS, value_of(both))
+    except OSError:
+        return False
+    return True
+
+
+def asks_of_changes(tally: Tally, callers: list[Caller], twice: str) -> None:
+    """Who may read it, by what; and who gains and loses by a change."""
+    told = everybody.tell_who(callers, 4, twice, way(twice, 4))
+    wanted = [
+        f"{twice}  r--  n0 (Linux lets root pass); n1001 by user:1001; n1002, n1004 by group:200",
+        f"  denied at {twice}: n1003 by other::---",
+    ]
+    tally.holds(told == wanted, f"who: {told}")
+    change = changes.Change(changes.read_entry("g:200", False), False, True)
+    told = changes.tell_change(callers, change, twice, way(twice, 4))
+    tally.holds(told[1:] == ["  loses r: n1002, n1004", "  loses x: n0"], f"without: {told}")
+    change = changes.Change(changes.read_entry("u:1003:w", True), True, True)
+    told = changes.tell_change(callers, change, twice, way(twice, 4))
+    # root executes what anybody may, and the new mask lets nobody
+    tally.holds(told[1:] == ["  gains w: n1003", "  loses x: n0"], f"with: {told}")
+
+
+def asks_of_lint(tally: Tally, callers: list[Caller], room: str) -> None:
+    """What a lint of a folder finds, and what once nobody may search it."""
+    lint.accounts, kept = (lambda: callers), lint.accounts
+    found, _ = lint.lint(room)
+    os.chmod(room, 0o700)
+    stopped, _ = lint.lint(room)
+    lint.accounts = kept
+    many, twice = os.path.join(room, "many"), os.path.join(room, "twice")
+    tally.holds(any(f"{many}: its list has 154 entries" in line for line in found), f"lint: {found[:3]}")
+    tally.holds(any(f"{twice}: user:1001:r-- reaches nobody" in line for line in stopped), f"lint: {stopped[-3:]}")
+    os.chmod(room, 0o755)
+
+
 def asks_of_lists(tally: Tally) -> None:
     """Lists that are not judged here, beside one that is; lists of others that are, by what denies or grants."""
     callers = [
@@ -192,49 +239,14 @@ def asks_of_lists(tally: Tally) -> None:
         for path in (many, plain_one, twice):
             open(path, "w").close()
         os.chmod(plain_one, 0o644)
-        try:
-            os.setxattr(
-                many,
-                lists.ACCESS,
-                value_of(
-                    sorted(
-                        [*base(), *((lists.USER, 4, 2000 + one) for one in range(150))],
-                        key=lambda one: (one[0], one[2]),
-                    )
-                ),
-            )
-            os.setxattr(
-                twice,
-                lists.ACCESS,
-                value_of([*base()[:1], (lists.USER, 4, 1001), *base(4)[1:2], (lists.GROUP, 4, 200), *base()[2:]]),
-            )
-        except OSError:
+        if not put_lists(many, twice):
             print("no lists here, so they are not asked of")
             return
         other = ["--groups", "65000", "65000"]
         asks(tally, [*other, "r", plain_one, many], 3, f"{many}: not judged here: its list has 154 entries")
         asks(tally, [*other, "r", many, plain_one], 3, f"{many}: not judged here")
-        told = everybody.tell_who(callers, 4, twice, way(twice, 4))
-        wanted = [
-            f"{twice}  r--  n0 (Linux lets root pass); n1001 by user:1001; n1002, n1004 by group:200",
-            f"  denied at {twice}: n1003 by other::---",
-        ]
-        tally.holds(told == wanted, f"who: {told}")
-        change = changes.Change(changes.read_entry("g:200", False), False, True)
-        told = changes.tell_change(callers, change, twice, way(twice, 4))
-        tally.holds(told[1:] == ["  loses r: n1002, n1004", "  loses x: n0"], f"without: {told}")
-        change = changes.Change(changes.read_entry("u:1003:w", True), True, True)
-        told = changes.tell_change(callers, change, twice, way(twice, 4))
-        # root executes what anybody may, and the new mask lets nobody
-        tally.holds(told[1:] == ["  gains w: n1003", "  loses x: n0"], f"with: {told}")
-        lint.accounts, kept = (lambda: callers), lint.accounts
-        found, _ = lint.lint(room)
-        os.chmod(room, 0o700)
-        stopped, _ = lint.lint(room)
-        lint.accounts = kept
-        tally.holds(any(f"{many}: its list has 154 entries" in line for line in found), f"lint: {found[:3]}")
-        tally.holds(any(f"{twice}: user:1001:r-- reaches nobody" in line for line in stopped), f"lint: {stopped[-3:]}")
-        os.chmod(room, 0o755)
+        asks_of_changes(tally, callers, twice)
+        asks_of_lint(tally, callers, room)
     tally.holds(
         lists.fault(tuple(lists.Entry(lists.USER, 7, 4) for _ in range(2))) == "its list names user 7 twice",
         "a user twice",

@@ -197,6 +197,31 @@ def all_words(servers: int) -> typing.Iterator[str]:
         yield from (f"{','.join(fields).rstrip(',-')}/{r}/{w}" for r, w in voted.thresholds(total))
 
 
+def wrong_statuses() -> tuple[int, list[str]]:
+    """The status of words, good and bad: of how many, and of which it is another."""
+    statuses = {("1/1/1", "--up", bad): 2 for bad in ("0", "1.01", "x", "")} | {
+        ("--help",): 0,
+        ("--of", "5"): 0,
+        ("--of", "3", "--lose-write", "2"): 1,
+    }
+    bad = [
+        (),
+        ("--script", "x", "1/1/1"),
+        ("--script", "x", "--servers", "1"),
+        ("--of", "0"),
+        ("--of", "33"),
+        ("--of", "3", "1/1/1"),
+        ("--lose-read", "1", "1/1/1"),
+    ]
+    statuses |= {words: 2 for words in bad}
+    wrong = [
+        f"{' '.join(words)}: not status {status}"
+        for words, status in statuses.items()
+        if voted.run_tool(words).returncode != status
+    ]
+    return len(statuses), wrong
+
+
 def check_examples(_: argparse.Namespace, __: random.Random) -> tuple[int, list[str]]:
     """The blocking probabilities of the paper's three examples, where each server is up with chance 0.99; and the
     words of the command line.
@@ -217,27 +242,8 @@ def check_examples(_: argparse.Namespace, __: random.Random) -> tuple[int, list[
         word = next(word for word in words if "/" in word)
         if voted.run_tool(words).stdout != "".join(f"{line}\n" for line in votes.told_of_word(word, servers, up)):
             wrong.append(f"{' '.join(words)}: told other than {word} of {servers} servers, each up with chance {up}")
-    statuses = {("1/1/1", "--up", bad): 2 for bad in ("0", "1.01", "x", "")} | {
-        ("--help",): 0,
-        ("--of", "5"): 0,
-        ("--of", "3", "--lose-write", "2"): 1,
-    }
-    bad = [
-        (),
-        ("--script", "x", "1/1/1"),
-        ("--script", "x", "--servers", "1"),
-        ("--of", "0"),
-        ("--of", "33"),
-        ("--of", "3", "1/1/1"),
-        ("--lose-read", "1", "1/1/1"),
-    ]
-    statuses |= {words: 2 for words in bad}
-    wrong += [
-        f"{' '.join(words)}: not status {status}"
-        for words, status in statuses.items()
-        if voted.run_tool(words).returncode != status
-    ]
-    return len(gifford) + 1 + len(lines) + len(statuses), wrong
+    asked, others = wrong_statuses()
+    return len(gifford) + 1 + len(lines) + asked, wrong + others
 
 
 def check_losses(given: argparse.Namespace, dice: random.Random) -> tuple[int, list[str]]:
