@@ -38,35 +38,8 @@ use Rattle.file_exec.proofs.Unmet.{needs_what_is_unmet}
 use Rattle.rep_core.specs.declared.reply.Verdict.{Verdict}
 use Rattle.rep_core.specs.declared.reply.Verdict.TheVariants as verdict
 use Rattle.suite_collect.specs.Telling.{is_held, holds, newest}
-use Rattle.suite_collect.specs.Collecting.{
-  Widening,
-  Collector,
-  told_since,
-  all_told,
-  counted,
-  needed,
-  needed_of,
-  votes_or,
-  mode_or,
-  wanted,
-  is_member,
-  mode_of,
-  mode_asked,
-  request_for,
-  tell,
-  tell_at,
-  collect,
-  raise,
-  widen,
-  Asked,
-  Poll,
-  Upgrade,
-  Next,
-  Ask,
-  Current,
-  Short,
-  next,
-}
+use Rattle.suite_collect.specs.Collecting.{Widening, Collector, told_since, all_told, counted, needed, needed_of, votes_or, mode_or, wanted, is_member, mode_of, mode_asked, request_for, tell, tell_at}
+use Rattle.suite_collect.specs.Collecting.{collect, raise, widen, Asked, Poll, Upgrade, Next, Ask, Current, Short, next}
 use Rattle.weak_cache.specs.Entries.{Entry, Cache}
 use Rattle.weak_cache.specs.Cache.{hint, put}
 use Rattle.weak_cache.proofs.Origins.{put_has, searched_has, hint_has}
@@ -77,37 +50,9 @@ use Rattle.txn_core.specs.declared.ending.Cause.{Cause}
 use Rattle.txn_core.specs.declared.ending.Ending.{Ending}
 use Rattle.txn_core.specs.declared.ending.Ending.TheVariants.{Undecided}
 use Rattle.txn_core.specs.Doing.{Changes, Granted, home_of, Fixed, Task, Proposal, Phase, Gathering, Fetching, Widening as Widens, Preparing, Deciding, Finishing, TransactionRun, After, GoesOn, Ends}
-use Rattle.txn_core.specs.Transactions.{
-  Step,
-  Gathered,
-  tell_end,
-  give_up,
-  prepare,
-  locked_at,
-  numbers_from,
-  short_cause,
-  gather_by,
-  start_from,
-  widen_by,
-  widen_one,
-  widened,
-  widen_all,
-  to_widen,
-  votes_then,
-  votes_after,
-  opened,
-  or_all,
-  open_needed,
-  open_suite,
-  open_first,
-  opened_with,
-  after_search,
-  free_content,
-  heard_on,
-  raised_or_new,
-  proceed,
-  execute,
-}
+use Rattle.txn_core.specs.Transactions.{Step, Gathered, tell_end, give_up, prepare, locked_at, numbers_from, short_cause, gather_by, start_from, widen_by, widen_one, widened, widen_all, to_widen}
+use Rattle.txn_core.specs.Transactions.{votes_then, votes_after, opened, or_all, open_needed, open_suite, open_first, opened_with, after_search, free_content, heard_on, raised_or_new, proceed}
+use Rattle.txn_core.specs.Transactions.{execute}
 use Rattle.txn_core.proofs.Gathers.{Each, EachBut, each_but, each_with, with_at, self}
 use Rattle.txn_core.proofs.Setting.{known_at}
 use Rattle.file_exec.proofs.Licensing.{reads_known}
