@@ -312,8 +312,7 @@ fn full_leaves(rt: &(impl Abort + AllocGlobal), server: &mut Server, stamp: u64,
         stamp: 0,
         value: Reply::Done,
     };
-    let request = stamped(rt, stamp, ask);
-    let step = server.evaluate(&request, &mut reply);
+    let step = server.evaluate(&stamped(rt, stamp, ask), &mut reply);
     holds(rt, matches!(step, Err(Lack::Full)), ask);
     holds(rt, matches!(reply.value, Reply::Done), ask);
 }

@@ -264,44 +264,6 @@ module _ (ps : List Kept) (hs ls : List Holder) (kept : AreKept ps hs ls) where
         by u z true e = sym (find_filter_none (is_own u z) (λ l. not (is_own t s l)) (not_same u z e) (locks_of ps))
         by u z false e = sym (lock_at-kept ps u z) ∙ sym (find_filter_same (is_own u z) (λ l. not (is_own t s l)) (not_other u z e) (locks_of ps))
 
-  -- ---- what may be left out
-
-  -- keys that are the same serve as well
-  kept_by : (hs' ls' : List Holder) → IsOrdered holder_cmp hs' → IsOrdered holder_cmp ls'
-      → ((z u : ℕ) → is_some (get holder_cmp hs' (z, u)) ≡ is_some (get holder_cmp hs (z, u)))
-      → ((u z : ℕ) → is_some (get holder_cmp ls' (u, z)) ≡ is_some (get holder_cmp ls (u, z))) → AreKept ps hs' ls'
-  kept_by hs' ls' ordered ordered' held loosely = record {
-    ordered = kept.ordered;
-    holders_ordered = ordered;
-    loose_ordered = ordered';
-    held = λ u z. held z u ∙ kept.held u z;
-    loosely = λ u z. loosely u z ∙ kept.loosely u z;
-    few = kept.few;
-  }
-
-  same_keys : (a b z u : ℕ) → ((z == a) && (u == b)) ≡ true → (z ≡ a) × (u ≡ b)
-  same_keys a b z u e = (grind (arith, nat_tests), grind (arith, nat_tests))
-
-  -- to put a key that is there changes no key
-  put_again : (os : List Holder) (a b : ℕ) → is_some (get holder_cmp os (a, b)) ≡ true → (z u : ℕ) → is_some (get holder_cmp (insert holder_cmp os (a, b) tt) (z, u)) ≡ is_some (get holder_cmp os (z, u))
-  put_again os a b has z u = ap is_some (get_put os a b z u tt) ∙ by ((z == a) && (u == b)) refl
-    where
-      by : (c : Bool) → ((z == a) && (u == b)) ≡ c → is_some (cond c (Some tt) (get holder_cmp os (z, u))) ≡ is_some (get holder_cmp os (z, u))
-      by true e = let same = same_keys a b z u e in sym ((λ i. is_some (get holder_cmp os (same.0 i, same.1 i))) ∙ has)
-      by false e = refl
-
-  -- to take out a key that is not there changes none
-  gone_again : (os : List Holder) → IsOrdered holder_cmp os → (a b : ℕ) → is_some (get holder_cmp os (a, b)) ≡ false → (z u : ℕ) → is_some (get holder_cmp (remove holder_cmp os (a, b)) (z, u)) ≡ is_some (get holder_cmp os (z, u))
-  gone_again os ordered a b has z u = ap is_some (get_gone os ordered a b z u) ∙ by ((z == a) && (u == b)) refl
-    where
-      by : (c : Bool) → ((z == a) && (u == b)) ≡ c → is_some (cond c None (get holder_cmp os (z, u))) ≡ is_some (get holder_cmp os (z, u))
-      by true e = let same = same_keys a b z u e in sym ((λ i. is_some (get holder_cmp os (same.0 i, same.1 i))) ∙ has)
-      by false e = refl
-
-  -- who holds a lock that is there is put once more
-  pub kept_told : (t s : ℕ) → is_some (get holder_cmp hs (s, t)) ≡ true → AreKept ps (insert holder_cmp hs (s, t) tt) ls
-  kept_told t s has = kept_by (insert holder_cmp hs (s, t) tt) ls (IsOrdered-insert holder_total hs (s, t) tt kept.holders_ordered) kept.loose_ordered (put_again hs s t has) (λ u z. refl)
-
   -- ---- what is asked
 
   not_some : {X : Type 0} (o : Option X) → is_some o ≡ false → o ≡ None
@@ -319,31 +281,6 @@ module _ (ps : List Kept) (hs ls : List Holder) (kept : AreKept ps hs ls) where
 
   pub holders_numbered : holding.AreNumbered hs
   holders_numbered t s has = (kept.few t s (sym (kept.held t s) ∙ has)).0
-
--- ---- what is left out
-
-module _ (ps : List Kept) (hs ls : List Holder) (kept : AreKept ps hs ls) (t s : ℕ) where
-  -- of a lock that is there: who holds it is listed
-  pub kept_ready : (value : LockMode × Bool) → is_some (get holder_cmp ps (t, s)) ≡ true → value.1 ≡ true → (t < 2 ^ 64) → (s < 2 ^ 64) → AreKept (insert holder_cmp ps (t, s) value) hs (remove holder_cmp ls (t, s))
-  kept_ready value has tight few_t few_s =
-      let all = kept_tight ps hs ls kept t s value tight few_t few_s in
-      kept_by (insert holder_cmp ps (t, s) value) (insert holder_cmp hs (s, t) tt) (remove holder_cmp ls (t, s)) all hs (remove holder_cmp ls (t, s)) kept.holders_ordered all.loose_ordered
-      (λ z u. sym (put_again ps hs ls kept hs s t (kept.held t s ∙ has) z u)) (λ u z. refl)
-
-  -- a lock goes that is not among those that are not prepared
-  pub kept_less : is_loose_pair (get holder_cmp ps (t, s)) ≡ false → AreKept (remove holder_cmp ps (t, s)) (remove holder_cmp hs (s, t)) ls
-  kept_less tight =
-      let all = kept_gone ps hs ls kept t s in
-      kept_by (remove holder_cmp ps (t, s)) (remove holder_cmp hs (s, t)) (remove holder_cmp ls (t, s)) all (remove holder_cmp hs (s, t)) ls all.holders_ordered kept.loose_ordered
-      (λ z u. refl) (λ u z. sym (gone_again ps hs ls kept ls kept.loose_ordered t s (kept.loosely t s ∙ tight) u z))
-
-  -- a lock that is listed is kept
-  pub kept_there : (own : Lock) → lock_at t s (locks_of ps) ≡ Some own → is_some (get holder_cmp ps (t, s)) ≡ true
-  kept_there own is = sym (some_mapped t s (get holder_cmp ps (t, s))) ∙ ap is_some (sym (lock_at-kept ps t s) ∙ is)
-
-  -- where nobody is told, there is none
-  pub none_told : is_some (get holder_cmp hs (s, t)) ≡ false → lock_at t s (locks_of ps) ≡ None
-  none_told none = none_held ps hs ls kept t s (not_some ps hs ls kept (get holder_cmp hs (s, t)) none)
 
 -- a map with no first pair has none
 pub none_first : {V : Type 0} (ps : List ((ℕ × ℕ) × V)) → first_from holder_cmp (0, 0) ps ≡ None → ps ≡ []

@@ -4,17 +4,20 @@ ghost use Rattle.std.specs.Prelude.{◌≡◌, ◌≢◌, ◌↔◌, ◌&&◌, �
 ghost use Rattle.std.specs.List.{list_all, list_any};
 ghost use Rattle.suite_prefix.specs.declared.lock_mode.LockMode.TheVariants.{Exclusive};
 ghost use Rattle.rep_core.specs.declared.stamped.Lack.TheVariants.{Full, Memory};
+ghost use Rattle.rep_core.specs.declared.step.Change.TheVariants.{Asked};
+ghost use Rattle.rep_core.specs.code.ByAgent.{room_for};
 ghost use Rattle.rep_core.specs.code.Stepping as stepping;
 ghost use Rattle.rep_core.specs.code.Stepping.{applied};
 ghost use Rattle.rep_core.specs.Fits.{fits};
 ghost use Rattle.rep_core.specs.Locks as locking;
 ghost use Rattle.rep_core.specs.code.ServerFields.{state_of};
 ghost use Rattle.rep_core.specs.Service as service;
-ghost use Rattle.rep_core.specs.Service.{after_poll, after_upgrade, prepares, after_prepare, after_record};
+ghost use Rattle.rep_core.specs.Service.{after_upgrade, prepares, after_prepare};
 ghost use Rattle.rep_core.specs.Serving as serving;
 ghost use Rattle.rep_core.specs.State.{State, record_of};
 ghost use Rattle.rep_core.specs.declared.server_state.ServerState.{ServerState};
 ghost use Rattle.rep_core.specs.Store as store;
+ghost use Rattle.std.specs.Vec.{vec_len, vec_capacity};
 
 use crate::reply::{LockList, Reply, Verdict};
 use crate::request::{Decision, Part, Request};
@@ -30,15 +33,15 @@ impl ServerState {
     /// What a request changes, once its reply is written into a place of the caller's; with all room that the change
     /// takes. Nothing of the server has changed.
     #[inline(always)]
-    pub(crate) fn evaluate<'a>(
+    pub(crate) fn evaluate(
         &mut self,
-        request: &'a Stamped<Request>,
+        request: &Stamped<Request>,
         reply: &mut Stamped<Reply>,
-    ) -> Result<Change<'a>, Lack>
+    ) -> Result<Change, Lack>
         ensures reply { OnOk result (reply.new ≡ serving.answer_of (state_of self.old) request.now) }
         ensures same { state_of self.new ≡ state_of self.old }
-        ensures room { IfOk result (λ change. stepping.HasRoom change (stepping.roomed_of self.new)) }
-        ensures change { IfOk result (λ change. applied change (state_of self.old) ≡ service.after (state_of self.old) request.now.value) }
+        ensures room { IfOk result (λ change. stepping.HasRoom change request.now.value (stepping.roomed_of self.new)) }
+        ensures change { IfOk result (λ change. applied change request.now.value (state_of self.old) ≡ service.after (state_of self.old) request.now.value) }
         ensures full { (result ≡ Err Full) ↔ IsTrue (serving.is_full (state_of self.old) request.now) }
         ensures place { OnErr result (reply.new ≡ reply.old) }
         ensures bare { IsTrue (serving.is_bare (service.reply_of (state_of self.old) request.now.value)) → result ≢ Err Memory }
@@ -55,11 +58,11 @@ impl ServerState {
     }
 
     #[inline(always)]
-    fn fill<'a>(&mut self, request: &'a Request, reply: &mut Reply) -> Result<Change<'a>, Lack>
+    fn fill(&mut self, request: &Request, reply: &mut Reply) -> Result<Change, Lack>
         ensures reply { OnOk result (reply.new ≡ service.reply_of (state_of self.old) request.now) }
         ensures same { state_of self.new ≡ state_of self.old }
-        ensures room { IfOk result (λ change. stepping.HasRoom change (stepping.roomed_of self.new)) }
-        ensures change { IfOk result (λ change. applied change (state_of self.old) ≡ service.after (state_of self.old) request.now) }
+        ensures room { IfOk result (λ change. stepping.HasRoom change request.now (stepping.roomed_of self.new)) }
+        ensures change { IfOk result (λ change. applied change request.now (state_of self.old) ≡ service.after (state_of self.old) request.now) }
         ensures full { (result ≡ Err Full) ↔ IsTrue ((state_of self.old).up && serving.asks_too_much (state_of self.old) request.now) }
         ensures place { OnErr result (reply.new ≡ reply.old) }
         ensures bare { IsTrue (serving.is_bare (service.reply_of (state_of self.old) request.now)) → result ≢ Err Memory }
@@ -73,11 +76,11 @@ impl ServerState {
 
     /// Of a server that is up.
     #[inline(always)]
-    fn fill_up<'a>(&mut self, request: &'a Request, reply: &mut Reply) -> Result<Change<'a>, Lack>
+    fn fill_up(&mut self, request: &Request, reply: &mut Reply) -> Result<Change, Lack>
         ensures reply { OnOk result (reply.new ≡ service.reply_up (state_of self.old) request.now) }
         ensures same { state_of self.new ≡ state_of self.old }
-        ensures room { IfOk result (λ change. stepping.HasRoom change (stepping.roomed_of self.new)) }
-        ensures change { IfOk result (λ change. applied change (state_of self.old) ≡ service.after_up (state_of self.old) request.now) }
+        ensures room { IfOk result (λ change. stepping.HasRoom change request.now (stepping.roomed_of self.new)) }
+        ensures change { IfOk result (λ change. applied change request.now (state_of self.old) ≡ service.after_up (state_of self.old) request.now) }
         ensures full { (result ≡ Err Full) ↔ IsTrue (serving.asks_too_much (state_of self.old) request.now) }
         ensures place { OnErr result (reply.new ≡ reply.old) }
         ensures bare { IsTrue (serving.is_bare (service.reply_up (state_of self.old) request.now)) → result ≢ Err Memory }
@@ -87,24 +90,12 @@ impl ServerState {
             Request::Upgrade { t, suite } => self.fill_upgrade(*t, *suite, reply),
             Request::Fetch { t, suite } => self.fill_fetch(*t, *suite, reply),
             Request::Prepare { t, parts } => self.fill_parts(*t, parts.as_slice(), reply),
-            Request::Decide { t, decision } => {
-                self.fill_record(*t, verdict_of(decision)?, audit_of(*t, decision), reply)
-            }
-            Request::Resolve { t } => self.fill_record(*t, Verdict::Aborted, None, reply),
+            Request::Decide { t, decision } => self.fill_decision(*t, decision, reply),
+            Request::Resolve { t } => self.fill_record(*t, Verdict::Aborted, reply),
             Request::Locks => self.fill_list(reply),
-            Request::Finish { t, verdict } => {
-                let answered = is_answered(verdict);
+            Request::Finish { .. } | Request::Break { .. } | Request::Crash => {
                 *reply = Reply::Done;
-                Ok(Change::Finish { t: *t, answered })
-            }
-            Request::Break { t, suite } => {
-                let (t, suite) = (*t, *suite);
-                *reply = Reply::Done;
-                Ok(Change::Unlock { t, suite })
-            }
-            Request::Crash => {
-                *reply = Reply::Done;
-                Ok(Change::Crash)
+                Ok(Change::Asked)
             }
             Request::Return => {
                 *reply = Reply::Done;
@@ -114,17 +105,18 @@ impl ServerState {
     }
 
     /// To set a lock, or to make it stronger.
-    fn fill_lock<'a>(
+    fn fill_lock(
         &mut self,
         t: u64,
         suite: u64,
         mode: LockMode,
         reply: &mut Reply,
-    ) -> Result<Change<'a>, Lack>
+    ) -> Result<Change, Lack>
         ensures reply { OnOk result (reply.new ≡ service.poll_reply (state_of self.old) t suite mode) }
         ensures same { state_of self.new ≡ state_of self.old }
-        ensures change { IfOk result (λ change. applied change (state_of self.old) ≡ after_poll (state_of self.old) t suite mode) }
-        ensures room { IfOk result (λ change. stepping.HasRoom change (stepping.roomed_of self.new)) }
+        ensures change { IfOk result (λ change. change ≡ stepping.unless (locking.in_the_way t suite mode (state_of self.old).locks)) }
+        ensures room { IfOk result (λ change. change ≡ Asked → 0 < self.new.locks.room) }
+        ensures free { IfOk result (λ change. change ≡ Asked → locking.in_the_way t suite mode (state_of self.new).locks ≡ None) }
         ensures full { result ≢ Err Full }
         ensures place { OnErr result (reply.new ≡ reply.old) }
         ensures bare { IsTrue (serving.is_bare (service.poll_reply (state_of self.old) t suite mode)) → result ≢ Err Memory }
@@ -141,22 +133,17 @@ impl ServerState {
                 self.locks.make_room()?;
                 self.store.keep_head(suite)?;
                 self.store.hold(suite, reply)?;
-                Ok(Change::Lock { t, suite, mode })
+                Ok(Change::Asked)
             }
         }
     }
 
     /// To make a lock exclusive.
-    fn fill_upgrade<'a>(
-        &mut self,
-        t: u64,
-        suite: u64,
-        reply: &mut Reply,
-    ) -> Result<Change<'a>, Lack>
+    fn fill_upgrade(&mut self, t: u64, suite: u64, reply: &mut Reply) -> Result<Change, Lack>
         ensures reply { OnOk result (reply.new ≡ service.upgrade_reply (state_of self.old) t suite) }
         ensures same { state_of self.new ≡ state_of self.old }
-        ensures change { IfOk result (λ change. applied change (state_of self.old) ≡ after_upgrade (state_of self.old) t suite) }
-        ensures room { IfOk result (λ change. stepping.HasRoom change (stepping.roomed_of self.new)) }
+        ensures change { IfOk result (λ change. applied change (Request.Upgrade t suite) (state_of self.old) ≡ after_upgrade (state_of self.old) t suite) }
+        ensures room { IfOk result (λ change. stepping.HasRoom change (Request.Upgrade t suite) (stepping.roomed_of self.new)) }
         ensures full { result ≢ Err Full }
         ensures place { OnErr result (reply.new ≡ reply.old) }
         ensures bare { IsTrue (serving.is_bare (service.upgrade_reply (state_of self.old) t suite)) → result ≢ Err Memory }
@@ -170,7 +157,7 @@ impl ServerState {
     }
 
     /// To tell a content.
-    fn fill_fetch<'a>(&mut self, t: u64, suite: u64, reply: &mut Reply) -> Result<Change<'a>, Lack>
+    fn fill_fetch(&mut self, t: u64, suite: u64, reply: &mut Reply) -> Result<Change, Lack>
         ensures reply { OnOk result (reply.new ≡ service.fetch_reply (state_of self.old) t suite) }
         ensures same { state_of self.new ≡ state_of self.old }
         ensures change { IfOk result (λ change. change ≡ Change.Nothing) }
@@ -188,16 +175,11 @@ impl ServerState {
     }
 
     /// To keep parts.
-    fn fill_parts<'a>(
-        &mut self,
-        t: u64,
-        parts: &'a [Part],
-        reply: &mut Reply,
-    ) -> Result<Change<'a>, Lack>
+    fn fill_parts(&mut self, t: u64, parts: &[Part], reply: &mut Reply) -> Result<Change, Lack>
         ensures reply { OnOk result (reply.new ≡ service.prepare_reply (state_of self.old) t parts.now) }
         ensures same { state_of self.new ≡ state_of self.old }
-        ensures change { IfOk result (λ made. applied made (state_of self.old) ≡ after_prepare (state_of self.old) t parts.now) }
-        ensures room { IfOk result (λ change. stepping.HasRoom change (stepping.roomed_of self.new)) }
+        ensures change { IfOk result (λ made. applied made (Request.Prepare t parts.now) (state_of self.old) ≡ after_prepare (state_of self.old) t parts.now) }
+        ensures room { IfOk result (λ change. stepping.HasRoom change (Request.Prepare t parts.now) (stepping.roomed_of self.new)) }
         ensures full { let old = state_of self.old in (result ≡ Err Full) ↔ IsTrue (prepares old t parts.now && store.overfills t old.store parts.now) }
         ensures place { OnErr result (reply.new ≡ reply.old) }
         ensures bare { IsTrue (serving.is_bare (service.prepare_reply (state_of self.old) t parts.now)) → result ≢ Err Memory }
@@ -215,21 +197,37 @@ impl ServerState {
         }
         let planned = self.store.plan(t, parts)?;
         *reply = Reply::Prepared;
-        Ok(Change::Keep { t, parts, planned })
+        Ok(Change::Intentions(planned))
     }
 
-    /// To record a verdict, with an item of the audit where it is a denial, unless a record stands.
-    fn fill_record<'a>(
+    /// To record a decision, with an item of the audit where it is a denial.
+    fn fill_decision(
         &mut self,
         t: u64,
-        verdict: Verdict,
-        item: Option<AuditItem>,
+        decision: &Decision,
         reply: &mut Reply,
-    ) -> Result<Change<'a>, Lack>
+    ) -> Result<Change, Lack>
+        ensures reply { OnOk result (reply.new ≡ Reply.Verdict (service.recorded (record_of (state_of self.old) t) (service.verdict_of decision.now))) }
+        ensures same { state_of self.new ≡ state_of self.old }
+        ensures change { IfOk result (λ change. change ≡ stepping.unrecorded (record_of (state_of self.old) t) (service.verdict_of decision.now)) }
+        ensures room { IfOk result (λ change. record_of (state_of self.old) t ≡ None → 0 < room_for t self.new.verdicts.rooms) }
+        ensures audit { OnOk result (is_some (service.audit_of t decision.now) ≡ true → vec_len self.new.audit < vec_capacity self.new.audit) }
+        ensures full { result ≢ Err Full }
+        ensures place { OnErr result (reply.new ≡ reply.old) }
+    {
+        if audit_of(t, decision).is_some() {
+            self.audit.reserve(1)?;
+        }
+        self.fill_record(t, verdict_of(decision)?, reply)
+    }
+
+    /// To record a verdict, where no record stands.
+    fn fill_record(&mut self, t: u64, verdict: Verdict, reply: &mut Reply) -> Result<Change, Lack>
         ensures reply { OnOk result (reply.new ≡ Reply.Verdict (service.recorded (record_of (state_of self.old) t) verdict)) }
         ensures same { state_of self.new ≡ state_of self.old }
-        ensures change { let old = state_of self.old in IfOk result (λ change. applied change old ≡ after_record (record_of old t) t verdict item old) }
-        ensures room { IfOk result (λ change. stepping.HasRoom change (stepping.roomed_of self.new)) }
+        ensures change { IfOk result (λ change. change ≡ stepping.unrecorded (record_of (state_of self.old) t) verdict) }
+        ensures room { OnOk result (record_of (state_of self.old) t ≡ None → 0 < room_for t self.new.verdicts.rooms) }
+        ensures audit { self.new.audit ≡ self.old.audit }
         ensures full { result ≢ Err Full }
         ensures place { OnErr result (reply.new ≡ reply.old) }
     {
@@ -239,19 +237,12 @@ impl ServerState {
         }
         let kept = self.verdicts.kept(self.alloc, &verdict)?;
         self.verdicts.make_room(t)?;
-        if item.is_some() {
-            self.audit.reserve(1)?;
-        }
         *reply = Reply::Verdict(verdict);
-        Ok(Change::Record {
-            t,
-            verdict: kept,
-            item,
-        })
+        Ok(Change::Record(kept))
     }
 
     /// To tell the locks.
-    pub(crate) fn fill_list<'a>(&self, reply: &mut Reply) -> Result<Change<'a>, Lack>
+    pub(crate) fn fill_list(&self, reply: &mut Reply) -> Result<Change, Lack>
         ensures reply { OnOk result (reply.new ≡ Reply.Locked (state_of self.now).locks) }
         ensures change { IfOk result (λ change. change ≡ Change.Nothing) }
         ensures full { result ≢ Err Full }
@@ -284,15 +275,15 @@ impl ServerState {
 
 /// Of a server that is down.
 #[inline(always)]
-pub(crate) fn fill_down<'a>(request: &Request, reply: &mut Reply) -> Change<'a>
+pub(crate) fn fill_down(request: &Request, reply: &mut Reply) -> Change
     ensures reply { reply.new ≡ service.reply_down request.now }
-    ensures change { (st : State) → stepping.applied result st ≡ service.after_down st request.now }
-    ensures room { (held : ServerState) → stepping.HasRoom result (stepping.roomed_of held) }
+    ensures change { (st : State) → stepping.applied result request.now st ≡ service.after_down st request.now }
+    ensures room { (held : ServerState) → stepping.HasRoom result request.now (stepping.roomed_of held) }
 {
     match request {
         Request::Return => {
             *reply = Reply::Done;
-            Change::Return
+            Change::Asked
         }
         _ => {
             *reply = Reply::Down;

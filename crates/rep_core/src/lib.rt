@@ -31,9 +31,8 @@
 //! **full** of suites (4,096), stamps or versions (`is_full`), or out of **memory**. Crash, Return, Break and
 //! Finish need none, nor does what is answered Busy, Lost, Done or Down.
 //!
-//! **The caller owes** to `apply` a step for which the server has the room (`IsReadyFor`), as it has once the step was
-//! evaluated and nothing was done since (`IsStep`). It opens each server with its own number and the same settings.
-//! That requests come in a sensible order is nowhere presumed.
+//! **The caller owes** to `apply` a step that was evaluated at the server as it stands (`IsStep`). It opens each
+//! server with its own number and the same settings. That requests come in a sensible order is nowhere presumed.
 //!
 //! In code copies and intentions are bytes (`StoredCopy`), so a Finish moves them. What is asked of the locks, and done
 //! with them, goes through `LockTable`: a few stand in a vector, and many in blocks, with who holds them and which are

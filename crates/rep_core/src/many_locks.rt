@@ -140,22 +140,8 @@ impl ManyLocks {
         }
     }
 
-    /// Sets a lock, for which there is room, or makes the transaction's own one stronger. Who holds the suite tells
-    /// whether the transaction has one.
+    /// Sets a lock, for which there is room, or makes the transaction's own one stronger.
     pub(crate) fn set(&mut self, t: u64, suite: u64, mode: LockMode)
-        requires { 0 < self.old.room }
-        ensures { self.new.locks ≡ locking.locked t suite mode self.old.locks }
-    {
-        if self.holders.insert_in_room((suite, t), ()).is_some() {
-            self.raise(t, suite, mode);
-        } else {
-            self.locks.insert_in_room((t, suite), (mode, false));
-            self.loose.insert_in_room((t, suite), ());
-        }
-    }
-
-    /// Sets a lock, or makes the transaction's own one stronger, which is looked for.
-    fn raise(&mut self, t: u64, suite: u64, mode: LockMode)
         requires { 0 < self.old.room }
         ensures { self.new.locks ≡ locking.locked t suite mode self.old.locks }
     {
@@ -193,8 +179,7 @@ impl ManyLocks {
         ensures { self.new.locks ≡ keyed.with_one_prepared t suite self.old.locks }
     {
         if let Some(own) = self.lock_at(t, suite) {
-            self.locks.insert_in_room((t, suite), (own.mode, true));
-            self.loose.remove(&(t, suite));
+            self.put(t, suite, own.mode, true);
         }
     }
 
@@ -230,11 +215,9 @@ impl ManyLocks {
         ensures locks { self.new.locks ≡ keyed.without t suite self.old.locks }
         ensures was_rising { IsTrue (locking.rise self.old.locks) }
     {
-        let kept = self.locks.remove(&(t, suite));
+        self.locks.remove(&(t, suite));
         self.holders.remove(&(suite, t));
-        if was_loose(kept) {
-            self.loose.remove(&(t, suite));
-        }
+        self.loose.remove(&(t, suite));
     }
 
     /// The first lock that is not prepared: of which transaction, and on which suite.
@@ -277,16 +260,6 @@ fn lock_with(t: u64, suite: u64, kept: &(LockMode, bool)) -> Lock
         suite,
         mode: kept.0,
         prepared: kept.1,
-    }
-}
-
-/// Whether a lock was there, and not prepared.
-fn was_loose(kept: Option<(LockMode, bool)>) -> bool
-    ensures { result ≡ keyed.is_loose_pair kept }
-{
-    match kept {
-        Some(kept) => !kept.1,
-        None => false,
     }
 }
 

@@ -4,7 +4,7 @@ ghost use Rattle.std.specs.Prelude.{◌≡◌, ◌≢◌, ◌↔◌, IfOk, IfSom
 ghost use Rattle.suite_prefix.specs.Copies.{IsCopy};
 ghost use Rattle.rep_core.specs.declared.stamped.Lack.TheVariants.{Full, Memory};
 ghost use Rattle.rep_core.specs.Fits.{fits};
-ghost use Rattle.rep_core.specs.Evaluated.{after_step, IsReadyFor, IsStep};
+ghost use Rattle.rep_core.specs.Evaluated.{IsStep};
 ghost use Rattle.rep_core.specs.code.Planning.{copies_in};
 ghost use Rattle.rep_core.specs.Bare.{bare_server};
 ghost use Rattle.rep_core.specs.Serving as serving;
@@ -50,11 +50,11 @@ impl Server {
     /// What it would answer to a request and do, with all that doing it takes: nothing has changed. Finish, Break,
     /// Crash and Return take no memory, nor does what is answered Busy, Lost, Done or Down.
     #[inline(always)]
-    pub fn evaluate<'a>(
+    pub fn evaluate(
         &mut self,
-        request: &'a Stamped<Request>,
+        request: &Stamped<Request>,
         reply: &mut Stamped<Reply>,
-    ) -> Result<Step<'a>, Lack>
+    ) -> Result<Step, Lack>
         ensures reply { OnOk result (reply.new ≡ serving.answer_of self.old.state request.now) }
         ensures same { self.new.state ≡ self.old.state }
         ensures place { OnErr result (reply.new ≡ reply.old) }
@@ -71,13 +71,13 @@ impl Server {
         })
     }
 
-    /// Does what was evaluated since anything was done last. It takes no memory.
+    /// Does what was evaluated of this request since anything was done last, and gives the reply. It takes no memory.
     #[inline(always)]
-    pub fn apply(&mut self, step: Step<'_>)
-        requires { IsReadyFor self.old step }
-        ensures { self.new.state ≡ after_step step.entry self.old.state }
+    pub fn apply(&mut self, request: &Stamped<Request>, step: Step)
+        requires { IsStep step request.now self.old }
+        ensures { self.new.state ≡ serving.served self.old.state request.now }
     {
-        self.held.apply(step);
+        self.held.apply(request, step);
     }
 
     /// Serves a request. Where it is not served, nothing has changed.
@@ -95,7 +95,7 @@ impl Server {
             value: Reply::Down,
         };
         let step = self.evaluate(request, &mut reply)?;
-        self.apply(step);
+        self.apply(request, step);
         Ok(reply)
     }
 

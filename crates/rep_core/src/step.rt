@@ -2,52 +2,23 @@
 
 use crate::intention::Planned;
 use crate::kept_verdict::KeptVerdict;
-use crate::request::Part;
-use file_ops::AuditItem;
-use suite_prefix::LockMode;
 
 /// What a server would answer to a request, and do, but for the reply: what doing it takes.
 #[derive(Drop)]
-pub struct Step<'a> {
+pub struct Step {
     pub(crate) stamp: u64,
-    pub(crate) change: Change<'a>,
+    pub(crate) change: Change,
 }
 
-/// What is to be done at a server, but for its stamp. The parts of a Prepare stand in the request.
+/// What a request changes at a server, but for its stamp.
 #[derive(Drop)]
-pub(crate) enum Change<'a> {
+pub(crate) enum Change {
     /// Nothing.
     Nothing,
-    /// A lock is set, or made stronger.
-    Lock {
-        t: u64,
-        suite: u64,
-        mode: LockMode,
-    },
-    /// These intentions are kept, and the locks of the parts are prepared.
-    Keep {
-        t: u64,
-        parts: &'a [Part],
-        planned: Vec<(u64, Planned)>,
-    },
-    /// A verdict is recorded, with an item of the audit where it is a denial.
-    Record {
-        t: u64,
-        verdict: KeptVerdict,
-        item: Option<AuditItem>,
-    },
-    /// A transaction is let go. Where it was answered, what it leaves is installed.
-    Finish {
-        t: u64,
-        answered: bool,
-    },
-    /// A lock goes that is not prepared.
-    Unlock {
-        t: u64,
-        suite: u64,
-    },
-    /// It crashes.
-    Crash,
-    /// It is up.
-    Return,
+    /// What it asks for is done, in the room that there is.
+    Asked,
+    /// These intentions are kept, and the locks of its parts are prepared.
+    Intentions(Vec<(u64, Planned)>),
+    /// This verdict is recorded.
+    Record(KeptVerdict),
 }

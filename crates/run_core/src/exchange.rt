@@ -33,7 +33,7 @@ pub(crate) fn exchange(
     match host.server.evaluate(&asked.request, &mut asked.reply) {
         Ok(step) => {
             seat.take_reply(agent, asked.server, &asked.reply, ended)?;
-            host.server.apply(step);
+            host.server.apply(&asked.request, step);
             Ok(true)
         }
         Err(Lack::Full) => {

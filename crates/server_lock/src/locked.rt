@@ -161,7 +161,7 @@ impl Locked {
         self.items.reserve(1)?;
         let asked = request.clone()?;
         let copy = reply.value.clone()?;
-        self.server.apply(step);
+        self.server.apply(request, step);
         self.items.push_reserved(Item {
             stamp: reply.stamp,
             agent,

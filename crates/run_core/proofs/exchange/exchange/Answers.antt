@@ -17,7 +17,7 @@ returns-in_ok-take_reply-in-Ok-clause-ok c =
     served_exchange c.args.host.now c.apply.new.self.state c.args.seat.now c.take_reply.new.self c.args.agent asked _ c.args.ended.now c.take_reply.new.ended
     c.requires.stamp
     (λ full. let clash = c.in-Ok.ensures.full.1 (subst (λ (st : State). is_full st request ≡ true) (sym c.host.view_is) full) in cc)
-    (c.apply.ensures ∙ (c.in-Ok.ensures.step.gives ∙ ap (λ (st : State). served st request) (c.in-Ok.ensures.same ∙ c.host.view_is)))
+    (c.apply.ensures ∙ ap (λ (st : State). served st request) (c.in-Ok.ensures.same ∙ c.host.view_is))
     (ap (λ (reply : Stamped Reply). record { server = asked.server; request = request; reply = reply }) reply_is)
     (c.in_ok-take_reply-in-Ok.ensures.ended ∙ ap (λ (reply : Stamped Reply). option_or (ending_by c.args.agent c.args.seat.now (Replied reply.value)) c.args.ended.now) reply_is)
     (c.in_ok-take_reply-in-Ok.ensures.state ∙ ap (λ (reply : Stamped Reply). after_response c.args.seat.now reply.stamp (Replied reply.value)) reply_is)

@@ -23,7 +23,7 @@ invariant_of-self-2 c =
     c.push_reserved.ensures.items
     ∙ (ap (λ (xs : List Item). xs ++ item ∷ []) c.reserve.ensures.items
     ∙ ap (λ (last : Item). history ++ last ∷ []) same) in
-    let leaves : c.apply.new.self.state ≡ served server request = c.apply.ensures ∙ (c.in_ok-step.ensures.step.gives ∙ ap (λ (st : State). served st request) c.in_ok-step.ensures.same) in
+    let leaves : c.apply.new.self.state ≡ served server request = c.apply.ensures ∙ ap (λ (st : State). served st request) c.in_ok-step.ensures.same in
     subst (λ (xs : List Item). IsKept c.self.inside.number c.self.inside.settings xs c.apply.new.self.state) (sym items)
     (kept_more c.self.inside.number c.self.inside.settings history server c.apply.new.self.state c.args.agent request reply c.self.invariant room full c.in_ok-step.ensures.reply leaves)
 
