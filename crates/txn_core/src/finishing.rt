@@ -5,8 +5,7 @@ ghost use Rattle.file_exec.specs.Reaching.{unbegun};
 ghost use Rattle.rep_core.specs.Service.{is_answered};
 ghost use Rattle.weak_cache.specs.Entries.{Cache};
 ghost use Rattle.txn_core.specs.code.TransactionRunFields.{phase_of};
-ghost use Rattle.txn_core.specs.code.Goings.{GoesBy, HasPrepared, HasTold, IsPreparedBy, PreparesOn, TellsOn, fixed_by, lacked};
-ghost use Rattle.txn_core.specs.code.Passing.{passed, passes_last};
+ghost use Rattle.txn_core.specs.code.Goings.{GoesBy, fixed_by, lacked};
 ghost use Rattle.txn_core.specs.Transactions as txn_run;
 
 use crate::ending::{Cause, Ending, Flow};
@@ -25,55 +24,33 @@ impl TransactionRun {
     pub(crate) fn prepare(&mut self, servers: Servers, outcome: Proposal) -> Flow
         ensures { (cache : Cache) → GoesBy (txn_run.prepare self.old.task cache self.old.suites outcome servers) result self.new cache }
     {
-        self.phase = match servers.first() {
-            Some(_) => Phase::Preparing(servers, outcome),
-            None => Phase::Deciding(outcome),
+        let mut left = servers;
+        let Some(server) = left.take_first() else {
+            self.phase = Phase::Deciding(outcome);
+            return Flow::On;
+        };
+        self.phase = Phase::Preparing {
+            server,
+            left,
+            outcome,
         };
         Flow::On
     }
 
-    /// The first server has prepared, or it has not.
-    pub(crate) fn on_prepared(&mut self, server: u8, said: &Reply) -> Flow
-        ensures { IsPreparedBy self.old server said.now result self.new }
+    /// A server has prepared, and those that are left do; or it has not.
+    pub(crate) fn on_prepared(
+        &mut self,
+        server: u8,
+        left: Servers,
+        outcome: Proposal,
+        said: &Reply,
+    ) -> Flow
+        ensures { (cache : Cache) → GoesBy (txn_run.prepared self.old.task cache self.old.suites outcome server left said.now) result self.new cache }
     {
         if !matches!(said, Reply::Prepared) {
             return self.give_up(Cause::Lost { server });
         }
-        self.prepare_on()
-    }
-
-    /// The next server prepares; or all have, and the home decides.
-    fn prepare_on(&mut self) -> Flow
-        ensures { PreparesOn self.old result self.new }
-    {
-        if self.pass() {
-            return self.decide();
-        }
-        Flow::On
-    }
-
-    /// The first of the servers that are asked one after the other was asked. Tells whether it was the
-    /// last.
-    fn pass(&mut self) -> bool
-        ensures phase { self.new ≡ record self.old { phase = passed self.old.phase } }
-        ensures last { result ≡ passes_last self.old.phase }
-    {
-        match &mut self.phase {
-            Phase::Preparing(servers, _) => servers.passes_last(),
-            Phase::Finishing(servers, ..) => servers.passes_last(),
-            _ => false,
-        }
-    }
-
-    /// All servers have prepared: the home decides.
-    fn decide(&mut self) -> Flow
-        ensures { HasPrepared self.old result self.new }
-    {
-        self.phase = match self.leave() {
-            Phase::Preparing(_, outcome) => Phase::Deciding(outcome),
-            other => other,
-        };
-        Flow::On
+        self.prepare(left, outcome)
     }
 
     /// What the home said. Only to tell answers again it may run out of memory.
@@ -102,38 +79,21 @@ impl TransactionRun {
         self.finish(Verdict::Aborted, Ending::Undecided(cause))
     }
 
-    /// The end is told to these servers, one after the other.
-    fn tell_end(&mut self, servers: Servers, verdict: Verdict, ending: Ending) -> Flow
+    /// The end is told to these servers, one after the other. Whatever comes of it changes nothing.
+    pub(crate) fn tell_end(&mut self, servers: Servers, verdict: Verdict, ending: Ending) -> Flow
         ensures { (cache : Cache) → GoesBy (txn_run.tell_end self.old.task cache self.old.suites verdict ending servers) result self.new cache }
     {
-        if servers.first().is_none() {
+        let mut left = servers;
+        let Some(server) = left.take_first() else {
             return Flow::Ended(ending);
-        }
-        self.phase = Phase::Finishing(servers, verdict, ending);
+        };
+        self.phase = Phase::Finishing {
+            server,
+            left,
+            verdict,
+            ending,
+        };
         Flow::On
-    }
-
-    /// The end was told to the first server. Whatever comes of it changes nothing.
-    pub(crate) fn on_told(&mut self) -> Flow
-        ensures { TellsOn self.old result self.new }
-    {
-        if self.pass() {
-            return self.end();
-        }
-        Flow::On
-    }
-
-    /// The end was told to all: the transaction is at its end.
-    fn end(&mut self) -> Flow
-        ensures { HasTold self.old result self.new }
-    {
-        match self.leave() {
-            Phase::Finishing(_, _, ending) => Flow::Ended(ending),
-            other => {
-                self.phase = other;
-                Flow::On
-            }
-        }
     }
 
     /// What was asked next was not served: the transaction is not executed any more.
@@ -154,8 +114,13 @@ impl TransactionRun {
     fn on_lack_at(&mut self, server: u8, lack: Lack) -> Flow
         ensures { (cache : Cache) → GoesBy (txn_run.after_lack self.old.task cache self.old.suites self.old.phase server lack) result self.new cache }
     {
-        match &self.phase {
-            Phase::Finishing(..) => self.on_told(),
+        match self.leave() {
+            Phase::Finishing {
+                left,
+                verdict,
+                ending,
+                ..
+            } => self.tell_end(left, verdict, ending),
             _ => self.give_up(Cause::of_lack(server, lack)),
         }
     }

@@ -19,10 +19,19 @@ pub(crate) enum Phase {
         after: usize,
         granted: Granted,
     },
-    /// Servers prepare, the first of them now.
-    Preparing(Servers, Proposal),
+    /// This server prepares, and then those that are left.
+    Preparing {
+        server: u8,
+        left: Servers,
+        outcome: Proposal,
+    },
     /// The home is to decide.
     Deciding(Proposal),
-    /// The end is told to servers, to the first of them now.
-    Finishing(Servers, Verdict, Ending),
+    /// The end is told to this server, and then to those that are left.
+    Finishing {
+        server: u8,
+        left: Servers,
+        verdict: Verdict,
+        ending: Ending,
+    },
 }

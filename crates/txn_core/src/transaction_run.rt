@@ -91,9 +91,9 @@ impl TransactionRun {
             Phase::Gathering(_) => Stage::Gathering,
             Phase::Fetching(_) => Stage::Fetching,
             Phase::Widening { .. } => Stage::Widening,
-            Phase::Preparing(..) => Stage::Preparing,
+            Phase::Preparing { .. } => Stage::Preparing,
             Phase::Deciding(_) => Stage::Deciding,
-            Phase::Finishing(..) => Stage::Finishing,
+            Phase::Finishing { .. } => Stage::Finishing,
         }
     }
 
@@ -136,31 +136,45 @@ impl TransactionRun {
         ensures err { OnErr result (IsUntouched resources.old self.old self.new resources.new) }
         ensures memory { IfErr result (λ _. IsTrue (wanting.by_taking (txn_run.request_of (fixed_by resources.old) self.old) (Replied said.now))) }
     {
-        match &self.phase {
+        match self.leave() {
             Phase::Gathering(number) => {
-                let number = *number;
+                self.phase = Phase::Gathering(number);
                 self.on_held(resources, number, said)
             }
             Phase::Fetching(number) => {
-                let number = *number;
+                self.phase = Phase::Fetching(number);
                 match self.fetched_from(number) {
                     Some(server) => self.on_given(resources, number, server, said),
                     None => Ok(Flow::On),
                 }
             }
-            Phase::Widening { number, .. } => {
-                let number = *number;
+            Phase::Widening {
+                number,
+                after,
+                granted,
+            } => {
+                self.phase = Phase::Widening {
+                    number,
+                    after,
+                    granted,
+                };
                 self.on_widened(number, said)
             }
-            Phase::Preparing(servers, _) => match servers.first() {
-                Some(server) => Ok(self.on_prepared(server, said)),
-                None => Ok(Flow::On),
-            },
-            Phase::Deciding(_) => self.on_verdict(said),
-            Phase::Finishing(servers, ..) => match servers.first() {
-                Some(_) => Ok(self.on_told()),
-                None => Ok(Flow::On),
-            },
+            Phase::Preparing {
+                server,
+                left,
+                outcome,
+            } => Ok(self.on_prepared(server, left, outcome, said)),
+            Phase::Deciding(outcome) => {
+                self.phase = Phase::Deciding(outcome);
+                self.on_verdict(said)
+            }
+            Phase::Finishing {
+                left,
+                verdict,
+                ending,
+                ..
+            } => Ok(self.tell_end(left, verdict, ending)),
         }
     }
 

@@ -6,14 +6,14 @@ use Rattle.txn_core.specs.declared.transaction_run.TransactionRun.TheInside.{Ins
 use Rattle.txn_core.specs.Doing.{Phase, Gathering, Fetching, Widening, Preparing, Deciding, Finishing, TransactionRun}
 use Rattle.txn_core.specs.Transactions.{to_widen}
 
--- the suites that are widened after the first stand in the changes, from a place on
+-- the suites that are widened after the first stand in the changes, from a place on; the servers that are asked after the first are those left
 abbrev pub phase_of : Coded → Phase
 phase_of (coded.Gathering number) = Gathering number
 phase_of (coded.Fetching number) = Fetching number
 phase_of (coded.Widening number after granted) = Widening (number ∷ to_widen (drop after granted.changes)) granted
-phase_of (coded.Preparing servers outcome) = Preparing servers outcome
+phase_of (coded.Preparing server left outcome) = Preparing (server ∷ left) outcome
 phase_of (coded.Deciding outcome) = Deciding outcome
-phase_of (coded.Finishing servers verdict ending) = Finishing servers verdict ending
+phase_of (coded.Finishing server left verdict ending) = Finishing (server ∷ left) verdict ending
 
 abbrev pub course_of : Inside → TransactionRun
 course_of fields = record { task = fields.task; suites = fields.suites.pairs; phase = phase_of fields.phase }
