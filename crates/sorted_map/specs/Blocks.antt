@@ -31,7 +31,7 @@ module _ {K V : Type 0} where
   AreBlocks bs = AllByRecursion IsBlock bs
 
   abbrev pub IsSpare : Roomy K V → Type 0
-  IsSpare b = (b.pairs ≡ []) × (256 ≤ b.room)
+  IsSpare b = (b.pairs ≡ []) × (64 ≤ b.room)
 
   abbrev pub AreSpare : List (Roomy K V) → Type 0
   AreSpare bs = All IsSpare bs

@@ -14,7 +14,7 @@ use std::cmp::Ord;
 use std::marker::Model;
 
 /// How many pairs a block has room for.
-const BLOCK: usize = 256;
+const BLOCK: usize = 64;
 
 /// A map from `K` to `V`, in the order of its keys, that shows how many new keys it takes without memory. The first
 /// block may be empty, each of the rest has a pair. A block that is full is split, and takes a spare one.
@@ -458,7 +458,7 @@ fn lower_half(len: usize) -> usize
     requires { 2 ≤ len }
     ensures some { 0 < result }
     ensures fewer { result < len }
-    ensures half { len ≤ result + 128 }
+    ensures half { len ≤ result + 32 }
 {
     len - (len / 2).min(BLOCK / 2)
 }

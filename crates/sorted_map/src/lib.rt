@@ -2,7 +2,7 @@
 //!
 //! A look-up is a binary search. In a `SortedMap` or a `RoomyMap` a new key moves the pairs behind it up by one place,
 //! and a removal moves them down. So a key above all others is put in by a push. A `BlockMap` is for a large map that
-//! changes all over: it keeps its pairs in blocks, and an edit moves those of one block, mostly 256 at most.
+//! changes all over: it keeps its pairs in blocks, and an edit moves those of one block, mostly 64 at most.
 //!
 //! **Promises.** In a contract a `SortedMap` is the list of its pairs. Each call is the look-up or the edit of that
 //! list (`get`, `first_from`, `insert`, `remove`). An insertion that is out of memory gives the pair back and leaves

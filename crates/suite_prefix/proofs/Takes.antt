@@ -24,31 +24,8 @@ use Rattle.suite_prefix.specs.Bytes.{kind_code, tag_code, representative_bytes, 
 use Rattle.suite_prefix.specs.Copies.{held_by}
 use Rattle.suite_prefix.specs.Forms.{form_code}
 use Rattle.suite_prefix.specs.code.Judging.{FitsForm, ContentFits}
-use Rattle.suite_prefix.specs.Reading.{
-  ◌>>=◌,
-  Shape,
-  byte_at,
-  number_at,
-  bytes_at,
-  default_at,
-  form_at,
-  kind_of_code,
-  identity_at,
-  code_at,
-  tag_of,
-  entry_at,
-  representative_at,
-  name_at,
-  many_at,
-  list_at,
-  lists_at,
-  listed_at,
-  votes_at,
-  file_at,
-  folder_at,
-  content_at,
-  shape_at,
-}
+use Rattle.suite_prefix.specs.Reading.{◌>>=◌, Shape, byte_at, number_at, bytes_at, default_at, form_at, kind_of_code, identity_at, code_at, tag_of, entry_at}
+use Rattle.suite_prefix.specs.Reading.{representative_at, name_at, many_at, list_at, lists_at, listed_at, votes_at, file_at, folder_at, content_at, shape_at}
 use Rattle.suite_prefix.proofs.Loop.{ok_is}
 
 -- ---- bytes
