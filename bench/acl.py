@@ -63,4 +63,5 @@ def main() -> None:
     print(f"wc on the same text: {seconds:.3f} s, peak {peak:.1f} MiB")
 
 
-main()
+if __name__ == "__main__":
+    main()

@@ -175,4 +175,5 @@ def main() -> None:
         sys.exit(f"memory above {MEMORY} times the other's: " + "; ".join(above))
 
 
-main()
+if __name__ == "__main__":
+    main()

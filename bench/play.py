@@ -86,4 +86,5 @@ def main() -> None:
     measure.growth("steps", given.steps or [1_000, 10_000, 100_000, 1_000_000], played)
 
 
-main()
+if __name__ == "__main__":
+    main()

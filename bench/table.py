@@ -60,4 +60,5 @@ def main() -> None:
     measure.growth("operations", given.operations or [1_000, 10_000, 100_000, 340_000], played)
 
 
-main()
+if __name__ == "__main__":
+    main()

@@ -5,10 +5,11 @@ Runs all tests that need no proof, side by side: the rows of crates/rows/stdin t
 (which it first makes, where there is none), the tests of libraries, runs and commands without their proofs (`rt try`),
 the examples of docs/FAULTS.md, the command lines that README.md and docs/FAULTS.md show, what `./suites votes` tells,
 pictures, what `explore` tells, random scripts of `play` against the plain table, and the checks of documents. With
---long those too that take minutes: every program that only tests and measurements have is compiled, allocations are
-refused, reads and writes fail, inputs are cut off, lies are told about runs, and races between threads are looked for:
-some ten minutes more on four free processors. Prints a line for each part as it ends, of a part that fails also what it
-printed, and last how many passed and failed. Status 1 where one failed. The gate (.ci/run) begins with it.
+--long those too that take minutes: every program that only tests and measurements have is compiled, instructions are
+counted, allocations are refused, reads and writes fail, inputs are cut off, lies are told about runs, and races between
+threads are looked for: some ten minutes more on four free processors. Prints a line for each part as it ends, of a part
+that fails also what it printed, and last how many passed and failed. Status 1 where one failed. The gate (.ci/run)
+begins with it.
 """
 import os
 import re
@@ -140,6 +141,7 @@ PARTS = (
 # What --long adds; of allocations each 61st is refused, and inputs are cut at each 29th byte.
 LONG = (
     Part("programs of tests and measurements", tool("tests/compiled.py")),
+    Part("instructions", tool("tests/instructions.py")),
     Part("races", tool("tests/races.py", "1")),
     Part("lies about runs", tool("tests/lies.py", "1000"), [TRACE]),
     Part(

@@ -50,7 +50,7 @@ use Rattle.txn_core.specs.Undecided.{SetsVotes}
 use Rattle.txn_core.proofs.Asks.{asks_same, fetched_as}
 use Rattle.txn_core.proofs.Causes.{StandsOn}
 use Rattle.txn_core.proofs.Gathers.{Wants, Sets}
-use Rattle.txn_core.proofs.Locks.{Are, asks_lock}
+use Rattle.txn_core.proofs.ToldLists.{Are, asks_lock}
 use Rattle.txn_core.proofs.Shown.{kind_of, told_said, votes_same}
 use Rattle.txn_core.proofs.Undecided.{IsOf, is_wanted, sets}
 use Rattle.txn_core.proofs.Upheld.{Base_of, Started, Begins, DoingStands, stands_after, started_is}

@@ -49,7 +49,7 @@ use Rattle.txn_core.specs.Transactions.{
 }
 use Rattle.txn_core.specs.Laws.{Exchange, locks, told_of, told_by, more_told}
 use Rattle.txn_core.proofs.Asks.{fetched_as}
-use Rattle.txn_core.proofs.Locks.{Are, are_with, are_same, are_opened, told_raised, all_told-tell, asks_lock}
+use Rattle.txn_core.proofs.ToldLists.{Are, are_with, are_same, are_opened, told_raised, all_told-tell, asks_lock}
 use Rattle.txn_core.proofs.Walk.{IsEarly}
 
 -- ---- what was told of each suite, with one exchange more

@@ -28,7 +28,8 @@ use Rattle.txn_core.specs.Suites.{Suites, suite_of, told_in, told_at, holds_lock
 use Rattle.txn_core.specs.Transactions.{numbers_from, is_poll, said_to, locked_at}
 use Rattle.txn_core.specs.Laws.{Exchange, locks, says_held, was_held, told_of, told_by, more_told}
 use Rattle.txn_core.proofs.Gathers.{self}
-use Rattle.txn_core.proofs.Locks.{Are, serves_shared}
+use Rattle.txn_core.proofs.Locks.{serves_shared}
+use Rattle.txn_core.proofs.ToldLists.{Are}
 use Rattle.txn_core.proofs.SuiteQuorums.{or_true}
 use Rattle.txn_core.proofs.Ready.{has_one}
 use Rattle.law_agents.specs.Orders.{wants_lock, was_locked, locked}

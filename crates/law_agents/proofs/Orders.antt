@@ -33,7 +33,8 @@ use Rattle.txn_core.specs.Undecided.{is_finish}
 use Rattle.txn_core.proofs.Asks.{asks_same, asked_as, fetched_as}
 use Rattle.txn_core.proofs.Causes.{StandsOn}
 use Rattle.txn_core.proofs.Gathers.{self, Base}
-use Rattle.txn_core.proofs.Locks.{Are, are_nil, Keeps, plus_all, nothing_held, all_keep, begin_keeps}
+use Rattle.txn_core.proofs.Locks.{Keeps, plus_all, nothing_held, all_keep, begin_keeps}
+use Rattle.txn_core.proofs.ToldLists.{Are, are_nil}
 use Rattle.txn_core.proofs.Mild.{finish_carries_the_verdict}
 use Rattle.txn_core.proofs.Upheld.{Base_of, Started, Begins, DoingStands, stands_after}
 use Rattle.txn_core.proofs.Walk.{IsEarly}

@@ -55,7 +55,7 @@ use Rattle.txn_core.specs.Laws.{Exchange, of_job, locks, is_prepare, task_of, Is
 use Rattle.txn_core.proofs.Asks.{asks_same, asked_as, fetched_as}
 use Rattle.txn_core.proofs.Causes.{StandsOn}
 use Rattle.txn_core.proofs.Gathers.{Base}
-use Rattle.txn_core.proofs.Locks.{Are, are_nil}
+use Rattle.txn_core.proofs.ToldLists.{Are, are_nil}
 use Rattle.txn_core.proofs.Quorums.{decides_on_quorums}
 use Rattle.txn_core.proofs.Upheld.{Base_of, Started, Begins, DoingStands, stands_after}
 use Rattle.txn_core.proofs.Walk.{IsEarly}

@@ -14,7 +14,7 @@ use Rattle.txn_core.specs.Doing.{Fixed, Task, TransactionRun, Doing, Running, Ru
 use Rattle.txn_core.specs.Transactions.{execute}
 use Rattle.txn_core.specs.Agents.{Agent, fixed_of, is_idle, has_sense, max_jobs, left, begin, started}
 use Rattle.txn_core.specs.Suites.{told_at}
-use Rattle.txn_core.proofs.Locks.{Leaves, are_nil, leaves_execute}
+use Rattle.txn_core.proofs.ToldLists.{Leaves, are_nil, leaves_execute}
 use Rattle.run_core.specs.declared.event.Event.{Event}
 use Rattle.run_core.specs.Worlds as worlds
 use Rattle.run_core.specs.Worlds.{Actor, actor_at, becomes}

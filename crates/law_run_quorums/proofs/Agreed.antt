@@ -9,7 +9,7 @@ use Rattle.txn_core.specs.declared.response.Response.{Response}
 use Rattle.txn_core.specs.Doing.{Fixed, TransactionRun, Doing, Running, RunningSweep, After, GoesOn, Ends}
 use Rattle.txn_core.specs.Transactions.{after_response, request_of}
 use Rattle.txn_core.specs.Agents.{Agent, next_in, take_in, left}
-use Rattle.txn_core.proofs.Locks.{Leaves}
+use Rattle.txn_core.proofs.ToldLists.{Leaves, heard_by, hears_response}
 use Rattle.run_core.specs.Worlds as worlds
 use Rattle.run_core.specs.Worlds.{Actor, actor_at}
 use Rattle.law_suite_machine.specs.Machine.{World}
@@ -18,8 +18,6 @@ use Rattle.law_run_machine.proofs.Linked.{InCourse, IsDoing, AllLinked, numbered
 use Rattle.law_run_machine.proofs.Turned.{Others, set_here, set_apart, same_or}
 use Rattle.law_run_machine.specs.Telling.{told_to}
 use Rattle.law_run_quorums.specs.Telling.{Agrees, DoingAgrees, AllAgree}
-use Rattle.law_run_quorums.proofs.Served.{heard_by}
-use Rattle.law_run_quorums.proofs.Heard.{hears_response}
 
 -- ---- what others do leaves it
 

@@ -21,7 +21,7 @@ use Rattle.txn_core.specs.declared.job.Job.TheVariants.{Transaction, Sweep}
 use Rattle.txn_core.specs.Doing.{Task, TransactionRun, Doing, Running, RunningSweep, After, GoesOn, Ends}
 use Rattle.txn_core.specs.Transactions.{execute}
 use Rattle.txn_core.specs.Agents.{Agent, fixed_of, next_in, next_of, take, take_in, begin, started, forget, is_idle, has_sense, max_jobs, left}
-use Rattle.txn_core.proofs.Locks.{Leaves, are_nil, leaves_execute}
+use Rattle.txn_core.proofs.ToldLists.{Leaves, are_nil, leaves_execute, heard_by}
 use Rattle.run_core.specs.declared.event.Event as happening
 use Rattle.run_core.specs.declared.event.Event.TheVariants.{Begin, Step, Crash, Return, Forget, Lack}
 use Rattle.run_core.specs.Worlds as worlds
@@ -52,7 +52,7 @@ use Rattle.law_run_machine.proofs.Turns.{turn}
 use Rattle.law_run_machine.proofs.Turned.{served_at, served_concerns, lacked_concerns, others_turned, begun_so}
 use Rattle.law_run_machine.specs.Telling.{told_to}
 use Rattle.law_run_quorums.specs.Telling.{Agrees, DoingAgrees, AllAgree}
-use Rattle.law_run_quorums.proofs.Served.{heard_by, served_agrees, lacked_agrees}
+use Rattle.law_run_quorums.proofs.Served.{served_agrees, lacked_agrees}
 use Rattle.law_run_quorums.proofs.Agreed.{all_agree, take_agrees}
 
 same_told : (w later : World) (t : ℕ) (list : List collect.Told) → later.told ≡ w.told → Agrees (told_to w t) list → Agrees (told_to later t) list

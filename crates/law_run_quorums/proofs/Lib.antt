@@ -1,5 +1,4 @@
 pub mod Served
-pub mod Heard
 pub mod Known
 pub mod Written
 pub mod Agreed

@@ -20,11 +20,11 @@ use Rattle.suite_collect.specs.declared.told.Said.TheVariants.{Held, Busy, Down}
 use Rattle.suite_collect.specs.declared.told.Told as collect
 use Rattle.suite_collect.specs.Telling.{is_held, holds}
 use Rattle.suite_collect.specs.Collecting.{mode_of}
-use Rattle.txn_core.specs.declared.response.Response.{Response}
 use Rattle.txn_core.specs.declared.response.Response.TheVariants.{Replied, Lacked}
 use Rattle.txn_core.specs.Laws.{more_told, told_by, locks}
 use Rattle.txn_core.specs.Transactions.{is_poll, said_to}
 use Rattle.txn_core.proofs.Locks.{serves_shared}
+use Rattle.txn_core.proofs.ToldLists.{heard_by}
 use Rattle.law_suite_machine.specs.Registers.{Beginning}
 use Rattle.law_suite_machine.specs.Machine.{Told, Hold, Verdict, World, set2}
 use Rattle.law_suite_machine.specs.Events as machine
@@ -37,10 +37,6 @@ use Rattle.law_server_moves.specs.Laws.{TellsCopy, Tells}
 use Rattle.law_runs.specs.Naming.{names}
 use Rattle.law_run_machine.specs.Telling.{told_to, ToldOf, SaidIs, AreTold}
 use Rattle.law_run_quorums.specs.Telling.{Agrees}
-
--- what a response adds to a list
-abbrev pub heard_by : ℕ → List collect.Told → ℕ → Request → Response → List collect.Told
-heard_by z list i asked response = cond (locks z asked) (told_by list (record { server = i; request = asked; response = response }) response) list
 
 -- ---- a list of what was told
 

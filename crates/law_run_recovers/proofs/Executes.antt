@@ -60,7 +60,7 @@ use Rattle.txn_core.specs.Transactions.{
   locked_at,
 }
 use Rattle.txn_core.proofs.Gathers.{self, with_at, each_but, each_with, but_with}
-use Rattle.txn_core.proofs.Locks.{are_nil}
+use Rattle.txn_core.proofs.ToldLists.{are_nil}
 use Rattle.run_core.specs.Worlds.{World}
 use Rattle.law_run_recovers.specs.Demands.{is_met, MayStart, has_asked, not_asked, changes_on}
 use Rattle.law_run_recovers.specs.OpenDemands.{mode_or, first_mode}

@@ -46,7 +46,7 @@ use Rattle.txn_core.proofs.Gathers.{self, at_with, Each, EachBut, each_but, each
 use Rattle.txn_core.proofs.Gathers.{Kept, Asking, wide_told, wants_told, wide_widened, kept_same, kept_more, kept_told, asking_of, asks_new, asks_on, settles_on}
 use Rattle.txn_core.proofs.Cached.{given_is}
 use Rattle.txn_core.proofs.Contents.{Free, each_opened, FreeIn, free_before, GivenTo, GivenIn}
-use Rattle.txn_core.proofs.Locks.{Are, are_same, are_opened, told_raised, all_told-tell, asks_lock}
+use Rattle.txn_core.proofs.ToldLists.{Are, are_same, are_opened, told_raised, all_told-tell, asks_lock}
 use Rattle.txn_core.proofs.Causes.{lost_fetch, lost_prepare, push, Tells, Begun, ShortBy, CausedBy, EndIs, EndCaused, StandsOn, OrFresh, Leaves, was_now, was_more}
 use Rattle.txn_core.proofs.Causes.{told_same, are_quiet, both_fit, last_fits, lost_asked, tells_heard, are_heard, told_there, there_with}
 

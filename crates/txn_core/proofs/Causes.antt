@@ -31,7 +31,7 @@ use Rattle.txn_core.specs.Laws.{Exchange, locks, is_decide, told_of, told_by, mo
 use Rattle.txn_core.specs.Undecided.{Was, loses, says_aborted, says_down, stops}
 use Rattle.txn_core.proofs.Asks.{asks_same}
 use Rattle.txn_core.proofs.Gathers.{self, with_at, Each, EachBut, Base, Wants, Sets, Grants, Kept, Asking}
-use Rattle.txn_core.proofs.Locks.{Are, are_with}
+use Rattle.txn_core.proofs.ToldLists.{Are, are_with}
 
 -- ---- replies that lose a lock
 

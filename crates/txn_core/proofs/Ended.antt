@@ -1,13 +1,16 @@
 -- The end of a transaction, as its code goes about it.
-use Rattle.std.proofs.Common.{◌≡◌, ℕ, List, [], ◌∷◌, Option, drop, refl, sym, ap, ◌∙◌, subst}
+use Rattle.std.proofs.Common.{◌≡◌, ℕ, List, [], ◌∷◌, Option, refl, sym, ap, ◌∙◌, subst}
 use Rattle.rep_core.specs.declared.reply.Verdict.{Verdict}
 use Rattle.rep_core.specs.declared.stamped.Lack.{Lack}
 use Rattle.weak_cache.specs.Entries.{Cache}
 use Rattle.txn_core.specs.declared.ending.Ending.{Ending}
+use Rattle.txn_core.specs.declared.phase.Phase.{Phase as Coded}
+use Rattle.txn_core.specs.declared.phase.Phase.TheVariants as coded
 use Rattle.txn_core.specs.Doing.{Task, Proposal, Phase, Finishing, TransactionRun}
 use Rattle.txn_core.specs.code.Steps.{Steps}
+use Rattle.txn_core.specs.code.TransactionRunFields.{phase_of}
 use Rattle.txn_core.specs.Suites.{Suites}
-use Rattle.txn_core.specs.Transactions.{Step, locked_at, tell_end, finish, prepare, after_lack}
+use Rattle.txn_core.specs.Transactions.{locked_at, tell_end, give_up, finish, prepare, after_lack, lack_cause}
 
 -- the servers that hold a lock, as the code finds them
 module _ (task : Task) (cache : Cache) (suites given : Suites) (servers : List ℕ) (after : TransactionRun) (found : servers ≡ locked_at given) (same : given ≡ suites) where
@@ -22,14 +25,19 @@ module _ (task : Task) (cache : Cache) (suites given : Suites) (servers : List �
       subst Prepares (found ∙ ap locked_at same) steps
 
 -- what a Finish is answered changes nothing
-lack_at_end : (task : Task) (cache : Cache) (suites : Suites) (server : ℕ) (lacked : Lack) (servers : List ℕ) (verdict : Verdict) (ending : Ending)
-    → tell_end task cache suites verdict ending (drop 1 servers) ≡ after_lack task cache suites (Finishing servers verdict ending) server lacked
-lack_at_end task cache suites server lacked [] verdict ending = refl
-lack_at_end task cache suites server lacked (now ∷ left) verdict ending = refl
+pub lacks_at_end : (task : Task) (cache : Cache) (suites : Suites) (phase : Phase) (server : ℕ) (lacked : Lack) (now : ℕ) (left : List ℕ) (verdict : Verdict) (ending : Ending)
+    (result : Option Ending) (after : TransactionRun) → phase ≡ Finishing (now ∷ left) verdict ending
+    → Steps (tell_end task cache suites verdict ending left) result after cache → Steps (after_lack task cache suites phase server lacked) result after cache
+lacks_at_end task cache suites phase server lacked now left verdict ending result after is steps =
+    subst (λ phase. Steps (after_lack task cache suites phase server lacked) result after cache) (sym is) steps
 
-pub lacks_at_end : (task : Task) (cache : Cache) (suites : Suites) (phase : Phase) (server : ℕ) (lacked : Lack) (servers : List ℕ) (verdict : Verdict) (ending : Ending)
-    (result : Option Ending) (after : TransactionRun) → phase ≡ Finishing servers verdict ending
-    → Steps (tell_end task cache suites verdict ending (drop 1 servers)) result after cache → Steps (after_lack task cache suites phase server lacked) result after cache
-lacks_at_end task cache suites phase server lacked servers verdict ending result after is steps =
-    let Stepped : Step → Type 0 = λ step. Steps step result after cache in
-    subst Stepped (lack_at_end task cache suites server lacked servers verdict ending ∙ ap (λ phase. after_lack task cache suites phase server lacked) (sym is)) steps
+-- where nothing is told yet, the transaction gives up
+pub lacks_before_end : (task : Task) (cache : Cache) (suites : Suites) (phase : Coded) (server : ℕ) (lacked : Lack)
+    → ((now : ℕ) (left : List ℕ) (verdict : Verdict) (ending : Ending) → phase ≡ coded.Finishing now left verdict ending → ⊥)
+    → after_lack task cache suites (phase_of phase) server lacked ≡ give_up task cache suites (lack_cause server lacked)
+lacks_before_end task cache suites (coded.Gathering number) server lacked other = refl
+lacks_before_end task cache suites (coded.Fetching number) server lacked other = refl
+lacks_before_end task cache suites (coded.Widening number after granted) server lacked other = refl
+lacks_before_end task cache suites (coded.Proposing [] outcome) server lacked other = refl
+lacks_before_end task cache suites (coded.Proposing (now ∷ left) outcome) server lacked other = refl
+lacks_before_end task cache suites (coded.Finishing now left verdict ending) server lacked other = absurd (other now left verdict ending refl)

@@ -1,72 +1,83 @@
--- Servers that are asked one after the other: one of them was.
-use Rattle.std.proofs.Common.{◌≡◌, ℕ, true, false, List, [], ◌∷◌, drop, Option, None, refl, ap, ◌∙◌, sym, subst}
+-- Servers that are asked one after the other.
+use Rattle.std.proofs.Common.{◌≡◌, ℕ, Bool, true, false, List, [], ◌∷◌, drop, Some, None, refl, sym, ap, ◌∙◌, subst, if◌then◌else◌}
+use Rattle.std.specs.Prelude.{slice_get}
+use Rattle.std.proofs.lemmas.Option.{same_Some}
+use Rattle.rep_core.specs.Fits.{is_prepared}
+use Rattle.rep_core.specs.declared.reply.Reply.{Reply}
 use Rattle.rep_core.specs.declared.reply.Verdict.{Verdict}
 use Rattle.weak_cache.specs.Entries.{Cache}
+use Rattle.txn_core.specs.declared.ending.Cause.TheVariants.{Lost}
 use Rattle.txn_core.specs.declared.ending.Ending.{Ending}
-use Rattle.txn_core.specs.Doing.{Task, Proposal, Preparing, Finishing, TransactionRun}
-use Rattle.txn_core.specs.code.Passing.{is_none, passed, passes_last}
-use Rattle.txn_core.specs.code.Steps.{Steps}
+use Rattle.txn_core.specs.declared.ending.Flow.{Flow}
+use Rattle.txn_core.specs.declared.ending.Flow.TheVariants.{On, Ended}
+use Rattle.txn_core.specs.declared.response.Response.TheVariants.{Replied}
+use Rattle.txn_core.specs.Doing.{Fixed, Task, Proposal, Phase, Preparing, Deciding, Finishing, TransactionRun}
+use Rattle.txn_core.specs.code.Goings.{GoesBy, TellsNext}
+use Rattle.txn_core.specs.code.Steps.{taken}
+use Rattle.txn_core.specs.code.TransactionRunFields.{proposing}
 use Rattle.txn_core.specs.Suites.{Suites}
-use Rattle.txn_core.specs.Transactions.{tell_end, prepare}
+use Rattle.txn_core.specs.Transactions.{Step, tell_end, prepare, give_up, request_of}
+use Rattle.txn_core.proofs.Replies.{replied_prepared}
 
-module _ (task : Task) (suites : Suites) (cache : Cache) where
-  -- ---- the end is told
+-- a run whose phase the code looks at in its place
+pub in_place : (now held : TransactionRun) (phase : Phase) → held ≡ now → held.phase ≡ phase → record held { phase = phase } ≡ now
+in_place now held phase same is = ap (λ (phase : Phase). record held { phase = phase }) (sym is) ∙ same
 
-  last_told : (verdict : Verdict) (ending : Ending) (left : List ℕ) (result : Option Ending) (after : TransactionRun) → is_none left ≡ true
-      → Steps (tell_end task cache suites verdict ending []) result after cache → Steps (tell_end task cache suites verdict ending left) result after cache
-  last_told verdict ending [] result after last steps = steps
-  last_told verdict ending (server ∷ left) result after last steps = cc
+pub phase_at : (now held : TransactionRun) (phase : Phase) → held ≡ now → held.phase ≡ phase → now.phase ≡ phase
+phase_at now held phase same is = ap (λ (txn_run : TransactionRun). txn_run.phase) (sym same) ∙ is
 
-  not_last_told : (verdict : Verdict) (ending : Ending) (left : List ℕ) → is_none left ≡ false
-      → Steps (tell_end task cache suites verdict ending left) None (record { task = task; suites = suites; phase = Finishing left verdict ending }) cache
-  not_last_told verdict ending [] more = cc
-  not_last_told verdict ending (server ∷ left) more = (refl, (refl, refl))
+-- the first of them, and those that are left
+pub first_of : (servers : List ℕ) (server : ℕ) → slice_get servers 0 ≡ Some server → servers ≡ server ∷ drop 1 servers
+first_of [] server first = cc
+first_of (now ∷ left) server first = ap (λ one. one ∷ left) (same_Some now server first)
 
-  -- ---- servers prepare
+pub none_of : (servers : List ℕ) → slice_get servers 0 ≡ None → servers ≡ []
+none_of [] none = refl
+none_of (now ∷ left) none = cc
 
-  last_prepared : (outcome : Proposal) (left : List ℕ) (result : Option Ending) (after : TransactionRun) → is_none left ≡ true
-      → Steps (prepare task cache suites outcome []) result after cache → Steps (prepare task cache suites outcome left) result after cache
-  last_prepared outcome [] result after last steps = steps
-  last_prepared outcome (server ∷ left) result after last steps = cc
+-- ---- they prepare, and then the home decides
 
-  not_last_prepared : (outcome : Proposal) (left : List ℕ) → is_none left ≡ false
-      → Steps (prepare task cache suites outcome left) None (record { task = task; suites = suites; phase = Preparing left outcome }) cache
-  not_last_prepared outcome [] more = cc
-  not_last_prepared outcome (server ∷ left) more = (refl, (refl, refl))
+pub proposing_first : (servers : List ℕ) (outcome : Proposal) (server : ℕ) → slice_get servers 0 ≡ Some server → proposing servers outcome ≡ Preparing (server ∷ drop 1 servers) outcome
+proposing_first servers outcome server first = ap (λ servers. proposing servers outcome) (first_of servers server first)
 
-none_left : (left : List ℕ) → is_none left ≡ true → left ≡ []
-none_left [] none = refl
-none_left (server ∷ left) none = cc
+pub proposing_none : (servers : List ℕ) (outcome : Proposal) → slice_get servers 0 ≡ None → proposing servers outcome ≡ Deciding outcome
+proposing_none servers outcome none = ap (λ servers. proposing servers outcome) (none_of servers none)
 
--- the same of a transaction's run, whose phase the code changed in its place
-module _ (before between after : TransactionRun) (cache : Cache) (passes : between ≡ record before { phase = passed before.phase }) where
-  pub told_last : (servers : List ℕ) (verdict : Verdict) (ending : Ending) (result : Option Ending) → before.phase ≡ Finishing servers verdict ending → passes_last before.phase ≡ true
-      → ((verdict : Verdict) (ending : Ending) (cache : Cache) → between.phase ≡ Finishing [] verdict ending → Steps (tell_end between.task cache between.suites verdict ending []) result after cache)
-      → Steps (tell_end before.task cache before.suites verdict ending (drop 1 servers)) result after cache
-  told_last servers verdict ending result is last ends =
-      let none : is_none (drop 1 servers) ≡ true = ap passes_last (sym is) ∙ last in
-      let at : between.phase ≡ Finishing [] verdict ending = ap (λ (txn_run : TransactionRun). txn_run.phase) passes ∙ ap passed is ∙ ap (λ left. Finishing left verdict ending) (none_left (drop 1 servers) none) in
-      last_told before.task before.suites cache verdict ending (drop 1 servers) result after none (ends verdict ending cache at)
+pub proposes : (task : Task) (cache : Cache) (suites : Suites) (outcome : Proposal) (servers : List ℕ)
+    → GoesBy (prepare task cache suites outcome servers) On (record { task = task; suites = suites; phase = proposing servers outcome }) cache
+proposes task cache suites outcome [] = (refl, (refl, refl))
+proposes task cache suites outcome (server ∷ left) = (refl, (refl, refl))
 
-  pub told_more : (servers : List ℕ) (verdict : Verdict) (ending : Ending) → before.phase ≡ Finishing servers verdict ending → passes_last before.phase ≡ false
-      → Steps (tell_end before.task cache before.suites verdict ending (drop 1 servers)) None between cache
-  told_more servers verdict ending is more =
-      let left : is_none (drop 1 servers) ≡ false = ap passes_last (sym is) ∙ more in
-      let Told : TransactionRun → Type 0 = λ txn_run. Steps (tell_end before.task cache before.suites verdict ending (drop 1 servers)) None txn_run cache in
-      subst Told (sym (passes ∙ ap (λ phase. record before { phase = passed phase }) is)) (not_last_told before.task before.suites cache verdict ending (drop 1 servers) left)
+-- the first of them has prepared, or it has not
+module _ (fixed : Fixed) (txn_run : TransactionRun) (cache : Cache) (said : Reply) (servers : List ℕ) (outcome : Proposal) (server : ℕ)
+    (is : txn_run.phase ≡ proposing servers outcome) (first : slice_get servers 0 ≡ Some server) where
+  answers : (holds : Bool) → is_prepared said ≡ holds → taken fixed txn_run cache (request_of fixed txn_run) (Replied said)
+      ≡ (if holds then prepare txn_run.task cache txn_run.suites outcome (drop 1 servers) else give_up txn_run.task cache txn_run.suites (Lost server))
+  answers holds so =
+      replied_prepared fixed txn_run cache said server (drop 1 servers) outcome (is ∙ proposing_first servers outcome server first)
+      ∙ ap (λ holds. if holds then prepare txn_run.task cache txn_run.suites outcome (drop 1 servers) else give_up txn_run.task cache txn_run.suites (Lost server)) so
 
-  pub prepared_last : (now : ℕ) (left : List ℕ) (outcome : Proposal) (result : Option Ending) → before.phase ≡ Preparing (now ∷ left) outcome → passes_last before.phase ≡ true
-      → ((outcome : Proposal) (cache : Cache) → between.phase ≡ Preparing [] outcome → Steps (prepare between.task cache between.suites outcome []) result after cache)
-      → Steps (prepare before.task cache before.suites outcome left) result after cache
-  prepared_last now left outcome result is last decides =
-      let none : is_none left ≡ true = ap passes_last (sym is) ∙ last in
-      let at : between.phase ≡ Preparing [] outcome = ap (λ (txn_run : TransactionRun). txn_run.phase) passes ∙ ap passed is ∙ ap (λ left. Preparing left outcome) (none_left left none) in
-      let Prepares : TransactionRun → Type 0 = λ txn_run. Steps (prepare txn_run.task cache txn_run.suites outcome []) result after cache in
-      last_prepared before.task before.suites cache outcome left result after none (subst Prepares passes (decides outcome cache at))
+  pub prepares_on : is_prepared said ≡ true
+      → GoesBy (taken fixed txn_run cache (request_of fixed txn_run) (Replied said)) On (record txn_run { phase = proposing (drop 1 servers) outcome }) cache
+  prepares_on holds =
+      let Goes : Step → Type 0 = λ step. GoesBy step On (record txn_run { phase = proposing (drop 1 servers) outcome }) cache in
+      subst Goes (sym (answers true holds)) (proposes txn_run.task cache txn_run.suites outcome (drop 1 servers))
 
-  pub prepared_more : (now : ℕ) (left : List ℕ) (outcome : Proposal) → before.phase ≡ Preparing (now ∷ left) outcome → passes_last before.phase ≡ false
-      → Steps (prepare before.task cache before.suites outcome left) None between cache
-  prepared_more now left outcome is more =
-      let some : is_none left ≡ false = ap passes_last (sym is) ∙ more in
-      let Prepares : TransactionRun → Type 0 = λ txn_run. Steps (prepare before.task cache before.suites outcome left) None txn_run cache in
-      subst Prepares (sym (passes ∙ ap (λ phase. record before { phase = passed phase }) is)) (not_last_prepared before.task before.suites cache outcome left some)
+  pub prepares_not : (flow : Flow) (after : TransactionRun) → is_prepared said ≡ false → GoesBy (give_up txn_run.task cache txn_run.suites (Lost server)) flow after cache
+      → GoesBy (taken fixed txn_run cache (request_of fixed txn_run) (Replied said)) flow after cache
+  prepares_not flow after holds steps =
+      let Goes : Step → Type 0 = λ step. GoesBy step flow after cache in
+      subst Goes (sym (answers false holds)) steps
+
+-- ---- the end is told to them
+
+pub tells : (task : Task) (cache : Cache) (suites : Suites) (verdict : Verdict) (servers : List ℕ) (ending : Ending) (flow : Flow) (next : ℕ) (left : List ℕ) (kept : Ending)
+    → TellsNext flow servers ending next left kept
+    → GoesBy (tell_end task cache suites verdict ending servers) flow (record { task = task; suites = suites; phase = Finishing (next ∷ left) verdict kept }) cache
+tells task cache suites verdict servers ending On next left kept told =
+    let after : Ending → TransactionRun = λ kept. record { task = task; suites = suites; phase = Finishing (next ∷ left) verdict kept } in
+    let Goes : List ℕ → Type 0 = λ servers. GoesBy (tell_end task cache suites verdict ending servers) On (after kept) cache in
+    subst Goes (sym told.0) (refl, (refl, ap after told.1))
+tells task cache suites verdict servers ending (Ended how) next left kept told =
+    let Goes : List ℕ → Type 0 = λ servers. GoesBy (tell_end task cache suites verdict ending servers) (Ended how) (record { task = task; suites = suites; phase = Finishing (next ∷ left) verdict kept }) cache in
+    subst Goes (sym told.0) (refl, ap Some told.1)

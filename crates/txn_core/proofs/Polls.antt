@@ -53,7 +53,7 @@ use Rattle.suite_collect.proofs.Collected.{nobody_is_asked_twice}
 use Rattle.suite_collect.proofs.Fewness.{times, Few, few_more, never}
 use Rattle.suite_collect.specs.declared.told.Said.TheVariants.{Down}
 use Rattle.txn_core.proofs.Over.{IsOver, LeftOver, over_end, over_give_up, stays_over}
-use Rattle.txn_core.proofs.Locks.{Are, Leaves, told_with, are_with, are_same, move_are, leaves_execute, IsQuiet, quiet_asks, asks_lock, are_nil, all_told-tell}
+use Rattle.txn_core.proofs.ToldLists.{Are, Leaves, told_with, are_with, are_same, move_are, leaves_execute, IsQuiet, quiet_asks, asks_lock, are_nil, all_told-tell}
 use Rattle.txn_core.specs.Moves.{Stage, Executes, Widens, Asks, Prepares, PreparesAt, GivesUp, Tells, TellsAt, Point, point, EndsIn, Move, Collects, now_told, Hears, asks_on, falls_short, settles, gets, prepared_by, prepares}
 use Rattle.txn_core.proofs.Moving.{kept, left_by, collects_asks, response_moves}
 

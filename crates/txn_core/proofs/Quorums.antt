@@ -48,7 +48,7 @@ use Rattle.txn_core.specs.Agents as agents
 use Rattle.txn_core.specs.Agents.{Agent, Event, Take, Forget, next_of, take_in, take, begin, started, forget, is_idle, has_sense, max_jobs, after_all}
 use Rattle.txn_core.specs.Laws.{newest_of, IsReady, DecidesOnQuorums}
 use Rattle.txn_core.proofs.Setting.{changed_held, changed_keeps}
-use Rattle.txn_core.proofs.Locks.{all_told-tell}
+use Rattle.txn_core.proofs.ToldLists.{all_told-tell}
 use Rattle.txn_core.proofs.SuiteQuorums.{Enough, or_true, enough_more, since_least, tell_since, tell_narrow, tell_mode, EnoughWith, current_of, Grown, Sound, sound_grown, sound_content}
 use Rattle.txn_core.proofs.SuiteQuorums.{sound_settled, Each, each_with, IsNarrow, Settled, But, Wide, among, Ready, IsWidened, InWidening, PhaseReady, LeftReady, self}
 

@@ -1,6 +1,6 @@
 -- What comes of a reply, phase by phase.
-use Rattle.std.proofs.Common.{◌≡◌, ℕ, true, List, [], ◌∷◌, drop, Option, Some, None, refl, sym, ap, ◌∙◌, subst}
-use Rattle.std.specs.Prelude.{option_map, slice_get}
+use Rattle.std.proofs.Common.{◌≡◌, ℕ, true, List, ◌∷◌, Option, Some, None, refl, sym, ap, ◌∙◌, subst}
+use Rattle.std.specs.Prelude.{option_map}
 use Rattle.std.proofs.lemmas.Option.{same_Some}
 use Rattle.rep_core.specs.declared.request.Request.{Request}
 use Rattle.rep_core.specs.declared.request.Request.TheVariants as request
@@ -14,7 +14,7 @@ use Rattle.txn_core.specs.code.Goings.{GoesBy, IsWidenedFrom, ending_of, given, 
 use Rattle.txn_core.specs.code.Goings.{widened as widens}
 use Rattle.txn_core.specs.code.Hearing.{ShowsUnused, asks_in, heard, heard_at, on_hearing}
 use Rattle.txn_core.specs.Standing.{FitsAsked}
-use Rattle.txn_core.specs.code.Steps.{Steps, taken}
+use Rattle.txn_core.specs.code.Steps.{taken}
 use Rattle.txn_core.specs.Suites.{ReadPoint, GatheredSuite, Suites, suite_of, with_suite}
 use Rattle.txn_core.specs.Transactions.{Step, decided, decision_of, fetched_at, fetched_for, execute, widen_all, asked_by, asked_for, request_in, request_of, heard_of, after_reply, changes_of, prepared, tell_end}
 use Rattle.txn_core.specs.code.Unused.{shows_unused}
@@ -30,17 +30,6 @@ server_of asked = option_map (λ (asked : ℕ × Request). asked.0) asked
 -- the server that is asked in a phase
 pub asked_at : (fixed : Fixed) (txn_run : TransactionRun) (phase : Phase) (found : Option ℕ) → txn_run.phase ≡ phase → found ≡ server_of (request_in fixed txn_run.task txn_run.suites phase) → server_of (request_of fixed txn_run) ≡ found
 asked_at fixed txn_run phase found is same = ap (λ phase. server_of (request_in fixed txn_run.task txn_run.suites phase)) is ∙ sym same
-
--- the first of the servers that prepare, and of those that are told
-pub preparing_asks : (fixed : Fixed) (txn_run : TransactionRun) (servers : List ℕ) (outcome : Proposal) (server : ℕ) → txn_run.phase ≡ Preparing servers outcome
-    → slice_get servers 0 ≡ Some server → server_of (request_of fixed txn_run) ≡ Some server
-preparing_asks fixed txn_run [] outcome server is first = cc
-preparing_asks fixed txn_run (now ∷ left) outcome server is first = asked_at fixed txn_run (Preparing (now ∷ left) outcome) (Some server) is (sym first)
-
-pub finishing_asks : (fixed : Fixed) (txn_run : TransactionRun) (servers : List ℕ) (verdict : Verdict) (ending : Ending) (server : ℕ)
-    → txn_run.phase ≡ Finishing servers verdict ending → slice_get servers 0 ≡ Some server → server_of (request_of fixed txn_run) ≡ Some server
-finishing_asks fixed txn_run [] verdict ending server is first = cc
-finishing_asks fixed txn_run (now ∷ left) verdict ending server is first = asked_at fixed txn_run (Finishing (now ∷ left) verdict ending) (Some server) is (sym first)
 
 -- a suite that asks a server
 pub record Asks (task : Task) (suites : Suites) (number server : ℕ) : Type 0 where
@@ -115,6 +104,19 @@ replied_decided fixed txn_run cache said outcome is =
     ap (λ asked. taken fixed txn_run cache asked (Replied said)) (ap (request_in fixed txn_run.task txn_run.suites) is)
     ∙ ap (λ phase. after_reply fixed txn_run.task cache txn_run.suites phase (home_of fixed.service txn_run.task.t) (request.Decide txn_run.task.t (decision_of txn_run.task outcome)) said) is
 
+-- a server prepared, and a server was told the end
+pub replied_prepared : (fixed : Fixed) (txn_run : TransactionRun) (cache : Cache) (said : Reply) (server : ℕ) (left : List ℕ) (outcome : Proposal) → txn_run.phase ≡ Preparing (server ∷ left) outcome
+    → taken fixed txn_run cache (request_of fixed txn_run) (Replied said) ≡ prepared txn_run.task cache txn_run.suites outcome server left said
+replied_prepared fixed txn_run cache said server left outcome is =
+    ap (λ asked. taken fixed txn_run cache asked (Replied said)) (ap (request_in fixed txn_run.task txn_run.suites) is)
+    ∙ ap (λ phase. after_reply fixed txn_run.task cache txn_run.suites phase server (request.Prepare txn_run.task.t (parts_at txn_run.suites (changes_of outcome) server)) said) is
+
+pub replied_told : (fixed : Fixed) (txn_run : TransactionRun) (cache : Cache) (said : Reply) (server : ℕ) (left : List ℕ) (verdict : Verdict) (ending : Ending) → txn_run.phase ≡ Finishing (server ∷ left) verdict ending
+    → taken fixed txn_run cache (request_of fixed txn_run) (Replied said) ≡ tell_end txn_run.task cache txn_run.suites verdict ending left
+replied_told fixed txn_run cache said server left verdict ending is =
+    ap (λ asked. taken fixed txn_run cache asked (Replied said)) (ap (request_in fixed txn_run.task txn_run.suites) is)
+    ∙ ap (λ phase. after_reply fixed txn_run.task cache txn_run.suites phase server (request.Finish txn_run.task.t verdict) said) is
+
 module _ (fixed : Fixed) (txn_run : TransactionRun) (cache : Cache) (server : ℕ) (said : Reply) (asked : server_of (request_of fixed txn_run) ≡ Some server) where
   asked_in_phase : (phase : Phase) → txn_run.phase ≡ phase → server_of (request_in fixed txn_run.task txn_run.suites phase) ≡ Some server
   asked_in_phase phase is = ap (λ phase. server_of (request_in fixed txn_run.task txn_run.suites phase)) (sym is) ∙ asked
@@ -155,31 +157,6 @@ module _ (fixed : Fixed) (txn_run : TransactionRun) (cache : Cache) (server : �
       ap (λ asked. taken fixed txn_run cache asked (Replied said)) (ap (request_in fixed txn_run.task txn_run.suites) is ∙ asks_content number (suite_of txn_run.suites number) (asked_in_phase (Fetching number) is))
       ∙ ap (λ phase. after_reply fixed txn_run.task cache txn_run.suites phase server (request.Fetch txn_run.task.t number) said) is
 
-  -- a reply to a Prepare, and to a Finish
-  pub preparing_ok : (servers : List ℕ) (outcome : Proposal) (result : Option Ending) (after : TransactionRun) → txn_run.phase ≡ Preparing servers outcome
-      → ((now : ℕ) (left : List ℕ) (outcome : Proposal) (cache : Cache) → txn_run.phase ≡ Preparing (now ∷ left) outcome → Steps (prepared txn_run.task cache txn_run.suites outcome server left said) result after cache)
-      → Steps (taken fixed txn_run cache (request_of fixed txn_run) (Replied said)) result after cache
-  preparing_ok [] outcome result after is went = let none = asked_in_phase (Preparing [] outcome) is in cc
-  preparing_ok (now ∷ left) outcome result after is went =
-      let at : now ≡ server = same_Some now server (asked_in_phase (Preparing (now ∷ left) outcome) is) in
-      let Went : Step → Type 0 = λ step. Steps step result after cache in
-      subst Went
-      (sym (ap (λ asked. taken fixed txn_run cache asked (Replied said)) (ap (request_in fixed txn_run.task txn_run.suites) is)
-      ∙ ap (λ phase. after_reply fixed txn_run.task cache txn_run.suites phase now (request.Prepare txn_run.task.t (parts_at txn_run.suites (changes_of outcome) now)) said) is
-      ∙ ap (λ at. prepared txn_run.task cache txn_run.suites outcome at left said) at))
-      (went now left outcome cache is)
-
-  pub finishing_ok : (servers : List ℕ) (verdict : Verdict) (ending : Ending) (result : Option Ending) (after : TransactionRun) → txn_run.phase ≡ Finishing servers verdict ending
-      → ((servers : List ℕ) (verdict : Verdict) (ending : Ending) (cache : Cache) → txn_run.phase ≡ Finishing servers verdict ending → Steps (tell_end txn_run.task cache txn_run.suites verdict ending (drop 1 servers)) result after cache)
-      → Steps (taken fixed txn_run cache (request_of fixed txn_run) (Replied said)) result after cache
-  finishing_ok [] verdict ending result after is went = let none = asked_in_phase (Finishing [] verdict ending) is in cc
-  finishing_ok (now ∷ left) verdict ending result after is went =
-      let Went : Step → Type 0 = λ step. Steps step result after cache in
-      subst Went
-      (sym (ap (λ asked. taken fixed txn_run cache asked (Replied said)) (ap (request_in fixed txn_run.task txn_run.suites) is)
-      ∙ ap (λ phase. after_reply fixed txn_run.task cache txn_run.suites phase now (request.Finish txn_run.task.t verdict) said) is))
-      (went (now ∷ left) verdict ending cache is)
-
   -- what such a reply shows is not used up
   shown_by : (number : ℕ) (a : Asks txn_run.task txn_run.suites number server) (phase : Phase) → txn_run.phase ≡ phase → request_in fixed txn_run.task txn_run.suites phase ≡ asked_for txn_run.task number (suite_of txn_run.suites number)
       → FitsAsked (request_of fixed txn_run) (Replied said) → shows_unused said ≡ true
@@ -196,7 +173,7 @@ module _ (fixed : Fixed) (txn_run : TransactionRun) (cache : Cache) (server : �
 -- ---- a suite is answered by the server that it asks; where it asks nobody, nothing comes of it
 
 module _ (fixed : Fixed) (txn_run : TransactionRun) (cache : Cache) (said : Reply) where
-  none_taken : (asked : Option (ℕ × Request)) → server_of asked ≡ None → taken fixed txn_run cache asked (Replied said) ≡ record { cache = cache; after = GoesOn txn_run }
+  pub none_taken : (asked : Option (ℕ × Request)) → server_of asked ≡ None → taken fixed txn_run cache asked (Replied said) ≡ record { cache = cache; after = GoesOn txn_run }
   none_taken None none = refl
   none_taken (Some asked) none = cc
 

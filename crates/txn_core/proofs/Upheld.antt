@@ -50,7 +50,7 @@ use Rattle.txn_core.specs.Transactions.{Step, Gathered, start_from, execute, aft
 use Rattle.txn_core.specs.Sweeps as sweep
 use Rattle.txn_core.specs.Agents.{Agent, Event, Take, Forget, next_in, next_of, left, take_in, take, begin, started, forget, is_idle, has_sense, max_jobs, after_event, after_all}
 use Rattle.txn_core.specs.Laws.{Exchange, exchange_of, exchanges, of_job, told_of, locks, task_of, asks_for, IsStart}
-use Rattle.txn_core.proofs.Locks.{are_nil, asks_lock}
+use Rattle.txn_core.proofs.ToldLists.{are_nil, asks_lock}
 use Rattle.txn_core.proofs.Gathers.{self, Base, Follows, knows_map, wants_map, sets_map, grants_map, Kept}
 use Rattle.txn_core.proofs.Contents.{FreeIn, free_before, Content_of, content_more, free_now, given_now}
 use Rattle.txn_core.proofs.Causes.{push, ShortBy, CausedBy, EndIs, StandsOn, started_from, Stands, Fresh, OrFresh, LeftOf, Leaves}

@@ -17,6 +17,5 @@ pub mod Planning
 pub mod Leaving
 pub mod Sorting
 pub mod Telling
-pub mod Passing
 pub mod Reaching
 pub mod Equality

@@ -1,6 +1,6 @@
 //! What a transaction asks next.
 
-ghost use Rattle.std.specs.Prelude.{◌≡◌, ◌<◌, ◌≤◌, IfOk, IfErr, IfNone, OnErr, IsTrue, option_map};
+ghost use Rattle.std.specs.Prelude.{◌≡◌, ◌<◌, ◌≤◌, ◌∷◌, ℕ, List, IfOk, IfErr, IfNone, OnErr, IsTrue, option_map};
 ghost use Rattle.rep_core.specs.Wanting.{records_answers};
 ghost use Rattle.weak_cache.specs.Cache.{Limits};
 ghost use Rattle.txn_core.specs.Doing as doing;
@@ -13,7 +13,6 @@ use crate::fixed_parts::FixedParts;
 use crate::granted::Proposal;
 use crate::home::home_of;
 use crate::phase::Phase;
-use crate::servers::Servers;
 use crate::task::Task;
 use crate::transaction_run::TransactionRun;
 use crate::writing::parts_at;
@@ -42,11 +41,15 @@ impl TransactionRun {
                 Ok(self.ask_for(*number, request))
             }
             Phase::Fetching(number) => Ok(self.fetch_for(*number, request)),
-            Phase::Preparing(servers, outcome) => {
-                self.ask_prepare(alloc, servers, outcome, request)
-            }
-            Phase::Deciding(outcome) => self.ask_decide(fixed_parts, outcome, request),
-            Phase::Finishing(servers, verdict, _) => self.ask_finish(servers, verdict, request),
+            Phase::Proposing(servers, outcome) => match servers.first() {
+                Some(server) => self.ask_prepare(alloc, server, outcome, request),
+                None => self.ask_decide(fixed_parts, outcome, request),
+            },
+            Phase::Finishing {
+                server,
+                verdict,
+                ..
+            } => self.ask_finish(*server, verdict, request),
         }
     }
 
@@ -58,8 +61,11 @@ impl TransactionRun {
         match &self.phase {
             Phase::Gathering(number) | Phase::Widening { number, .. } => self.asked_for(*number),
             Phase::Fetching(number) => self.fetched_from(*number),
-            Phase::Preparing(servers, _) | Phase::Finishing(servers, ..) => servers.first(),
-            Phase::Deciding(_) => Some(home_of(fixed_parts, self.task.t)),
+            Phase::Proposing(servers, _) => match servers.first() {
+                Some(server) => Some(server),
+                None => Some(home_of(fixed_parts, self.task.t)),
+            },
+            Phase::Finishing { server, .. } => Some(*server),
         }
     }
 
@@ -108,22 +114,19 @@ impl TransactionRun {
         Some(server)
     }
 
-    /// The first of these servers is asked to prepare.
+    /// A server is asked to prepare.
     fn ask_prepare(
         &self,
         alloc: Global,
-        servers: &Servers,
+        server: u8,
         outcome: &Proposal,
         request: &mut Request,
     ) -> Result<Option<u8>, AllocError>
-        ensures ok { IfOk result (λ server. AsksIn (doing.Preparing servers.now outcome.now) self.now server request.new) }
+        ensures ok { IfOk result (λ asked. (left : List ℕ) → AsksIn (doing.Preparing (server ∷ left) outcome.now) self.now asked request.new) }
         ensures none { IfOk result (λ server. IfNone server (request.new ≡ request.old)) }
         ensures err { OnErr result (request.new ≡ request.old) }
-        ensures memory { IfErr result (λ _. WantsIn (doing.Preparing servers.now outcome.now) self.now) }
+        ensures memory { IfErr result (λ _. (left : List ℕ) → WantsIn (doing.Preparing (server ∷ left) outcome.now) self.now) }
     {
-        let Some(server) = servers.first() else {
-            return Ok(None);
-        };
         let changes = outcome.as_ref().ok().map(|granted| &granted.changes);
         let parts = parts_at(alloc, self.suites.as_slice(), changes, server)?;
         *request = Request::Prepare {
@@ -152,21 +155,18 @@ impl TransactionRun {
         Ok(Some(home_of(fixed_parts, t)))
     }
 
-    /// The first of these servers is told how the transaction ended.
+    /// A server is told how the transaction ended.
     fn ask_finish(
         &self,
-        servers: &Servers,
+        server: u8,
         verdict: &Verdict,
         request: &mut Request,
     ) -> Result<Option<u8>, AllocError>
-        ensures ok { IfOk result (λ server. (ending : Ending) → AsksIn (doing.Finishing servers.now verdict.now ending) self.now server request.new) }
+        ensures ok { IfOk result (λ at. (left : List ℕ) (how : Ending) → AsksIn (doing.Finishing (server ∷ left) verdict.now how) self.now at request.new) }
         ensures none { IfOk result (λ server. IfNone server (request.new ≡ request.old)) }
         ensures err { OnErr result (request.new ≡ request.old) }
-        ensures memory { IfErr result (λ _. (ending : Ending) → WantsIn (doing.Finishing servers.now verdict.now ending) self.now) }
+        ensures memory { IfErr result (λ _. (left : List ℕ) (ending : Ending) → WantsIn (doing.Finishing (server ∷ left) verdict.now ending) self.now) }
     {
-        let Some(server) = servers.first() else {
-            return Ok(None);
-        };
         let verdict = verdict.clone()?;
         *request = Request::Finish {
             t: self.task.t,

@@ -5,8 +5,7 @@ ghost use Rattle.file_exec.specs.Reaching.{unbegun};
 ghost use Rattle.rep_core.specs.Service.{is_answered};
 ghost use Rattle.weak_cache.specs.Entries.{Cache};
 ghost use Rattle.txn_core.specs.code.TransactionRunFields.{phase_of};
-ghost use Rattle.txn_core.specs.code.Goings.{GoesBy, HasPrepared, HasTold, IsPreparedBy, PreparesOn, TellsOn, fixed_by, lacked};
-ghost use Rattle.txn_core.specs.code.Passing.{passed, passes_last};
+ghost use Rattle.txn_core.specs.code.Goings.{GoesBy, TellsNext, fixed_by, lacked};
 ghost use Rattle.txn_core.specs.Transactions as txn_run;
 
 use crate::ending::{Cause, Ending, Flow};
@@ -25,54 +24,7 @@ impl TransactionRun {
     pub(crate) fn prepare(&mut self, servers: Servers, outcome: Proposal) -> Flow
         ensures { (cache : Cache) → GoesBy (txn_run.prepare self.old.task cache self.old.suites outcome servers) result self.new cache }
     {
-        self.phase = match servers.first() {
-            Some(_) => Phase::Preparing(servers, outcome),
-            None => Phase::Deciding(outcome),
-        };
-        Flow::On
-    }
-
-    /// The first server has prepared, or it has not.
-    pub(crate) fn on_prepared(&mut self, server: u8, said: &Reply) -> Flow
-        ensures { IsPreparedBy self.old server said.now result self.new }
-    {
-        if !matches!(said, Reply::Prepared) {
-            return self.give_up(Cause::Lost { server });
-        }
-        self.prepare_on()
-    }
-
-    /// The next server prepares; or all have, and the home decides.
-    fn prepare_on(&mut self) -> Flow
-        ensures { PreparesOn self.old result self.new }
-    {
-        if self.pass() {
-            return self.decide();
-        }
-        Flow::On
-    }
-
-    /// The first of the servers that are asked one after the other was asked. Tells whether it was the
-    /// last.
-    fn pass(&mut self) -> bool
-        ensures phase { self.new ≡ record self.old { phase = passed self.old.phase } }
-        ensures last { result ≡ passes_last self.old.phase }
-    {
-        match &mut self.phase {
-            Phase::Preparing(servers, _) => servers.passes_last(),
-            Phase::Finishing(servers, ..) => servers.passes_last(),
-            _ => false,
-        }
-    }
-
-    /// All servers have prepared: the home decides.
-    fn decide(&mut self) -> Flow
-        ensures { HasPrepared self.old result self.new }
-    {
-        self.phase = match self.leave() {
-            Phase::Preparing(_, outcome) => Phase::Deciding(outcome),
-            other => other,
-        };
+        self.phase = Phase::Proposing(servers, outcome);
         Flow::On
     }
 
@@ -106,34 +58,17 @@ impl TransactionRun {
     fn tell_end(&mut self, servers: Servers, verdict: Verdict, ending: Ending) -> Flow
         ensures { (cache : Cache) → GoesBy (txn_run.tell_end self.old.task cache self.old.suites verdict ending servers) result self.new cache }
     {
-        if servers.first().is_none() {
+        let mut left = servers;
+        let Some(server) = left.take_first() else {
             return Flow::Ended(ending);
-        }
-        self.phase = Phase::Finishing(servers, verdict, ending);
+        };
+        self.phase = Phase::Finishing {
+            server,
+            left,
+            verdict,
+            ending,
+        };
         Flow::On
-    }
-
-    /// The end was told to the first server. Whatever comes of it changes nothing.
-    pub(crate) fn on_told(&mut self) -> Flow
-        ensures { TellsOn self.old result self.new }
-    {
-        if self.pass() {
-            return self.end();
-        }
-        Flow::On
-    }
-
-    /// The end was told to all: the transaction is at its end.
-    fn end(&mut self) -> Flow
-        ensures { HasTold self.old result self.new }
-    {
-        match self.leave() {
-            Phase::Finishing(_, _, ending) => Flow::Ended(ending),
-            other => {
-                self.phase = other;
-                Flow::On
-            }
-        }
     }
 
     /// What was asked next was not served: the transaction is not executed any more.
@@ -154,8 +89,13 @@ impl TransactionRun {
     fn on_lack_at(&mut self, server: u8, lack: Lack) -> Flow
         ensures { (cache : Cache) → GoesBy (txn_run.after_lack self.old.task cache self.old.suites self.old.phase server lack) result self.new cache }
     {
-        match &self.phase {
-            Phase::Finishing(..) => self.on_told(),
+        match &mut self.phase {
+            Phase::Finishing {
+                server,
+                left,
+                ending,
+                ..
+            } => tell_next(server, left, ending),
             _ => self.give_up(Cause::of_lack(server, lack)),
         }
     }
@@ -168,6 +108,19 @@ impl TransactionRun {
     {
         mem::replace(&mut self.phase, Phase::Gathering(0))
     }
+}
+
+/// A server was told the end, and whatever came of it changes nothing: the next of those that are left is told
+/// it. Where none is left, the transaction is at its end, which is taken out of its place.
+pub(crate) fn tell_next(server: &mut u8, left: &mut Servers, ending: &mut Ending) -> Flow
+    ensures { TellsNext result left.old ending.old server.new left.new ending.new }
+{
+    let Some(next) = left.take_first() else {
+        let instead = Ending::Undecided(Cause::Overruled);
+        return Flow::Ended(mem::replace(ending, instead));
+    };
+    *server = next;
+    Flow::On
 }
 
 /// The verdict that a home said; where it said none, Aborted.

@@ -19,10 +19,13 @@ pub(crate) enum Phase {
         after: usize,
         granted: Granted,
     },
-    /// Servers prepare, the first of them now.
-    Preparing(Servers, Proposal),
-    /// The home is to decide.
-    Deciding(Proposal),
-    /// The end is told to servers, to the first of them now.
-    Finishing(Servers, Verdict, Ending),
+    /// The servers that are left prepare, the first of them now. Once none is left, the home is to decide.
+    Proposing(Servers, Proposal),
+    /// The end is told to this server, and then to those that are left.
+    Finishing {
+        server: u8,
+        left: Servers,
+        verdict: Verdict,
+        ending: Ending,
+    },
 }

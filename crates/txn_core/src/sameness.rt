@@ -14,10 +14,21 @@ pub(crate) fn same_phase(own: &Phase, theirs: &Phase) -> bool
 {
     match (own, theirs) {
         (
-            Phase::Finishing(servers, verdict, ending),
-            Phase::Finishing(other_servers, other_verdict, other_ending),
+            Phase::Finishing {
+                server,
+                left,
+                verdict,
+                ending,
+            },
+            Phase::Finishing {
+                server: other_server,
+                left: other_left,
+                verdict: other_verdict,
+                ending: other_ending,
+            },
         ) => {
-            servers.same(other_servers)
+            server == other_server
+                && left.same(other_left)
                 && same_verdict(verdict, other_verdict)
                 && same_ending(ending, other_ending)
         }

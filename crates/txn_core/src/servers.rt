@@ -2,7 +2,6 @@
 
 ghost use Rattle.std.specs.FinSet.{contains};
 ghost use Rattle.std.specs.Prelude.{◌≡◌, ℕ, drop, slice_get, IsTrue};
-ghost use Rattle.txn_core.specs.code.Passing.{is_none};
 ghost use Rattle.txn_core.specs.Suites as gathering;
 ghost use Rattle.txn_core.specs.Transactions as txn_run;
 
@@ -29,11 +28,21 @@ impl Model for Servers {
 }
 
 impl Servers {
+    /// Takes out the first server, where any is left.
+    pub(crate) fn take_first(&mut self) -> Option<u8>
+        ensures first { result ≡ slice_get self.old 0 }
+        ensures left { self.new ≡ drop 1 self.old }
+    {
+        let first = self.first();
+        self.pass();
+        first
+    }
+
     /// The server to be asked now.
     pub(crate) fn first(&self) -> Option<u8>
         ensures { result ≡ slice_get self.now 0 }
     {
-        self.all.as_slice()[self.asked..].first().copied()
+        self.as_slice().first().copied()
     }
 
     /// Whether the same are left. Where it is told, it is so.
@@ -50,16 +59,8 @@ impl Servers {
         &self.all.as_slice()[self.asked..]
     }
 
-    /// That one was asked. Tells whether it was the last.
-    pub(crate) fn passes_last(&mut self) -> bool
-        ensures left { self.new ≡ drop 1 self.old }
-        ensures last { result ≡ is_none (drop 1 self.old) }
-    {
-        self.pass();
-        self.first().is_none()
-    }
-
-    fn pass(&mut self)
+    /// That one was asked.
+    pub(crate) fn pass(&mut self)
         ensures { self.new ≡ drop 1 self.old }
     {
         if self.asked < self.all.len() {

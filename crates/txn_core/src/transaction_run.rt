@@ -22,6 +22,7 @@ ghost use Rattle.txn_core.specs.declared.response.Response.TheVariants.{Replied}
 use crate::cache_after::Fetched;
 use crate::ending::{Cause, Flow};
 use crate::execution::Execution;
+use crate::finishing::tell_next;
 use crate::learned::{Learned, settle};
 use crate::next_phase::NextPhase;
 use crate::pending_quorum::PendingQuorum;
@@ -91,9 +92,11 @@ impl TransactionRun {
             Phase::Gathering(_) => Stage::Gathering,
             Phase::Fetching(_) => Stage::Fetching,
             Phase::Widening { .. } => Stage::Widening,
-            Phase::Preparing(..) => Stage::Preparing,
-            Phase::Deciding(_) => Stage::Deciding,
-            Phase::Finishing(..) => Stage::Finishing,
+            Phase::Proposing(servers, _) => match servers.first() {
+                Some(_) => Stage::Preparing,
+                None => Stage::Deciding,
+            },
+            Phase::Finishing { .. } => Stage::Finishing,
         }
     }
 
@@ -136,7 +139,7 @@ impl TransactionRun {
         ensures err { OnErr result (IsUntouched resources.old self.old self.new resources.new) }
         ensures memory { IfErr result (λ _. IsTrue (wanting.by_taking (txn_run.request_of (fixed_by resources.old) self.old) (Replied said.now))) }
     {
-        match &self.phase {
+        match &mut self.phase {
             Phase::Gathering(number) => {
                 let number = *number;
                 self.on_held(resources, number, said)
@@ -152,15 +155,22 @@ impl TransactionRun {
                 let number = *number;
                 self.on_widened(number, said)
             }
-            Phase::Preparing(servers, _) => match servers.first() {
-                Some(server) => Ok(self.on_prepared(server, said)),
-                None => Ok(Flow::On),
-            },
-            Phase::Deciding(_) => self.on_verdict(said),
-            Phase::Finishing(servers, ..) => match servers.first() {
-                Some(_) => Ok(self.on_told()),
-                None => Ok(Flow::On),
-            },
+            Phase::Proposing(servers, _) => {
+                let Some(server) = servers.first() else {
+                    return self.on_verdict(said);
+                };
+                if !matches!(said, Reply::Prepared) {
+                    return Ok(self.give_up(Cause::Lost { server }));
+                }
+                servers.pass();
+                Ok(Flow::On)
+            }
+            Phase::Finishing {
+                server,
+                left,
+                ending,
+                ..
+            } => Ok(tell_next(server, left, ending)),
         }
     }
 

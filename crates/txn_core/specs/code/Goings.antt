@@ -1,7 +1,6 @@
 -- What a call on a transaction's run leaves, against the step that it takes.
-use Rattle.std.specs.Prelude.{◌≡◌, ◌<◌, ◌≤◌, ℕ, List, [], ◌∷◌, drop, option_map, Option, Some, None}
+use Rattle.std.specs.Prelude.{◌≡◌, ◌<◌, ◌≤◌, ℕ, List, [], ◌∷◌, option_map, Option, Some, None}
 use Rattle.rep_core.specs.declared.reply.Reply.{Reply}
-use Rattle.rep_core.specs.declared.reply.Verdict.{Verdict}
 use Rattle.rep_core.specs.declared.stamped.Lack.{Lack}
 use Rattle.vote_core.specs.declared.TheConstants.{MAX_SERVERS}
 use Rattle.suite_collect.specs.declared.told.Told.{Told}
@@ -13,9 +12,9 @@ use Rattle.txn_core.specs.declared.resources.Resources.{Resources}
 use Rattle.txn_core.specs.declared.learned.Learned.{Learned}
 use Rattle.txn_core.specs.declared.response.Response.TheVariants.{Replied, Lacked}
 use Rattle.txn_core.specs.Agents.{left}
-use Rattle.txn_core.specs.Doing.{Fixed, Task, TransactionRun, Granted, Proposal, Running, Widening, Preparing, Finishing, GoesOn}
+use Rattle.txn_core.specs.Doing.{Fixed, Task, TransactionRun, Granted, Running, Widening, GoesOn}
 use Rattle.txn_core.specs.Suites.{suite_of, with_suite}
-use Rattle.txn_core.specs.Transactions.{Step, execute, fetched, given_in, prepare, prepared, request_of, tell_end, widen_all}
+use Rattle.txn_core.specs.Transactions.{Step, execute, fetched, given_in, request_of, widen_all}
 use Rattle.txn_core.specs.code.Hearing.{CompletesAt, asks_in, heard_at, on_hearing}
 use Rattle.txn_core.specs.code.Learning.{learned}
 use Rattle.txn_core.specs.code.Reaching.{IsReachedBy, IsReachedUnless}
@@ -142,32 +141,7 @@ abbrev pub IsWidenedFrom : Option ℕ → TransactionRun → ℕ → Reply → F
 IsWidenedFrom (Some server) before number said flow after = IsWidenedBy before number server said flow after
 IsWidenedFrom None before number said flow after = (flow ≡ On) × (after ≡ before)
 
--- ---- the end, whatever it is
-
--- the first of the servers that prepare answered
-abbrev pub IsPreparedBy : TransactionRun → ℕ → Reply → Flow → TransactionRun → Type 0
-IsPreparedBy before server said flow after =
-    (now : ℕ) (left : List ℕ) (outcome : Proposal) (cache : Cache) → before.phase ≡ Preparing (now ∷ left) outcome
-    → GoesBy (prepared before.task cache before.suites outcome server left said) flow after cache
-
--- those that are left prepare
-abbrev pub PreparesOn : TransactionRun → Flow → TransactionRun → Type 0
-PreparesOn before flow after =
-    (now : ℕ) (left : List ℕ) (outcome : Proposal) (cache : Cache) → before.phase ≡ Preparing (now ∷ left) outcome
-    → GoesBy (prepare before.task cache before.suites outcome left) flow after cache
-
--- none is left
-abbrev pub HasPrepared : TransactionRun → Flow → TransactionRun → Type 0
-HasPrepared before flow after =
-    (outcome : Proposal) (cache : Cache) → before.phase ≡ Preparing [] outcome → GoesBy (prepare before.task cache before.suites outcome []) flow after cache
-
--- the end was told to the first of the servers, and to all
-abbrev pub TellsOn : TransactionRun → Flow → TransactionRun → Type 0
-TellsOn before flow after =
-    (servers : List ℕ) (verdict : Verdict) (ending : Ending) (cache : Cache) → before.phase ≡ Finishing servers verdict ending
-    → GoesBy (tell_end before.task cache before.suites verdict ending (drop 1 servers)) flow after cache
-
-abbrev pub HasTold : TransactionRun → Flow → TransactionRun → Type 0
-HasTold before flow after =
-    (verdict : Verdict) (ending : Ending) (cache : Cache) → before.phase ≡ Finishing [] verdict ending
-    → GoesBy (tell_end before.task cache before.suites verdict ending []) flow after cache
+-- the end was told to one server: the next is told it, or none is left
+abbrev pub TellsNext : Flow → List ℕ → Ending → ℕ → List ℕ → Ending → Type 0
+TellsNext On servers ending next left kept = (servers ≡ next ∷ left) × (kept ≡ ending)
+TellsNext (Ended how) servers ending next left kept = (servers ≡ []) × (how ≡ ending)
