@@ -1,18 +1,20 @@
 #!/usr/bin/env python3
 """tests/explored.py [--every N]
-tests/explored.py --against PROTOTYPE [--scripts N] [--from SEED] [--merged state|history]
-tests/explored.py --write PROTOTYPE [--merged state|history]
+tests/explored.py --against PROTOTYPE [--scripts N] [--from SEED] [--merged descent|state|history]
+tests/explored.py --write PROTOTYPE [--merged descent|state|history]
 
 Compares what the program `explore` tells of the scripts of examples/explore and tests/explored with the ways that are
 kept in tests/explored/NAME.ways: those which another program told, that shares no line with it. Plays the script of
 each N-th way by `suites play` (all by default), which has to print just the lines of the way; and compares each answer
-that was decided there with that of the plain table, in the order of the decisions, as tools/compare.py does.
+that was decided there with that of the plain table, in the order of the decisions, as tools/compare.py does. With
+--progress it has to tell the same, and how many worlds it has looked at.
 
 With --against it compares with that other program itself, a plain explorer in Rust, for N random scripts (300 by
 default) of up to three agents and five servers, with crashes, restarts, caches that are forgotten, agents that stop,
-lists of operations and votes that are moved. It merges worlds in which agents are in the same state, or only those in
-which each agent has done and heard the same; so --merged tells which the program `explore` does. With --write it
-writes the files NAME.ways anew. Prints each that differs; status 1 where one does.
+lists of operations and votes that are moved. It merges worlds in which agents are in the same state and have what they
+gathered of the same agent (descent); or those in which they are in the same state; or only those in which each agent
+has done and heard the same (history). `explore` does the first. With --write it writes the files NAME.ways anew. Prints
+each that differs; status 1 where one does.
 """
 import argparse
 import os
@@ -44,6 +46,9 @@ STOPPED = re.compile(r"\d+\.\d+ -")
 # So many ways at most are told of a random script, so that it ends soon.
 MOST_WORLDS, MOST_SECONDS = 400_000, 60
 ALL_WAYS = "1000000"
+# A story with some worlds more than those after which it is told again how many these are, and what is told then.
+WIDE, WIDE_WORDS = "revocation.script", "--crashes 2 --returns 2 --worlds 70000"
+PROGRESS = b"0 worlds\n65536 worlds\n"
 
 
 class Ways(typing.NamedTuple):
@@ -163,6 +168,19 @@ def with_brief(ways: Ways, words: str) -> str:
     return (ways.brief() if "--brief" in words.split() else ways).printed()
 
 
+def compare_progress(program: str, tally: Tally) -> None:
+    """With --progress it tells on standard error how many worlds it has looked at; else it tells nothing there."""
+    with open(os.path.join(STORIES, WIDE), "rb") as file:
+        script = file.read()
+    silent, told = (
+        subprocess.run([program, *words.split()], input=script, capture_output=True)
+        for words in (WIDE_WORDS, f"{WIDE_WORDS} --progress")
+    )
+    is_same = (silent.returncode, silent.stdout) == (told.returncode, told.stdout) and silent.returncode == 7
+    tally.holds(is_same, f"{WIDE}: --progress tells\n{told.stdout.decode()}\nand not\n{silent.stdout.decode()}")
+    tally.holds((silent.stderr, told.stderr) == (b"", PROGRESS), f"{WIDE}: on standard error stands {told.stderr!r}")
+
+
 def compare_kept(every: int) -> int:
     """Compares with the kept ways, and plays the scripts of ways."""
     program, suites, tally = beside.program("explore"), played.program(None), Tally()
@@ -185,6 +203,7 @@ def compare_kept(every: int) -> int:
                     f"{name}: there is a way {missing}")
         status, told = explored(program, text, f"{words} --worlds 10")
         tally.holds(status == 7 and "\nnot all: " in f"\n{told}", f"{name}: 10 worlds are all")
+    compare_progress(program, tally)
     return tally.told("ways and answers compared")
 
 
@@ -257,7 +276,7 @@ def main() -> int:
     asks.add_argument("--write", metavar="PROTOTYPE")
     asks.add_argument("--scripts", type=int, default=300)
     asks.add_argument("--from", type=int, default=0, dest="first")
-    asks.add_argument("--merged", choices=["state", "history"], default="history")
+    asks.add_argument("--merged", choices=["descent", "state", "history"], default="descent")
     given = asks.parse_args()
     if given.write:
         return write(given)

@@ -67,11 +67,25 @@ SIX = {
     "< big": "the input is above 16 MiB: it has 16,777,217 bytes", "> /dev/full": "a write failed: the disk is full",
     "< /dev/zero": "the input is above 16 MiB", ">&-": "a write failed: standard output is closed",
 }
+# In place of `explore`: reads its script, and where it is asked to, tells on standard error how many worlds it has
+# looked at. It says something else there in between, and last of all half a line.
+EXPLORED, HEARD = "all 0 ways, 70000 worlds\n", ("a message", "the last one")
+EXPLORE = f"""#!/bin/sh
+cat > /dev/null
+[ "$1" = --progress ] && for number in 0 1 2 3 4 5 6; do
+    echo "${{number}}0000 worlds" >&2
+    [ $number = 4 ] && echo '{HEARD[0]}' >&2
+    sleep 0.5
+done
+[ $# = 0 ] || printf '{HEARD[1]}' >&2
+printf '{EXPLORED}'
+"""
 # A script, typed in pieces, and what a terminal is told of it; the program prints no job that ended.
 TYPED = (b"hi\nbegin 0 1 1 0 list /\nsweep 0 1\nstep 1 3\nrun 0\n", b"\x04")
 SILENT = ("line 3 did nothing: agent 0 has a job (line 2)", "line 4 did nothing: agent 1 has no job",
           "agent 0 has a job that has not ended (line 2); run 0 ends it")
 KEEP = "import choose, sources; choose.keep_record('checked', sources.Sources(), sources.Kit())"
+WORLDS = re.compile(r"suites: explore is at work: [1-6]0,000 worlds, \d{1,2},\d00 a second, \d+ s")
 
 
 class Copy(Tally):
@@ -120,10 +134,26 @@ class Copy(Tally):
         )
         return given
 
-    def on_terminal(self, words: list[str], *pieces: bytes) -> str:
-        """What a terminal shows of an answer, where these are typed, each once nothing more comes."""
+    def build(self, name: str, text: str) -> None:
+        """Puts a script in the place of the checked build of a program."""
+        os.makedirs(os.path.join(self.top, "out"), exist_ok=True)
+        path = os.path.join(self.top, "out", name)
+        with open(path, "w", encoding="utf-8") as file:
+            file.write(text)
+        os.chmod(path, 0o755)
+        subprocess.run(
+            [sys.executable, "-c", KEEP],
+            cwd=self.top,
+            env={**os.environ, "PYTHONPATH": os.path.join(self.top, "tools"), "SUITES_PROGRAM": name},
+            check=True,
+        )
+
+    def on_terminal(self, words: list[str], *pieces: bytes, stdin: int | None = None) -> str:
+        """What a terminal shows of an answer, where these are typed, each once nothing more comes; or where this is the
+        standard input.
+        """
         leader, end = pty.openpty()
-        process = subprocess.Popen(["./suites", *words], cwd=self.top, stdin=end, stdout=end, stderr=end)
+        process = subprocess.Popen(["./suites", *words], cwd=self.top, stdin=stdin or end, stdout=end, stderr=end)
         os.close(end)
         shown, left = b"", list(pieces)
         with contextlib.suppress(OSError):
@@ -261,17 +291,7 @@ def tells_version(copy: Copy) -> None:
 
 def runs_a_build(copy: Copy) -> None:
     """With a build: what --version tells of it, and what goes to the program."""
-    os.makedirs(os.path.join(copy.top, "out"), exist_ok=True)
-    path = os.path.join(copy.top, "out", "suites")
-    with open(path, "w", encoding="utf-8") as file:
-        file.write(PROGRAM)
-    os.chmod(path, 0o755)
-    subprocess.run(
-        [sys.executable, "-c", KEEP],
-        cwd=copy.top,
-        env={**os.environ, "PYTHONPATH": os.path.join(copy.top, "tools")},
-        check=True,
-    )
+    copy.build("suites", PROGRAM)
     copy.holds(
         copy.answer(["--version"])[1].endswith("\nbuild checked, out/suites\n"),
         "--version does not tell the checked build",
@@ -313,6 +333,19 @@ def tells_a_terminal(copy: Copy) -> None:
     )
 
 
+def tells_worlds(copy: Copy) -> None:
+    """How far `explore` is, a terminal is told alone; it is told all else that the program says on standard error."""
+    copy.build("explore", EXPLORE)
+    copy.answer(["explore"])
+    copy.holds(copy.answer(["explore"]) == (0, EXPLORED, ""), "explore says more where no terminal is told")
+    shown = copy.on_terminal(["explore"], stdin=subprocess.DEVNULL)
+    copy.holds(len(WORLDS.findall(shown)) > 1, f"a terminal is told no worlds: {shown}")
+    is_heard = all(f"\r\033[K{text}\n" in shown for text in HEARD)
+    copy.holds(is_heard, f"a terminal is not told all that the program says: {shown}")
+    copy.holds(" worlds\n" not in shown.removesuffix(EXPLORED), f"a terminal is told bare numbers: {shown}")
+    copy.holds(shown.endswith(f"\r\033[K{EXPLORED}"), f"a terminal is told more at the end: {shown}")
+
+
 def main() -> int:
     with tempfile.TemporaryDirectory(prefix="suites-") as room:
         copy = Copy(room)
@@ -326,6 +359,7 @@ def main() -> int:
             runs_a_build(copy)
             if os.path.exists("/dev/ptmx"):
                 tells_a_terminal(copy)
+                tells_worlds(copy)
     return copy.told("answers")
 
 

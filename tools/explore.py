@@ -2,16 +2,19 @@
 """./suites explore [OPTIONS] < SCRIPT
 
 Tells every way in which the jobs below the line `together` of a script of events may end; help/explore.txt tells all
-of it. The program `explore` does the work. Here its words are looked at, and on a terminal it is told how long it has
-been at work, and what its exit status means.
+of it. The program `explore` does the work. Here its words are looked at, and on a terminal it is told how many worlds
+it has looked at, and what its exit status means.
 """
 import argparse
 import contextlib
 import os
+import re
 import shlex
 import subprocess
 import sys
 import tempfile
+import threading
+import time
 import typing
 
 import beside
@@ -31,6 +34,8 @@ NUMBERS = {
 COMMAND_LINE, FAULTY, NO_MEMORY, NO_STREAM, NOT_ALL = 2, 3, 4, 6, 7
 # How often it is looked whether the program has ended, in seconds.
 PAUSE = 0.1
+# What the program says of how far it is, where it is asked to by this word.
+PROGRESS, LOOKED = "--progress", re.compile(rb"(\d+) worlds\n")
 
 
 class Parser(argparse.ArgumentParser):
@@ -91,29 +96,77 @@ def advice(status: int, given: argparse.Namespace, last: str) -> str:
     return ""
 
 
+class Looked(threading.Thread):
+    """Hears from the program how many worlds it has looked at. What else it says on standard error is passed on."""
+
+    def __init__(self, said: typing.IO[bytes]) -> None:
+        super().__init__(daemon=True)
+        self.said = said
+        # When it told of them first and last, and how many these were.
+        self.first: tuple[float, int] | None = None
+        self.last: tuple[float, int] | None = None
+        self.start()
+
+    def run(self) -> None:
+        for line in self.said:
+            found = LOOKED.fullmatch(line)
+            if found:
+                now = time.monotonic(), int(found[1])
+                self.first, self.last = self.first or now, now
+            else:
+                console.Teller().clear()
+                sys.stderr.buffer.write(line.removesuffix(b"\n") + b"\n")
+                sys.stderr.flush()
+
+    def told(self) -> str:
+        """How many worlds these are, and how many a second, to three digits."""
+        if not self.first or not self.last or self.first == self.last:
+            return ""
+        (begun, before), (now, worlds) = self.first, self.last
+        rate = (worlds - before) / (now - begun)
+        return f": {worlds:,} worlds, {float(f'{rate:.3g}'):,.0f} a second"
+
+
+def watched(process: subprocess.Popen[bytes]) -> None:
+    """Waits until the program has ended, and says meanwhile how far it is."""
+    progress, looked = trace.Progress(), Looked(process.stderr)
+    try:
+        while process.poll() is None:
+            with contextlib.suppress(subprocess.TimeoutExpired):
+                process.wait(PAUSE)
+            progress.say(f"explore is at work{looked.told()}")
+        looked.join()
+    finally:
+        progress.end()
+
+
+def status_of(given: argparse.Namespace, printed: typing.IO[bytes]) -> int:
+    """Runs the program, which prints into a file. On a terminal it is watched."""
+    is_watched = sys.stderr.isatty()
+    words = [beside.program("explore"), *words_of(given), *([PROGRESS] if is_watched else [])]
+    process = subprocess.Popen(words, stdout=printed, stderr=subprocess.PIPE if is_watched else None)
+    try:
+        if is_watched:
+            watched(process)
+        return process.wait()
+    finally:
+        if process.poll() is None:
+            process.terminate()
+            process.wait()
+
+
 def run(given: argparse.Namespace) -> int:
     """Runs the program, and prints what it prints once it has ended."""
-    progress = trace.Progress()
     with tempfile.TemporaryFile() as printed:
-        process = subprocess.Popen([beside.program("explore"), *words_of(given)], stdout=printed)
-        try:
-            while process.poll() is None:
-                with contextlib.suppress(subprocess.TimeoutExpired):
-                    process.wait(PAUSE)
-                progress.say("explore is at work")
-        finally:
-            if process.poll() is None:
-                process.terminate()
-                process.wait()
-            progress.end()
+        status = status_of(given, printed)
         printed.seek(0)
         text = printed.read()
     sys.stdout.buffer.write(text)
     sys.stdout.flush()
-    told = advice(process.returncode, given, text.decode("latin1").rstrip("\n").rpartition("\n")[2])
-    if told and (sys.stderr.isatty() or process.returncode == COMMAND_LINE):
+    told = advice(status, given, text.decode("latin1").rstrip("\n").rpartition("\n")[2])
+    if told and (sys.stderr.isatty() or status == COMMAND_LINE):
         console.Teller().say(told)
-    return process.returncode
+    return status
 
 
 def main() -> int:
