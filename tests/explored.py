@@ -1,7 +1,7 @@
 #!/usr/bin/env python3
 """tests/explored.py [--every N]
-tests/explored.py --against PROTOTYPE [--scripts N] [--from SEED] [--merged state|history]
-tests/explored.py --write PROTOTYPE [--merged state|history]
+tests/explored.py --against PROTOTYPE [--scripts N] [--from SEED] [--merged descent|state|history]
+tests/explored.py --write PROTOTYPE [--merged descent|state|history]
 
 Compares what the program `explore` tells of the scripts of examples/explore and tests/explored with the ways that are
 kept in tests/explored/NAME.ways: those which another program told, that shares no line with it. Plays the script of
@@ -10,9 +10,10 @@ that was decided there with that of the plain table, in the order of the decisio
 
 With --against it compares with that other program itself, a plain explorer in Rust, for N random scripts (300 by
 default) of up to three agents and five servers, with crashes, restarts, caches that are forgotten, agents that stop,
-lists of operations and votes that are moved. It merges worlds in which agents are in the same state, or only those in
-which each agent has done and heard the same; so --merged tells which the program `explore` does. With --write it
-writes the files NAME.ways anew. Prints each that differs; status 1 where one does.
+lists of operations and votes that are moved. It merges worlds in which agents are in the same state and have what they
+gathered of the same agent (descent); or those in which they are in the same state; or only those in which each agent
+has done and heard the same (history). `explore` does the first. With --write it writes the files NAME.ways anew. Prints
+each that differs; status 1 where one does.
 """
 import argparse
 import os
@@ -257,7 +258,7 @@ def main() -> int:
     asks.add_argument("--write", metavar="PROTOTYPE")
     asks.add_argument("--scripts", type=int, default=300)
     asks.add_argument("--from", type=int, default=0, dest="first")
-    asks.add_argument("--merged", choices=["state", "history"], default="history")
+    asks.add_argument("--merged", choices=["descent", "state", "history"], default="descent")
     given = asks.parse_args()
     if given.write:
         return write(given)
