@@ -5,9 +5,7 @@
     tools/wrong_bodies_page.py --check   writes nothing; tells what differs, with status 1
 
 The first line of an edit says what it makes wrong (`why: ..`), the second which function refuses it and by which
-clause (`refused by: ..`). An edit of the gate that has neither has them in docs/wrong-bodies-in-gate.txt: the gate
-tries an edit anew when any of its lines changes, so the words move into it when it changes anyway. ./suites --test
-runs --check.
+clause (`refused by: ..`). ./suites --test runs --check.
 """
 import difflib
 import os
@@ -18,7 +16,6 @@ import console
 import wrong_bodies
 
 PAGE = os.path.join(wrong_bodies.TOP, "docs", "WRONG-BODIES.md")
-IN_GATE = os.path.join(wrong_bodies.TOP, "docs", "wrong-bodies-in-gate.txt")
 SHOWN = os.path.join(wrong_bodies.TOP, "docs", "wrong-bodies-shown.txt")
 PLACES = ((wrong_bodies.GATE, "gate"), (wrong_bodies.BESIDE, "beside"))
 HEAD = """# Wrong bodies
@@ -87,35 +84,18 @@ def words_of(text: str) -> dict[str, str]:
     return {word: rest for word, _, rest in parted if word in wrong_bodies.TOLD}
 
 
-def words_in_gate() -> dict[str, dict[str, str]]:
-    """The words of those edits of the gate that do not have them themselves, by crate/name."""
-    found = {}
-    for piece in wrong_bodies.content(IN_GATE).split("\n\n")[1:] if os.path.exists(IN_GATE) else ():
-        name, _, words = piece.partition("\n")
-        found[name] = words_of(words)
-    return found
-
-
 def crates() -> list[str]:
     """The crates, in the order of crates.txt: bottom up."""
     lines = wrong_bodies.content(os.path.join(wrong_bodies.TOP, "crates.txt")).split("\n")
     return [line.split(":")[0].split()[0] for line in (line.partition("#")[0] for line in lines) if ":" in line]
 
 
-def rows(crate: str, in_gate: dict[str, dict[str, str]], faults: list[str]) -> typing.Iterator[typing.Any]:
+def rows(crate: str, faults: list[str]) -> typing.Iterator[str]:
     """The lines of the table of a crate. What is wrong with its edits is added to the faults."""
     for folder, place in PLACES:
         for edit in wrong_bodies.edits(crate, folder):
             name = f"{crate}/{wrong_bodies.name_of(edit)}"
-            own, kept = (
-                words_of(wrong_bodies.content(edit)),
-                in_gate.pop(name, {}) if folder == wrong_bodies.GATE else {},
-            )
-            words = own or kept
-            if own and kept:
-                faults.append(
-                    f"{name}: its words stand in the edit and in {os.path.relpath(IN_GATE, wrong_bodies.TOP)}"
-                )
+            words = words_of(wrong_bodies.content(edit))
             faults += [f"{name}: it has no line '{word}: ..'" for word in wrong_bodies.TOLD if not words.get(word)]
             if any("|" in text for text in words.values()):
                 faults.append(f"{name}: a word has a |, which a table cannot show")
@@ -170,10 +150,10 @@ def would_do(faults: list[str]) -> str:
 
 def page() -> tuple[str, list[str]]:
     """The page, and what is wrong with the edits."""
-    in_gate, parts, counts = words_in_gate(), [HEAD], {place: 0 for _, place in PLACES}
+    parts, counts = [HEAD], {place: 0 for _, place in PLACES}
     faults: list[str] = []
     for crate in crates():
-        lines = list(rows(crate, in_gate, faults))
+        lines = list(rows(crate, faults))
         for place in counts:
             counts[place] += sum(line.split(" | ")[1] == place for line in lines)
         if lines:
@@ -190,7 +170,6 @@ def page() -> tuple[str, list[str]]:
             )
     parts.append(by_name(faults))
     parts.append(would_do(faults))
-    faults += [f"{name}: there is no such edit in the gate" for name in in_gate]
     parts.insert(1, f"There are {counts['gate']} in the gate and {counts['beside']} beside it.\n")
     return "\n".join(parts), faults
 

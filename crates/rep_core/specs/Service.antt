@@ -95,6 +95,10 @@ abbrev pub audit_of : ℕ → Decision → Option AuditItem
 audit_of t (decision.Answered replies) = None
 audit_of t (decision.Refused uid refusal) = denial_of t uid refusal.op refusal.why
 
+-- the verdict of a denial that the audit has
+abbrev pub denied : AuditItem → Verdict
+denied item = verdict.Refused (record { op = item.op; why = Denied item.denial })
+
 abbrev pub with_item : Option AuditItem → List AuditItem → List AuditItem
 with_item None audit = audit
 with_item (Some item) audit = audit ++ item ∷ []

@@ -1,6 +1,6 @@
 //! What a server would answer and do, found and made room for before anything is changed.
 
-ghost use Rattle.std.specs.Prelude.{◌≡◌, ◌≢◌, ◌↔◌, ◌&&◌, ◌==◌, ◌<◌, false, true, is_some, IfOk, OnOk, OnErr, IsTrue, Err, None};
+ghost use Rattle.std.specs.Prelude.{◌≡◌, ◌≢◌, ◌↔◌, ◌&&◌, ◌==◌, ◌<◌, false, true, IfOk, IfSome, OnOk, OnErr, IsTrue, Err, None, Some};
 ghost use Rattle.std.specs.List.{list_all, list_any};
 ghost use Rattle.suite_prefix.specs.declared.lock_mode.LockMode.TheVariants.{Exclusive};
 ghost use Rattle.rep_core.specs.declared.stamped.Lack.TheVariants.{Full, Memory};
@@ -22,7 +22,7 @@ use crate::server_state::ServerState;
 use crate::stamped::{Lack, Stamped};
 use crate::step::Change;
 use crate::takes::is_used_up;
-use file_ops::{AuditItem, Why};
+use file_ops::{AuditItem, Refusal, Why};
 use std::alloc::AllocError;
 use suite_prefix::LockMode;
 
@@ -87,10 +87,11 @@ impl ServerState {
             Request::Upgrade { t, suite } => self.fill_upgrade(*t, *suite, reply),
             Request::Fetch { t, suite } => self.fill_fetch(*t, *suite, reply),
             Request::Prepare { t, parts } => self.fill_parts(*t, parts.as_slice(), reply),
-            Request::Decide { t, decision } => {
-                self.fill_record(*t, verdict_of(decision)?, audit_of(*t, decision), reply)
-            }
-            Request::Resolve { t } => self.fill_record(*t, Verdict::Aborted, None, reply),
+            Request::Decide { t, decision } => match audit_of(*t, decision) {
+                Some(item) => self.fill_denial(item, reply),
+                None => self.fill_record(*t, verdict_of(decision)?, reply),
+            },
+            Request::Resolve { t } => self.fill_record(*t, Verdict::Aborted, reply),
             Request::Locks => self.fill_list(reply),
             Request::Finish { t, verdict } => {
                 let answered = is_answered(verdict);
@@ -218,17 +219,16 @@ impl ServerState {
         Ok(Change::Keep { t, parts, planned })
     }
 
-    /// To record a verdict, with an item of the audit where it is a denial, unless a record stands.
+    /// To record a verdict that is no denial, unless a record stands.
     fn fill_record<'a>(
         &mut self,
         t: u64,
         verdict: Verdict,
-        item: Option<AuditItem>,
         reply: &mut Reply,
     ) -> Result<Change<'a>, Lack>
         ensures reply { OnOk result (reply.new ≡ Reply.Verdict (service.recorded (record_of (state_of self.old) t) verdict)) }
         ensures same { state_of self.new ≡ state_of self.old }
-        ensures change { let old = state_of self.old in IfOk result (λ change. applied change old ≡ after_record (record_of old t) t verdict item old) }
+        ensures change { let old = state_of self.old in IfOk result (λ change. applied change old ≡ after_record (record_of old t) t verdict None old) }
         ensures room { IfOk result (λ change. stepping.HasRoom change (stepping.roomed_of self.new)) }
         ensures full { result ≢ Err Full }
         ensures place { OnErr result (reply.new ≡ reply.old) }
@@ -239,15 +239,28 @@ impl ServerState {
         }
         let kept = self.verdicts.kept(self.alloc, &verdict)?;
         self.verdicts.make_room(t)?;
-        if item.is_some() {
-            self.audit.reserve(1)?;
-        }
         *reply = Reply::Verdict(verdict);
-        Ok(Change::Record {
-            t,
-            verdict: kept,
-            item,
-        })
+        Ok(Change::Record { t, verdict: kept })
+    }
+
+    /// To record a denial, unless a record stands.
+    fn fill_denial<'a>(&mut self, item: AuditItem, reply: &mut Reply) -> Result<Change<'a>, Lack>
+        ensures reply { OnOk result (reply.new ≡ Reply.Verdict (service.recorded (record_of (state_of self.old) item.t) (service.denied item))) }
+        ensures same { state_of self.new ≡ state_of self.old }
+        ensures change { let old = state_of self.old in
+            IfOk result (λ change. applied change old ≡ after_record (record_of old item.t) item.t (service.denied item) (Some item) old) }
+        ensures room { IfOk result (λ change. stepping.HasRoom change (stepping.roomed_of self.new)) }
+        ensures full { result ≢ Err Full }
+        ensures place { OnErr result (reply.new ≡ reply.old) }
+    {
+        if let Some(standing) = self.verdicts.get(item.t) {
+            *reply = Reply::Verdict(standing.told(self.alloc)?);
+            return Ok(Change::Nothing);
+        }
+        self.verdicts.make_room(item.t)?;
+        self.audit.reserve(1)?;
+        *reply = Reply::Verdict(denied(&item));
+        Ok(Change::Deny(item))
     }
 
     /// To tell the locks.
@@ -351,8 +364,9 @@ pub(crate) fn verdict_of(decision: &Decision) -> Result<Verdict, AllocError>
 }
 
 /// The item of the audit of a denial.
-pub(crate) fn audit_of(t: u64, decision: &Decision) -> Option<AuditItem>
-    ensures { result ≡ service.audit_of t decision.now }
+fn audit_of(t: u64, decision: &Decision) -> Option<AuditItem>
+    ensures item { result ≡ service.audit_of t decision.now }
+    ensures tells { IfSome result (λ item. (item.t ≡ t) × (service.denied item ≡ service.verdict_of decision.now)) }
 {
     let Decision::Refused { uid, refusal } = decision else {
         return None;
@@ -365,6 +379,16 @@ pub(crate) fn audit_of(t: u64, decision: &Decision) -> Option<AuditItem>
         uid: *uid,
         op: refusal.op,
         denial,
+    })
+}
+
+/// The verdict of a denial that the audit has.
+pub(crate) fn denied(item: &AuditItem) -> Verdict
+    ensures { result ≡ service.denied item.now }
+{
+    Verdict::Refused(Refusal {
+        op: item.op,
+        why: Why::Denied(item.denial),
     })
 }
 

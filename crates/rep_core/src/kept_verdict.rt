@@ -61,6 +61,15 @@ impl Clone for KeptVerdict {
 }
 
 impl KeptVerdict {
+    /// A verdict with no list.
+    pub(crate) fn whole(verdict: Verdict) -> KeptVerdict
+        ensures { result ≡ verdict }
+    {
+        KeptVerdict {
+            kept: Kept::Whole(verdict),
+        }
+    }
+
     /// A verdict as it is kept. Its long lists are packed, each once.
     pub(crate) fn new(
         alloc: Global,

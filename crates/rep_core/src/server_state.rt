@@ -8,6 +8,8 @@ ghost use Rattle.rep_core.specs.Service as service;
 ghost use Rattle.rep_core.specs.Bare.{bare_server};
 ghost use Rattle.rep_core.specs.State.{opening};
 
+use crate::evaluate::denied;
+use crate::kept_verdict::KeptVerdict;
 use crate::locks::LockTable;
 use crate::sameness::same_audit;
 use crate::step::{Change, Step};
@@ -103,9 +105,11 @@ impl ServerState {
                 self.locks.prepare(t, parts);
                 self.store.intend(t, parts, planned);
             }
-            Change::Record { t, verdict, item } => {
-                self.verdicts.insert_in_room(t, verdict);
-                self.note(item);
+            Change::Record { t, verdict } => self.verdicts.insert_in_room(t, verdict),
+            Change::Deny(item) => {
+                self.verdicts
+                    .insert_in_room(item.t, KeptVerdict::whole(denied(&item)));
+                self.audit.push_reserved(item);
             }
             Change::Finish { t, answered } => {
                 self.store.finish(t, answered);
@@ -117,16 +121,6 @@ impl ServerState {
                 self.up = false;
             }
             Change::Return => self.up = true,
-        }
-    }
-
-    /// Adds an item to the audit, for which there is room.
-    fn note(&mut self, item: Option<AuditItem>)
-        requires { is_some item ≡ true → vec_len self.old.audit < vec_capacity self.old.audit }
-        ensures { state_of self.new ≡ record (state_of self.old) { audit = service.with_item item (state_of self.old).audit } }
-    {
-        if let Some(item) = item {
-            self.audit.push_reserved(item);
         }
     }
 }

@@ -30,12 +30,13 @@ pub(crate) enum Change<'a> {
         parts: &'a [Part],
         planned: Vec<(u64, Planned)>,
     },
-    /// A verdict is recorded, with an item of the audit where it is a denial.
+    /// A verdict is recorded that is no denial.
     Record {
         t: u64,
         verdict: KeptVerdict,
-        item: Option<AuditItem>,
     },
+    /// A denial is recorded, as a verdict and in the audit.
+    Deny(AuditItem),
     /// A transaction is let go. Where it was answered, what it leaves is installed.
     Finish {
         t: u64,
