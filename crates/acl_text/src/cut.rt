@@ -119,6 +119,7 @@ impl<'a> Iterator for Items<'a> {
 
     ghost remaining = { item_count items_left };
 
+    #[inline(always)]
     fn next(&mut self) -> Option<&'a [u8]> {
         let (item, line) = match self.line {
             Some(rest) => cut(rest, b','),

@@ -187,6 +187,7 @@ fn read_sided_entry(item: &[u8], names: &Names) -> Result<SidedEntry, ItemFault>
 }
 
 /// What an item says: nothing, or an entry of one of the two lists.
+#[inline(always)]
 pub(crate) fn read_item(item: &[u8], names: &Names) -> Result<Option<SidedEntry>, ItemFault>
     ensures { result ≡ reading names.now item.now }
 {
