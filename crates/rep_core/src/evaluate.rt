@@ -7,7 +7,6 @@ ghost use Rattle.rep_core.specs.declared.stamped.Lack.TheVariants.{Full, Memory}
 ghost use Rattle.rep_core.specs.code.Stepping as stepping;
 ghost use Rattle.rep_core.specs.code.Stepping.{applied};
 ghost use Rattle.rep_core.specs.Fits.{fits};
-ghost use Rattle.rep_core.specs.Locks as locking;
 ghost use Rattle.rep_core.specs.code.ServerFields.{state_of};
 ghost use Rattle.rep_core.specs.Service as service;
 ghost use Rattle.rep_core.specs.Service.{after_poll, after_upgrade, prepares, after_prepare, after_record};
