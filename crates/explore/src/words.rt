@@ -23,7 +23,8 @@ pub(crate) struct Wish {
 
 /// What the words of the command line ask for.
 pub(crate) enum Wanted {
-    Explore(Wish),
+    /// To explore a script, and perhaps to tell meanwhile how far that is.
+    Explore { wish: Wish, tells_progress: bool },
     Help,
     Nothing,
 }
@@ -37,19 +38,24 @@ const LONGEST: usize = 16;
 /// What the words of the command line ask for.
 pub(crate) fn read_words<R: Env>(rt: &R) -> Wanted {
     let mut wish = first_wish();
+    let mut tells_progress = false;
     let mut place = 1;
     while place < MOST {
         let mut word = [0; LONGEST];
         let option = match rt.arg(place, &mut word) {
-            Err(FillError::NotPresent) => return Wanted::Explore(wish),
+            Err(FillError::NotPresent) => {
+                return Wanted::Explore {
+                    wish,
+                    tells_progress,
+                };
+            }
             Err(_) => return Wanted::Nothing,
             Ok(length) => word.get(..length).unwrap_or(b""),
         };
         if place == 1 && option == b"--help".as_slice() {
             return Wanted::Help;
         }
-        if option == b"--brief".as_slice() {
-            wish.is_brief = true;
+        if stands_alone(option, &mut wish.is_brief, &mut tells_progress) {
             place += 1;
             continue;
         }
@@ -79,6 +85,16 @@ fn first_wish() -> Wish {
         is_brief: false,
         way: None,
     }
+}
+
+/// Takes an option that stands alone; tells whether it is one.
+fn stands_alone(option: &[u8], is_brief: &mut bool, tells_progress: &mut bool) -> bool {
+    match option {
+        b"--brief" => *is_brief = true,
+        b"--progress" => *tells_progress = true,
+        _ => return false,
+    }
+    true
 }
 
 /// Takes an option with its number; tells whether it is one.
