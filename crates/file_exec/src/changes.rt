@@ -2,6 +2,8 @@
 
 ghost use Rattle.std.specs.Prelude.{◌≡◌, IfOk};
 ghost use Rattle.std.specs.Option.{option_copied};
+ghost use Rattle.std.specs.Ordering.{nat_cmp};
+ghost use Rattle.sorted_map.specs.SortedMap.{IsOrdered};
 ghost use Rattle.file_exec.specs.Changes.{changes_at, change_of};
 
 use crate::edit_log::{Edit, EditLog, makes, seen, sets_acl, sets_content, sets_votes};
@@ -20,6 +22,21 @@ pub struct Change {
     pub votes: bool,
     pub content: bool,
     pub row: KnownRow,
+}
+
+impl Clone for Change {
+    ghost is_clone = { λ change copy. copy ≡ change };
+
+    fn clone(&self) -> Result<Change, AllocError> {
+        let row = self.row.clone()?;
+        Ok(Change {
+            made: self.made,
+            acl: self.acl,
+            votes: self.votes,
+            content: self.content,
+            row,
+        })
+    }
 }
 
 /// What a transaction has set of each suite, the suites rising.
@@ -50,6 +67,14 @@ impl Changes {
         Ok(Changes { changes })
     }
 
+    /// The same changes.
+    pub fn copy(&self, alloc: Global) -> Result<Changes, AllocError>
+        ensures { IfOk result (λ copy. copy ≡ self.now) }
+    {
+        let changes = copied(alloc, self.changes.as_slice())?;
+        Ok(Changes { changes })
+    }
+
     /// What was set of a suite.
     pub fn get(&self, suite: u64) -> Option<&Change>
         ensures { option_copied result ≡ get nat_cmp self.now suite }
@@ -64,6 +89,18 @@ impl Changes {
     {
         self.changes.as_slice()
     }
+}
+
+/// The map of these changes.
+fn copied(alloc: Global, changes: &[(u64, Change)]) -> Result<SortedMap<u64, Change>, AllocError>
+    requires { IsOrdered nat_cmp changes.now }
+    ensures { IfOk result (λ copy. copy ≡ changes.now) }
+{
+    let mut copy = SortedMap::new(alloc);
+    for (suite, change) in changes {
+        copy.insert(*suite, change.clone()?)?;
+    }
+    Ok(copy)
 }
 
 /// The changes of the suites that these edits of the log are of.

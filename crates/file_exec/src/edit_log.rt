@@ -1,11 +1,12 @@
 //! What a transaction has set so far.
 
-ghost use Rattle.std.specs.Prelude.{◌≡◌, ◌<◌, ◌∷◌, ◌||◌, [], Bool, OnOk, OnErr, length, drop};
+ghost use Rattle.std.specs.Prelude.{◌≡◌, ◌<◌, ◌∷◌, ◌||◌, [], Bool, IfOk, OnOk, OnErr, length, drop};
 ghost use Rattle.std.specs.Option.{option_map};
 ghost use Rattle.file_exec.specs.Following.{changed, seen, sets_content, is_set};
 ghost use Rattle.file_exec.specs.Changes.{makes, sets_acl, sets_votes, some};
 ghost use Rattle.file_exec.specs.code.Overlay.{seen_row, IsWholeIf};
 
+use crate::copying::copied;
 use crate::row::KnownRow;
 use crate::seen::{Seen, SeenContent};
 use acl_core::Lists;
@@ -25,6 +26,19 @@ pub enum Edit {
     SetContent(Content),
     /// All of its row, which it gets, also in place of one of its number.
     Make(KnownRow),
+}
+
+impl Clone for Edit {
+    ghost is_clone = { λ edit copy. copy ≡ edit };
+
+    fn clone(&self) -> Result<Edit, AllocError> {
+        Ok(match self {
+            Edit::SetAcl(acl) => Edit::SetAcl(acl.clone()?),
+            Edit::SetVotes(votes) => Edit::SetVotes(*votes),
+            Edit::SetContent(content) => Edit::SetContent(content.clone()?),
+            Edit::Make(row) => Edit::Make(row.clone()?),
+        })
+    }
 }
 
 impl Edit {
@@ -95,6 +109,14 @@ impl EditLog {
         EditLog {
             edits: Vec::new(alloc),
         }
+    }
+
+    /// The same edits.
+    pub(crate) fn copy(&self, alloc: Global) -> Result<EditLog, AllocError>
+        ensures { IfOk result (λ copy. copy ≡ self.now) }
+    {
+        let edits = copied(alloc, &self.edits)?;
+        Ok(EditLog { edits })
     }
 
     /// Something is set of a suite.

@@ -1,13 +1,14 @@
 //! How far a transaction came on what was known.
 
-ghost use Rattle.std.specs.Prelude.{◌≡◌};
+ghost use Rattle.std.specs.Prelude.{◌≡◌, IfOk};
 ghost use Rattle.file_ops.specs.Operations.{last_name};
 ghost use Rattle.file_exec.specs.Reaching.{unbegun, folders_in, walked};
 ghost use Rattle.file_exec.specs.code.Ways.{reached_of, only_reads, point_after};
 
+use crate::copying::copied_items;
 use crate::edit_log::EditLog;
 use file_ops::{Action, Answer, Op, ROOT, last_name};
-use std::alloc::Global;
+use std::alloc::{AllocError, Global};
 use std::marker::Model;
 use std::mem;
 use suite_content::Name;
@@ -99,6 +100,21 @@ impl Stage {
         }
     }
 
+    /// The same.
+    fn copy(&self) -> Result<Stage, AllocError>
+        ensures { IfOk result (λ copy. reached_of copy ≡ reached_of self.now) }
+    {
+        let alloc = self.alloc();
+        let answers = copied_items(alloc, &self.answers)?;
+        let log = self.log.copy(alloc)?;
+        Ok(Stage {
+            at: self.at,
+            answers,
+            log,
+            point: self.point,
+        })
+    }
+
     /// Where its memory is from.
     pub(crate) fn alloc(&self) -> Global {
         *self.answers.allocator()
@@ -130,6 +146,15 @@ impl Progress {
             stage: Stage::new(alloc),
         }
     }
+
+    /// As far as it came.
+    pub fn copy(&self) -> Result<Progress, AllocError>
+        ensures { IfOk result (λ copy. copy ≡ self.now) }
+    {
+        let stage = self.stage.copy()?;
+        Ok(Progress { stage })
+    }
+
     /// How far it came. Nothing is kept.
     pub(crate) fn take(&mut self) -> Stage
         ensures taken { reached_of result ≡ self.old }

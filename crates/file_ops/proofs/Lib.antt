@@ -8,3 +8,4 @@ pub mod TakingBack
 pub mod LaterRefusals
 pub mod Permitting
 pub mod Listing
+pub mod Copying

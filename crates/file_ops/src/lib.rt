@@ -31,6 +31,7 @@
 mod act;
 mod answer;
 mod audit;
+mod copies;
 mod edit;
 mod guarded;
 mod operation;

@@ -41,6 +41,16 @@ impl StoredNames {
         }
     }
 
+    /// The names of a map.
+    pub(crate) fn from_map(names: RoomyMap<Name, u64>) -> StoredNames
+        ensures { result ≡ names }
+    {
+        StoredNames {
+            names,
+            listed: None,
+        }
+    }
+
     /// The names as a map.
     pub(crate) fn map(&self) -> &RoomyMap<Name, u64>
         ensures { result.now ≡ self.now }

@@ -1,10 +1,11 @@
 //! The table.
 
-ghost use Rattle.std.specs.Prelude.{◌≡◌, ◌<◌, ◌^◌, [], ◌∷◌, Err, IfOk};
+ghost use Rattle.std.specs.Prelude.{◌≡◌, ◌<◌, ◌^◌, [], ◌∷◌, Err, IfOk, IsTrue};
 
 use crate::act::Transaction;
 use crate::answer::{Answers, Replies};
 use crate::audit::AuditItem;
+use crate::copies::{copied_rows, same_rows};
 use crate::operation::{MAX_OPERATIONS, Op};
 use crate::play::play;
 use crate::refusal::{ApplyError, Refusal, Why};
@@ -113,6 +114,26 @@ impl Table {
             }
         }
         ApplyError::Refused(refusal)
+    }
+
+    /// An equal table, without denials.
+    pub fn copied(&self) -> Result<Table, AllocError>
+        ensures { IfOk result (λ table. table ≡ record self.now { audit = [] }) }
+    {
+        let rows = copied_rows(self.alloc, &self.rows)?;
+        Ok(Table {
+            alloc: self.alloc,
+            service: self.service,
+            rows,
+            audit: Vec::new(self.alloc),
+        })
+    }
+
+    /// Whether the files and folders are the same.
+    pub fn same_rows(&self, other: &Table) -> bool
+        ensures { IsTrue result → self.now.rows ≡ other.now.rows }
+    {
+        same_rows(&self.rows, &other.rows)
     }
 
     /// The denials so far, in the order in which they were answered.

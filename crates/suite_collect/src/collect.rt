@@ -58,6 +58,30 @@ impl Model for Collect {
     ghost invariant = { IsSummed };
 }
 
+impl Clone for Collect {
+    ghost use Rattle.std.specs.Prelude.{◌≡◌};
+
+    ghost is_clone = { λ collect copy. copy ≡ collect };
+
+    fn clone(&self) -> Result<Collect, AllocError> {
+        let start = self.start.clone()?;
+        let newer = match &self.newer {
+            Some(newer) => Some(newer.clone()?),
+            None => None,
+        };
+        Ok(Collect {
+            t: self.t,
+            suite: self.suite,
+            mode: self.mode,
+            start,
+            newer,
+            told: self.told.same(),
+            widening: self.widening.as_ref().map(Widening::same),
+            tally: self.tally,
+        })
+    }
+}
+
 impl Collect {
     ghost use Rattle.suite_collect.specs.Telling.{newest};
     ghost use Rattle.suite_collect.specs.Answering.{Comes, Hears, Tells, asked_in, read_point, shows_lock};

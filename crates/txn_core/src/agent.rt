@@ -99,6 +99,23 @@ impl Agent {
         }))
     }
 
+    /// An equal agent, which goes its own way from then on. What is large in it is shared.
+    pub fn copy(&self) -> Result<Agent, AllocError>
+        ensures { IfOk result (λ copy. copy ≡ self.now) }
+    {
+        let resources = self.resources.copy()?;
+        let doing = match &self.doing {
+            Some(doing) => Some(doing.copy(self.resources.alloc)?),
+            None => None,
+        };
+        Ok(Agent {
+            index: self.index,
+            count: self.count,
+            resources,
+            doing,
+        })
+    }
+
     /// Begins a job. Where it does a job already, where the job has no sense (there is no such site, or no
     /// such server), or where it began too many, nothing changes. An error leaves the agent as it was.
     /// Only a transaction that begins may run out of memory.
@@ -378,6 +395,16 @@ impl Doing {
             (Doing::RunningSweep(own), Doing::RunningSweep(theirs)) => own.same(theirs),
             _ => false,
         }
+    }
+
+    /// The same.
+    fn copy(&self, alloc: Global) -> Result<Doing, AllocError>
+        ensures { IfOk result (λ copy. copy ≡ self.now) }
+    {
+        Ok(match self {
+            Doing::Running(txn_run) => Doing::Running(txn_run.copy(alloc)?),
+            Doing::RunningSweep(sweep_run) => Doing::RunningSweep(sweep_run.copy()?),
+        })
     }
 
     /// The server that is asked next.

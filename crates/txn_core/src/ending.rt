@@ -5,6 +5,7 @@ ghost use Rattle.txn_core.specs.Transactions.{lack_cause, short_cause};
 
 use file_ops::{Answers, Refusal};
 use rep_core::Lack;
+use std::alloc::AllocError;
 
 /// Why a transaction or a sweep was not decided. An undecided transaction changed nothing, and never will.
 #[derive(Clone, Copy, Debug)]
@@ -43,6 +44,27 @@ pub enum Ending {
     },
     /// Without a decision.
     Undecided(Cause),
+}
+
+impl Clone for Ending {
+    ghost is_clone = { λ ending copy. copy ≡ ending };
+
+    fn clone(&self) -> Result<Ending, AllocError> {
+        Ok(match self {
+            Ending::Answered(answers) => Ending::Answered(answers.clone()?),
+            Ending::Refused(refusal) => Ending::Refused(*refusal),
+            Ending::Swept {
+                broken,
+                finished,
+                left,
+            } => Ending::Swept {
+                broken: *broken,
+                finished: *finished,
+                left: *left,
+            },
+            Ending::Undecided(cause) => Ending::Undecided(*cause),
+        })
+    }
 }
 
 /// How a job goes on after a response.

@@ -44,6 +44,18 @@ impl FixedParts {
         })
     }
 
+    /// The same.
+    pub(crate) fn copy(&self, alloc: Global) -> Result<FixedParts, AllocError>
+        ensures { IfOk result (λ copy. copy ≡ self.now) }
+    {
+        let absent = self.absent.clone()?;
+        Ok(FixedParts {
+            service: self.service,
+            absent,
+            empty: Empty::new(alloc),
+        })
+    }
+
     /// The service.
     pub(crate) fn as_service(&self) -> &Service
         ensures { result.now ≡ self.now }

@@ -1,9 +1,13 @@
 //! Where a transaction stands.
 
+ghost use Rattle.std.specs.Prelude.{◌≡◌, IfOk};
+ghost use Rattle.txn_core.specs.code.TransactionRunFields.{phase_of};
+
 use crate::ending::Ending;
-use crate::granted::{Granted, Proposal};
+use crate::granted::{Granted, Proposal, copied};
 use crate::servers::Servers;
 use rep_core::Verdict;
+use std::alloc::{AllocError, Global};
 
 /// Where a transaction stands.
 #[derive(Drop)]
@@ -28,4 +32,39 @@ pub(crate) enum Phase {
         verdict: Verdict,
         ending: Ending,
     },
+}
+
+impl Phase {
+    /// The same.
+    pub(crate) fn copy(&self, alloc: Global) -> Result<Phase, AllocError>
+        ensures { IfOk result (λ copy. copy ≡ self.now) }
+    {
+        Ok(match self {
+            Phase::Gathering(number) => Phase::Gathering(*number),
+            Phase::Fetching(number) => Phase::Fetching(*number),
+            Phase::Widening {
+                number,
+                after,
+                granted,
+            } => Phase::Widening {
+                number: *number,
+                after: *after,
+                granted: granted.copy(alloc)?,
+            },
+            Phase::Proposing(servers, proposal) => {
+                Phase::Proposing(servers.copy()?, copied(alloc, proposal)?)
+            }
+            Phase::Finishing {
+                server,
+                left,
+                verdict,
+                ending,
+            } => Phase::Finishing {
+                server: *server,
+                left: left.copy()?,
+                verdict: verdict.clone()?,
+                ending: ending.clone()?,
+            },
+        })
+    }
 }

@@ -1,13 +1,13 @@
 //! What an agent works with.
 
-ghost use Rattle.std.specs.Prelude.{◌≡◌};
+ghost use Rattle.std.specs.Prelude.{◌≡◌, IfOk};
 ghost use Rattle.file_exec.specs.Reaching.{unbegun};
 ghost use Rattle.txn_core.specs.code.Reaching.{kept_after};
 
 use crate::ending::Flow;
 use crate::fixed_parts::FixedParts;
 use file_exec::Progress;
-use std::alloc::Global;
+use std::alloc::{AllocError, Global};
 use weak_cache::WeakCache;
 
 /// What an agent works with, and lends to its job.
@@ -21,6 +21,23 @@ pub(crate) struct Resources {
 }
 
 impl Resources {
+    /// The same.
+    pub(crate) fn copy(&self) -> Result<Resources, AllocError>
+        ensures parts { IfOk result (λ copy. copy.fixed_parts ≡ self.now.fixed_parts) }
+        ensures cache { IfOk result (λ copy. copy.cache ≡ self.now.cache) }
+        ensures progress { IfOk result (λ copy. copy.progress ≡ self.now.progress) }
+    {
+        let fixed_parts = self.fixed_parts.copy(self.alloc)?;
+        let cache = self.cache.copy()?;
+        let progress = self.progress.copy()?;
+        Ok(Resources {
+            alloc: self.alloc,
+            fixed_parts,
+            cache,
+            progress,
+        })
+    }
+
     /// A transaction is to be executed from its first operation on.
     pub(crate) fn begin_anew(&mut self)
         ensures { self.new ≡ record self.old { progress = unbegun } }

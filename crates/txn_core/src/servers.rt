@@ -1,12 +1,13 @@
 //! Servers that are asked one after the other.
 
 ghost use Rattle.std.specs.FinSet.{contains};
-ghost use Rattle.std.specs.Prelude.{◌≡◌, ℕ, drop, slice_get, IsTrue};
+ghost use Rattle.std.specs.Prelude.{◌≡◌, ℕ, drop, slice_get, IfOk, IsTrue};
 ghost use Rattle.txn_core.specs.Suites as gathering;
 ghost use Rattle.txn_core.specs.Transactions as txn_run;
 
 use crate::suites::GatheredSuite;
 use arrayvec::ArrayVec;
+use std::alloc::AllocError;
 use std::marker::Model;
 use vote_core::{MAX_SERVERS, ServerSet};
 
@@ -59,6 +60,17 @@ impl Servers {
         &self.all.as_slice()[self.asked..]
     }
 
+    /// The same.
+    pub(crate) fn copy(&self) -> Result<Servers, AllocError>
+        ensures { IfOk result (λ copy. copy ≡ self.now) }
+    {
+        let all = copied(&self.all)?;
+        Ok(Servers {
+            all,
+            asked: self.asked,
+        })
+    }
+
     /// That one was asked.
     pub(crate) fn pass(&mut self)
         ensures { self.new ≡ drop 1 self.old }
@@ -67,6 +79,14 @@ impl Servers {
             self.asked += 1;
         }
     }
+}
+
+/// The same numbers.
+fn copied(all: &ArrayVec<u8, MAX_SERVERS>) -> Result<ArrayVec<u8, MAX_SERVERS>, AllocError>
+    ensures { IfOk result (λ copy. copy.items ≡ all.now.items) }
+{
+    let copy = all.clone()?;
+    Ok(copy)
 }
 
 /// Whether two lists are the same.

@@ -52,6 +52,20 @@ impl Model for GatheredSuite {
     ghost invariant = { IsUnused };
 }
 
+/// The same suites.
+pub(crate) fn copied(
+    alloc: Global,
+    suites: &[(u64, GatheredSuite)],
+) -> Result<Vec<(u64, GatheredSuite)>, AllocError>
+    ensures { IfOk result (λ copy. copy.items ≡ suites.now) }
+{
+    let mut copy = Vec::with_capacity(alloc, suites.len())?;
+    for (number, suite) in suites {
+        copy.push((*number, suite.copy(alloc)?))?;
+    }
+    Ok(copy)
+}
+
 impl GatheredSuite {
     /// A suite of which nothing was told. `start` is a prefix that it once had, or that of what was never
     /// made.
@@ -70,6 +84,29 @@ impl GatheredSuite {
             first: None,
             mode: LockMode::Shared,
             content: None,
+        };
+        let gathered = Box::new(alloc, gathered)?;
+        Ok(GatheredSuite { gathered })
+    }
+
+    /// The same.
+    pub(crate) fn copy(&self, alloc: Global) -> Result<GatheredSuite, AllocError>
+        ensures { IfOk result (λ copy. copy ≡ self.now) }
+    {
+        let collect = self.gathered.collect.clone()?;
+        let first = match &self.gathered.first {
+            Some(first) => Some(first.clone()?),
+            None => None,
+        };
+        let content = match &self.gathered.content {
+            Some(content) => Some(content.clone()?),
+            None => None,
+        };
+        let gathered = Gathered {
+            collect,
+            first,
+            mode: self.gathered.mode,
+            content,
         };
         let gathered = Box::new(alloc, gathered)?;
         Ok(GatheredSuite { gathered })

@@ -86,6 +86,25 @@ impl SweepRun {
         }
     }
 
+    /// The same.
+    pub(crate) fn copy(&self) -> Result<SweepRun, AllocError>
+        ensures { IfOk result (λ copy. copy ≡ self.now) }
+    {
+        let asking = match &self.asking {
+            Asking::Locks => Asking::Locks,
+            Asking::Resolve(t) => Asking::Resolve(*t),
+            Asking::Finish(t, verdict) => Asking::Finish(*t, verdict.clone()?),
+            Asking::Break(lock) => Asking::Break(*lock),
+        };
+        let locks = copied(&self.locks)?;
+        Ok(SweepRun {
+            server: self.server,
+            counts: self.counts,
+            asking,
+            locks,
+        })
+    }
+
     /// Of which server is asked next, and what, which is put into its place. Only to tell answers again it
     /// may run out of memory.
     pub(crate) fn ask(
@@ -271,6 +290,14 @@ impl Counts {
             left,
         }
     }
+}
+
+/// The same locks.
+fn copied(locks: &VecDeque<Lock>) -> Result<VecDeque<Lock>, AllocError>
+    ensures { IfOk result (λ copy. copy.items ≡ locks.now.items) }
+{
+    let copy = locks.clone()?;
+    Ok(copy)
 }
 
 /// What is asked of the first of some locks, which are in their order. With it go the other locks of its

@@ -1,9 +1,10 @@
 //! A transaction.
 
-ghost use Rattle.std.specs.Prelude.{◌<◌, ◌^◌};
+ghost use Rattle.std.specs.Prelude.{◌≡◌, ◌<◌, ◌^◌, IfOk};
 ghost use Rattle.weak_cache.specs.Entries.{max_sites};
 
 use crate::job::{Ops, SharedCaller};
+use std::alloc::AllocError;
 use std::marker::Model;
 
 /// A transaction: its number, its caller, at which site, and what is asked.
@@ -28,6 +29,20 @@ impl Model for Task {
 }
 
 impl Task {
+    /// The same. Caller and operations are shared.
+    pub(crate) fn copy(&self) -> Result<Task, AllocError>
+        ensures { IfOk result (λ copy. copy ≡ self.now) }
+    {
+        let caller = self.caller.clone()?;
+        let ops = self.ops.clone()?;
+        Ok(Task {
+            t: self.t,
+            caller,
+            site: self.site,
+            ops,
+        })
+    }
+
     /// A law: its number is below 2^60, and its site one of an agent's. It does nothing.
     pub(crate) fn facts(&self)
         ensures number { self.now.t < 2 ^ 60 }

@@ -30,11 +30,11 @@ use crate::phase::Phase;
 use crate::resources::Resources;
 use crate::servers::locked_at;
 use crate::stage::Stage;
-use crate::suites::GatheredSuite;
+use crate::suites::{GatheredSuite, copied};
 use crate::task::Task;
 use rep_core::Reply;
 use sorted_map::RoomyMap;
-use std::alloc::AllocError;
+use std::alloc::{AllocError, Global};
 use std::marker::Model;
 use suite_collect::{Coming, Hearing, Told};
 use suite_content::Content;
@@ -82,6 +82,20 @@ impl TransactionRun {
             Flow::On => Ok(Some(txn_run)),
             Flow::Ended(_) => Ok(None),
         }
+    }
+
+    /// The same.
+    pub(crate) fn copy(&self, alloc: Global) -> Result<TransactionRun, AllocError>
+        ensures { IfOk result (λ copy. copy ≡ self.now) }
+    {
+        let task = self.task.copy()?;
+        let suites = copied(alloc, self.suites.as_slice())?;
+        let phase = self.phase.copy(alloc)?;
+        Ok(TransactionRun {
+            task,
+            suites: RoomyMap::from_ordered(suites),
+            phase,
+        })
     }
 
     /// How far it is.

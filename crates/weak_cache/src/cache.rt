@@ -72,6 +72,20 @@ impl WeakCache {
         })
     }
 
+    /// An equal cache: the same entries in the same order, within the same limits. It takes memory of its own, so
+    /// what is asked of one of them says nothing of the other; bytes, names and prefixes are shared.
+    pub fn copy(&self) -> Result<WeakCache, AllocError>
+        ensures { IfOk result (λ copy. copy ≡ self.now) }
+    {
+        let entries = self.entries.copy(self.budget)?;
+        Ok(WeakCache {
+            budget: self.budget,
+            quota: self.quota,
+            slots: self.slots,
+            entries,
+        })
+    }
+
     /// A law: a cache is within its budget, each site within the quota, and each suite is kept once at a
     /// site. It does nothing.
     pub fn is_within(&self)

@@ -7,6 +7,7 @@ ghost use Rattle.suite_prefix.specs.Bytes.{name_bytes};
 ghost use Rattle.weak_cache.specs.Cache.{at_version};
 ghost use Rattle.weak_cache.specs.Entries.{size_of, is_at, is_of};
 
+use std::alloc::AllocError;
 use std::marker::Model;
 use suite_content::{Content, Name};
 use suite_prefix::SharedPrefix;
@@ -38,6 +39,25 @@ impl Model for SizedEntry {
     ghost view = { entry_in };
 
     ghost invariant = { λ fields. fields.size ≡ size_of fields.content };
+}
+
+impl Clone for SizedEntry {
+    ghost use Rattle.std.specs.Prelude.{◌≡◌};
+
+    ghost is_clone = { λ entry copy. copy ≡ entry };
+
+    fn clone(&self) -> Result<SizedEntry, AllocError> {
+        let prefix = self.prefix.clone()?;
+        let content = self.content.clone()?;
+        Ok(SizedEntry {
+            site: self.site,
+            suite: self.suite,
+            prefix,
+            dver: self.dver,
+            content,
+            size: self.size,
+        })
+    }
 }
 
 impl SizedEntry {

@@ -41,6 +41,39 @@ impl Kept {
         })
     }
 
+    /// An equal one: the same entries in the same order, on a shelf of as many slots.
+    pub(crate) fn copy(&self) -> Result<Kept, AllocError>
+        requires kept { IsKept self.now }
+        requires sum { sum_of (values self.now.shelf.entries) < 2 ^ 128 }
+        ensures kept { IfOk result IsKept }
+        ensures entries { IfOk result (λ copy. values copy.shelf.entries ≡ values self.now.shelf.entries) }
+    {
+        self.shelf.is_valid();
+        let mut left = self.copies()?;
+        let mut copy = Kept::new(self.alloc, self.slots)?;
+        while let Some(entry) = left.pop() {
+            copy.add(entry)?;
+        }
+        Ok(copy)
+    }
+
+    /// Copies of the entries, the newest first.
+    fn copies(&self) -> Result<Vec<SizedEntry>, AllocError>
+        ensures { IfOk result (λ copies. copies.items ≡ values self.now.shelf.entries) }
+    {
+        self.shelf.is_valid();
+        let mut copies = Vec::new(self.alloc);
+        let mut next = self.shelf.newest();
+        while let Some(slot) = next {
+            let Some(entry) = self.shelf.get(slot) else {
+                return Err(AllocError);
+            };
+            next = self.shelf.older(slot);
+            copies.push(entry.clone()?)?;
+        }
+        Ok(copies)
+    }
+
     /// The slot of what a site keeps of a suite.
     pub(crate) fn slot_of(&self, site: u8, suite: u64) -> Option<Slot>
         requires { IsKept self.now }

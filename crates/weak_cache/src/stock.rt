@@ -91,6 +91,15 @@ impl Stock {
         Ok(Stock { kept })
     }
 
+    /// The same entries in the same order, where their contents take so many bytes at most.
+    pub(crate) fn copy(&self, budget: usize) -> Result<Stock, AllocError>
+        requires { sum_of self.now ≤ budget }
+        ensures { IfOk result (λ copy. copy ≡ self.now) }
+    {
+        let kept = self.kept.copy()?;
+        Ok(Stock { kept })
+    }
+
     /// The sites and suites of the entries.
     pub(crate) fn keys(&self) -> Entries<'_>
         ensures { result ≡ keys_of self.now }

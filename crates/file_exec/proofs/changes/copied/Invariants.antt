@@ -1,0 +1,5 @@
+use Rattle.std.proofs.Common.{◌≡◌, take}
+use Rattle.file_exec.proofs.changes.copied.Given as goal
+
+abbrev pub invariant-loop-suite : goal.invariant-loop-suite
+invariant-loop-suite l = l.copy ≡ take l.suite-index l.changes
