@@ -110,6 +110,7 @@ PARTS = (
     Part("forms in pages and help", tool("tools/forms_page.py", "--check")),
     Part("words that need no build", tool("tests/wrapper.py")),
     Part("type hints", tool("tests/hints.py")),
+    Part("functions that call themselves", tool("tests/self-calls.py")),
     Part("tests of runs", **tried("run_tests")),
     Part("tests of libraries", **tried("library_tests")),
     Part(PROGRAM, tool("tools/choose.py")),
