@@ -235,7 +235,7 @@ def main() -> int:
             tally.holds(False, f"{kind} holds itself: what copies or drops it calls itself as deep as it is")
     for one in sorted({*found, *MAY}):
         tally.holds(one in MAY, f"{one} calls itself: how deep?")
-        tally.holds(one in found, f"{one} calls itself no more, and stands in the table of {os.path.basename(__file__)}")
+        tally.holds(one in found, f"{one} calls itself no more, and stands in the table of tests/self-calls.py")
     tally.holds(count >= FEWEST, f"only {count} functions are found")
     tally.count += count
     return tally.told("functions and types looked at")
