@@ -20,9 +20,9 @@ import played
 from played import Tally
 
 import console
-from machine import changes, everybody, lint, lists, mounts, people, program
-from machine.people import Caller
-from machine.ways import way
+from may import changes, everybody, lint, lists, mounts, people, program
+from may.people import Caller
+from may.ways import way
 
 LIST = "u::rw,u:1001:rw,g::r,m::r,o::-"
 MANY = ",".join(str(one) for one in range(1, 34))
@@ -81,7 +81,7 @@ def plays_rows(tally: Tally) -> None:
 def asks(tally: Tally, words: list[str], status: int, last: str, strict: bool = False) -> None:
     """The command, its status, and what its last line has."""
     env = {**os.environ, **({"PYTHONIOENCODING": "utf-8:strict", "LC_ALL": "C"} if strict else {})}
-    command = [sys.executable, os.path.join(played.TOP, "tools", "may.py"), *words]
+    command = [sys.executable, os.path.join(played.TOP, "tools", "may", "__main__.py"), *words]
     done = subprocess.run(
         command, env=env, stdin=subprocess.DEVNULL, stdout=subprocess.PIPE, stderr=subprocess.PIPE, text=True
     )
