@@ -16,7 +16,7 @@ import tempfile
 
 TOP = os.path.realpath(os.path.join(os.path.dirname(os.path.abspath(__file__)), ".."))
 WIDEST, FEWEST = 120, 90
-FOLDERS = ("tools", "tools/machine", "tools/mount", "tests", "bench")
+FOLDERS = ("tools", "tools/may", "tools/mount", "tests", "bench")
 # What may be nothing is not told apart from what may not: a match that was looked for is taken to be there.
 CONFIG = """[mypy]
 strict_optional = False
@@ -44,10 +44,11 @@ def too_wide(path: str) -> list[str]:
 
 def groups(files: list[str]) -> list[list[str]]:
     """The files in groups that are checked together: of two files with one name only one can be, so those of each
-    folder whose names others have stand alone.
+    folder whose names others, or a package, have stand alone.
     """
     names = {path: os.path.basename(path) for path in files}
-    count = collections.Counter(names.values())
+    packages = {f"{os.path.basename(os.path.dirname(path))}.py" for path in files if names[path] == "__init__.py"}
+    count = collections.Counter([*names.values(), *packages])
     shared = [path for path in files if count[names[path]] > 1 and not path.startswith(f"{TOP}/tools/")]
     return [[path for path in files if path not in shared], *([path] for path in shared)]
 

@@ -13,8 +13,8 @@ from typing import Callable
 
 import played  # noqa: F401
 
-from machine import lists
-from machine.people import Caller
+from may import lists
+from may.people import Caller
 
 UIDS, GIDS = [1001, 1002, 1003, 65534], [200, 201, 202, 203]
 NOTHING = 0xFFFFFFFF

@@ -25,10 +25,10 @@ from typing import Callable
 
 import kernel_trees as trees
 from kernel_trees import DENIED, GRANTED, Dice, Tree, tried
-from machine import changes, everybody, lint, lists, mounts, names, telling, under
-from machine.lists import BITS, Bad, Unread
-from machine.people import Caller
-from machine.ways import way
+from may import changes, everybody, lint, lists, mounts, names, telling, under
+from may.lists import BITS, Bad, Unread
+from may.people import Caller
+from may.ways import way
 
 PLACE = "/dev/shm"
 # Files whose lists are not changed.

@@ -3,7 +3,7 @@
 
 Plays rows of the program `may` (lines of questions, and the status and the output that are wanted), and `./suites
 may` on
-a few files of its own. Looks whether the Rust code that README shows stands in crates/may/src, which the gate
+a few files of its own. Looks whether the Rust code that docs/LIBRARY.md shows stands in crates/may/src, which the gate
 proves. PROGRAM
 is a build of `may`; where none is named, that which `./suites may` takes. Prints what differs; status 1 where
 something does.
@@ -20,9 +20,9 @@ import played
 from played import Tally
 
 import console
-from machine import changes, everybody, lint, lists, mounts, people, program
-from machine.people import Caller
-from machine.ways import way
+from may import changes, everybody, lint, lists, mounts, people, program
+from may.people import Caller
+from may.ways import way
 
 LIST = "u::rw,u:1001:rw,g::r,m::r,o::-"
 MANY = ",".join(str(one) for one in range(1, 34))
@@ -81,7 +81,7 @@ def plays_rows(tally: Tally) -> None:
 def asks(tally: Tally, words: list[str], status: int, last: str, strict: bool = False) -> None:
     """The command, its status, and what its last line has."""
     env = {**os.environ, **({"PYTHONIOENCODING": "utf-8:strict", "LC_ALL": "C"} if strict else {})}
-    command = [sys.executable, os.path.join(played.TOP, "tools", "may.py"), *words]
+    command = [sys.executable, os.path.join(played.TOP, "tools", "may", "__main__.py"), *words]
     done = subprocess.run(
         command, env=env, stdin=subprocess.DEVNULL, stdout=subprocess.PIPE, stderr=subprocess.PIPE, text=True
     )
@@ -280,15 +280,15 @@ def plain(code: str) -> str:
 
 
 def shown_code_stands(tally: Tally) -> None:
-    with open(os.path.join(played.TOP, "README.md"), encoding="utf-8") as file:
+    with open(os.path.join(played.TOP, "docs", "LIBRARY.md"), encoding="utf-8") as file:
         code = re.findall(r"^```rust\n(.*?)^```", file.read(), re.M | re.S)
     sources = ""
     for name in sorted(os.listdir(os.path.join(played.TOP, "crates", "may", "src"))):
         with open(os.path.join(played.TOP, "crates", "may", "src", name), encoding="utf-8") as file:
             sources += plain(file.read())
-    tally.holds(code, "README shows no code")
+    tally.holds(code, "docs/LIBRARY.md shows no code")
     for block in code:
-        tally.holds(plain(block) in sources, f"this code of README stands in no file of crates/may/src:\n{block}")
+        tally.holds(plain(block) in sources, f"this of docs/LIBRARY.md stands in no file of crates/may/src:\n{block}")
 
 
 def main() -> int:

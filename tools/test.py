@@ -1,15 +1,15 @@
 #!/usr/bin/env python3
 """./suites --test [--long]
 
-Runs all tests that need no proof, side by side: the rows of crates/rows/stdin through the program that `./suites` runs
-(which it first makes, where there is none), the tests of libraries, runs and commands without their proofs (`rt try`),
-the examples of docs/FAULTS.md, the command lines that README.md and docs/FAULTS.md show, what `./suites votes` tells,
-pictures, what `explore` tells, random scripts of `play` against the plain table, and the checks of documents. With
---long those too that take minutes: every program that only tests and measurements have is compiled, instructions are
-counted, allocations are refused, reads and writes fail, inputs are cut off, lies are told about runs, and races between
-threads are looked for: some ten minutes more on four free processors. Prints a line for each part as it ends, of a part
-that fails also what it printed, and last how many passed and failed. Status 1 where one failed. The gate (.ci/run)
-begins with it.
+Runs all tests that need no proof, side by side: the rows of crates/rows/stdin through the program that `./suites`
+runs (which it first makes, where there is none), the tests of libraries, runs and commands without their proofs (`rt
+try`), the examples of docs/FAULTS.md, the command lines that README.md, docs/FAULTS.md and docs/SCRIPTS.md show, what
+`./suites votes` tells, pictures, what `explore` tells, random scripts of `play` against the plain table, and the
+checks of documents. With --long those too that take minutes: every program that only tests and measurements have is
+compiled, instructions are counted, allocations are refused, reads and writes fail, inputs are cut off, lies are told
+about runs, and races between threads are looked for: some ten minutes more on four free processors. Prints a line for
+each part as it ends, of a part that fails also what it printed, and last how many passed and failed. Status 1 where
+one failed. The gate (.ci/run) begins with it.
 """
 import os
 import re
@@ -102,12 +102,12 @@ PROGRAM, TRACE, MAY = "the program", "the program of trace", "the program of may
 FORMS, EXPLORE = "the program of forms", "the program of explore"
 # What takes longest stands first, but for what tells at once that something is wrong.
 PARTS = (
-    Part("what README shows", tool("tools/shown.py")),
+    Part("what pages show", tool("tools/shown.py")),
     Part("what documents name", tool("tools/named.py")),
     Part("texts of wrong bodies", tool("tools/wrong_bodies.py", "--check")),
     Part("page of wrong bodies", tool("tools/wrong_bodies_page.py", "--check")),
     Part("table of public functions", tool("tools/proved_page.py", "--check")),
-    Part("forms in README and help", tool("tools/forms_page.py", "--check")),
+    Part("forms in pages and help", tool("tools/forms_page.py", "--check")),
     Part("words that need no build", tool("tests/wrapper.py")),
     Part("type hints", tool("tests/hints.py")),
     Part("tests of runs", **tried("run_tests")),

@@ -16,11 +16,11 @@
 //! fault is the one of the reader is a law of operations (`misfits_have_the_fault_of_operations`), and tried of the
 //! other words.
 //!
-//! Votes and lists are explained in the `--help` of each command and in README.md, "Scripts"; `docs/FAULTS.md` has the
-//! faults. A line of no such form, or with an agent, server or site that is not there, is
-//! S1. A line of a header that is out of its place is S2. A server has 0 to 255 votes, and a read or a write
-//! collects 0 to 65535, else it is S1. Votes that are not valid are V1 to V7, in `vote_core`'s order. `step A N`
-//! goes up to 1,000,000. `setacl` sets both lists.
+//! Votes and lists are explained in the `--help` of each command and in docs/SCRIPTS.md, "Scripts"; `docs/FAULTS.md`
+//! has the faults. A line of no such form, or with an agent, server or site that is not there, is S1. A line of a
+//! header that is out of its place is S2. A server has 0 to 255 votes, and a read or a write collects 0 to 65535, else
+//! it is S1. Votes that are not valid are V1 to V7, in `vote_core`'s order. `step A N` goes up to 1,000,000. `setacl`
+//! sets both lists.
 //!
 //! **The caller owes** a text below 2^62 bytes to `ScriptReader::new`, to `look_ahead` that the header was read, and
 //! to `play_lines` fewer than 2^60 lines.

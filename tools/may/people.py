@@ -6,7 +6,7 @@ import os
 import pwd
 from typing import Iterable, NamedTuple, Optional
 
-from machine.lists import GROUP, USER, Bad, List, quoted
+from may.lists import GROUP, USER, Bad, List, quoted
 
 MAX_ID = 0xFFFFFFFF
 

@@ -5,8 +5,8 @@ import grp
 import pwd
 from typing import NamedTuple
 
-from machine import everybody, linux
-from machine.lists import (
+from may import everybody, linux
+from may.lists import (
     BITS,
     GROUP,
     GROUP_OBJ,
@@ -28,9 +28,9 @@ from machine.lists import (
     quoted,
     union,
 )
-from machine.people import Caller, likenesses, number
-from machine.program import answers, question
-from machine.ways import Place, Way
+from may.people import Caller, likenesses, number
+from may.program import answers, question
+from may.ways import Place, Way
 
 KINDS = {"u": USER, "user": USER, "g": GROUP, "group": GROUP, "m": MASK, "mask": MASK, "o": OTHER, "other": OTHER}
 # An entry that is about nobody by name.

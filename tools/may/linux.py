@@ -6,11 +6,11 @@ import os
 import stat
 from typing import NamedTuple, Optional
 
-from machine import mounts
-from machine.lists import Unread, letters, mask_of, quoted
-from machine.people import Caller
-from machine.program import fault_in, is_granted
-from machine.ways import Place
+from may import mounts
+from may.lists import Unread, letters, mask_of, quoted
+from may.people import Caller
+from may.program import fault_in, is_granted
+from may.ways import Place
 
 READ, WRITE, EXECUTE = 4, 2, 1
 KINDS = {stat.S_IFIFO: "a pipe", stat.S_IFSOCK: "a socket", stat.S_IFCHR: "a device", stat.S_IFBLK: "a device"}

@@ -7,13 +7,13 @@ import os
 import stat
 from typing import Optional
 
-from machine import mounts
-from machine.lists import Unread, quoted
-from machine.linux import EXECUTE, WRITE
-from machine.people import Caller
-from machine.program import answers
-from machine.telling import DENIED, GRANTED, UNREAD, Judged, judged, questions_of
-from machine.ways import Place, parts_of, place_at, unread, way
+from may import mounts
+from may.lists import Unread, quoted
+from may.linux import EXECUTE, WRITE
+from may.people import Caller
+from may.program import answers
+from may.telling import DENIED, GRANTED, UNREAD, Judged, judged, questions_of
+from may.ways import Place, parts_of, place_at, unread, way
 
 CREATE, DELETE = "create", "delete"
 MOST_NAME = 255

@@ -3,11 +3,11 @@ from __future__ import annotations
 
 from typing import Iterable, NamedTuple
 
-from machine import linux
-from machine.lists import List, Unread, entry_text, letters, mask_of, name_of, quoted, who
-from machine.people import Caller, likenesses
-from machine.program import answers, decider, granting, question
-from machine.ways import Place, Way
+from may import linux
+from may.lists import List, Unread, entry_text, letters, mask_of, name_of, quoted, who
+from may.people import Caller, likenesses
+from may.program import answers, decider, granting, question
+from may.ways import Place, Way
 
 
 class Found(NamedTuple):

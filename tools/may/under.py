@@ -5,14 +5,14 @@ import os
 import stat
 from typing import Iterator, NamedTuple, Optional
 
-from machine import linux
-from machine.lists import Entry, Unread, entry_text, name_of, quoted, who
-from machine.linux import EXECUTE, WRITE
-from machine.people import Caller
-from machine.program import Question, answers, decider, granting, is_granted, question
-from machine.telling import GRANTED, judge, judged, questions_of
-from machine.trees import Row, Tree
-from machine.ways import SEARCH, Place, way
+from may import linux
+from may.lists import Entry, Unread, entry_text, name_of, quoted, who
+from may.linux import EXECUTE, WRITE
+from may.people import Caller
+from may.program import Question, answers, decider, granting, is_granted, question
+from may.telling import GRANTED, judge, judged, questions_of
+from may.trees import Row, Tree
+from may.ways import SEARCH, Place, way
 
 
 class Told(NamedTuple):

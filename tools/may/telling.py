@@ -4,12 +4,12 @@ from __future__ import annotations
 import stat
 from typing import Iterable, Iterator, NamedTuple
 
-from machine import linux
-from machine.lists import LIMITED, Unread, entry_text, letters, mask_of, name_of, quoted, who
-from machine.linux import EXECUTE
-from machine.people import Caller
-from machine.program import Question, answers, decider, is_granted, question
-from machine.ways import Place, Way, way
+from may import linux
+from may.lists import LIMITED, Unread, entry_text, letters, mask_of, name_of, quoted, who
+from may.linux import EXECUTE
+from may.people import Caller
+from may.program import Question, answers, decider, is_granted, question
+from may.ways import Place, Way, way
 
 GRANTED, DENIED, BAD, UNREAD = 0, 1, 2, 3
 # Scripts whose interpreters are scripts: the kernel goes on so often.

@@ -5,9 +5,9 @@ import os
 import stat
 from typing import NamedTuple, Optional
 
-from machine import lists, mounts
-from machine.lists import Unread, quoted
-from machine.ways import Place, place_at
+from may import lists, mounts
+from may.lists import Unread, quoted
+from may.ways import Place, place_at
 
 
 class Row(NamedTuple):

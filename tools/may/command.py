@@ -1,4 +1,3 @@
-#!/usr/bin/env python3
 """./suites may [-v] [--groups GID[,GROUP..]] USER WANTED PATH..
        ./suites may [-v] [--groups GID[,GROUP..]] USER create|delete PATH..
        ./suites may [--groups GID[,GROUP..]] USER WANTED --under TREE [--denied] [-0]
@@ -44,11 +43,11 @@ import os
 import sys
 from typing import NoReturn
 
-from machine import changes, everybody, lint, names, people, telling, under
-from machine.lists import BITS, Bad, Unread, quoted
-from machine.linux import WRITE
-from machine.telling import BAD, DENIED, GRANTED, UNREAD, Judged
-from machine.ways import way
+from may import changes, everybody, lint, names, people, telling, under
+from may.lists import BITS, Bad, Unread, quoted
+from may.linux import WRITE
+from may.telling import BAD, DENIED, GRANTED, UNREAD, Judged
+from may.ways import way
 
 
 class Parser(argparse.ArgumentParser):
@@ -212,7 +211,3 @@ def main() -> int:
         )
         print(f"suites: {said}", file=sys.stderr)
         return UNREAD
-
-
-if __name__ == "__main__":
-    sys.exit(main())

@@ -6,9 +6,9 @@ import os
 import stat
 from typing import Iterator, NamedTuple, Optional
 
-from machine import lists, mounts
-from machine.lists import List, Unread, quoted
-from machine.mounts import Mount
+from may import lists, mounts
+from may.lists import List, Unread, quoted
+from may.mounts import Mount
 
 MOST_LINKS = 40
 # A path, with the byte that ends it, is shorter than this; so the kernel has it.

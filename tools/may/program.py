@@ -5,11 +5,10 @@ import functools
 import os
 import re
 import subprocess
-import sys
 from typing import Iterable, NamedTuple
 
-import console
-from machine.lists import (
+import beside
+from may.lists import (
     GROUP,
     GROUP_OBJ,
     MASK,
@@ -24,12 +23,9 @@ from machine.lists import (
     letters,
     list_text,
 )
-from machine.people import Caller
-from machine.ways import Place
+from may.people import Caller
+from may.ways import Place
 
-TOOLS = os.path.dirname(os.path.dirname(os.path.abspath(__file__)))
-TOP = os.path.dirname(TOOLS)
-ENV = {**os.environ, "SUITES_PROGRAM": "may"}
 # A caller has so many groups beside its own at most.
 MOST_GROUPS = 32
 # So many bytes of questions are asked at once; the program takes 16 MiB.
@@ -68,15 +64,10 @@ def program() -> str:
     """The program: the proved one where it is that of the sources, else a checked build."""
     if os.environ.get("MAY"):
         return os.environ["MAY"]
-    words = [sys.executable, os.path.join(TOOLS, "choose.py")]
-    chosen = subprocess.run(words, env=ENV, stdin=subprocess.DEVNULL, stdout=subprocess.PIPE, text=True)
-    if chosen.returncode != 0:
-        raise Unread("there is no program `may`")
-    kind, path = chosen.stdout.split()
-    if kind == "checked":
-        text = "checked build of may, not proved yet; ./suites --prove may proves and builds it"
-        console.say_once_a_day(os.path.join(TOP, "out", "may-told"), text)
-    return os.path.join(TOP, path)
+    try:
+        return beside.program("may")
+    except SystemExit:
+        raise Unread("there is no program `may`") from None
 
 
 def asked(lines: list[str]) -> dict[str, str]:
@@ -85,7 +76,10 @@ def asked(lines: list[str]) -> dict[str, str]:
     left = list(dict.fromkeys(lines))
     while left:
         done = subprocess.run(
-            [program()], input="".join(f"{line}\n" for line in left).encode(), stdout=subprocess.PIPE, env=ENV
+            [program()],
+            input="".join(f"{line}\n" for line in left).encode(),
+            stdout=subprocess.PIPE,
+            env=beside.setting("may"),
         )
         given = done.stdout.decode().splitlines()
         faulty = re.fullmatch(r"fault line (\d+): (.*)", given[0]) if done.returncode == 3 and len(given) == 1 else None

@@ -8,8 +8,8 @@ import pwd
 import shlex
 from typing import Iterator
 
-from machine import linux, lists
-from machine.lists import (
+from may import linux, lists
+from may.lists import (
     GROUP,
     GROUP_OBJ,
     LIMITED,
@@ -27,10 +27,10 @@ from machine.lists import (
     union,
     who,
 )
-from machine.people import Caller, accounts
-from machine.program import Question, answers, is_granted, question
-from machine.trees import Tree
-from machine.ways import SEARCH, Place, way
+from may.people import Caller, accounts
+from may.program import Question, answers, is_granted, question
+from may.trees import Tree
+from may.ways import SEARCH, Place, way
 
 
 def command(path: str, change: str) -> str:

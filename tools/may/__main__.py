@@ -1,0 +1,9 @@
+"""`./suites may`: its words go to command.py. The tools beside this folder are looked for in their own."""
+import os
+import sys
+
+sys.path[0] = os.path.dirname(os.path.dirname(os.path.abspath(__file__)))
+
+from may import command  # noqa: E402
+
+sys.exit(command.main())
