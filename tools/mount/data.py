@@ -92,6 +92,7 @@ class Data:
     def write(self, one: Open, place: int, data: bytes) -> int:
         if place + len(data) > rows.LONGEST:
             raise OSError(errno.EFBIG, one.node.path)
+        self.settle(one.node, one)
         one.change(Change(None if one.is_append else place, data))
         if one.is_heavy():
             self.commit(one)
