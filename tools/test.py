@@ -85,7 +85,8 @@ class Part:
         if not self.process:
             return f"{self.title}: not run, since a part that it stands on failed"
         passed, failed = self.counts
-        skipped = "".join(f" ({line})" for line in self.text.splitlines() if line.startswith("skipped: "))
+        told = [line for line in self.text.splitlines() if line.startswith(("skipped: ", "told: "))]
+        skipped = "".join(f" ({line.removeprefix('told: ')})" for line in told)
         line = f"{self.title}: {passed} passed, {failed} failed, {time.monotonic() - self.begun:.0f} s{skipped}"
         return f"{line}\n{console.tail(self.text, 60)}status {self.process.returncode}" if failed else line
 
@@ -104,6 +105,7 @@ FORMS, EXPLORE = "the program of forms", "the program of explore"
 PARTS = (
     Part("what pages show", tool("tools/shown.py")),
     Part("what documents name", tool("tools/named.py")),
+    Part("words of pages", tool("tools/page_words.py")),
     Part("texts of wrong bodies", tool("tools/wrong_bodies.py", "--check")),
     Part("page of wrong bodies", tool("tools/wrong_bodies_page.py", "--check")),
     Part("table of public functions", tool("tools/proved_page.py", "--check")),
@@ -133,6 +135,8 @@ PARTS = (
         tool("tests/may-against-the-kernel.py", "--questions", "100", "--mounts", "--if-possible"),
         [MAY],
     ),
+    Part("the mount", tool("tests/mount.py"), [PROGRAM]),
+    Part("the mount against the kernel", tool("tests/mount-against-the-kernel.py"), [PROGRAM]),
     Part("what votes tells", tool("tests/votes.py"), [PROGRAM, TRACE]),
     Part("what votes tells of scripts", tool("tests/votes-left.py"), [PROGRAM, TRACE]),
     Part("pictures", tool("tests/drawn.py"), [TRACE]),
