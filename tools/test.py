@@ -133,6 +133,8 @@ PARTS = (
         tool("tests/may-against-the-kernel.py", "--questions", "100", "--mounts", "--if-possible"),
         [MAY],
     ),
+    Part("the mount", tool("tests/mount.py"), [PROGRAM]),
+    Part("the mount against the kernel", tool("tests/mount-against-the-kernel.py"), [PROGRAM]),
     Part("what votes tells", tool("tests/votes.py"), [PROGRAM, TRACE]),
     Part("what votes tells of scripts", tool("tests/votes-left.py"), [PROGRAM, TRACE]),
     Part("pictures", tool("tests/drawn.py"), [TRACE]),
