@@ -127,6 +127,7 @@ PARTS = (
     Part("questions of everything that can happen", tool("tests/asking.py"), [EXPLORE]),
     Part("a stack of 1 MiB", tool("tests/small-stack.py"), [PROGRAM, TRACE, FORMS, EXPLORE]),
     Part("examples of FAULTS", tool("tests/explained.py"), [PROGRAM, TRACE, FORMS, EXPLORE]),
+    Part("what explain says of every line", tool("tests/every_line.py"), [PROGRAM, TRACE, FORMS, EXPLORE, MAY]),
     Part("what explain says of damaged scripts", tool("tests/damaged-scripts.py", "--cases", "1000"), [PROGRAM, FORMS]),
     Part("command lines of documents", tool("tests/typed.py"), [PROGRAM, TRACE, FORMS, EXPLORE]),
     Part("answers of may", tool("tests/may.py"), [MAY]),
