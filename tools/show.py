@@ -1,17 +1,20 @@
 #!/usr/bin/env python3
-"""./suites show [--open] < SCRIPT > run.html
+"""./suites show [--open] [--from LINE] [--to LINE] < SCRIPT > run.html
 
 Plays a script of events as `suites play` does, and writes a page on which the run can be watched: the requests and
 replies as a picture, what each server and agent has at the moment that is looked at, and the script. The page stands
 alone: it needs a browser, and neither a network nor these tools.
 
-    --open   writes the page into a new file, and opens that in a browser
+    --open        writes the page into a new file, and opens that in a browser
+    --from LINE   shows the run from this line of the script on
+    --to LINE     shows it to the end of this line. A page shows 60,000 events at most; of a longer run show a part
 
 On the page: the arrow keys, Home and End go through the run, and space plays it. A click on an arrow goes there, one on
 a folded phase opens it, and one on a path shows the file through time. What has dots below it is explained to whoever
 points at it.
 """
 import argparse
+import dataclasses
 import json
 import os
 import re
@@ -19,9 +22,11 @@ import subprocess
 import sys
 import tempfile
 import webbrowser
+from collections.abc import Iterator
 
 import console
 import explain
+import retold
 import trace
 
 PARTS = os.path.join(trace.TOOLS, "show")
@@ -44,6 +49,13 @@ OWN = {
     "telling": "A sweep tells the server how a transaction ended.",
     "breaking": "A sweep breaks a lock of which nothing was prepared.",
 }
+# So many events are shown on a page at most, and what is said of more.
+MOST_EVENTS = 60_000
+TOO_MANY = (
+    "this run has more than {:,} events, as many as a page shows, before the end of line {}: show a part of it, by lines of the"
+    " script, as with --from 1 --to 100"
+)
+LINE = re.compile(r'{"event":\d+,"line":(\d+),')
 CODES = [*(f"F{number}" for number in range(1, 13)), *(f"U{number}" for number in range(1, 8))]
 
 
@@ -61,20 +73,70 @@ def meanings() -> dict[str, str]:
     return {word: " ".join(text.split()) for word, text in {**known, **OWN}.items() if text}
 
 
-def events_of(script: bytes) -> list[str]:
-    """The events of a script, as the program `trace` tells them; ends the tool where the script has a fault."""
-    with tempfile.TemporaryFile() as given:
-        given.write(script)
-        given.seek(0)
+@dataclasses.dataclass
+class Shown:
+    """The events of a run, or of a part of one, as lines; and what a part has to know of what was before."""
+
+    events: list[str]
+    before: dict | None = None
+
+
+class Player:
+    """The program `trace`, which tells the events of a script one after another."""
+
+    def __init__(self, script: bytes) -> None:
+        self.given = tempfile.TemporaryFile()
+        self.given.write(script)
+        self.given.seek(0)
         words = [trace.program(), "--json"]
-        done = subprocess.run(words, stdin=given, stdout=subprocess.PIPE, env=trace.ENV, check=False)
-    text = done.stdout.decode("latin1")
-    if done.returncode != 0:
-        sys.stdout.write(text)
-        if sys.stderr.isatty() and done.returncode in trace.EXPLAINED:
-            console.Teller().say(trace.EXPLAINED[done.returncode])
-        sys.exit(done.returncode)
-    return text.split("\n")[:-1]
+        self.run = subprocess.Popen(words, stdin=self.given, stdout=subprocess.PIPE, env=trace.ENV)
+
+    def __enter__(self) -> "Player":
+        return self
+
+    def __exit__(self, *_: object) -> None:
+        self.run.kill()
+        self.run.communicate()
+        self.given.close()
+
+    def lines(self) -> Iterator[str]:
+        """The events; ends the tool where the script has a fault."""
+        assert self.run.stdout
+        for line in self.run.stdout:
+            if not line.startswith(b"{"):
+                sys.stdout.write(line.decode("latin1"))
+            else:
+                yield line.decode("latin1").rstrip("\n")
+        status = self.run.wait()
+        if status:
+            if sys.stderr.isatty() and status in trace.EXPLAINED:
+                console.Teller().say(trace.EXPLAINED[status])
+            sys.exit(status)
+
+
+def events_of(script: bytes) -> list[str]:
+    """All events of a script, as the program `trace` tells them; ends the tool where the script has a fault."""
+    with Player(script) as player:
+        return [*player.lines()]
+
+
+def shown_of(script: bytes, first: int, last: int) -> Shown:
+    """The events of lines of a script: all, where the first is 0."""
+    with Player(script) as player:
+        lines = player.lines()
+        opening = next(lines)
+        part, kept = retold.Part(json.loads(opening)), [opening]
+        for line in lines:
+            at = int(LINE.match(line)[1])
+            if at > last:
+                break
+            if at < first:
+                part.take(line)
+                continue
+            kept.append(line)
+            if len(kept) > MOST_EVENTS:
+                raise console.Stop(TOO_MANY.format(MOST_EVENTS, at))
+    return Shown([part.opening(), *kept[1:]], part.before()) if first > 1 else Shown(kept)
 
 
 def embedded(data: object) -> str:
@@ -88,12 +150,12 @@ def part(name: str) -> str:
         return file.read()
 
 
-def page_of(script: bytes, events: list[str]) -> str:
-    """The page of a run."""
+def page_of(script: bytes, shown: Shown) -> str:
+    """The page of a run, or of a part of one."""
     lines = script.decode("utf-8", "replace").split("\n")
     if lines[-1] == "":
         lines.pop()
-    data = {"script": [line.removesuffix("\r") for line in lines], "events": events, "meanings": meanings()}
+    data = {"script": [line.removesuffix("\r") for line in lines], **dataclasses.asdict(shown), "meanings": meanings()}
     parts = {**{name: part(file) for name, file in FILES.items()}, "DATA": embedded(data)}
     return re.sub(r"@([A-Z]+)@", lambda found: parts[found[1]], part("page.html"))
 
@@ -110,13 +172,17 @@ def opened(page: str) -> None:
 def main() -> int:
     read = argparse.ArgumentParser(prog="./suites show", add_help=False)
     read.add_argument("--open", action="store_true")
+    read.add_argument("--from", dest="first", type=int, default=0)
+    read.add_argument("--to", dest="last", type=int, default=sys.maxsize)
     read.add_argument("-h", "--help", action="store_true")
     given = read.parse_args()
     if given.help:
         print(__doc__.strip())
         return 0
     script = trace.script()
-    page = page_of(script, events_of(script))
+    if not 0 <= given.first <= given.last:
+        raise console.Bad("--from and --to are lines of the script, the first before the last")
+    page = page_of(script, shown_of(script, given.first, given.last))
     if given.open:
         opened(page)
     else:

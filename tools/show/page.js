@@ -3,7 +3,7 @@
 
 const Page = (() => {
   const given = JSON.parse(document.getElementById("given").textContent);
-  const run = Model.read(given.events);
+  const run = Model.read(given.events, given.before);
   const find = (name) => document.getElementById(name);
   const [slider, moment, world, script, hint, life] = ["slider", "moment", "world", "script", "hint", "life"].map(find);
   let here = 0;
@@ -136,7 +136,7 @@ const Page = (() => {
   }
 
   function showWorld() {
-    const state = run.worlds[here];
+    const state = run.worlds.at(here);
     const event = run.events[here];
     const server = event.server !== undefined ? event.server : event.at && event.at.server;
     const by = event.by && event.by.agent;
