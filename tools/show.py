@@ -9,12 +9,15 @@ alone: it needs a browser, and neither a network nor these tools.
     --from LINE   shows the run from this line of the script on
     --to LINE     shows it to the end of this line. A page shows 60,000 events at most; of a longer run show a part
 
-On the page: the arrow keys, Home and End go through the run, and space plays it. A click on an arrow goes there, one on
-a folded phase opens it, and one on a path shows the file through time. What has dots below it is explained to whoever
-points at it.
+On the page: the arrow keys, Home and End go through the run, PageUp and PageDown by its rows, `b` and `n` by its jobs,
+and space plays it. `p` is for who presents: large type, and nothing of what is still to come. A sentence says what
+happens at the moment. A click on an arrow goes there, one on a folded phase opens it, and one on a path shows the file
+through time. What has dots below it is explained to whoever points at it.
 """
 import argparse
+import base64
 import dataclasses
+import hashlib
 import json
 import os
 import re
@@ -26,12 +29,13 @@ from collections.abc import Iterator
 
 import console
 import explain
+import quoted
 import retold
 import trace
 
 PARTS = os.path.join(trace.TOOLS, "show")
 # What stands for what in the page.
-FILES = {"STYLE": "style.css", "MODEL": "model.js", "DRAWING": "drawing.js", "PAGE": "page.js"}
+FILES = {"STYLE": "style.css", "MODEL": "model.js", "SAYING": "saying.js", "DRAWING": "drawing.js", "PAGE": "page.js"}
 # Words of the page that are explained elsewhere than their like.
 OWN = {
     "stale": "A copy is stale where one of a newer version is in effect elsewhere:"
@@ -48,6 +52,7 @@ OWN = {
     "resolving": "A sweep asks the home of a transaction how it ended.",
     "telling": "A sweep tells the server how a transaction ended.",
     "breaking": "A sweep breaks a lock of which nothing was prepared.",
+    "in doubt": "The home of the transaction is down, and nobody else can tell how it ends: the lock stands till then.",
 }
 # So many events are shown on a page at most, and what is said of more.
 MOST_EVENTS = 60_000
@@ -56,6 +61,7 @@ TOO_MANY = (
     " script, as with --from 1 --to 100"
 )
 LINE = re.compile(r'{"event":\d+,"line":(\d+),')
+FAULTY = 3
 CODES = [*(f"F{number}" for number in range(1, 13)), *(f"U{number}" for number in range(1, 8))]
 
 
@@ -88,6 +94,7 @@ class Player:
         self.given = tempfile.TemporaryFile()
         self.given.write(script)
         self.given.seek(0)
+        self.fault = ""
         words = [trace.program(), "--json"]
         self.run = subprocess.Popen(words, stdin=self.given, stdout=subprocess.PIPE, env=trace.ENV)
 
@@ -104,14 +111,22 @@ class Player:
         assert self.run.stdout
         for line in self.run.stdout:
             if not line.startswith(b"{"):
-                sys.stdout.write(line.decode("latin1"))
+                self.fault = line.decode("latin1")
+                sys.stdout.write(self.fault)
             else:
                 yield line.decode("latin1").rstrip("\n")
         status = self.run.wait()
+        if status and sys.stderr.isatty():
+            self.explain(status)
         if status:
-            if sys.stderr.isatty() and status in trace.EXPLAINED:
-                console.Teller().say(trace.EXPLAINED[status])
             sys.exit(status)
+
+    def explain(self, status: int) -> None:
+        """Says on a terminal what is wrong."""
+        if status == FAULTY:
+            console.Teller().say(console.shows(self.fault.strip()))
+        elif status in trace.EXPLAINED:
+            console.Teller().say(trace.EXPLAINED[status])
 
 
 def events_of(script: bytes) -> list[str]:
@@ -125,18 +140,18 @@ def shown_of(script: bytes, first: int, last: int) -> Shown:
     with Player(script) as player:
         lines = player.lines()
         opening = next(lines)
-        part, kept = retold.Part(json.loads(opening)), [opening]
+        before, kept = retold.Part(json.loads(opening)), [opening]
         for line in lines:
             at = int(LINE.match(line)[1])
             if at > last:
                 break
             if at < first:
-                part.take(line)
+                before.take(line)
                 continue
             kept.append(line)
             if len(kept) > MOST_EVENTS:
                 raise console.Stop(TOO_MANY.format(MOST_EVENTS, at))
-    return Shown([part.opening(), *kept[1:]], part.before()) if first > 1 else Shown(kept)
+    return Shown([before.opening(), *kept[1:]], before.before()) if first > 1 else Shown(kept)
 
 
 def embedded(data: object) -> str:
@@ -150,13 +165,21 @@ def part(name: str) -> str:
         return file.read()
 
 
+def digest(text: str) -> str:
+    """The digest of a script or a style, by which alone a browser lets it run."""
+    return f"'sha256-{base64.b64encode(hashlib.sha256(text.encode()).digest()).decode()}'"
+
+
 def page_of(script: bytes, shown: Shown) -> str:
     """The page of a run, or of a part of one."""
     lines = script.decode("utf-8", "replace").split("\n")
     if lines[-1] == "":
         lines.pop()
     data = {"script": [line.removesuffix("\r") for line in lines], **dataclasses.asdict(shown), "meanings": meanings()}
-    parts = {**{name: part(file) for name, file in FILES.items()}, "DATA": embedded(data)}
+    parts = {name: part(file) for name, file in FILES.items()}
+    styles = [digest(parts["STYLE"])]
+    scripts = [digest(text) for name, text in parts.items() if name != "STYLE"]
+    parts |= {"DATA": embedded(data), "STYLES": " ".join(styles), "SCRIPTS": " ".join(scripts)}
     return re.sub(r"@([A-Z]+)@", lambda found: parts[found[1]], part("page.html"))
 
 
@@ -175,10 +198,13 @@ def main() -> int:
     read.add_argument("--from", dest="first", type=int, default=0)
     read.add_argument("--to", dest="last", type=int, default=sys.maxsize)
     read.add_argument("-h", "--help", action="store_true")
+    read.add_argument("file", nargs="?")
     given = read.parse_args()
     if given.help:
         print(__doc__.strip())
         return 0
+    if given.file is not None:
+        raise console.Bad(f"a script is read from standard input: {read.prog} < {quoted.plain(given.file)}")
     script = trace.script()
     if not 0 <= given.first <= given.last:
         raise console.Bad("--from and --to are lines of the script, the first before the last")
