@@ -451,7 +451,7 @@ const Model = (() => {
   // The run, or the part of one, that events tell; of a part with what was before.
   function read(lines, before) {
     const events = lines.map((line) => JSON.parse(line));
-    const was = before && { ...before, jobs: before.jobs.map((told) => told.map((line) => JSON.parse(line))) };
+    const was = before ? { ...before, jobs: before.jobs.map((told) => told.map((line) => JSON.parse(line))) } : undefined;
     const worlds = new Worlds(events, was);
     const paths = pathsOf(events);
     return { events, worlds, paths, rows: rowsOf(events, paths, worlds), last: events.length - 1 };
