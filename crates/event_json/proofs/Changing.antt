@@ -1,6 +1,6 @@
 -- Changes between two lists, as far as they are looked through.
 use Rattle.std.proofs.Common.{◌≡◌, ◌∙◌, List, [], ◌∷◌, ◌++◌, append_assoc, ap, inl, inr, refl, subst, sym}
-use Rattle.event_json.specs.Changes.{IsChange, IsEndChange, IsParted}
+use Rattle.event_json.specs.Changes.{IsChange, IsParted}
 use Rattle.event_json.specs.code.Going.{GoesOn, Meets}
 use Rattle.event_json.proofs.Parting.{parted_all, parted_go, parted_stay}
 

@@ -1,5 +1,5 @@
 -- Lists that are parted, a thing more.
-use Rattle.std.proofs.Common.{◌≡◌, ◌∙◌, List, [], ◌∷◌, ◌++◌, append_assoc, append-nil, inl, inr, refl, subst, sym}
+use Rattle.std.proofs.Common.{List, [], ◌∷◌, ◌++◌, append_assoc, append-nil, inl, inr, refl, subst, sym}
 use Rattle.event_json.specs.Changes.{IsNext, IsParted}
 
 next_map : {A : Type 0} (x : A) (xs : List A) (F G : List A → Type 0) → ((more : List A) → F more → G more) → IsNext x xs F → IsNext x xs G

@@ -1,5 +1,5 @@
 -- What agents do, and what they gathered of suites, as JSON has it.
-use Rattle.std.specs.Prelude.{ℕ, zero, suc, if◌then◌else◌, List, [], ◌∷◌, ◌++◌, codes, is_some, Option, Some, None}
+use Rattle.std.specs.Prelude.{ℕ, zero, suc, if◌then◌else◌, List, [], ◌++◌, codes, is_some, Option, Some, None}
 use Rattle.suite_prefix.specs.declared.copies.Prefix.{Prefix}
 use Rattle.suite_collect.specs.Telling.{newest}
 use Rattle.txn_core.specs.declared.stage.Stage.{Stage}

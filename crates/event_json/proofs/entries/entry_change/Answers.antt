@@ -1,4 +1,4 @@
-use Rattle.std.proofs.Common.{◌∷◌, [], subst, sym, take}
+use Rattle.std.proofs.Common.{subst, sym, take}
 use Rattle.std.proofs.lemmas.List.{take_more}
 use Rattle.event_json.proofs.Changing.{IsEnding, ending_meets}
 use Rattle.event_json.proofs.entries.entry_change.Goals as goal

@@ -1,4 +1,4 @@
-use Rattle.std.proofs.Common.{◌∷◌, [], subst, sym, take}
+use Rattle.std.proofs.Common.{subst, sym, take}
 use Rattle.std.proofs.lemmas.List.{take_all, take_more}
 use Rattle.event_json.proofs.Changing.{IsChanging, changed, changing_goes, changing_meets}
 use Rattle.event_json.proofs.locks.lock_change.Goals as goal
