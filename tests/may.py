@@ -22,7 +22,6 @@ from played import Tally
 import console
 from may import changes, everybody, lint, lists, mounts, people, program
 from may.people import Caller
-from may.ways import way
 
 LIST = "u::rw,u:1001:rw,g::r,m::r,o::-"
 MANY = ",".join(str(one) for one in range(1, 34))
@@ -200,28 +199,28 @@ def put_lists(many: str, twice: str) -> bool:
 
 def asks_of_changes(tally: Tally, callers: list[Caller], twice: str) -> None:
     """Who may read it, by what; and who gains and loses by a change."""
-    told = everybody.tell_who(callers, 4, twice, way(twice, 4))
+    told = everybody.tell_who(callers, 4, twice)
     wanted = [
         f"{twice}  r--  n0 (Linux lets root pass); n1001 by user:1001; n1002, n1004 by group:200",
         f"  denied at {twice}: n1003 by other::---",
     ]
     tally.holds(told == wanted, f"who: {told}")
     change = changes.Change(changes.read_entry("g:200", False), False, True)
-    told = changes.tell_change(callers, change, twice, way(twice, 4))
+    told = changes.tell_change(callers, change, twice)
     tally.holds(told[1:] == ["  loses r: n1002, n1004", "  loses x: n0"], f"without: {told}")
     change = changes.Change(changes.read_entry("u:1003:w", True), True, True)
-    told = changes.tell_change(callers, change, twice, way(twice, 4))
+    told = changes.tell_change(callers, change, twice)
     # root executes what anybody may, and the new mask lets nobody
     tally.holds(told[1:] == ["  gains w: n1003", "  loses x: n0"], f"with: {told}")
 
 
 def asks_of_lint(tally: Tally, callers: list[Caller], room: str) -> None:
     """What a lint of a folder finds, and what once nobody may search it."""
-    lint.accounts, kept = (lambda: callers), lint.accounts
+    people.accounts, kept = (lambda: callers), people.accounts
     found, _ = lint.lint(room)
     os.chmod(room, 0o700)
     stopped, _ = lint.lint(room)
-    lint.accounts = kept
+    people.accounts = kept
     many, twice = os.path.join(room, "many"), os.path.join(room, "twice")
     tally.holds(any(f"{many}: its list has 154 entries" in line for line in found), f"lint: {found[:3]}")
     tally.holds(any(f"{twice}: user:1001:r-- reaches nobody" in line for line in stopped), f"lint: {stopped[-3:]}")
@@ -255,13 +254,13 @@ def asks_of_lists(tally: Tally) -> None:
 
 def reads_mounts(tally: Tally) -> None:
     """Mounts, as /proc/self/mountinfo tells them."""
-    text = "\n".join(
+    text = b"\n".join(
         [
-            "22 27 0:21 / /proc rw,relatime - proc proc rw,hidepid=2",
-            r"30 27 0:5 / /a\040b ro,noexec,idmapped shared:1 - ext4 /dev/x rw",
-            "31 27 0:6 / /f rw - fuse.sshfs x rw,user_id=0",
-            "32 27 0:7 / /n rw - nfs4 x rw",
-            "33 27 0:8 / /t rw,nosymfollow - tmpfs x rw",
+            b"22 27 0:21 / /proc rw,relatime - proc proc rw,hidepid=2",
+            rb"30 27 0:5 / /a\040b ro,noexec,idmapped shared:1 - ext4 /dev/x rw",
+            b"31 27 0:6 / /f rw - fuse.sshfs x rw,user_id=0",
+            b"32 27 0:7 / /n rw - nfs4 x rw",
+            b"33 27 0:8 / /t rw,nosymfollow - tmpfs x rw",
         ]
     )
     found = mounts.read_mounts(text)

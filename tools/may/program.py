@@ -44,8 +44,7 @@ class Question(NamedTuple):
 
     def line(self) -> str:
         """Its line. Groups that neither the list nor the file names decide nothing, and are left out where they are
-        more than the
-        program takes."""
+        more than the program takes."""
         groups = list(self.caller.groups)
         if len(groups) > MOST_GROUPS:
             named = {entry.id for entry in self.entries if entry.tag == GROUP} | {self.group}
@@ -131,8 +130,7 @@ def without_grants(entries: List, kept: Iterable[Entry] = ()) -> List:
 
 def granting(questions: list[Question]) -> list[Entry]:
     """Which entry grants each of some questions that are granted. The check names the entry of a denial: so the list
-    is asked without
-    any permission, and where a group's entry is named, with those of one group after the other."""
+    is asked without any permission, and where a group's entry is named, with those of one group after the other."""
     emptied = [one._replace(entries=without_grants(one.entries)) for one in questions]
     named = [decider(one.entries, answer) for one, answer in zip(questions, answers(emptied))]
     tries = [
