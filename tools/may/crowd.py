@@ -75,6 +75,8 @@ class Crowd:
         """Asks what was not asked yet, all at once."""
         new = {self.key(place, one): (place, one) for place, one in wanted}
         left = [(key, *new[key], self.parts(new[key][0])) for key in new if key not in self.seen]
+        if not left:
+            return
         asked = [
             question(place, self.first(part), one)
             for _, place, one, parts in left

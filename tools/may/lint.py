@@ -3,6 +3,7 @@ something is told only where `--with` or `--without` shows that just those gain 
 """
 from __future__ import annotations
 
+import contextlib
 import functools
 import grp
 import pwd
@@ -10,10 +11,11 @@ import stat
 from typing import Iterable, Iterator, NamedTuple, Optional
 
 from may import linux, lists, mounts, people
-from may.changes import Change, Powers, effect, unjudged_of
+from may.changes import Change, Powers, after, effect, unjudged_of
 from may.crowd import Crowd
 from may.everybody import Reach
 from may.lists import (
+    BITS,
     GROUP,
     GROUP_OBJ,
     LIMITED,
@@ -129,6 +131,16 @@ class Lint:
         helps = mend.named == 0 or any(gained)
         harms = any(one & ~mend.named for one in gained) or any(old[bit] & ~new[bit] for bit in old)
         return helps and not harms
+
+    def ask(self, found: Iterable[Finding]) -> None:
+        """Asks at once what is to be known of all that may mend something."""
+        wanted: list[tuple[Place, int]] = []
+        for mend in (mend for one in found for mend in one.mends):
+            place = mend.ways[0].places[-1]
+            with contextlib.suppress(Bad):
+                for one in (place, after(place, mend.change.of(place.entries))):
+                    wanted += [(one, bit) for _, bit in BITS]
+        self.crowd.ask(wanted)
 
     def told(self, found: Finding) -> str:
         """The line of a finding, with the command that would mend it, where one does no harm."""
@@ -263,8 +275,9 @@ class Lint:
         """A line for each finding, as they are found; what is not judged is kept in `tree.unread`."""
         for some in self.tree.parts():
             self.reach.ask(some, ())
-            for found in self.findings(some):
-                yield self.told(found)
+            findings = list(self.findings(some))
+            self.ask(findings)
+            yield from map(self.told, findings)
             for at in some:
                 why = self.unjudged(self.tree.rows[at])
                 self.tree.unread += [why] if why and why not in self.tree.unread else []

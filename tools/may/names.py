@@ -60,7 +60,8 @@ def target_of(path: str) -> Target:
         return Target(path, found, name, None)
     folder = found.places[-1]
     if not folder.is_folder:
-        return Target(path, found._replace(end=unread(folder.path, errno.ENOTDIR)), name, None)
+        end = unread(folder.path, errno.ENOTDIR)
+        return Target(path, found._replace(places=found.places[:-1], end=end), name, None)
     if len(os.fsencode(name)) > MOST_NAME:
         end = Unread(f"{quoted(name[:40])}..: {os.strerror(errno.ENAMETOOLONG)}", errno.ENAMETOOLONG)
         return Target(path, found._replace(end=end), name, None)
